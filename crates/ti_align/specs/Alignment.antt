@@ -35,7 +35,8 @@ pub record ArrivesAt (s : Setting) (es : List Entry) (i k : ℕ) (arrival : Arri
   pub rest : List Entry
   pub deposit : Deposit
   pub answer : Answer
-  pub split : es ≡ before ++ record { proc = i; place = arrival.place; act = act.Arrive arrival.kind arrival.arg deposit; answer = answer } ∷ rest
+  pub split : es ≡ before ++ record { proc = i; place = arrival.place; act = act.Arrive arrival.kind arrival.arg deposit; answer = answer }
+      ∷ rest
   pub count : arrivals i before ≡ k
   -- the process that makes it
   pub process : Process

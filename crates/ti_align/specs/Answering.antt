@@ -8,4 +8,5 @@ use Rattle.ti_lang.specs.Meaning.Runs.{World}
 
 -- the answer in each entry of an action fits what the process of the entry has next after the entries before it
 abbrev pub AnswersFit : Setting → List Entry → Type 0
-AnswersFit s es = (before rest : List Entry) (e : Entry) (p : Process) → es ≡ before ++ e ∷ rest → World s before e.proc p → is_answered e ≡ true → FitsAction p e.answer
+AnswersFit s es = (before rest : List Entry) (e : Entry) (p : Process) → es ≡ before ++ e ∷ rest → World s before e.proc p → is_answered e
+    ≡ true → FitsAction p e.answer

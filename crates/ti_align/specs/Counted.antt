@@ -12,5 +12,7 @@ use Rattle.ti_lang.specs.Meaning.HeapOf.{grid_of, cells_of, last_written, cell_v
 -- Each cell that was written is one of the run, each field that holds something, and each that a grid has for a point of its domain.
 pub record CellsCounted (p : NumberedProgram) (h : History) : Type 0 where
   pub written : (cell : Cell) (value : Value) → last_written cell h ≡ Some value → Contains (cells_of p h) cell
-  pub fields : (obj : Id) (field : ℕ) (value : Value) → cell_value p (Field obj field) h ≡ Some value → Contains (cells_of p h) (Field obj field)
-  pub elements : (id : Id) (g : Grid) (at : Point) → grid_of id h ≡ Some g → is_in g.domain at ≡ true → Contains (cells_of p h) (cell_of g at)
+  pub fields : (obj : Id) (field : ℕ) (value : Value) → cell_value p (Field obj field) h ≡ Some value
+      → Contains (cells_of p h) (Field obj field)
+  pub elements : (id : Id) (g : Grid) (at : Point) → grid_of id h ≡ Some g → is_in g.domain at ≡ true
+      → Contains (cells_of p h) (cell_of g at)

@@ -57,5 +57,6 @@ pub record NamesLiving (h : History) (a : Action) : Type 0 where
 
 -- Whatever a process of the run has next, all that it names lives; and 0, which is no region, isn't gone.
 pub record NothingDangles (s : Setting) (es : List Entry) : Type 0 where
-  pub actions : (i : ℕ) (p : Process) (at : Place) (a : Action) → i < s.procs → World s es i p → IsNext p (next.Act at a) → NamesLiving (history_of es) a
+  pub actions : (i : ℕ) (p : Process) (at : Place) (a : Action) → i < s.procs → World s es i p → IsNext p (next.Act at a)
+      → NamesLiving (history_of es) a
   pub nowhere : is_gone 0 (history_of es) ≡ false

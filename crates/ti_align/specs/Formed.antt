@@ -46,4 +46,5 @@ IsFormedAction a = Unit {0}
 
 -- all that processes have next is in its form
 abbrev pub ActionsFormed : Setting → List Entry → Type 0
-ActionsFormed s es = (i : ℕ) (p : Process) (at : Place) (a : Action) → i < s.procs → World s es i p → IsNext p (next.Act at a) → IsFormedAction a
+ActionsFormed s es =
+    (i : ℕ) (p : Process) (at : Place) (a : Action) → i < s.procs → World s es i p → IsNext p (next.Act at a) → IsFormedAction a

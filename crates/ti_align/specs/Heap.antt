@@ -29,7 +29,8 @@ Elements = Id → Option ValueType
 
 -- what is there for a process after a history, where the elements of blocks have these types
 abbrev pub things_of : ℕ → Elements → History → Things
-things_of i elements h = record { owner = i; class_at = λ id. class_of id h; grid_at = λ id. grid_of id h; element_at = elements; is_made = λ r. is_made r h }
+things_of i elements h =
+    record { owner = i; class_at = λ id. class_of id h; grid_at = λ id. grid_of id h; element_at = elements; is_made = λ r. is_made r h }
 
 -- the block is a grid of zeros of the type of its elements, which may have it
 abbrev pub IsBlock : History → Id → ValueType → Type 0
@@ -50,7 +51,8 @@ MayHold p w (Element block at) value = (type : ValueType) × (w.element_at block
 
 -- what was written to cells is of their types in the memory in which they lie; each block is a grid of zeros of the type of its elements
 pub record HeapFits (p : NumberedProgram) (elements : Elements) (h : History) : Type 0 where
-  pub cells : (cell : Cell) (value : Value) → last_written cell h ≡ Some value → MayHold p (things_of (thing_of cell).owner elements h) cell value
+  pub cells : (cell : Cell) (value : Value) → last_written cell h ≡ Some value
+      → MayHold p (things_of (thing_of cell).owner elements h) cell value
   pub blocks : (block : Id) (type : ValueType) → elements block ≡ Some type → IsBlock h block type
 
 -- ---- an action
@@ -78,6 +80,8 @@ pub record KeepsTypes (p : NumberedProgram) (elements : Elements) (h : History) 
   pub kept : (place : Place) (r : Answer) → heap_answer p h i a ≡ Answers r
       → HeapFits p (elements_behind elements a wanted r) (record { proc = i; place = place; act = a; answer = r } ∷ h)
   pub grown : (place : Place) (r : Answer) → heap_answer p h i a ≡ Answers r
-      → Grows (things_of i elements h) (things_of i (elements_behind elements a wanted r) (record { proc = i; place = place; act = a; answer = r } ∷ h))
+      → Grows (things_of i elements h) (things_of i (elements_behind elements a wanted r)
+      (record { proc = i; place = place; act = a; answer = r } ∷ h))
   pub answered : (place : Place) (r : Answer) → is_of_heap a ≡ true → heap_answer p h i a ≡ Answers r
-      → FitsAsked p (things_of i (elements_behind elements a wanted r) (record { proc = i; place = place; act = a; answer = r } ∷ h)) a wanted r
+      → FitsAsked p (things_of i (elements_behind elements a wanted r) (record { proc = i; place = place; act = a; answer = r } ∷ h)) a
+      wanted r

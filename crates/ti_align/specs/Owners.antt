@@ -63,7 +63,12 @@ pub record MadeWith (s : Setting) (es : List Entry) (grid : Id) (element : Value
   pub zero : Zero
   pub domain : Rect
   pub region : ℕ
-  pub split : es ≡ before ++ record { proc = number; place = place; act = act.NewGrid zero domain region; answer = Val (v.Grid (Some grid)) } ∷ rest
+  pub split : es ≡ before ++ record {
+    proc = number;
+    place = place;
+    act = act.NewGrid zero domain region;
+    answer = Val (v.Grid (Some grid));
+  } ∷ rest
   -- the process that made it
   pub process : Process
   pub world : World s before number process
@@ -73,7 +78,12 @@ pub record MadeWith (s : Setting) (es : List Entry) (grid : Id) (element : Value
   pub dim : ℕ
   pub here : Bool
   pub go : Answer → Process
-  pub stands : step settled ≡ At (record { place = place; action = act.NewGrid zero domain region; through = through; wanted = NewThing (t.Grid element dim here) }) go
+  pub stands : step settled ≡ At (record {
+    place = place;
+    action = act.NewGrid zero domain region;
+    through = through;
+    wanted = NewThing (t.Grid element dim here);
+  }) go
 
 -- ---- runs
 
@@ -81,8 +91,10 @@ pub record MadeWith (s : Setting) (es : List Entry) (grid : Id) (element : Value
 -- are its own; and what a field or an element of local type names lies in the memory in which the field or the element lies.
 pub record OwnersKept (s : Setting) (es : List Entry) : Type 0 where
   pub variables : (i : ℕ) (p q : Process) → i < s.procs → World s es i p → Reaches p q → AllOwnIn i q.frames
-  pub fields : (obj : Id) (class field : ℕ) (type : ValueType) (value : Value) → class_of obj (history_of es) ≡ Some class → field_type s.program class field ≡ Some type → is_local type ≡ true
+  pub fields : (obj : Id) (class field : ℕ) (type : ValueType) (value : Value) → class_of obj (history_of es) ≡ Some class
+      → field_type s.program class field ≡ Some type → is_local type ≡ true
       → cell_value s.program (Field obj field) (history_of es) ≡ Some value → is_own obj.owner (named_by value) ≡ true
   pub elements : (grid : Id) (at : Point) (element : ValueType) (value : Value) → MadeWith s es grid element → is_local element ≡ true
       → cell_value s.program (Element grid at) (history_of es) ≡ Some value → is_own grid.owner (named_by value) ≡ true
-  pub actions : (i : ℕ) (p q : Process) (request : Request) (go : Answer → Process) → i < s.procs → World s es i p → Reaches p q → step q ≡ At request go → IsOwnAction i request.through request.action
+  pub actions : (i : ℕ) (p q : Process) (request : Request) (go : Answer → Process) → i < s.procs → World s es i p → Reaches p q → step q
+      ≡ At request go → IsOwnAction i request.through request.action

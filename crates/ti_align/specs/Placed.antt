@@ -28,4 +28,5 @@ pub record ThingsPlaced (s : Setting) (es : List Entry) : Type 0 where
   -- so do grids, views among them
   pub grids : (id : Id) (g : Grid) → grid_of id (history_of es) ≡ Some g → is_place id.region (history_of es) ≡ true
   -- so will those that a process makes next
-  pub makings : (i : ℕ) (p : Process) (at : Place) (a : Action) (r : ℕ) → i < s.procs → World s es i p → IsNext p (next.Act at a) → region_of_making a ≡ Some r → is_place r (history_of es) ≡ true
+  pub makings : (i : ℕ) (p : Process) (at : Place) (a : Action) (r : ℕ) → i < s.procs → World s es i p → IsNext p (next.Act at a)
+      → region_of_making a ≡ Some r → is_place r (history_of es) ≡ true

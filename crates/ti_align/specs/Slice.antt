@@ -88,7 +88,8 @@ work_acts p m left (TakeAll at grid procs) = false
 abbrev pub single_bound : Env → List VariableUse → NumberedExps → List Variable → Asking (List Variable)
 single_bound env (p ∷ ps) (e.MoreExp x xs) found =
     if is_single_declared p.declared
-    then (eval env x >>= λ h. converted (e.place_of_numbered x) (declared_type p.declared) h >>= λ k. single_bound env ps xs (with_new p k found))
+    then (eval env x >>= λ h. converted (e.place_of_numbered x) (declared_type p.declared) h >>= λ k. single_bound env ps xs
+    (with_new p k found))
     else single_bound env ps xs found
 single_bound env ps xs found = gives found
 
@@ -214,25 +215,35 @@ at_fault kind place = answer.Faults kind place
 -- left.
 pub data Comes : Process → List ℕ → ℕ → List Answer → SliceStep → Type 0 where
   -- it goes on by itself
-  silent : {p q : Process} {gone : List ℕ} {k : ℕ} {outcomes : List Answer} {x : SliceStep} → judged gone (slice_step p) ≡ To q → Comes q gone k outcomes x → Comes p gone k outcomes x
+  silent : {p q : Process} {gone : List ℕ} {k : ℕ} {outcomes : List Answer} {x : SliceStep} → judged gone (slice_step p) ≡ To q
+      → Comes q gone k outcomes x → Comes p gone k outcomes x
   -- it arrives where no outcome is left
-  stands : {p : Process} {gone : List ℕ} {k : ℕ} {request : Request} {go : Answer → Process} {kind : CollKind} {arg : Option ℕ} {given : Deposit} →
-      judged gone (slice_step p) ≡ At request go → request.action ≡ act.Arrive kind arg given → Comes p gone k [] (answer.At kind request.place arg)
+  stands : {p : Process} {gone : List ℕ} {k : ℕ} {request : Request} {go : Answer
+      → Process} {kind : CollKind} {arg : Option ℕ} {given : Deposit} →
+      judged gone (slice_step p) ≡ At request go → request.action ≡ act.Arrive kind arg given
+      → Comes p gone k [] (answer.At kind request.place arg)
   -- it arrives, and goes on to its departure
-  arrives : {p : Process} {gone : List ℕ} {k : ℕ} {request : Request} {go : Answer → Process} {kind : CollKind} {arg : Option ℕ} {given : Deposit} {r : Answer} {rest : List Answer} {x : SliceStep} →
-      judged gone (slice_step p) ≡ At request go → request.action ≡ act.Arrive kind arg given → Comes (go Done) gone k (r ∷ rest) x → Comes p gone k (r ∷ rest) x
+  arrives : {p : Process} {gone : List ℕ} {k : ℕ} {request : Request} {go : Answer
+      → Process} {kind : CollKind} {arg : Option ℕ} {given : Deposit} {r : Answer} {rest : List Answer} {x : SliceStep} →
+      judged gone (slice_step p) ≡ At request go → request.action ≡ act.Arrive kind arg given → Comes (go Done) gone k (r ∷ rest) x
+      → Comes p gone k (r ∷ rest) x
   -- it departs with an outcome that fits
-  leaves : {p : Process} {gone : List ℕ} {k : ℕ} {request : Request} {go : Answer → Process} {r : Answer} {rest : List Answer} {x : SliceStep} →
-      judged gone (slice_step p) ≡ At request go → request.action ≡ act.Depart → FitsWanted request.wanted r → Comes (go r) (deleted_by p.wait ++ gone) (k + 1) rest x
+  leaves : {p : Process} {gone : List ℕ} {k : ℕ} {request : Request} {go : Answer
+      → Process} {r : Answer} {rest : List Answer} {x : SliceStep} →
+      judged gone (slice_step p) ≡ At request go → request.action ≡ act.Depart → FitsWanted request.wanted r
+      → Comes (go r) (deleted_by p.wait ++ gone) (k + 1) rest x
       → Comes p gone k (r ∷ rest) x
   -- the outcome doesn't fit its departure
   unfit : {p : Process} {gone : List ℕ} {k : ℕ} {request : Request} {go : Answer → Process} {r : Answer} {rest : List Answer} →
-      judged gone (slice_step p) ≡ At request go → request.action ≡ act.Depart → (FitsWanted request.wanted r → ⊥) → Comes p gone k (r ∷ rest) (answer.Unfit k)
+      judged gone (slice_step p) ≡ At request go → request.action ≡ act.Depart → (FitsWanted request.wanted r → ⊥)
+      → Comes p gone k (r ∷ rest) (answer.Unfit k)
   -- it ends, or is at fault, where no outcome is left
   ends : {p : Process} {gone : List ℕ} {k : ℕ} {place : Place} → judged gone (slice_step p) ≡ Ends place → Comes p gone k [] answer.Ended
-  faults : {p : Process} {gone : List ℕ} {k : ℕ} {kind : FaultKind} {place : Place} → judged gone (slice_step p) ≡ Faults kind place → Comes p gone k [] (at_fault kind place)
+  faults : {p : Process} {gone : List ℕ} {k : ℕ} {kind : FaultKind} {place : Place} → judged gone (slice_step p) ≡ Faults kind place
+      → Comes p gone k [] (at_fault kind place)
   -- and so asks for no outcome that is left
-  ended : {p : Process} {gone : List ℕ} {k : ℕ} {place : Place} {r : Answer} {rest : List Answer} → judged gone (slice_step p) ≡ Ends place → Comes p gone k (r ∷ rest) (answer.Unfit k)
+  ended : {p : Process} {gone : List ℕ} {k : ℕ} {place : Place} {r : Answer} {rest : List Answer} → judged gone (slice_step p) ≡ Ends place
+      → Comes p gone k (r ∷ rest) (answer.Unfit k)
   faulted : {p : Process} {gone : List ℕ} {k : ℕ} {kind : FaultKind} {place : Place} {r : Answer} {rest : List Answer} →
       judged gone (slice_step p) ≡ Faults kind place → Comes p gone k (r ∷ rest) (answer.Unfit k)
 
@@ -256,7 +267,8 @@ pub record SliceTells (s : Setting) (es : List Entry) : Type 0 where
   -- what the departures of a process were answered are outcomes that fit
   pub fits : (i : ℕ) (x : SliceStep) → SliceAnswers s (answers_at_departures i es) x → AllFit x
   -- the arrival of a process that comes behind so many departures is the one at which the slice arrives behind their outcomes
-  pub arrives : (i : ℕ) (outcomes others : List Answer) (x : SliceStep) (a : Arrival) → SliceAnswers s outcomes x → answers_at_departures i es ≡ outcomes ++ others
+  pub arrives : (i : ℕ) (outcomes others : List Answer) (x : SliceStep) (a : Arrival) → SliceAnswers s outcomes x
+      → answers_at_departures i es ≡ outcomes ++ others
       → ArrivesAt s es i (length outcomes) a → x ≡ answer.At a.kind a.place a.arg
   -- where a process has its end, the slice ends behind the outcomes of all its departures
   pub ends : (i : ℕ) (x : SliceStep) → SliceAnswers s (answers_at_departures i es) x → has_end i es ≡ true → x ≡ answer.Ended

@@ -25,12 +25,14 @@ is_delete a = false
 
 -- a process has left each round that it reached, but for the round that it leaves next
 abbrev pub RoundsBalance : Setting → List Entry → Type 0
-RoundsBalance s es = (i : ℕ) (p : Process) (at : Place) (a : Action) → World s es i p → IsNext p (next.Act at a) → arrivals i es ≡ departures i es + (if is_departure a then 1 else 0)
+RoundsBalance s es = (i : ℕ) (p : Process) (at : Place) (a : Action) → World s es i p → IsNext p (next.Act at a) → arrivals i es
+    ≡ departures i es + (if is_departure a then 1 else 0)
 
 -- each action for which its process needn't wait comes to an answer or a fault
 abbrev pub NoneImpossible : Setting → List Entry → Type 0
 NoneImpossible s es =
-    (i : ℕ) (p : Process) (at : Place) (a : Action) → i < s.procs → World s es i p → IsNext p (next.Act at a) → IsReady s es i (next.Act at a)
+    (i : ℕ) (p : Process) (at : Place) (a : Action) → i < s.procs → World s es i p → IsNext p (next.Act at a)
+    → IsReady s es i (next.Act at a)
     → heap_answer s.program (history_of es) i a ≡ Impossible → ⊥
 
 -- ---- regions
@@ -38,7 +40,8 @@ NoneImpossible s es =
 -- each variable that holds a region holds one that was made
 abbrev pub HoldMade : History → List Variable → Type 0
 HoldMade h [] = Unit {0}
-HoldMade h (x ∷ xs) = (declared_type x.named.declared ≡ t.Region → (r : ℕ) × (x.held ≡ Plain (v.Region r)) × (is_made r h ≡ true)) × HoldMade h xs
+HoldMade h (x ∷ xs) =
+    (declared_type x.named.declared ≡ t.Region → (r : ℕ) × (x.held ≡ Plain (v.Region r)) × (is_made r h ≡ true)) × HoldMade h xs
 
 -- so do those of all these frames
 abbrev pub AllHoldMade : History → List Frame → Type 0
@@ -48,5 +51,6 @@ AllHoldMade h (f ∷ fs) = HoldMade h f.variables × AllHoldMade h fs
 -- each region that a variable holds was made, and each that a process comes to delete
 pub record RegionsMade (s : Setting) (es : List Entry) : Type 0 where
   pub held : (i : ℕ) (p : Process) → i < s.procs → World s es i p → AllHoldMade (history_of es) p.frames
-  pub deleted : (i : ℕ) (p : Process) (at : Place) (arg : Option ℕ) (given : Deposit) → i < s.procs → World s es i p → IsNext p (next.Act at (act.Arrive coll.DeleteRegion arg given))
+  pub deleted : (i : ℕ) (p : Process) (at : Place) (arg : Option ℕ) (given : Deposit) → i < s.procs → World s es i p
+      → IsNext p (next.Act at (act.Arrive coll.DeleteRegion arg given))
       → (r : ℕ) × (arg ≡ Some r) × (is_made r (history_of es) ≡ true)

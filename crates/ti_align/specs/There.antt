@@ -43,12 +43,15 @@ IsFieldOf p w obj field type = (class : ℕ) × (w.class_at obj ≡ Some class) 
 -- what an action names is there; what is written to a cell is of its type in the memory in which the cell lies
 abbrev pub IsThere : NumberedProgram → Things → Action → Wanted → Type 0
 IsThere p w (act.GetField obj field) wanted = (type : ValueType) × IsFieldOf p w obj field type
-IsThere p w (act.PutField obj field value) wanted = (type : ValueType) × IsFieldOf p w obj field type × IsOf (seen_by obj.owner w) type (Plain value)
+IsThere p w (act.PutField obj field value) wanted =
+    (type : ValueType) × IsFieldOf p w obj field type × IsOf (seen_by obj.owner w) type (Plain value)
 IsThere p w (act.NewObj class region) wanted = (zeros : List Zero) × (zeros_of_class p class ≡ Some zeros) × IsPlaced w region
 IsThere p w (act.NewGrid zero domain region) wanted =
-    (element : ValueType) × (n : ℕ) × (wanted ≡ NewThing (t.Grid element n true)) × (zero ≡ zero_of_type element) × IsRectOf n domain × IsDim n × IsPlaced w region × IsStorable element
+    (element : ValueType) × (n : ℕ) × (wanted ≡ NewThing (t.Grid element n true)) × (zero ≡ zero_of_type element) × IsRectOf n domain
+    × IsDim n × IsPlaced w region × IsStorable element
 IsThere p w (act.GetElem grid at) wanted = (element : ValueType) × (n : ℕ) × IsGridOf w element n grid × IsPointOf n at
-IsThere p w (act.PutElem grid at value) wanted = (element : ValueType) × (n : ℕ) × IsGridOf w element n grid × IsPointOf n at × IsOf (seen_by grid.owner w) element (Plain value)
+IsThere p w (act.PutElem grid at value) wanted =
+    (element : ValueType) × (n : ℕ) × IsGridOf w element n grid × IsPointOf n at × IsOf (seen_by grid.owner w) element (Plain value)
 IsThere p w (act.MakeView grid how) wanted = (element : ValueType) × (n : ℕ) × IsGridOf w element n grid × SuitsView how n
 IsThere p w (act.DomainOf grid) wanted = (element : ValueType) × (n : ℕ) × IsGridOf w element n grid
 IsThere p w a wanted = Unit {0}
@@ -64,8 +67,10 @@ WantsGrid wanted = (element : ValueType) × (n : ℕ) × (is_local : Bool) × (w
 -- What is wanted is what the action gives: a value in the form of the cell that is read, a domain of the dimensions of the grid, a new
 -- object or grid, a value that an element may have, and else nothing. What a departure gives is told by its round.
 abbrev pub SuitsWanted : NumberedProgram → Things → Action → Wanted → Type 0
-SuitsWanted p w (act.GetField obj field) wanted = (type : ValueType) × (u : ValueType) × IsFieldOf p w obj field type × (wanted ≡ ValueOf u) × SameForm u type
-SuitsWanted p w (act.GetElem grid at) wanted = (element : ValueType) × (u : ValueType) × (n : ℕ) × IsGridOf w element n grid × (wanted ≡ ValueOf u) × SameForm u element
+SuitsWanted p w (act.GetField obj field) wanted =
+    (type : ValueType) × (u : ValueType) × IsFieldOf p w obj field type × (wanted ≡ ValueOf u) × SameForm u type
+SuitsWanted p w (act.GetElem grid at) wanted =
+    (element : ValueType) × (u : ValueType) × (n : ℕ) × IsGridOf w element n grid × (wanted ≡ ValueOf u) × SameForm u element
 SuitsWanted p w (act.DomainOf grid) wanted = (element : ValueType) × (n : ℕ) × IsGridOf w element n grid × (wanted ≡ ValueOf (t.Rc n))
 SuitsWanted p w (act.NewObj class region) wanted = wanted ≡ NewThing (t.Class class true)
 SuitsWanted p w (act.NewGrid zero domain region) wanted = WantsGrid wanted
@@ -83,11 +88,15 @@ GoesThrough w through a = IsOwnAction w.owner through a × ((id : Id) → used_b
 
 -- the answer fits the action; what is read from a cell is of its type in the memory in which the cell lies
 abbrev pub FitsAsked : NumberedProgram → Things → Action → Wanted → Answer → Type 0
-FitsAsked p w (act.GetField obj field) wanted r = (type : ValueType) → IsFieldOf p w obj field type → IsOf (seen_by obj.owner w) type (told r)
+FitsAsked p w (act.GetField obj field) wanted r =
+    (type : ValueType) → IsFieldOf p w obj field type → IsOf (seen_by obj.owner w) type (told r)
 FitsAsked p w (act.NewObj class region) wanted r = IsOf w (t.Class class true) (told r)
-FitsAsked p w (act.NewGrid zero domain region) wanted r = (element : ValueType) (n : ℕ) → wanted ≡ NewThing (t.Grid element n true) → IsOf w (t.Grid element n true) (told r)
-FitsAsked p w (act.GetElem grid at) wanted r = (element : ValueType) (n : ℕ) → IsGridOf w element n grid → IsOf (seen_by grid.owner w) element (told r)
-FitsAsked p w (act.MakeView grid how) wanted r = (element : ValueType) (n : ℕ) → IsGridOf w element n grid → IsOf (seen_by grid.owner w) (t.Grid element (dims_viewed how n) true) (told r)
+FitsAsked p w (act.NewGrid zero domain region) wanted r =
+    (element : ValueType) (n : ℕ) → wanted ≡ NewThing (t.Grid element n true) → IsOf w (t.Grid element n true) (told r)
+FitsAsked p w (act.GetElem grid at) wanted r =
+    (element : ValueType) (n : ℕ) → IsGridOf w element n grid → IsOf (seen_by grid.owner w) element (told r)
+FitsAsked p w (act.MakeView grid how) wanted r = (element : ValueType) (n : ℕ) → IsGridOf w element n grid
+    → IsOf (seen_by grid.owner w) (t.Grid element (dims_viewed how n) true) (told r)
 FitsAsked p w (act.DomainOf grid) wanted r = (element : ValueType) (n : ℕ) → IsGridOf w element n grid → IsOf w (t.Rc n) (told r)
 FitsAsked p w (act.Take who) wanted r = (type : ValueType) → wanted ≡ ValueOf type → IsOf w type (told r)
 FitsAsked p w a wanted r = Unit {0}

@@ -70,7 +70,8 @@ IsStorable type = Unit {0}
 
 -- the thing is a grid of so many dimensions, whose elements have this type; it lies in the memory in which its elements do
 abbrev pub IsGridOf : Things → ValueType → ℕ → Id → Type 0
-IsGridOf w element n id = (g : Grid) × (w.grid_at id ≡ Some g) × IsRectOf n g.domain × (w.element_at g.block ≡ Some element) × IsStorable element × (g.block.owner ≡ id.owner)
+IsGridOf w element n id = (g : Grid) × (w.grid_at id ≡ Some g) × IsRectOf n g.domain × (w.element_at g.block ≡ Some element)
+    × IsStorable element × (g.block.owner ≡ id.owner)
 
 -- things can be placed there: in none, or in a region that was made (`is_place`, of a history)
 abbrev pub IsPlaced : Things → ℕ → Type 0
@@ -90,8 +91,10 @@ IsOf w (t.Pt n) h = (p : Point) × (h ≡ Plain (v.Pt p)) × IsPointOf n p
 IsOf w (t.Rc n) h = (r : Rect) × (h ≡ Plain (v.Rc r)) × IsRectOf n r
 IsOf w (t.Dm n) h = (ps : List Point) × (h ≡ Dm n ps) × IsDomainOf n ps
 IsOf w t.Region h = (r : ℕ) × (h ≡ Plain (v.Region r)) × IsPlaced w r
-IsOf w (t.Class class is_local) h = (o : Option Id) × (h ≡ Plain (v.Obj o)) × ((id : Id) → o ≡ Some id → w.class_at id ≡ Some class) × IsOwn w is_local o
-IsOf w (t.Grid element n is_local) h = (o : Option Id) × (h ≡ Plain (v.Grid o)) × ((id : Id) → o ≡ Some id → IsGridOf w element n id) × IsOwn w is_local o
+IsOf w (t.Class class is_local) h =
+    (o : Option Id) × (h ≡ Plain (v.Obj o)) × ((id : Id) → o ≡ Some id → w.class_at id ≡ Some class) × IsOwn w is_local o
+IsOf w (t.Grid element n is_local) h =
+    (o : Option Id) × (h ≡ Plain (v.Grid o)) × ((id : Id) → o ≡ Some id → IsGridOf w element n id) × IsOwn w is_local o
 IsOf w t.Null h = h ≡ Plain (v.Obj None)
 IsOf w t.Void h = Unit {0}
 

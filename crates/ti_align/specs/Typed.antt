@@ -55,9 +55,12 @@ pub record RunFits (s : Setting) (es : List Entry) : Type 0 where
   pub elements : Elements
   pub made : (grid : Id) (element : ValueType) → MadeWith s es grid element → elements grid ≡ Some element
   pub heap : HeapFits s.program elements (history_of es)
-  pub processes : (i : ℕ) (pr : Process) → i < s.procs → World s es i pr → ProcessFits (things_of i elements (history_of es)) (GivesLast s es i) pr
-  pub deposits : (i k : ℕ) (a : rounds.Arrival) (value : Value) → arrival_at i (suc k) (history_of es) ≡ Some a → hands_in a.kind ≡ true → value_in a.deposit ≡ Some value
-      → (type : ValueType) × GivesAt s es i k type × IsOf (things_of i elements (history_of es)) type (Plain value) × (is_local type ≡ false)
+  pub processes : (i : ℕ) (pr : Process) → i < s.procs → World s es i pr
+      → ProcessFits (things_of i elements (history_of es)) (GivesLast s es i) pr
+  pub deposits : (i k : ℕ) (a : rounds.Arrival) (value : Value) → arrival_at i (suc k) (history_of es) ≡ Some a → hands_in a.kind ≡ true
+      → value_in a.deposit ≡ Some value
+      → (type : ValueType) × GivesAt s es i k type × IsOf (things_of i elements (history_of es)) type (Plain value)
+      × (is_local type ≡ false)
 
 -- The same; wherever a process stands between its actions, each of its variables holds a value of its type, and `this` an object of its
 -- class; and each field and each element of a new grid holds a value of its type, be it written or still its zero. What a process hands

@@ -47,7 +47,7 @@ fn read_ranges(ranges: &[Range])
 }
 
 #[cycle(read)]
-#[tactic(auto, using(ti_lang::proofs::ProgramBridges::program_bridges))]
+#[tactic(auto, using(ti_lang::proofs::Lemmas::program_bridges))]
 fn read(e: &Expr)
     ensures { InExp (expression_of e.now) }
 {
@@ -149,7 +149,7 @@ fn read_statements(xs: &[Stmt])
 }
 
 #[cycle(read_statement)]
-#[tactic(auto, using(ti_lang::proofs::ProgramBridges::program_bridges))]
+#[tactic(auto, using(ti_lang::proofs::Lemmas::program_bridges))]
 fn read_statement(x: &Stmt)
     ensures { InStm (statement_of x.now) }
 {

@@ -38,6 +38,7 @@ pub fn slice_tells(c: &Checked)
 
 /// The slice of a checked program comes to an answer, whatever the outcomes, and to one alone.
 pub fn one_slice_answer(c: &Checked)
-    ensures some { (procs fuel : ℕ) (outcomes : List Answer) → (x : Step) × SliceAnswers (record { program = program_of c.now.program.parts; procs = procs; fuel = fuel }) outcomes x }
+    ensures some { (procs fuel : ℕ) (outcomes : List Answer) → (x : Step)
+        × SliceAnswers (record { program = program_of c.now.program.parts; procs = procs; fuel = fuel }) outcomes x }
     ensures one { (n : Setting) (outcomes : List Answer) (x y : Step) → SliceAnswers n outcomes x → SliceAnswers n outcomes y → x ≡ y }
 {}

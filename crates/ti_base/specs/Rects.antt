@@ -92,7 +92,8 @@ HasBadStride step = (step.x1 <ℤ pos 1) ⊎ ((2 ≤ step.dim) × (step.x2 <ℤ 
 -- the point is from lo to hi by steps in each coordinate; in those that are not used all are 0
 abbrev pub IsSpanned : Point → Point → Point → Point → Type 0
 IsSpanned lo hi step p =
-    IsWithin lo.dim (record { low = lo.x1; high = hi.x1; step = natural step.x1 }) (record { low = lo.x2; high = hi.x2; step = natural step.x2 })
+    IsWithin lo.dim (record { low = lo.x1; high = hi.x1; step = natural step.x1 })
+    (record { low = lo.x2; high = hi.x2; step = natural step.x2 })
     (record { low = lo.x3; high = hi.x3; step = natural step.x3 }) p
 
 -- some point of the rectangle has no coordinates of 32 bits where it is moved

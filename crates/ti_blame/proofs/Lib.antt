@@ -1,5 +1,6 @@
-pub mod Order
-pub mod Stepping
-pub mod Opened
-pub mod Popped
-pub mod Settling
+mod Order
+mod Stepping
+mod Opened
+mod Popped
+mod Settling
+pub mod Lemmas

@@ -44,7 +44,13 @@ waits_more u v w n old new what items rest more put q = by (is_at (name_cmp n) q
 module _ (items : List Blame) (s : Falls) (u w : BTreeMap Name (Vec Then Global) Global) (m : Mark) (e : Edge) (from : e.from ≡ Some m) (stands : has s m ≡ true)
     (put : (q : Name) → thens w q ≡ cond (is_at (name_cmp (name_of m)) q) (thens u q ++ e.then ∷ []) (thens u q)) where
   pub put_kept : IsKept items s w e
-  put_kept = inr (m, from, λ test h. ap (list_any test) (put (name_of m) ∙ ap (λ b. cond b (thens u (name_of m) ++ e.then ∷ []) (thens u (name_of m))) (name_itself (name_of m))) ∙ list_any-append test (thens u (name_of m)) (e.then ∷ []) ∙ grows_second _ _ (grows_first _ _ h))
+  put_kept = inr (
+    m,
+    from,
+    λ test h. ap (list_any test) (put (name_of m)
+        ∙ ap (λ b. cond b (thens u (name_of m) ++ e.then ∷ []) (thens u (name_of m))) (name_itself (name_of m)))
+        ∙ list_any-append test (thens u (name_of m)) (e.then ∷ []) ∙ grows_second _ _ (grows_first _ _ h),
+  )
 
   pub put_wider : (n : Name) (test : Then → Bool) → list_any test (thens u n) ≡ true → list_any test (thens w n) ≡ true
   put_wider n test h = ap (list_any test) (put n) ∙ by (is_at (name_cmp (name_of m)) n)
@@ -85,7 +91,9 @@ steps_open items s t w f n (inl here) = elim (f.noted n here) [ inl stays ↦ in
 steps_open items s t w f n (inr (inl fell)) = inr (inl (f.kept n fell))
 steps_open items s t w f n (inr (inr followed)) = inr (inr (still_fallen items s t f (thens w n) followed))
 
-pub steps_kept : (items : List Blame) (s t : Falls) (u w : BTreeMap Name (Vec Then Global) Global) (e : Edge) → Steps s t → ((n : Name) (test : Then → Bool) → list_any test (thens u n) ≡ true → list_any test (thens w n) ≡ true) → IsKept items s u e → IsKept items t w e
+pub steps_kept : (items : List Blame) (s t : Falls) (u w : BTreeMap Name (Vec Then Global) Global) (e : Edge) → Steps s t
+    → ((n : Name) (test : Then → Bool) → list_any test (thens u n) ≡ true → list_any test (thens w n) ≡ true) → IsKept items s u e
+    → IsKept items t w e
 steps_kept items s t u w e f wider (inl fell) = inl (stays_fallen s t (meaning items e.then) f fell)
 steps_kept items s t u w e f wider (inr waits) = inr (waits.0, waits.1, λ test h. wider (name_of waits.0) test (waits.2 test h))
 
@@ -94,13 +102,20 @@ pub not_broken : (held : Blame → Bool) (items : List Blame) (e : Edge) → sta
 not_broken held items e k keeps = sym (ap (λ b. b && list_any held (meaning items e.then)) k) ∙ keeps
 
 -- where nothing is left to follow, an edge that has been followed or waits isn't broken
-pub all_followed : (items : List Blame) (s : Falls) (w : BTreeMap Name (Vec Then Global) Global) → ((n : Name) → (contains name_cmp s.standing n ≡ true) ⊎ (any_left (left s) items (thens w n) ≡ false)) → (e : Edge) → IsKept items s w e → is_broken (left s) items e ≡ false
+pub all_followed : (items : List Blame) (s : Falls) (w : BTreeMap Name (Vec Then Global) Global)
+    → ((n : Name) → (contains name_cmp s.standing n ≡ true) ⊎ (any_left (left s) items (thens w n) ≡ false)) → (e : Edge)
+    → IsKept items s w e → is_broken (left s) items e ≡ false
 all_followed items s w opened e (inl fell) = ap (λ b. starts (left s) e.from && b) fell ∙ and_false (starts (left s) e.from)
   where
     and_false : (b : Bool) → (b && false) ≡ false
     and_false true = refl
     and_false false = refl
-all_followed items s w opened e (inr waits) = elim (opened (name_of waits.0)) [ inl stands ↦ ap (λ b. b && list_any (left s) (meaning items e.then)) (ap (starts (left s)) waits.1 ∙ ap not (left_of s waits.0 ∙ stands)) | inr followed ↦ by (list_any (left s) (meaning items e.then)) (waits.2 (λ t. list_any (left s) (meaning items t))) followed ]
+all_followed items s w opened e (inr waits) = elim (opened (name_of waits.0)) [
+  | inl stands ↦ ap (λ b. b && list_any (left s) (meaning items e.then)) (ap (starts (left s)) waits.1
+      ∙ ap not (left_of s waits.0 ∙ stands))
+  | inr followed ↦ by (list_any (left s) (meaning items e.then))
+      (waits.2 (λ t. list_any (left s) (meaning items t))) followed
+]
   where
     left_of : (s : Falls) (m : Mark) → left s (blame_of m) ≡ has s m
     left_of s m = at m.place m.kind

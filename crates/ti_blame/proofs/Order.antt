@@ -21,7 +21,8 @@ name_from p = record { line = p.0; col = p.1.0; rank = p.1.1 }
 pub names_exact : CmpEqualImpliesEq name_cmp
 unfolding name_from
 names_exact a b h =
-    ap name_from (exact_pairs nat_cmp (λ (p q : ℕ × ℕ). ordering_then (nat_cmp p.0 q.0) (nat_cmp p.1 q.1)) exact_unsigned (exact_pairs nat_cmp nat_cmp exact_unsigned exact_unsigned) (a.line, (a.col, a.rank)) (b.line, (b.col, b.rank)) h)
+    ap name_from (exact_pairs nat_cmp (λ (p q : ℕ × ℕ). ordering_then (nat_cmp p.0 q.0) (nat_cmp p.1 q.1)) exact_unsigned
+    (exact_pairs nat_cmp nat_cmp exact_unsigned exact_unsigned) (a.line, (a.col, a.rank)) (b.line, (b.col, b.rank)) h)
 
 -- names that compare alike are one
 pub same_name : (a b : Name) → is_at (name_cmp a) b ≡ true → a ≡ b

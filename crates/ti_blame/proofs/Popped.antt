@@ -72,7 +72,12 @@ module _ (m : Mark) (s t : Falls) (popped : Popped m s t) where
     pub popped_open : (n : Name) → IsOpen items s w n → IsOpen items u w n
     popped_open n (inl here) = steps_open items t u w step n (inl (standing_at n ∙ here))
     popped_open n (inr (inl fell)) =
-        elim (either_is _ _ (sym (fallen_at n) ∙ fell)) [ inl before ↦ steps_open items t u w step n (inr (inl before)) | inr here ↦ inr (inr (ap (λ k. any_left (left u) items (thens w k)) (same_name n (name_of m) (itself (is_at (name_cmp n) (name_of m)) here)) ∙ followed)) ]
+        elim (either_is _ _ (sym (fallen_at n) ∙ fell)) [
+          | inl before ↦ steps_open items t u w step n (inr (inl before))
+          | inr here ↦ inr
+              (inr (ap (λ k. any_left (left u) items (thens w k)) (same_name n (name_of m) (itself (is_at (name_cmp n) (name_of m)) here))
+              ∙ followed))
+        ]
       where
         itself : (a : Bool) → (a || false) ≡ true → a ≡ true
         itself true e = refl
@@ -83,7 +88,8 @@ module _ (m : Mark) (s t : Falls) (popped : Popped m s t) where
     popped_room = omega (arith, step.room, ap btree_set_len popped.standing, ap length popped.fallen, length-append t.fallen.items (m ∷ []))
 
 -- where nothing is left to follow
-pub none_to_follow : (items : List Blame) (s : Falls) (w : BTreeMap Name (Vec Then Global) Global) (n : Name) → s.fallen.items ≡ [] → IsOpen items s w n → (contains name_cmp s.standing n ≡ true) ⊎ (any_left (left s) items (thens w n) ≡ false)
+pub none_to_follow : (items : List Blame) (s : Falls) (w : BTreeMap Name (Vec Then Global) Global) (n : Name) → s.fallen.items ≡ []
+    → IsOpen items s w n → (contains name_cmp s.standing n ≡ true) ⊎ (any_left (left s) items (thens w n) ≡ false)
 none_to_follow items s w n e (inl here) = inl here
 none_to_follow items s w n e (inr (inl fell)) = absurd (true_false (sym fell ∙ ap (λ ms. is_fallen ms n) e))
 none_to_follow items s w n e (inr (inr followed)) = inr followed

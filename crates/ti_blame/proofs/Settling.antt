@@ -54,7 +54,8 @@ cond_or true true = refl
 cond_or true false = refl
 cond_or false a = sym (or_end a)
 
-pub name_more : (names : List Mark) (i : ℕ) (d : Mark) (k n : Name) (old new : Bool) → i < length names → k ≡ name_of (get_or names i d) → old ≡ is_named (take i names) n → new ≡ cond (is_at (name_cmp k) n) true old → new ≡ is_named (take (i + 1) names) n
+pub name_more : (names : List Mark) (i : ℕ) (d : Mark) (k n : Name) (old new : Bool) → i < length names → k ≡ name_of (get_or names i d)
+    → old ≡ is_named (take i names) n → new ≡ cond (is_at (name_cmp k) n) true old → new ≡ is_named (take (i + 1) names) n
 name_more names i d k n old new lt here is more =
     more ∙ cond_or (is_at (name_cmp k) n) old ∙ ap₂ (λ a b. a || b) is (flip_name k n ∙ ap (is_at (name_cmp n)) here ∙ sym (or_end _))
     ∙ sym (ap (λ ms. is_named ms n) (take_more names i d lt) ∙ list_any-append (λ (x : Mark). is_at (name_cmp n) (name_of x)) (take i names) (get_or names i d ∷ []))
@@ -62,7 +63,8 @@ name_more names i d k n old new lt here is more =
 -- ---- marks and names
 
 same_places : (p q : Place) → same_place p q ≡ true → p ≡ q
-same_places p q h = let e = both_true (p.line == q.line) (p.col == q.col) h in let l : p.line ≡ q.line = eqb-true p.line q.line e.0 in let k : p.col ≡ q.col = eqb-true p.col q.col e.1 in λ j. record { line = l j; col = k j }
+same_places p q h = let e = both_true (p.line == q.line) (p.col == q.col) h in let l : p.line ≡ q.line = eqb-true p.line q.line e.0 in
+    let k : p.col ≡ q.col = eqb-true p.col q.col e.1 in λ j. record { line = l j; col = k j }
 
 place_itself : (p : Place) → same_place p p ≡ true
 place_itself p = ap₂ (λ a b. a && b) (eq-eqb p.line p.line refl) (eq-eqb p.col p.col refl)
@@ -93,7 +95,8 @@ is_mark_itself m = ap₂ (λ a b. a && b) (kind_itself m.kind) (place_itself m.p
 
 -- a mark of a list is asked for by its name
 mark_by_name : (m n : Mark) → is_at (name_cmp (name_of m)) (name_of n) ≡ is_mark m.kind m.place n
-mark_by_name m n = alike _ _ (λ h. ap (is_mark m.kind m.place) (sym (same_mark m n h)) ∙ is_mark_itself m) (λ h. ap (λ k. is_at (name_cmp (name_of m)) (name_of k)) (sym (mark_is m n h)) ∙ name_itself (name_of m))
+mark_by_name m n = alike _ _ (λ h. ap (is_mark m.kind m.place) (sym (same_mark m n h)) ∙ is_mark_itself m)
+    (λ h. ap (λ k. is_at (name_cmp (name_of m)) (name_of k)) (sym (mark_is m n h)) ∙ name_itself (name_of m))
 
 pub named_is : (names : List Mark) (m : Mark) → is_named names (name_of m) ≡ list_any (is_mark m.kind m.place) names
 named_is [] m = refl
@@ -109,7 +112,11 @@ AreProper (n ∷ ns) = IsProper n × AreProper ns
 
 proper_named : (names : List Mark) (n : Name) → is_named names n ≡ true → IsProper n
 proper_named [] n h = absurd (true_false (sym h))
-proper_named (x ∷ xs) n h = elim (either_is _ _ h) [ inl here ↦ ap (λ k. name_of (mark_at k)) (same_name n (name_of x) here) ∙ ap name_of (mark_itself x) ∙ sym (same_name n (name_of x) here) | inr there ↦ proper_named xs n there ]
+proper_named (x ∷ xs) n h = elim (either_is _ _ h) [
+  | inl here ↦ ap (λ k. name_of (mark_at k)) (same_name n (name_of x) here)
+      ∙ ap name_of (mark_itself x) ∙ sym (same_name n (name_of x) here)
+  | inr there ↦ proper_named xs n there
+]
 
 proper_all : (ks : List Name) → ((n : Name) → list_any (is_at (name_cmp n)) ks ≡ true → IsProper n) → AreProper ks
 proper_all [] f = tt
@@ -137,7 +144,8 @@ start_open items s w none n = inr (inr (ap (any_left (left s) items) (none n)))
 start_fair : (items : List Blame) (w : BTreeMap Name (Vec Then Global) Global) → ((n : Name) → thens w n ≡ []) → (held : Blame → Bool) → IsFair items held w
 start_fair items w none held m h = ap (any_left held items) (none (name_of m))
 
-held_mark : (counts : Place → Bool) (a : Marks) (names : List Mark) → IsPart a (marks_of names) → (p : Place) (k : MarkKind) → stands counts a (blame_at p k) ≡ true → list_any (is_mark k p) names ≡ true
+held_mark : (counts : Place → Bool) (a : Marks) (names : List Mark) → IsPart a (marks_of names) → (p : Place) (k : MarkKind)
+    → stands counts a (blame_at p k) ≡ true → list_any (is_mark k p) names ≡ true
 held_mark counts a names part p kind.Method h = part.methods p h
 held_mark counts a names part p kind.Result h = part.results p h
 held_mark counts a names part p kind.Variable h = part.variables p h
@@ -171,7 +179,8 @@ same_edges f g h items (e ∷ es) = ap₂ (λ a b. a || b) (ap₂ (λ a b. a && 
     from None = refl
     from (Some m) = ap not (h (blame_of m))
 
-module _ (names : List Mark) (items : List Blame) (edges : List Edge) (s t u : Falls) (v w : BTreeMap Name (Vec Then Global) Global) (start : IsStart names s) (none : (n : Name) → thens v n ≡ []) (step : Steps s t)
+module _ (names : List Mark) (items : List Blame) (edges : List Edge) (s t u : Falls) (v w : BTreeMap Name (Vec Then Global) Global)
+    (start : IsStart names s) (none : (n : Name) → thens v n ≡ []) (step : Steps s t)
     (kept : (test : Edge → Bool) → ((e : Edge) → IsKept items t w e → test e ≡ false) → list_any test edges ≡ false)
     (fair : (held : Blame → Bool) → KeepsEdges held items edges → IsFair items held v → IsFair items held w)
     (covered : (held : Blame → Bool) → KeepsEdges held items edges → Covers held s → Covers held t)

@@ -164,7 +164,13 @@ pub done_more : (items : List Blame) (from to : ℕ) (s t u : Falls) → AreDone
     → MoreDone from to t.done.items u.done.items → list_any (left t) (take (to - from) (drop from items)) ≡ false → AreDone items u
 done_more items from to s t u h f e standing blamed more gone_there i lt =
     same_left t u (take (get_or u.done.items i 0 - i) (drop i items)) standing blamed
-    ∙ elim (more.1 i) [ inl there ↦ ap₂ (λ n k. list_any (left t) (take (k - n) (drop n items))) there.0 there.1 ∙ gone_there | inr same ↦ ap (λ k. list_any (left t) (take (k - i) (drop i items))) same ∙ done_stays items s t f e h i (rw (sym more.0) lt) ]
+    ∙ elim (more.1 i) [
+      | inl there ↦ ap₂ (λ n k. list_any (left t) (take (k - n) (drop n items))) there.0 there.1
+          ∙ gone_there
+      | inr same ↦ ap (λ k. list_any (left t) (take (k - i) (drop i items))) same
+          ∙ done_stays items s t f e h i (rw (sym more.0) lt)
+    ]
 
-pub was_done : (items : List Blame) (from to : ℕ) (s : Falls) → AreDone items s → from < length s.done.items → to ≤ get_or s.done.items from 0 → list_any (left s) (take (to - from) (drop from items)) ≡ false
+pub was_done : (items : List Blame) (from to : ℕ) (s : Falls) → AreDone items s → from < length s.done.items
+    → to ≤ get_or s.done.items from 0 → list_any (left s) (take (to - from) (drop from items)) ≡ false
 was_done items from to s h lt le = none_sooner (left s) (drop from items) (to - from) (get_or s.done.items from 0 - from) (omega arith) (h from lt)

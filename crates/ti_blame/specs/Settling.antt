@@ -15,7 +15,9 @@ pub record IsSettled (names : List Mark) (items : List Blame) (edges : List Edge
   pub keeps : KeepsEdges (stands (before blamed) (marks_of marks)) items edges
   pub part : IsPart (marks_of marks) (marks_of names)
   -- each part of the marks that breaks no edge is a part of what is left, whichever collectives stand, and the first that falls doesn't
-  pub greatest : (counts : Place → Bool) (a : Marks) → IsPart a (marks_of names) → KeepsEdges (stands counts a) items edges → IsPart a (marks_of marks)
-  pub first : (counts : Place → Bool) (a : Marks) → IsPart a (marks_of names) → KeepsEdges (stands counts a) items edges → IfSome blamed (λ at. counts at ≡ false)
+  pub greatest : (counts : Place → Bool) (a : Marks) → IsPart a (marks_of names) → KeepsEdges (stands counts a) items edges
+      → IsPart a (marks_of marks)
+  pub first : (counts : Place → Bool) (a : Marks) → IsPart a (marks_of names) → KeepsEdges (stands counts a) items edges
+      → IfSome blamed (λ at. counts at ≡ false)
   -- they rise
   pub rises : IsStrictlySortedBy name_cmp (map name_of marks)

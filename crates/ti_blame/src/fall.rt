@@ -94,7 +94,8 @@ fn part_falls(s: &mut Falls, items: &[Blame], from: usize, to: usize) -> Result<
     requires { AreDone items.now s.old }
     ensures step { OnOk result (Steps s.old s.new) }
     ensures gone { OnOk result (list_any (left s.new) (meaning items.now (Then.Between from to)) ≡ false) }
-    ensures covered { OnOk result ((held : Blame → Bool) → list_any held (meaning items.now (Then.Between from to)) ≡ false → Covers held s.old → Covers held s.new) }
+    ensures covered { OnOk result ((held : Blame → Bool) → list_any held (meaning items.now (Then.Between from to)) ≡ false
+        → Covers held s.old → Covers held s.new) }
     ensures done { OnOk result (AreDone items.now s.new) }
 {
     if is_done(&s.done, from, to) {
@@ -118,7 +119,8 @@ pub fn then_falls(s: &mut Falls, items: &[Blame], then: Then) -> Result<(), Memo
     requires { AreDone items.now s.old }
     ensures step { OnOk result (Steps s.old s.new) }
     ensures gone { OnOk result (list_any (left s.new) (meaning items.now then) ≡ false) }
-    ensures covered { OnOk result ((held : Blame → Bool) → list_any held (meaning items.now then) ≡ false → Covers held s.old → Covers held s.new) }
+    ensures covered { OnOk result ((held : Blame → Bool) → list_any held (meaning items.now then) ≡ false → Covers held s.old
+        → Covers held s.new) }
     ensures done { OnOk result (AreDone items.now s.new) }
 {
     match then {

@@ -25,7 +25,8 @@ fn thens_fall(s: &mut Falls, items: &[Blame], found: &[Then]) -> Result<(), Memo
     requires { AreDone items.now s.old }
     ensures step { OnOk result (Steps s.old s.new) }
     ensures gone { OnOk result (any_left (left s.new) items.now found.now ≡ false) }
-    ensures covered { OnOk result ((held : TheBlame → Bool) → any_left held items.now found.now ≡ false → Covers held s.old → Covers held s.new) }
+    ensures covered { OnOk result ((held : TheBlame → Bool) → any_left held items.now found.now ≡ false → Covers held s.old
+        → Covers held s.new) }
     ensures done { OnOk result (AreDone items.now s.new) }
 {
     for what in found {
@@ -43,7 +44,8 @@ fn follow(
     requires { AreDone items.now s.old }
     ensures step { OnOk result (Steps s.old s.new) }
     ensures gone { OnOk result (any_left (left s.new) items.now (thens waiting.now (name_of m)) ≡ false) }
-    ensures covered { OnOk result ((held : TheBlame → Bool) → any_left held items.now (thens waiting.now (name_of m)) ≡ false → Covers held s.old → Covers held s.new) }
+    ensures covered { OnOk result ((held : TheBlame → Bool) → any_left held items.now (thens waiting.now (name_of m)) ≡ false
+        → Covers held s.old → Covers held s.new) }
     ensures done { OnOk result (AreDone items.now s.new) }
 {
     let name = Name::of(m);
@@ -79,9 +81,11 @@ pub fn begin(
     requires { AreDone items.now s.old }
     ensures step { OnOk result (Steps s.old s.new) }
     ensures kept { OnOk result (IsKept items.now s.new waiting.new e) }
-    ensures wider { OnOk result ((n : TheName) (test : TheThen → Bool) → list_any test (thens waiting.old n) ≡ true → list_any test (thens waiting.new n) ≡ true) }
+    ensures wider { OnOk result ((n : TheName) (test : TheThen → Bool) → list_any test (thens waiting.old n) ≡ true
+        → list_any test (thens waiting.new n) ≡ true) }
     ensures opened { OnOk result ((n : TheName) → IsOpen items.now s.old waiting.old n → IsOpen items.now s.new waiting.new n) }
-    ensures fair { OnOk result ((held : TheBlame → Bool) → is_broken held items.now e ≡ false → IsFair items.now held waiting.old → IsFair items.now held waiting.new) }
+    ensures fair { OnOk result ((held : TheBlame → Bool) → is_broken held items.now e ≡ false → IsFair items.now held waiting.old
+        → IsFair items.now held waiting.new) }
     ensures covered { OnOk result ((held : TheBlame → Bool) → is_broken held items.now e ≡ false → Covers held s.old → Covers held s.new) }
     ensures done { OnOk result (AreDone items.now s.new) }
 {
@@ -102,9 +106,11 @@ pub fn begin_all(
     requires opened { (n : TheName) → IsOpen items.now s.old waiting.old n }
     requires done { AreDone items.now s.old }
     ensures step { OnOk result (Steps s.old s.new) }
-    ensures kept { OnOk result ((test : TheEdge → Bool) → ((e : TheEdge) → IsKept items.now s.new waiting.new e → test e ≡ false) → list_any test edges.now ≡ false) }
+    ensures kept { OnOk result ((test : TheEdge → Bool) → ((e : TheEdge) → IsKept items.now s.new waiting.new e → test e ≡ false)
+        → list_any test edges.now ≡ false) }
     ensures opened { OnOk result ((n : TheName) → IsOpen items.now s.new waiting.new n) }
-    ensures fair { OnOk result ((held : TheBlame → Bool) → KeepsEdges held items.now edges.now → IsFair items.now held waiting.old → IsFair items.now held waiting.new) }
+    ensures fair { OnOk result ((held : TheBlame → Bool) → KeepsEdges held items.now edges.now → IsFair items.now held waiting.old
+        → IsFair items.now held waiting.new) }
     ensures covered { OnOk result ((held : TheBlame → Bool) → KeepsEdges held items.now edges.now → Covers held s.old → Covers held s.new) }
     ensures done { OnOk result (AreDone items.now s.new) }
 {
@@ -123,7 +129,8 @@ pub fn run(
     requires opened { (n : TheName) → IsOpen items.now s.old waiting.now n }
     requires apart { Apart s.old }
     requires done { AreDone items.now s.old }
-    ensures followed { OnOk result ((n : TheName) → (contains name_cmp s.new.standing n ≡ true) ⊎ (any_left (left s.new) items.now (thens waiting.now n) ≡ false)) }
+    ensures followed { OnOk result ((n : TheName) → (contains name_cmp s.new.standing n ≡ true)
+        ⊎ (any_left (left s.new) items.now (thens waiting.now n) ≡ false)) }
     ensures stays { OnOk result ((b : TheBlame) → left s.new b ≡ true → left s.old b ≡ true) }
     ensures fewer { OnOk result ((n : TheName) → contains name_cmp s.new.standing n ≡ true → contains name_cmp s.old.standing n ≡ true) }
     ensures covered { OnOk result ((held : TheBlame → Bool) → IsFair items.now held waiting.now → Covers held s.old → Covers held s.new) }

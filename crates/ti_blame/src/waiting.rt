@@ -29,7 +29,8 @@ pub fn wait(
     m: Mark,
     what: Then,
 ) -> Result<(), Memory>
-    ensures { OnOk result ((q : TheName) → thens waiting.new q ≡ cond (is_at (name_cmp (name_of m)) q) (thens waiting.old q ++ what ∷ []) (thens waiting.old q)) }
+    ensures { OnOk result ((q : TheName) → thens waiting.new q ≡ cond (is_at (name_cmp (name_of m)) q) (thens waiting.old q ++ what ∷ [])
+        (thens waiting.old q)) }
 {
     let name = Name::of(m);
     let mut found = taken(alloc, waiting, name);

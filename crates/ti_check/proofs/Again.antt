@@ -10,8 +10,8 @@ use Rattle.ti_rules.specs.declared.refusal.Refusal.{Refusal}
 use Rattle.ti_rules.specs.Refusals.{refused_if}
 use Rattle.ti_rules.specs.Mirrors.First.{sooner, first_of}
 use Rattle.ti_rules.specs.Broken.Words.{same_word, repeated_modifiers}
-use Rattle.ti_rules.proofs.First.{first_append, sooner_assoc, sooner_none}
-use Rattle.ti_types.proofs.Loops.{none_sooner, drop_next}
+use Rattle.ti_rules.proofs.Lemmas.{first_append, sooner_assoc, sooner_none}
+use Rattle.ti_types.proofs.Lemmas.{none_sooner, drop_next}
 use Rattle.ti_check.specs.declared.modifiers.Met.{Met}
 use Rattle.ti_check.specs.Mirrors.Modifiers.{met_again, has_met, meeting, nothing_met}
 

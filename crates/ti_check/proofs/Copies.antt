@@ -41,7 +41,8 @@ types _ _ h = absurd (true≢false (sym h))
 pub variables : (a b : InScope) → a.number ≡ b.number → a.single ≡ b.single → same_type (value_type_of a.ty) (value_type_of b.ty) ≡ true → in_scope_of a ≡ in_scope_of b
 variables a b number single type =
     ap (λ n. record { number = n; type = value_type_of a.ty; is_single = a.single }) number
-    ∙ (ap (λ t. record { number = b.number; type = t; is_single = a.single }) (types (value_type_of a.ty) (value_type_of b.ty) type) ∙ ap (λ s. record { number = b.number; type = value_type_of b.ty; is_single = s }) single)
+    ∙ (ap (λ t. record { number = b.number; type = t; is_single = a.single }) (types (value_type_of a.ty) (value_type_of b.ty) type)
+    ∙ ap (λ s. record { number = b.number; type = value_type_of b.ty; is_single = s }) single)
 
 -- the same word
 pub word : (a b : Bool) → not (beq a b) ≡ false → a ≡ b
@@ -51,10 +52,12 @@ word true false h = absurd (true≢false h)
 word false true h = absurd (true≢false h)
 
 -- the front of others that is the same, and behind it the rest
-pub front_and_rest : {A B : Type 0} (f : A → B) (found others variables : List A) (count : ℕ) → count ≤ length variables → found ≡ take count others → map f (take count others) ≡ map f (take count variables)
+pub front_and_rest : {A B : Type 0} (f : A → B) (found others variables : List A) (count : ℕ) → count ≤ length variables → found
+    ≡ take count others → map f (take count others) ≡ map f (take count variables)
     → map f found ++ map f (take (length variables - count) (drop count variables)) ≡ map f variables
 front_and_rest f found others variables count within front same =
     ap (λ l. map f l ++ map f (take (length variables - count) (drop count variables))) front
     ∙ (ap (λ l. l ++ map f (take (length variables - count) (drop count variables))) same
-    ∙ (ap (λ l. map f (take count variables) ++ map f l) (take_all (length variables - count) (drop count variables) (subst (λ n. n ≤ length variables - count) (sym (length-drop count variables)) (omega arith)))
+    ∙ (ap (λ l. map f (take count variables) ++ map f l) (take_all (length variables - count) (drop count variables)
+    (subst (λ n. n ≤ length variables - count) (sym (length-drop count variables)) (omega arith)))
     ∙ (sym (map-append f (take count variables) (drop count variables)) ∙ ap (map f) (take-append-drop count variables))))

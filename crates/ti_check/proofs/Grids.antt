@@ -36,12 +36,14 @@ points_near element (t ∷ ts) = refl
 literal_near : (element : ValueType) (n : ℕ) (ts : List ValueType) → is_some (option_and_then (grid_over element) (rect_literal n ts)) ≡ is_some (rect_literal n ts)
 literal_near element n ts = by (all_ints ts) (n == 1)
   where
-    by : (b c : Bool) → is_some (option_and_then (grid_over element) (if b then Some (Rc n) else if c then range_of_points ts else None)) ≡ is_some (if b then Some (Rc n) else if c then range_of_points ts else None)
+    by : (b c : Bool) → is_some (option_and_then (grid_over element) (if b then Some (Rc n) else if c then range_of_points ts else None))
+        ≡ is_some (if b then Some (Rc n) else if c then range_of_points ts else None)
     by true c = refl
     by false true = points_near element ts
     by false false = refl
 
-in_region : (b : Bool) (element : ValueType) (o : Option ValueType) (c : Bool) → is_some (option_and_then (grid_over element) o) ≡ c → is_some (if b then option_and_then (grid_over element) o else None) ≡ b && c
+in_region : (b : Bool) (element : ValueType) (o : Option ValueType) (c : Bool) → is_some (option_and_then (grid_over element) o) ≡ c
+    → is_some (if b then option_and_then (grid_over element) o else None) ≡ b && c
 in_region true element o c is = is
 in_region false element o c is = refl
 
@@ -61,4 +63,5 @@ pub grid_refused : (at : Place) (element : ValueType) (o : Option ValueType) (q 
     ≡ both_judged o q (λ r d. mistaken at (is_some (new_grid_type element r d)) (is_some (new_grid_type element r (one_dim_spread d))))
 grid_refused at element None q = refl
 grid_refused at element (Some r) None = refl
-grid_refused at element (Some r) (Some d) = ap (λ z. mistaken at (is_some z) (told_near r (told_spread d))) (told_type element r d) ∙ ap (λ z. mistaken at (is_some (new_grid_type element r d)) z) (sym (near_told element r d))
+grid_refused at element (Some r) (Some d) = ap (λ z. mistaken at (is_some z) (told_near r (told_spread d))) (told_type element r d)
+    ∙ ap (λ z. mistaken at (is_some (new_grid_type element r d)) z) (sym (near_told element r d))

@@ -12,8 +12,8 @@ use Rattle.ti_rules.specs.Mirrors.First.{sooner, first_of}
 use Rattle.ti_rules.specs.Standing.{Around, Standing, stands, inside, inside_all}
 use Rattle.ti_rules.specs.Broken.Statements.{statement_refusals, standing_refusals}
 use Rattle.ti_rules.specs.SingleRules.{single_refusals_at, standing_single_refusals}
-use Rattle.ti_rules.proofs.First.{sooner_none, sooner_assoc, first_cons_each, first_append_each}
-use Rattle.ti_types.proofs.Loops.{drop_next, each_step}
+use Rattle.ti_rules.proofs.Lemmas.{sooner_none, sooner_assoc, first_cons_each, first_append_each}
+use Rattle.ti_types.proofs.Lemmas.{drop_next, each_step}
 use Rattle.ti_check.specs.declared.found.Found.{Found}
 use Rattle.ti_check.specs.Mirrors.Found.{IsFirst, IsFound, below}
 
@@ -28,11 +28,13 @@ inside_is p around (st.For at first c update body) = refl
 inside_is p around (st.Foreach at number domain body) = refl
 inside_is p around x = refl
 
-in_front : (g : Standing → List Refusal) (y : Standing) (ys : List Standing) (a b r : Option Refusal) → r ≡ sooner a b → a ≡ first_of (g y) → b ≡ first_of (flat_map g ys) → r ≡ first_of (flat_map g (y ∷ ys))
+in_front : (g : Standing → List Refusal) (y : Standing) (ys : List Standing) (a b r : Option Refusal) → r ≡ sooner a b → a ≡ first_of (g y)
+    → b ≡ first_of (flat_map g ys) → r ≡ first_of (flat_map g (y ∷ ys))
 in_front g y ys a b r is is_a is_b = is ∙ ap (λ z. sooner z b) is_a ∙ ap (sooner (first_of (g y))) is_b ∙ sym (first_cons_each g y ys)
 
 -- a statement with those in it
-pub whole_found : (p : NumberedProgram) (around : Around) (x : NumberedStm) (own inner f : Found) → IsFirst (statement_refusals p around x) (single_refusals_at p around x) own → IsFound p (below p around x) inner
+pub whole_found : (p : NumberedProgram) (around : Around) (x : NumberedStm) (own inner f : Found)
+    → IsFirst (statement_refusals p around x) (single_refusals_at p around x) own → IsFound p (below p around x) inner
     → f.types ≡ sooner own.types inner.types → f.single ≡ sooner own.single inner.single → IsFound p (inside p around x) f
 whole_found p around x own inner f is_own is_inner types single =
     subst (λ l. IsFound p l f) (sym (inside_is p around x)) (
@@ -42,11 +44,13 @@ whole_found p around x own inner f is_own is_inner types single =
 
 -- ---- several
 
-in_both : (g : Standing → List Refusal) (xs ys : List Standing) (a b r : Option Refusal) → r ≡ sooner a b → a ≡ first_of (flat_map g xs) → b ≡ first_of (flat_map g ys) → r ≡ first_of (flat_map g (xs ++ ys))
+in_both : (g : Standing → List Refusal) (xs ys : List Standing) (a b r : Option Refusal) → r ≡ sooner a b → a ≡ first_of (flat_map g xs) → b
+    ≡ first_of (flat_map g ys) → r ≡ first_of (flat_map g (xs ++ ys))
 in_both g xs ys a b r is is_a is_b = is ∙ ap (λ z. sooner z b) is_a ∙ ap (sooner (first_of (flat_map g xs))) is_b ∙ sym (first_append_each g xs ys)
 
 -- statements before others
-pub both_found : (p : NumberedProgram) (xs ys : List Standing) (a b f : Found) → IsFound p xs a → IsFound p ys b → f.types ≡ sooner a.types b.types → f.single ≡ sooner a.single b.single → IsFound p (xs ++ ys) f
+pub both_found : (p : NumberedProgram) (xs ys : List Standing) (a b f : Found) → IsFound p xs a → IsFound p ys b → f.types
+    ≡ sooner a.types b.types → f.single ≡ sooner a.single b.single → IsFound p (xs ++ ys) f
 both_found p xs ys a b f is_a is_b types single = (
   in_both (standing_refusals p) xs ys a.types b.types f.types types is_a.0 is_b.0,
   in_both (standing_single_refusals p) xs ys a.single b.single f.single single is_a.1 is_b.1,
@@ -76,7 +80,8 @@ rest_of p around xs i = inside_all p around (numbered_stms (map statement_of (dr
 abbrev pub LeftOf : NumberedProgram → Around → List Stmt → Found → ℕ → Type 0
 LeftOf p around xs f i =
     let whole = inside_all p around (numbered_stms (map statement_of xs)) in
-    Left (flat_map (standing_refusals p) whole) (flat_map (standing_single_refusals p) whole) f (flat_map (standing_refusals p) (rest_of p around xs i)) (flat_map (standing_single_refusals p) (rest_of p around xs i))
+    Left (flat_map (standing_refusals p) whole) (flat_map (standing_single_refusals p) whole) f
+    (flat_map (standing_refusals p) (rest_of p around xs i)) (flat_map (standing_single_refusals p) (rest_of p around xs i))
 
 next_left : (g : Standing → List Refusal) (p : NumberedProgram) (around : Around) (xs : List Stmt) (i : ℕ) (x : Stmt) (whole found a next : Option Refusal) → i < length xs → x ≡ get_or xs i x
     → whole ≡ sooner found (first_of (flat_map g (rest_of p around xs i))) → a ≡ first_of (flat_map g (inside p around (statement_of x))) → next ≡ sooner found a
@@ -90,7 +95,8 @@ next_left g p around xs i x whole found a next lt here is is_a is_next =
     ∙ sym (ap (λ z. sooner (sooner found z) (first_of (flat_map g rest))) is_a)
     ∙ sym (ap (λ z. sooner z (first_of (flat_map g rest))) is_next)
 
-pub left_next : (p : NumberedProgram) (around : Around) (xs : List Stmt) (i : ℕ) (x : Stmt) (found a next : Found) → i < length xs → x ≡ get_or xs i x → LeftOf p around xs found i → IsFound p (inside p around (statement_of x)) a
+pub left_next : (p : NumberedProgram) (around : Around) (xs : List Stmt) (i : ℕ) (x : Stmt) (found a next : Found) → i < length xs → x
+    ≡ get_or xs i x → LeftOf p around xs found i → IsFound p (inside p around (statement_of x)) a
     → next.types ≡ sooner found.types a.types → next.single ≡ sooner found.single a.single → LeftOf p around xs next (i + 1)
 left_next p around xs i x found a next lt here left is_a types single = (
   next_left (standing_refusals p) p around xs i x _ found.types a.types next.types lt here left.0 is_a.0 types,
@@ -101,10 +107,12 @@ sooner_nil : (a : Option Refusal) → sooner a (first_of []) ≡ a
 unfolding first_of
 sooner_nil a = sooner_none a
 
-pub left_last : (p : NumberedProgram) (around : Around) (xs : List Stmt) (i : ℕ) (found : Found) → length xs ≤ i → LeftOf p around xs found i → IsFound p (inside_all p around (numbered_stms (map statement_of xs))) found
+pub left_last : (p : NumberedProgram) (around : Around) (xs : List Stmt) (i : ℕ) (found : Found) → length xs ≤ i
+    → LeftOf p around xs found i → IsFound p (inside_all p around (numbered_stms (map statement_of xs))) found
 left_last p around xs i found le left = (
   sym (left.0 ∙ ap (λ l. sooner found.types (first_of (flat_map (standing_refusals p) (inside_all p around (numbered_stms (map statement_of l)))))) (drop_all i xs le) ∙ sooner_nil found.types),
-  sym (left.1 ∙ ap (λ l. sooner found.single (first_of (flat_map (standing_single_refusals p) (inside_all p around (numbered_stms (map statement_of l)))))) (drop_all i xs le) ∙ sooner_nil found.single),
+  sym (left.1 ∙ ap (λ l. sooner found.single (first_of (flat_map (standing_single_refusals p)
+      (inside_all p around (numbered_stms (map statement_of l)))))) (drop_all i xs le) ∙ sooner_nil found.single),
 )
 
 -- ---- elements by number

@@ -22,7 +22,7 @@ use Rattle.ti_single.specs.declared.doings.Doings.{Doings as DoingsHere}
 use Rattle.ti_single.specs.Doings.{doings_of}
 use Rattle.ti_single.specs.EffectsAt.{doings_in_loop}
 use Rattle.ti_single.specs.Mirrors.Maybe.{maybe_in}
-use Rattle.ti_single.proofs.Together.{together_nothing}
+use Rattle.ti_single.proofs.Lemmas.{together_nothing}
 use Rattle.ti_check.specs.declared.found.Walked.{Walked}
 use Rattle.ti_check.specs.Mirrors.Found.{IsFirst, below, is_simple}
 use Rattle.ti_check.specs.Mirrors.Sites.{jump_in}
@@ -45,14 +45,16 @@ types_where p m variables has_loop jump_has (st.Break at) = ap (λ z. refused_if
 types_where p m variables has_loop jump_has (st.Continue at) = ap (λ z. refused_if z Y8 at) (jump_nowhere has_loop jump_has ∙ sym (jump_nowhere has_loop false))
 types_where p m variables has_loop jump_has x = refl
 
-branch_where : (p : NumberedProgram) (at : Place) (acts jumps a b plain : Bool) → jumps ≡ false → refused_if ((acts || (jumps && a)) && plain) S1 at ≡ refused_if ((acts || (jumps && b)) && plain) S1 at
+branch_where : (p : NumberedProgram) (at : Place) (acts jumps a b plain : Bool) → jumps ≡ false
+    → refused_if ((acts || (jumps && a)) && plain) S1 at ≡ refused_if ((acts || (jumps && b)) && plain) S1 at
 branch_where p at acts jumps a b plain none = ap (λ z. refused_if ((acts || (z && a)) && plain) S1 at) none ∙ sym (ap (λ z. refused_if ((acts || (z && b)) && plain) S1 at) none)
 
 -- where a statement has no jump, it is nothing to its rule of single values
 pub single_alike : (p : NumberedProgram) (m : NumberedMethod) (variables : List ScopeVariable) (has_loop jump_has : Bool) (x : NumberedStm) → (doings p (this_of m) x).jumps ≡ false
     → single_refusals_at p (standing_where m variables has_loop jump_has) x ≡ single_refusals_at p (standing_where m variables has_loop false) x
 single_alike p m variables has_loop jump_has (st.If at c a) none =
-    branch_where p at (jump_acts (return_acts p m) (doings p (this_of m) (st.If at c a))) (doings p (this_of m) (st.If at c a)).jumps (unwrap_or (jump_in has_loop jump_has) false) (unwrap_or (jump_in has_loop false) false)
+    branch_where p at (jump_acts (return_acts p m) (doings p (this_of m) (st.If at c a))) (doings p (this_of m) (st.If at c a)).jumps
+    (unwrap_or (jump_in has_loop jump_has) false) (unwrap_or (jump_in has_loop false) false)
     (is_plain_part p (standing_where m variables has_loop false) c) none
 single_alike p m variables has_loop jump_has (st.IfElse at c a b) none =
     branch_where p at (jump_acts (return_acts p m) (doings p (this_of m) (st.IfElse at c a b))) (doings p (this_of m) (st.IfElse at c a b)).jumps (unwrap_or (jump_in has_loop jump_has) false)
@@ -60,23 +62,28 @@ single_alike p m variables has_loop jump_has (st.IfElse at c a b) none =
 single_alike p m variables has_loop jump_has x none = refl
 
 -- of a statement apart from those in it
-pub own_first : (p : NumberedProgram) (m : NumberedMethod) (variables : List ScopeVariable) (has_loop : Bool) (x : NumberedStm) (own : Walked) → own.types ≡ first_of (statement_refusals p (standing_where m variables has_loop false) x)
+pub own_first : (p : NumberedProgram) (m : NumberedMethod) (variables : List ScopeVariable) (has_loop : Bool) (x : NumberedStm)
+    (own : Walked) → own.types ≡ first_of (statement_refusals p (standing_where m variables has_loop false) x)
     → own.single ≡ first_of (single_refusals_at p (standing_where m variables has_loop false) x) → own.jumping ≡ first_of (single_refusals_at p (standing_where m variables has_loop true) x)
-    → (jump_has : Bool) → IsFirst (statement_refusals p (standing_where m variables has_loop jump_has) x) (single_refusals_at p (standing_where m variables has_loop jump_has) x) (found_where own jump_has)
+    → (jump_has : Bool) → IsFirst (statement_refusals p (standing_where m variables has_loop jump_has) x)
+    (single_refusals_at p (standing_where m variables has_loop jump_has) x) (found_where own jump_has)
 own_first p m variables has_loop x own types single jumping false = (types, single)
 own_first p m variables has_loop x own types single jumping true = (types ∙ sym (ap first_of (types_where p m variables has_loop true x)), jumping)
 
 -- of both
-single_both : (a b f : Walked) → f.single ≡ sooner a.single b.single → f.jumping ≡ sooner a.jumping b.jumping → (jump_has : Bool) → single_where f jump_has ≡ sooner (single_where a jump_has) (single_where b jump_has)
+single_both : (a b f : Walked) → f.single ≡ sooner a.single b.single → f.jumping ≡ sooner a.jumping b.jumping → (jump_has : Bool)
+    → single_where f jump_has ≡ sooner (single_where a jump_has) (single_where b jump_has)
 single_both a b f single jumping false = single
 single_both a b f single jumping true = jumping
 
 -- a statement with those in it
 pub whole_walked : (p : NumberedProgram) (around : Bool → Around) (x : NumberedStm) (own inner f : Walked)
-    → ((jump_has : Bool) → IsFirst (statement_refusals p (around jump_has) x) (single_refusals_at p (around jump_has) x) (found_where own jump_has)) → IsWalked p (λ jump_has. below p (around jump_has) x) inner
+    → ((jump_has : Bool) → IsFirst (statement_refusals p (around jump_has) x) (single_refusals_at p (around jump_has) x)
+    (found_where own jump_has)) → IsWalked p (λ jump_has. below p (around jump_has) x) inner
     → f.types ≡ sooner own.types inner.types → f.single ≡ sooner own.single inner.single → f.jumping ≡ sooner own.jumping inner.jumping → IsWalked p (λ jump_has. inside p (around jump_has) x) f
 whole_walked p around x own inner f is_own is_inner types single jumping =
-    λ jump_has. whole_found p (around jump_has) x (found_where own jump_has) (found_where inner jump_has) (found_where f jump_has) (is_own jump_has) (is_inner jump_has) types (single_both own inner f single jumping jump_has)
+    λ jump_has. whole_found p (around jump_has) x (found_where own jump_has) (found_where inner jump_has) (found_where f jump_has)
+    (is_own jump_has) (is_inner jump_has) types (single_both own inner f single jumping jump_has)
 
 -- ---- several
 
@@ -89,35 +96,41 @@ nothing_walked p d true = (refl, refl)
 pub both_walked : (p : NumberedProgram) (xs ys : Bool → List Standing) (a b f : Walked) → IsWalked p xs a → IsWalked p ys b → f.types ≡ sooner a.types b.types → f.single ≡ sooner a.single b.single
     → f.jumping ≡ sooner a.jumping b.jumping → IsWalked p (λ jump_has. xs jump_has ++ ys jump_has) f
 both_walked p xs ys a b f is_a is_b types single jumping =
-    λ jump_has. both_found p (xs jump_has) (ys jump_has) (found_where a jump_has) (found_where b jump_has) (found_where f jump_has) (is_a jump_has) (is_b jump_has) types (single_both a b f single jumping jump_has)
+    λ jump_has. both_found p (xs jump_has) (ys jump_has) (found_where a jump_has) (found_where b jump_has) (found_where f jump_has)
+    (is_a jump_has) (is_b jump_has) types (single_both a b f single jumping jump_has)
 
 -- the same statements
 pub same_walked : (p : NumberedProgram) (xs ys : Bool → List Standing) (w : Walked) → xs ≡ ys → IsWalked p xs w → IsWalked p ys w
 same_walked p xs ys w is walked = subst (λ l. IsWalked p l w) is walked
 
 -- with the same around them
-pub moved_walked : (p q : NumberedProgram) (a b : Bool → Around) (x y : NumberedStm) (w : Walked) → q ≡ p → a ≡ b → x ≡ y → IsWalked q (λ jump_has. inside q (a jump_has) x) w → IsWalked p (λ jump_has. inside p (b jump_has) y) w
+pub moved_walked : (p q : NumberedProgram) (a b : Bool → Around) (x y : NumberedStm) (w : Walked) → q ≡ p → a ≡ b → x ≡ y
+    → IsWalked q (λ jump_has. inside q (a jump_has) x) w → IsWalked p (λ jump_has. inside p (b jump_has) y) w
 moved_walked p q a b x y w is_p is_a is_x walked =
     subst (λ z. IsWalked p (λ jump_has. inside p (b jump_has) z) w) is_x
     (subst (λ z. IsWalked p (λ jump_has. inside p (z jump_has) x) w) is_a (subst (λ z. IsWalked z (λ jump_has. inside z (a jump_has) x) w) is_p walked))
 
-pub moved_doings : (p q : NumberedProgram) (a b : Bool → Around) (x y : NumberedStm) (d : Doings) → q ≡ p → a ≡ b → x ≡ y → d ≡ doings q (this_of (a false).method) x → d ≡ doings p (this_of (b false).method) y
+pub moved_doings : (p q : NumberedProgram) (a b : Bool → Around) (x y : NumberedStm) (d : Doings) → q ≡ p → a ≡ b → x ≡ y → d
+    ≡ doings q (this_of (a false).method) x → d ≡ doings p (this_of (b false).method) y
 moved_doings p q a b x y d is_p is_a is_x does =
     does ∙ ap (λ z. doings z (this_of (a false).method) x) is_p ∙ ap (λ (z : Bool → Around). doings p (this_of (z false).method) x) is_a ∙ ap (doings p (this_of (b false).method)) is_x
 
 -- ---- loops
 
-pub inside_does : (p : NumberedProgram) (m : NumberedMethod) (update : MaybeNumbered) (body : NumberedStm) (u w : Walked) → doings_of u.doings ≡ doings_of_maybe p (this_of m) update → doings_of w.doings ≡ doings p (this_of m) body
+pub inside_does : (p : NumberedProgram) (m : NumberedMethod) (update : MaybeNumbered) (body : NumberedStm) (u w : Walked)
+    → doings_of u.doings ≡ doings_of_maybe p (this_of m) update → doings_of w.doings ≡ doings p (this_of m) body
     → doings_inside u w ≡ doings_of_loop p m update body
 inside_does p m update body u w is_u is_w = ap (λ z. together z (doings_of w.doings)) is_u ∙ ap (together (doings_of_maybe p (this_of m) update)) is_w
 
 -- the body of a loop stands where it is known what a jump does
 pub loop_walked : (p : NumberedProgram) (m : NumberedMethod) (within : Bool → Around) (us : Bool → List Standing) (update : MaybeNumbered) (body : NumberedStm) (u w f : Walked) → IsWalked p us u
-    → doings_of u.doings ≡ doings_of_maybe p (this_of m) update → IsWalked p (λ jump_has. inside p (within jump_has) body) w → doings_of w.doings ≡ doings p (this_of m) body → f.types ≡ sooner u.types w.types
+    → doings_of u.doings ≡ doings_of_maybe p (this_of m) update → IsWalked p (λ jump_has. inside p (within jump_has) body) w
+    → doings_of w.doings ≡ doings p (this_of m) body → f.types ≡ sooner u.types w.types
     → f.single ≡ sooner u.single (single_where w (jump_acts (return_acts p m) (doings_inside u w))) → f.jumping ≡ sooner u.jumping (single_where w (jump_acts (return_acts p m) (doings_inside u w)))
     → IsWalked p (λ jump_has. us jump_has ++ inside p (within (loop_acts p m update body)) body) f
 loop_walked p m within us update body u w f is_u u_does is_w w_does types single jumping =
-    subst (λ z. IsWalked p (λ jump_has. us jump_has ++ inside p (within z) body) f) (ap (jump_acts (return_acts p m)) (inside_does p m update body u w u_does w_does)) (λ jump_has. both_found p (us jump_has)
+    subst (λ z. IsWalked p (λ jump_has. us jump_has ++ inside p (within z) body) f)
+    (ap (jump_acts (return_acts p m)) (inside_does p m update body u w u_does w_does)) (λ jump_has. both_found p (us jump_has)
     (inside p (within acts) body) (found_where u jump_has) (found_where w acts) (found_where f jump_has) (is_u jump_has) (is_w acts) types (by jump_has))
   where
     acts : Bool
@@ -128,13 +141,16 @@ loop_walked p m within us update body u w f is_u u_does is_w w_does types single
     by true = jumping
 
 -- without an update
-pub alone_walked : (p : NumberedProgram) (m : NumberedMethod) (within : Bool → Around) (body : NumberedStm) (d : DoingsHere) (u w f : Walked) → u ≡ doing d → doings_of d ≡ nothing → IsWalked p (λ jump_has. inside p (within jump_has) body) w
+pub alone_walked : (p : NumberedProgram) (m : NumberedMethod) (within : Bool → Around) (body : NumberedStm) (d : DoingsHere)
+    (u w f : Walked) → u ≡ doing d → doings_of d ≡ nothing → IsWalked p (λ jump_has. inside p (within jump_has) body) w
     → doings_of w.doings ≡ doings p (this_of m) body → f.types ≡ sooner u.types w.types → f.single ≡ sooner u.single (single_where w (jump_acts (return_acts p m) (doings_inside u w)))
     → f.jumping ≡ sooner u.jumping (single_where w (jump_acts (return_acts p m) (doings_inside u w))) → IsWalked p (λ jump_has. inside p (within (loop_acts p m st.NoStm body)) body) f
 alone_walked p m within body d u w f is_u none is_w w_does types single jumping =
-    loop_walked p m within (λ jump_has. []) st.NoStm body u w f (subst (IsWalked p (λ jump_has. [])) (sym is_u) (nothing_walked p d)) (ap (λ (z : Walked). doings_of z.doings) is_u ∙ none) is_w w_does types single jumping
+    loop_walked p m within (λ jump_has. []) st.NoStm body u w f (subst (IsWalked p (λ jump_has. [])) (sym is_u) (nothing_walked p d))
+    (ap (λ (z : Walked). doings_of z.doings) is_u ∙ none) is_w w_does types single jumping
 
-pub alone_does : (p : NumberedProgram) (m : NumberedMethod) (body : NumberedStm) (d : DoingsHere) (u w f : Walked) → u ≡ doing d → doings_of d ≡ nothing → doings_of w.doings ≡ doings p (this_of m) body
+pub alone_does : (p : NumberedProgram) (m : NumberedMethod) (body : NumberedStm) (d : DoingsHere) (u w f : Walked) → u ≡ doing d
+    → doings_of d ≡ nothing → doings_of w.doings ≡ doings p (this_of m) body
     → doings_of f.doings ≡ kept_in_loop (doings_inside u w) → doings_of f.doings ≡ kept_in_loop (doings p (this_of m) body)
 alone_does p m body d u w f is_u none w_does is = is ∙ ap kept_in_loop (inside_does p m st.NoStm body u w (ap (λ (z : Walked). doings_of z.doings) is_u ∙ none) w_does)
 
@@ -191,10 +207,12 @@ pub where_first : (p : NumberedProgram) (around : Bool → Around) (xs : List St
 where_first p around xs d w is = λ jump_has. left_first _ _ (found_where w jump_has) (subst (λ z. IsFirst [] [] (found_where z jump_has)) (sym is) (nothing_walked p d jump_has))
 
 pub where_next : (p : NumberedProgram) (around : Bool → Around) (xs : List Stmt) (i : ℕ) (x : Stmt) (found a next : Walked) → i < length xs → x ≡ get_or xs i x → LeftWhere p around xs found i
-    → IsWalked p (λ jump_has. inside p (around jump_has) (statement_of x)) a → next.types ≡ sooner found.types a.types → next.single ≡ sooner found.single a.single → next.jumping ≡ sooner found.jumping a.jumping
+    → IsWalked p (λ jump_has. inside p (around jump_has) (statement_of x)) a → next.types ≡ sooner found.types a.types → next.single
+    ≡ sooner found.single a.single → next.jumping ≡ sooner found.jumping a.jumping
     → LeftWhere p around xs next (i + 1)
 where_next p around xs i x found a next lt here left is_a types single jumping =
-    λ jump_has. left_next p (around jump_has) xs i x (found_where found jump_has) (found_where a jump_has) (found_where next jump_has) lt here (left jump_has) (is_a jump_has) types (single_both found a next single jumping jump_has)
+    λ jump_has. left_next p (around jump_has) xs i x (found_where found jump_has) (found_where a jump_has)
+    (found_where next jump_has) lt here (left jump_has) (is_a jump_has) types (single_both found a next single jumping jump_has)
 
 pub where_last : (p : NumberedProgram) (around : Bool → Around) (xs : List Stmt) (i : ℕ) (found : Walked) → length xs ≤ i → LeftWhere p around xs found i
     → IsWalked p (λ jump_has. inside_all p (around jump_has) (numbered_stms (map statement_of xs))) found

@@ -10,14 +10,15 @@ use Rattle.ti_rules.specs.Refusals.{refused_if}
 use Rattle.ti_rules.specs.Mirrors.First.{sooner, first_of}
 use Rattle.ti_rules.specs.Broken.Refused.{refused}
 use Rattle.ti_rules.specs.Broken.Targets.{is_foreach_variable, is_coordinate, is_hidden_local, write_refusals}
-use Rattle.ti_rules.proofs.First.{first_append}
+use Rattle.ti_rules.proofs.Lemmas.{first_append}
 use Rattle.ti_check.specs.Mirrors.Targets.{written}
 
 choose : (b : Bool) (l parts value : List Refusal) → (if b then first_of l else sooner (first_of parts) (first_of value)) ≡ first_of (if b then l else parts ++ value)
 choose true l parts value = refl
 choose false l parts value = sym (first_append parts value)
 
-pub written_is : (p : NumberedProgram) (s : ScopeContents) (at : Place) (target : NumberedExp) (value : List Refusal) → written p s at target (first_of value) ≡ first_of (write_refusals p s at target value)
+pub written_is : (p : NumberedProgram) (s : ScopeContents) (at : Place) (target : NumberedExp) (value : List Refusal)
+    → written p s at target (first_of value) ≡ first_of (write_refusals p s at target value)
 written_is p s at target value = choose (is_coordinate p s target) (refused Y1 at) (refused_if (is_foreach_variable target) Y2 at ++ refused_if (is_hidden_local p s target) Q2 at) value
 
 pub ruleset written_laws = (written_is)

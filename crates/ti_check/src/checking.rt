@@ -42,7 +42,8 @@ fn method_at(p: &Program, i: usize) -> &Method
 }
 
 fn methods(alloc: Global, p: &Program) -> Result<Found, Memory>
-    ensures { IfOk result (λ f. IsFirst (flat_map (method_refusals (program_of p.now.parts)) (program_of p.now.parts).methods) (flat_map (method_single_refusals (program_of p.now.parts)) (program_of p.now.parts).methods) f) }
+    ensures { IfOk result (λ f. IsFirst (flat_map (method_refusals (program_of p.now.parts)) (program_of p.now.parts).methods)
+        (flat_map (method_single_refusals (program_of p.now.parts)) (program_of p.now.parts).methods) f) }
 {
     let mut found = Found::nothing();
     for i in 0..p.parts.methods.len() {

@@ -13,7 +13,7 @@ use ti_types::type_words;
 
 // ---- classes
 
-#[tactic(auto, using(ti_rules::proofs::First::firsts))]
+#[tactic(auto, using(ti_rules::proofs::Lemmas::firsts))]
 fn field(f: &Field) -> Option<Refusal>
     ensures { result ≡ first_of (field_refusals (numbered_field_of f.now)) }
 {
@@ -34,7 +34,7 @@ fn fields(fields: &[Field]) -> Option<Refusal>
     found
 }
 
-#[tactic(auto, using(ti_rules::proofs::First::firsts))]
+#[tactic(auto, using(ti_rules::proofs::Lemmas::firsts))]
 fn class(c: &Class) -> Option<Refusal>
     ensures { result ≡ first_of (class_refusals (numbered_class_of c.now)) }
 {
@@ -71,7 +71,8 @@ fn param_words(may_be_single: bool, param: &Param) -> Option<Refusal>
 }
 
 fn all_param_words(may_be_single: bool, params: &[Param]) -> Option<Refusal>
-    ensures { result ≡ first_of (flat_map (λ (x : NumberedParam). type_word_refusals may_be_single x.ty) (map numbered_param_of params.now)) }
+    ensures { result ≡ first_of (flat_map (λ (x : NumberedParam). type_word_refusals may_be_single x.ty)
+        (map numbered_param_of params.now)) }
 {
     let mut found = None;
     for param in params {
@@ -91,7 +92,7 @@ fn params_words(may_be_single: bool, params: &Params) -> Option<Refusal>
 }
 
 /// What counts of what is wrong with the words of a method before its body.
-#[tactic(auto, using(ti_rules::proofs::First::firsts))]
+#[tactic(auto, using(ti_rules::proofs::Lemmas::firsts))]
 pub fn head(m: &Method) -> Option<Refusal>
     ensures { result ≡ first_of (head_refusals (numbered_method_of m.now)) }
 {

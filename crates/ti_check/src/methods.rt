@@ -101,7 +101,8 @@ fn effects(p: &Program, m: &Method, return_has: bool, body: Doings) -> Option<Re
 pub fn method(alloc: Global, p: &Program, number: u32, m: &Method) -> Result<Found, Memory>
     requires within { number < length (program_of p.now.parts).methods }
     requires is_method { slice_get (program_of p.now.parts).methods number ≡ Some (numbered_method_of m.now) }
-    ensures { IfOk result (λ f. IsFirst (method_refusals (program_of p.now.parts) (numbered_method_of m.now)) (method_single_refusals (program_of p.now.parts) (numbered_method_of m.now)) f) }
+    ensures { IfOk result (λ f. IsFirst (method_refusals (program_of p.now.parts) (numbered_method_of m.now))
+        (method_single_refusals (program_of p.now.parts) (numbered_method_of m.now)) f) }
 {
     let scope = Scope::begin(alloc, p, number)?;
     let return_has = return_acts(p, m);

@@ -21,7 +21,14 @@ pub struct Met {
 
 impl Met {
     fn none() -> Met
-        ensures { result ≡ record { with_public = false; with_private = false; with_protected = false; with_static = false; with_final = false; with_single = false } }
+        ensures { result ≡ record {
+          with_public = false;
+          with_private = false;
+          with_protected = false;
+          with_static = false;
+          with_final = false;
+          with_single = false;
+        } }
     {
         Met {
             with_public: false,

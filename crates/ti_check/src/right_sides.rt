@@ -60,7 +60,8 @@ fn broadcast_refusal<'a>(
     t: Option<Seen<'a>>,
     root: Option<Seen<'a>>,
 ) -> Option<Refusal>
-    ensures { result ≡ first_of (both_judged (option_map seen t.entry) (option_map seen root.entry) (λ t r. mistaken_at place (is_some (broadcast_type t r)) false)) }
+    ensures { result ≡ first_of (both_judged (option_map seen t.entry) (option_map seen root.entry)
+        (λ t r. mistaken_at place (is_some (broadcast_type t r)) false)) }
 {
     match (t, root) {
         (Some(t), Some(root)) => mistaken(place, broadcast_type(t, root).is_some(), false),
@@ -152,7 +153,8 @@ fn maybe_grid<'a>(
     region: Option<Seen<'a>>,
     spread: Option<Literal<'a>>,
 ) -> Option<Seen<'a>>
-    ensures { option_map seen result ≡ both (option_map seen region.entry) (option_map literal_of spread.entry) (told_grid (type_use_of element.now).type) }
+    ensures { option_map seen result ≡ both (option_map seen region.entry) (option_map literal_of spread.entry)
+        (told_grid (type_use_of element.now).type) }
 {
     match (region, spread) {
         (Some(region), Some(spread)) => grid_type(element, region, spread),
@@ -173,7 +175,8 @@ fn grid_refusal<'a>(
     region: Option<Seen<'a>>,
     spread: Option<Literal<'a>>,
 ) -> Option<Refusal>
-    ensures { result ≡ first_of (both_judged (option_map seen region.entry) (option_map literal_of spread.entry) (λ r (l : LiteralTypes). mistaken_at place (is_some (told_grid (type_use_of element.now).type r l)) (told_near r l))) }
+    ensures { result ≡ first_of (both_judged (option_map seen region.entry) (option_map literal_of spread.entry)
+        (λ r (l : LiteralTypes). mistaken_at place (is_some (told_grid (type_use_of element.now).type r l)) (told_near r l))) }
 {
     match (region, spread) {
         (Some(region), Some(spread)) => {
@@ -190,8 +193,10 @@ impl<'a> Site<'a> {
     /// The region of a `new`; where none is said, a region all the same.
     #[tactic(auto, unfolding(ti_rules::specs::Mirrors::First::first_of))]
     fn region(self, region: &'a Option<Expr>) -> Value<'a>
-        ensures ty { option_map seen result.ty ≡ region_type (program_at self.entry) (scope_at self.entry) (maybe_of expression_of region.now) }
-        ensures first { result.first ≡ first_of (region_refusals (program_at self.entry) (scope_at self.entry) (maybe_of expression_of region.now)) }
+        ensures ty { option_map seen result.ty ≡ region_type (program_at self.entry) (scope_at self.entry)
+            (maybe_of expression_of region.now) }
+        ensures first { result.first ≡ first_of (region_refusals (program_at self.entry) (scope_at self.entry)
+            (maybe_of expression_of region.now)) }
     {
         match region {
             Some(e) => self.inner(e),
@@ -204,7 +209,8 @@ impl<'a> Site<'a> {
 
     fn spread(self, dims: &'a Dims) -> Spread<'a>
         ensures first { result.first ≡ first_of (dims_refusals (program_at self.entry) (scope_at self.entry) (extent_of dims.now)) }
-        ensures types { option_map literal_of result.types ≡ option_map told_spread (spread (program_at self.entry) (scope_at self.entry) (extent_of dims.now)) }
+        ensures types { option_map literal_of result.types ≡ option_map told_spread
+            (spread (program_at self.entry) (scope_at self.entry) (extent_of dims.now)) }
     {
         match dims {
             Dims::Domain(e) => {
@@ -224,10 +230,12 @@ impl<'a> Site<'a> {
         }
     }
 
-    #[tactic(auto, using(ti_rules::proofs::First::firsts))]
+    #[tactic(auto, using(ti_rules::proofs::Lemmas::firsts))]
     fn new_object(self, place: Place, region: &'a Option<Expr>, class: u32) -> Value<'a>
-        ensures ty { option_map seen result.ty ≡ initial_type (program_at self.entry) (scope_at self.entry) (st.NewObject place (maybe_of expression_of region.now) class) }
-        ensures first { result.first ≡ first_of (initial_refusals (program_at self.entry) (scope_at self.entry) (st.NewObject place (maybe_of expression_of region.now) class)) }
+        ensures ty { option_map seen result.ty ≡ initial_type (program_at self.entry) (scope_at self.entry)
+            (st.NewObject place (maybe_of expression_of region.now) class) }
+        ensures first { result.first ≡ first_of (initial_refusals (program_at self.entry) (scope_at self.entry)
+            (st.NewObject place (maybe_of expression_of region.now) class)) }
     {
         let region = self.region(region);
         Value {
@@ -236,7 +244,7 @@ impl<'a> Site<'a> {
         }
     }
 
-    #[tactic(auto, using(ti_rules::proofs::First::firsts))]
+    #[tactic(auto, using(ti_rules::proofs::Lemmas::firsts))]
     fn new_grid(
         self,
         place: Place,
@@ -245,8 +253,10 @@ impl<'a> Site<'a> {
         bracket: Place,
         dims: &'a Dims,
     ) -> Value<'a>
-        ensures ty { option_map seen result.ty ≡ initial_type (program_at self.entry) (scope_at self.entry) (st.NewGrid place (maybe_of expression_of region.now) (type_use_of element.now) bracket (extent_of dims.now)) }
-        ensures first { result.first ≡ first_of (initial_refusals (program_at self.entry) (scope_at self.entry) (st.NewGrid place (maybe_of expression_of region.now) (type_use_of element.now) bracket (extent_of dims.now))) }
+        ensures ty { option_map seen result.ty ≡ initial_type (program_at self.entry) (scope_at self.entry)
+            (st.NewGrid place (maybe_of expression_of region.now) (type_use_of element.now) bracket (extent_of dims.now)) }
+        ensures first { result.first ≡ first_of (initial_refusals (program_at self.entry) (scope_at self.entry)
+            (st.NewGrid place (maybe_of expression_of region.now) (type_use_of element.now) bracket (extent_of dims.now))) }
     {
         let _ = bracket;
         let region = self.region(region);
@@ -259,10 +269,12 @@ impl<'a> Site<'a> {
         }
     }
 
-    #[tactic(auto, using(ti_rules::proofs::First::firsts))]
+    #[tactic(auto, using(ti_rules::proofs::Lemmas::firsts))]
     fn broadcast(self, place: Place, value: &'a Expr, root: &'a Expr) -> Value<'a>
-        ensures ty { option_map seen result.ty ≡ initial_type (program_at self.entry) (scope_at self.entry) (st.Broadcast place (expression_of value.now) (expression_of root.now)) }
-        ensures first { result.first ≡ first_of (initial_refusals (program_at self.entry) (scope_at self.entry) (st.Broadcast place (expression_of value.now) (expression_of root.now))) }
+        ensures ty { option_map seen result.ty ≡ initial_type (program_at self.entry) (scope_at self.entry)
+            (st.Broadcast place (expression_of value.now) (expression_of root.now)) }
+        ensures first { result.first ≡ first_of (initial_refusals (program_at self.entry) (scope_at self.entry)
+            (st.Broadcast place (expression_of value.now) (expression_of root.now))) }
     {
         let value = self.inner(value);
         let root = self.inner(root);

@@ -65,7 +65,7 @@ fn result_refusal<'a>(place: Place, given: Option<Seen<'a>>, t: Seen<'a>) -> Opt
 }
 
 // The operator takes a target and a value of these types, and what it gives goes into the target.
-#[tactic(auto, using(ti_rules::proofs::First::firsts))]
+#[tactic(auto, using(ti_rules::proofs::Lemmas::firsts))]
 fn update_refusal<'a>(place: Place, op: BinaryOperator, t: Seen<'a>, u: Seen<'a>) -> Option<Refusal>
     ensures { result ≡ first_of (update_refusals place op (seen t.entry) (seen u.entry)) }
 {
@@ -151,7 +151,7 @@ fn domain_mistaken(place: Place, t: Option<Seen>) -> Option<Refusal>
 // ---- statements
 
 impl<'a> Site<'a> {
-    #[tactic(auto, using(ti_rules::proofs::First::firsts))]
+    #[tactic(auto, using(ti_rules::proofs::Lemmas::firsts))]
     fn declare(
         self,
         place: Place,
@@ -159,7 +159,8 @@ impl<'a> Site<'a> {
         variable: u32,
         value: &'a Init,
     ) -> Option<Refusal>
-        ensures { result ≡ first_of (statement_refusals (program_at self.entry) (around_of self.entry) (st.Declare place (type_use_of ty.now) variable (initial_of value.now))) }
+        ensures { result ≡ first_of (statement_refusals (program_at self.entry) (around_of self.entry)
+            (st.Declare place (type_use_of ty.now) variable (initial_of value.now))) }
     {
         let _ = variable;
         let value = self.initial(value);
@@ -176,7 +177,9 @@ impl<'a> Site<'a> {
         t: Option<Seen<'a>>,
         u: Option<Seen<'a>>,
     ) -> Option<Refusal>
-        ensures { result ≡ first_of (both_judged (option_map seen t.entry) (option_map seen u.entry) (λ t u. write_refusals (program_at self.entry) (scope_at self.entry) place (expression_of target.now) (misfit_at place u t))) }
+        ensures { result ≡ first_of (both_judged (option_map seen t.entry) (option_map seen u.entry)
+            (λ t u. write_refusals (program_at self.entry) (scope_at self.entry) place (expression_of target.now)
+            (misfit_at place u t))) }
     {
         match (t, u) {
             (Some(t), Some(u)) => self.write(place, target, misfit(place, u, t)),
@@ -184,9 +187,10 @@ impl<'a> Site<'a> {
         }
     }
 
-    #[tactic(auto, using(ti_rules::proofs::First::firsts))]
+    #[tactic(auto, using(ti_rules::proofs::Lemmas::firsts))]
     fn assign(self, place: Place, target: &'a Expr, value: &'a Init) -> Option<Refusal>
-        ensures { result ≡ first_of (statement_refusals (program_at self.entry) (around_of self.entry) (st.Assign place (expression_of target.now) (initial_of value.now))) }
+        ensures { result ≡ first_of (statement_refusals (program_at self.entry) (around_of self.entry)
+            (st.Assign place (expression_of target.now) (initial_of value.now))) }
     {
         let t = self.target(target);
         let u = self.initial(value);
@@ -204,7 +208,9 @@ impl<'a> Site<'a> {
         t: Option<Seen<'a>>,
         u: Option<Seen<'a>>,
     ) -> Option<Refusal>
-        ensures { result ≡ first_of (both_judged (option_map seen t.entry) (option_map seen u.entry) (λ t u. write_refusals (program_at self.entry) (scope_at self.entry) place (expression_of target.now) (update_refusals place op t u))) }
+        ensures { result ≡ first_of (both_judged (option_map seen t.entry) (option_map seen u.entry)
+            (λ t u. write_refusals (program_at self.entry) (scope_at self.entry) place (expression_of target.now)
+            (update_refusals place op t u))) }
     {
         match (t, u) {
             (Some(t), Some(u)) => self.write(place, target, update_refusal(place, op, t, u)),
@@ -212,7 +218,7 @@ impl<'a> Site<'a> {
         }
     }
 
-    #[tactic(auto, using(ti_rules::proofs::First::firsts))]
+    #[tactic(auto, using(ti_rules::proofs::Lemmas::firsts))]
     fn update(
         self,
         place: Place,
@@ -220,7 +226,8 @@ impl<'a> Site<'a> {
         target: &'a Expr,
         value: &'a Expr,
     ) -> Option<Refusal>
-        ensures { result ≡ first_of (statement_refusals (program_at self.entry) (around_of self.entry) (st.Update place op (expression_of target.now) (expression_of value.now))) }
+        ensures { result ≡ first_of (statement_refusals (program_at self.entry) (around_of self.entry)
+            (st.Update place op (expression_of target.now) (expression_of value.now))) }
     {
         let t = self.target(target);
         let u = self.value(value);
@@ -237,7 +244,9 @@ impl<'a> Site<'a> {
         target: &'a Expr,
         t: Option<Seen<'a>>,
     ) -> Option<Refusal>
-        ensures { result ≡ first_of (judged (option_map seen t.entry) (λ t. write_refusals (program_at self.entry) (scope_at self.entry) place (expression_of target.now) (update_refusals place (operator_of op) t Int))) }
+        ensures { result ≡ first_of (judged (option_map seen t.entry)
+            (λ t. write_refusals (program_at self.entry) (scope_at self.entry) place (expression_of target.now)
+            (update_refusals place (operator_of op) t Int))) }
     {
         match t {
             Some(t) => {
@@ -248,15 +257,16 @@ impl<'a> Site<'a> {
         }
     }
 
-    #[tactic(auto, using(ti_rules::proofs::First::firsts))]
+    #[tactic(auto, using(ti_rules::proofs::Lemmas::firsts))]
     fn step(self, place: Place, op: StepOperator, target: &'a Expr) -> Option<Refusal>
-        ensures { result ≡ first_of (statement_refusals (program_at self.entry) (around_of self.entry) (st.Step place op (expression_of target.now))) }
+        ensures { result ≡ first_of (statement_refusals (program_at self.entry) (around_of self.entry)
+            (st.Step place op (expression_of target.now))) }
     {
         let t = self.target(target);
         sooner(t.first, self.write_stepped(place, op, target, t.ty))
     }
 
-    #[tactic(auto, using(ti_rules::proofs::First::firsts))]
+    #[tactic(auto, using(ti_rules::proofs::Lemmas::firsts))]
     fn condition(self, e: &'a Expr) -> Option<Refusal>
         ensures { result ≡ first_of (condition_refusals (program_at self.entry) (scope_at self.entry) (expression_of e.now)) }
     {
@@ -266,7 +276,8 @@ impl<'a> Site<'a> {
 
     #[tactic(auto, unfolding(ti_rules::specs::Mirrors::First::first_of))]
     fn maybe_condition(self, e: &'a Option<Expr>) -> Option<Refusal>
-        ensures { result ≡ first_of (maybe_condition_refusals (program_at self.entry) (scope_at self.entry) (maybe_of expression_of e.now)) }
+        ensures { result ≡ first_of (maybe_condition_refusals (program_at self.entry) (scope_at self.entry)
+            (maybe_of expression_of e.now)) }
     {
         match e {
             Some(e) => self.condition(e),
@@ -274,7 +285,7 @@ impl<'a> Site<'a> {
         }
     }
 
-    #[tactic(auto, using(ti_rules::proofs::First::firsts))]
+    #[tactic(auto, using(ti_rules::proofs::Lemmas::firsts))]
     fn printed(self, place: Place, e: &'a Expr) -> Option<Refusal>
         ensures { result ≡ first_of (printed_refusals (program_at self.entry) (scope_at self.entry) place (expression_of e.now)) }
     {
@@ -294,9 +305,10 @@ impl<'a> Site<'a> {
         }
     }
 
-    #[tactic(auto, using(ti_rules::proofs::First::firsts))]
+    #[tactic(auto, using(ti_rules::proofs::Lemmas::firsts))]
     fn gives_back(self, place: Place, value: &'a Option<Expr>) -> Option<Refusal>
-        ensures { result ≡ first_of (return_refusals (program_at self.entry) (scope_at self.entry) place (result_type (around_of self.entry).method) (maybe_of expression_of value.now)) }
+        ensures { result ≡ first_of (return_refusals (program_at self.entry) (scope_at self.entry) place
+            (result_type (around_of self.entry).method) (maybe_of expression_of value.now)) }
     {
         let wanted = result_type(self.method);
         match value {
@@ -308,9 +320,11 @@ impl<'a> Site<'a> {
         }
     }
 
-    #[tactic(auto, using(ti_rules::proofs::First::firsts))]
+    #[tactic(auto, using(ti_rules::proofs::Lemmas::firsts))]
     fn domain(self, place: Place, domain: &'a Expr) -> Option<Refusal>
-        ensures { result ≡ first_of (inner_refusals (program_at self.entry) (scope_at self.entry) (expression_of domain.now) ++ judged (operand_type (program_at self.entry) (scope_at self.entry) (expression_of domain.now)) (λ t. mistaken_at place (is_some (domain_dim t)) false)) }
+        ensures { result ≡ first_of (inner_refusals (program_at self.entry) (scope_at self.entry) (expression_of domain.now)
+            ++ judged (operand_type (program_at self.entry) (scope_at self.entry) (expression_of domain.now))
+            (λ t. mistaken_at place (is_some (domain_dim t)) false)) }
     {
         let value = self.inner(domain);
         sooner(value.first, domain_mistaken(place, value.ty))
@@ -323,7 +337,7 @@ impl<'a> Site<'a> {
     }
 
     /// What counts of the rules of types that a statement breaks, apart from those that the statements in it break.
-    #[tactic(auto, unfolding(ti_rules::specs::Mirrors::First::first_of), using(ti_lang::proofs::ProgramBridges::program_bridges))]
+    #[tactic(auto, unfolding(ti_rules::specs::Mirrors::First::first_of), using(ti_lang::proofs::Lemmas::program_bridges))]
     pub fn types(self, x: &'a Stmt) -> Option<Refusal>
         ensures { result ≡ first_of (statement_refusals (program_at self.entry) (around_of self.entry) (statement_of x.now)) }
     {

@@ -17,7 +17,7 @@ use ti_rules::{Refusal, Rule, refused_if, sooner};
 use ti_single::boxed_expression;
 
 /// Whether this is a variable that a foreach declares.
-#[tactic(auto, using(ti_lang::proofs::ProgramBridges::program_bridges))]
+#[tactic(auto, using(ti_lang::proofs::Lemmas::program_bridges))]
 fn is_foreach_variable(target: &Expr) -> bool
     ensures { result ≡ is_foreach_variable (expression_of target.now) }
 {
@@ -86,7 +86,7 @@ fn hidden_element(t: Option<Seen>) -> bool
 
 impl<'a> Site<'a> {
     // A coordinate of a point.
-    #[tactic(auto, using(ti_lang::proofs::ProgramBridges::program_bridges))]
+    #[tactic(auto, using(ti_lang::proofs::Lemmas::program_bridges))]
     fn is_coordinate(self, target: &'a Expr) -> bool
         ensures { result ≡ is_coordinate (program_at self.entry) (scope_at self.entry) (expression_of target.now) }
     {
@@ -97,7 +97,7 @@ impl<'a> Site<'a> {
     }
 
     // A field or an element of local type that is reached through a global reference.
-    #[tactic(auto, using(ti_lang::proofs::ProgramBridges::program_bridges))]
+    #[tactic(auto, using(ti_lang::proofs::Lemmas::program_bridges))]
     fn is_hidden_local(self, target: &'a Expr) -> bool
         ensures { result ≡ is_hidden_local (program_at self.entry) (scope_at self.entry) (expression_of target.now) }
     {
@@ -115,7 +115,7 @@ impl<'a> Site<'a> {
     }
 
     /// What counts of what is wrong with writing a target at an assignment, by what counts of what is wrong with the value.
-    #[tactic(auto, using(ti_rules::proofs::First::firsts))]
+    #[tactic(auto, using(ti_rules::proofs::Lemmas::firsts))]
     pub fn write(self, place: Place, target: &'a Expr, value: Option<Refusal>) -> Option<Refusal>
         ensures { result ≡ written (program_at self.entry) (scope_at self.entry) place (expression_of target.now) value }
     {

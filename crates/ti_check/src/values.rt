@@ -78,8 +78,11 @@ impl<'a> Site<'a> {
 
     /// What is known of ranges that stand as in a literal.
     pub fn literal(self, ranges: &'a [Range]) -> Ranges<'a>
-        ensures first { result.first ≡ first_of (flat_map (refusals_at (program_at self.entry) (scope_at self.entry)) (parts_of_ranges (numbered_ranges (map bound_of ranges.now))) ++ bounds_misplaced (program_at self.entry) (scope_at self.entry) (numbered_ranges (map bound_of ranges.now))) }
-        ensures types { option_map literal_of result.types ≡ option_map (literal (range_count (numbered_ranges (map bound_of ranges.now)))) (bounds (program_at self.entry) (scope_at self.entry) (numbered_ranges (map bound_of ranges.now))) }
+        ensures first { result.first ≡ first_of (flat_map (refusals_at (program_at self.entry) (scope_at self.entry))
+            (parts_of_ranges (numbered_ranges (map bound_of ranges.now)))
+            ++ bounds_misplaced (program_at self.entry) (scope_at self.entry) (numbered_ranges (map bound_of ranges.now))) }
+        ensures types { option_map literal_of result.types ≡ option_map (literal (range_count (numbered_ranges (map bound_of ranges.now))))
+            (bounds (program_at self.entry) (scope_at self.entry) (numbered_ranges (map bound_of ranges.now))) }
     {
         let judge = Judge {
             program: &self.program.parts,
@@ -88,7 +91,7 @@ impl<'a> Site<'a> {
     }
 
     /// An expression where no call can stand.
-    #[tactic(auto, using(ti_rules::proofs::First::firsts))]
+    #[tactic(auto, using(ti_rules::proofs::Lemmas::firsts))]
     pub fn inner(self, e: &'a Expr) -> Value<'a>
         ensures ty { option_map seen result.ty ≡ operand_type (program_at self.entry) (scope_at self.entry) (expression_of e.now) }
         ensures first { result.first ≡ first_of (inner_refusals (program_at self.entry) (scope_at self.entry) (expression_of e.now)) }
@@ -101,7 +104,7 @@ impl<'a> Site<'a> {
     }
 
     /// An expression that is a whole right side: a call that gives something can stand there.
-    #[tactic(auto, using(ti_rules::proofs::First::firsts))]
+    #[tactic(auto, using(ti_rules::proofs::Lemmas::firsts))]
     pub fn value(self, e: &'a Expr) -> Value<'a>
         ensures ty { option_map seen result.ty ≡ value_type (program_at self.entry) (scope_at self.entry) (expression_of e.now) }
         ensures first { result.first ≡ first_of (value_refusals (program_at self.entry) (scope_at self.entry) (expression_of e.now)) }
@@ -149,7 +152,8 @@ impl<'a> Site<'a> {
 
     /// Whether an expression inside another one, or a condition, is single.
     pub fn is_single_inside(self, e: &Expr) -> bool
-        ensures { result ≡ is_single_part (program_at self.entry) (this_of (around_of self.entry).method) (singles_in (scope_at self.entry)) (expression_of e.now) }
+        ensures { result ≡ is_single_part (program_at self.entry) (this_of (around_of self.entry).method) (singles_in (scope_at self.entry))
+            (expression_of e.now) }
     {
         self.single_site(false).is_single_inside(e)
     }

@@ -64,7 +64,8 @@ impl<'a> Site<'a> {
         domain: &'a Expr,
     ) -> Result<Scope, Memory>
         ensures this { IfOk result (λ s. s.this ≡ self.entry.scope.now.this) }
-        ensures variables { IfOk result (λ s. (contents_of s).variables ≡ variables_inside (program_at self.entry) (scope_at self.entry) number (expression_of domain.now)) }
+        ensures variables { IfOk result (λ s. (contents_of s).variables
+            ≡ variables_inside (program_at self.entry) (scope_at self.entry) number (expression_of domain.now)) }
     {
         let is_single = self.is_single_inside(domain);
         let dim = domain_dim(self.target(domain).ty);
@@ -96,7 +97,8 @@ impl<'a> Site<'a> {
     fn with_scope(self, scope: &'a Scope) -> Site<'a>
         requires { scope.now.this ≡ self.scope.now.this }
         ensures program { program_at result ≡ program_at self.entry }
-        ensures around { around_where result ≡ (λ jump_has. record (around_where self.entry jump_has) { variables = (contents_of scope.now).variables }) }
+        ensures around { around_where result
+            ≡ (λ jump_has. record (around_where self.entry jump_has) { variables = (contents_of scope.now).variables }) }
     {
         Site {
             program: self.program,
@@ -130,11 +132,14 @@ impl<'a> Site<'a> {
     // What is found of a statement, from what is found below it, which does as much as itself, and from what its update and its body do
     // where it is a loop.
     fn whole(self, x: &'a Stmt, below: Walked, inside: Doings) -> Walked
-        requires below { IsWalked (program_at self) (λ jump_has. below_one (program_at self) (around_where self jump_has) (statement_of x.now)) below }
+        requires below { IsWalked (program_at self) (λ jump_has. below_one (program_at self) (around_where self jump_has)
+            (statement_of x.now)) below }
         requires own { doings_of below.doings ≡ doings (program_at self) (this_of (around_of self).method) (statement_of x.now) }
         requires inside { doings_of inside ≡ doings_in_loop (program_at self) (around_of self).method (statement_of x.now) }
-        ensures found { IsWalked (program_at self.entry) (λ jump_has. inside_one (program_at self.entry) (around_where self.entry jump_has) (statement_of x.now)) result }
-        ensures doings { doings_of result.doings ≡ doings (program_at self.entry) (this_of (around_of self.entry).method) (statement_of x.now) }
+        ensures found { IsWalked (program_at self.entry) (λ jump_has. inside_one (program_at self.entry) (around_where self.entry jump_has)
+            (statement_of x.now)) result }
+        ensures doings { doings_of result.doings ≡ doings (program_at self.entry) (this_of (around_of self.entry).method)
+            (statement_of x.now) }
     {
         let single = self.single(x, false, below.doings, inside);
         let own = Walked {
@@ -149,8 +154,10 @@ impl<'a> Site<'a> {
     // What is found of a statement with none in it.
     fn simple(self, x: &'a Stmt) -> Walked
         requires { is_simple (statement_of x.now) ≡ true }
-        ensures found { IsWalked (program_at self.entry) (λ jump_has. inside_one (program_at self.entry) (around_where self.entry jump_has) (statement_of x.now)) result }
-        ensures doings { doings_of result.doings ≡ doings (program_at self.entry) (this_of (around_of self.entry).method) (statement_of x.now) }
+        ensures found { IsWalked (program_at self.entry) (λ jump_has. inside_one (program_at self.entry) (around_where self.entry jump_has)
+            (statement_of x.now)) result }
+        ensures doings { doings_of result.doings ≡ doings (program_at self.entry) (this_of (around_of self.entry).method)
+            (statement_of x.now) }
     {
         let does = doings_of_statement(self.program, self.this(), x);
         let single = self.single(x, false, does, Doings::none());
@@ -199,8 +206,10 @@ pub fn statements<'a>(
     site: Site<'a>,
     xs: &'a [Stmt],
 ) -> Result<Walked, Memory>
-    ensures found { IfOk result (λ w. IsWalked (program_at site.entry) (λ jump_has. inside_all (program_at site.entry) (around_where site.entry jump_has) (numbered_stms (map statement_of xs.now))) w) }
-    ensures doings { IfOk result (λ w. doings_of w.doings ≡ doings_of_all (program_at site.entry) (this_of (around_of site.entry).method) (numbered_stms (map statement_of xs.now))) }
+    ensures found { IfOk result (λ w. IsWalked (program_at site.entry)
+        (λ jump_has. inside_all (program_at site.entry) (around_where site.entry jump_has) (numbered_stms (map statement_of xs.now))) w) }
+    ensures doings { IfOk result (λ w. doings_of w.doings ≡ doings_of_all (program_at site.entry) (this_of (around_of site.entry).method)
+        (numbered_stms (map statement_of xs.now))) }
 {
     let mut found = Walked::doing(Doings::none());
     for x in xs {
@@ -218,8 +227,10 @@ fn maybe<'a>(
     site: Site<'a>,
     x: &'a Option<Box<Stmt>>,
 ) -> Result<Walked, Memory>
-    ensures found { IfOk result (λ w. IsWalked (program_at site.entry) (λ jump_has. inside_maybe (program_at site.entry) (around_where site.entry jump_has) (maybe_in x.now)) w) }
-    ensures doings { IfOk result (λ w. doings_of w.doings ≡ doings_of_maybe (program_at site.entry) (this_of (around_of site.entry).method) (maybe_in x.now)) }
+    ensures found { IfOk result (λ w. IsWalked (program_at site.entry)
+        (λ jump_has. inside_maybe (program_at site.entry) (around_where site.entry jump_has) (maybe_in x.now)) w) }
+    ensures doings { IfOk result (λ w. doings_of w.doings ≡ doings_of_maybe (program_at site.entry) (this_of (around_of site.entry).method)
+        (maybe_in x.now)) }
 {
     match x {
         Some(x) => statement(alloc, unused, site, boxed_statement(x)),
@@ -228,7 +239,7 @@ fn maybe<'a>(
 }
 
 // Whether no statement stands in a statement.
-#[tactic(auto, using(ti_lang::proofs::ProgramBridges::program_bridges))]
+#[tactic(auto, using(ti_lang::proofs::Lemmas::program_bridges))]
 fn is_simple(x: &Stmt) -> bool
     ensures { result ≡ is_simple (statement_of x.now) }
 {
@@ -250,8 +261,10 @@ fn statement<'a>(
     site: Site<'a>,
     x: &'a Stmt,
 ) -> Result<Walked, Memory>
-    ensures found { IfOk result (λ w. IsWalked (program_at site.entry) (λ jump_has. inside_one (program_at site.entry) (around_where site.entry jump_has) (statement_of x.now)) w) }
-    ensures doings { IfOk result (λ w. doings_of w.doings ≡ doings (program_at site.entry) (this_of (around_of site.entry).method) (statement_of x.now)) }
+    ensures found { IfOk result (λ w. IsWalked (program_at site.entry)
+        (λ jump_has. inside_one (program_at site.entry) (around_where site.entry jump_has) (statement_of x.now)) w) }
+    ensures doings { IfOk result (λ w. doings_of w.doings ≡ doings (program_at site.entry) (this_of (around_of site.entry).method)
+        (statement_of x.now)) }
 {
     if is_simple(x) {
         return Ok(site.simple(x));
@@ -267,8 +280,10 @@ fn compound<'a>(
     site: Site<'a>,
     x: &'a Stmt,
 ) -> Result<Walked, Memory>
-    ensures found { IfOk result (λ w. IsWalked (program_at site.entry) (λ jump_has. inside_one (program_at site.entry) (around_where site.entry jump_has) (statement_of x.now)) w) }
-    ensures doings { IfOk result (λ w. doings_of w.doings ≡ doings (program_at site.entry) (this_of (around_of site.entry).method) (statement_of x.now)) }
+    ensures found { IfOk result (λ w. IsWalked (program_at site.entry)
+        (λ jump_has. inside_one (program_at site.entry) (around_where site.entry jump_has) (statement_of x.now)) w) }
+    ensures doings { IfOk result (λ w. doings_of w.doings ≡ doings (program_at site.entry) (this_of (around_of site.entry).method)
+        (statement_of x.now)) }
 {
     match x {
         Stmt::Block(body) => {

@@ -1,1 +1,2 @@
-pub mod Short
+mod Short
+pub mod Lemmas

@@ -13,8 +13,8 @@ use Rattle.ti_code.specs.declared.instr.Instr.{Instr}
 use Rattle.ti_code.specs.declared.instr.Instr.TheVariants as i
 use Rattle.ti_lang.specs.Meaning.Literals as literal
 use Rattle.ti_code.specs.Effects.{Spot, Who, effect, top, below, under, taken, receiver_needed, operator_of, member_of, numbers_of, bounds_of, rect_of_ranges, next_point, doing, on_with}
-use Rattle.ti_lang.proofs.MeaningLaws.Silent.{Silent, silent_value, silent_guarded, to_domain_silent, operated_silent}
-use Rattle.ti_lang.proofs.MeaningLaws.Short.{Short, asked_once, short_then, needed_then, fetched_short, silent_coordinate, member_short}
+use Rattle.ti_lang.proofs.Lemmas.{Silent, silent_value, silent_guarded, to_domain_silent, operated_silent, Short, asked_once, short_then}
+use Rattle.ti_lang.proofs.Lemmas.{needed_then, fetched_short, silent_coordinate, member_short}
 
 silent_if : {A : Type 0} (test : Bool) (x y : A) → Silent (if test then gives x else gives y)
 silent_if true x y = silent_value x
@@ -53,7 +53,8 @@ effect_short w (i.PutField field at) s = needed_then at t.Void (top (below s.sta
     (λ r. short_then (asked (put_field r at field (top s.stack))) (λ h. on_with s s.slots (below (below s.stack))) (asked_once (put_field r at field (top s.stack))))
 effect_short w (i.GetElem at) s = short_then _ _ (fetched_short at t.Void (Element (top (below s.stack)) t.Void (point_of (top s.stack))))
 effect_short w (i.PutElem at) s = needed_then at t.Void (top (below (below s.stack))) (λ r. doing s (below (below (below s.stack))) (asked (put_element r at (top (below s.stack)) (top s.stack))))
-    (λ r. short_then (asked (put_element r at (top (below s.stack)) (top s.stack))) (λ h. on_with s s.slots (below (below (below s.stack)))) (asked_once (put_element r at (top (below s.stack)) (top s.stack))))
+    (λ r. short_then (asked (put_element r at (top (below s.stack)) (top s.stack))) (λ h. on_with s s.slots (below (below (below s.stack))))
+    (asked_once (put_element r at (top (below s.stack)) (top s.stack))))
 effect_short w (i.Print literal true at) s = short_then _ _ (asked_once _)
 effect_short w (i.Print literal false at) s = short_then _ _ (asked_once _)
 effect_short w (i.MakeRect n at) s = ranges_short n at s

@@ -1,5 +1,6 @@
-pub mod NextLaws
-pub mod PieceLaws
-pub mod SetLaws
-pub mod SlabLaws
-pub mod StepLaws
+mod NextLaws
+mod PieceLaws
+mod SetLaws
+mod SlabLaws
+mod StepLaws
+pub mod Lemmas

@@ -5,7 +5,7 @@ use Rattle.ti_base.specs.declared.point.Point.{Point}
 use Rattle.ti_base.specs.declared.point.Rect.{Rect}
 use Rattle.ti_base.specs.Points.{IsPoint, pt_lex_lt}
 use Rattle.ti_base.specs.PointSets.{same_point, IsAbove, IsNextAfter}
-use Rattle.ti_base.proofs.DomainLaws.{same_from, same_self, other_below, below_trans}
+use Rattle.ti_base.proofs.Lemmas.{same_from, same_self, other_below, below_trans}
 use Rattle.ti_domain.specs.Pieces.{IsShape, IsInSome}
 use Rattle.ti_domain.specs.Walks.{IsSooner, AgreeInDim, IsNext}
 

@@ -7,10 +7,8 @@ use Rattle.ti_base.specs.declared.point.Rect.{Rect}
 use Rattle.ti_base.specs.Points.{IsPoint}
 use Rattle.ti_base.specs.PointSets.{IsAmong, Rises, AllOf, IsListOf, same_point, is_lex_lt, with_point, union, is_among, meet}
 use Rattle.ti_base.specs.Rects.{IsRect, IsIn, points_of}
-use Rattle.ti_base.proofs.DomainLaws.{same_from, from_below, union_in, union_dim, union_lists, meet_lists}
-use Rattle.ti_base.proofs.PointLaws.{one_list, irreflexive}
-use Rattle.ti_rect.proofs.PointLists.{points_listed}
-use Rattle.ti_rect.proofs.RectLaws.{point_in}
+use Rattle.ti_base.proofs.Lemmas.{same_from, from_below, union_in, union_dim, union_lists, meet_lists, one_list, irreflexive}
+use Rattle.ti_rect.proofs.Lemmas.{points_listed, point_in}
 use Rattle.ti_rect.specs.Families.{AreApart}
 use Rattle.ti_domain.specs.Pieces.{IsShape, IsPiece, IsInSome, points_in, point_count, total_count}
 

@@ -11,15 +11,12 @@ use Rattle.ti_base.specs.PointSets.{IsAmong, IsListOf, is_among, union, minus}
 use Rattle.ti_base.specs.PointSets as sets
 use Rattle.ti_base.specs.Rects.{IsRect, HasPoints, IsIn, is_in, meet, points_of, empty_rect, first_range, second_range, third_range}
 use Rattle.ti_base.specs.Ranges.{Range, IsRange}
-use Rattle.ti_base.proofs.DomainLaws.{union_lists, meet_lists, minus_lists}
-use Rattle.ti_rect.proofs.MeetPoints.{meet_points}
-use Rattle.ti_rect.proofs.PointLists.{points_listed}
-use Rattle.ti_rect.proofs.RectLaws.{none_in, full_of}
-use Rattle.ti_rect.proofs.TestLaws.{in_tests}
+use Rattle.ti_base.proofs.Lemmas.{union_lists, meet_lists, minus_lists}
+use Rattle.ti_rect.proofs.Lemmas.{meet_points, points_listed, none_in, full_of, in_tests, covers_none, covers_one, covers_append}
+use Rattle.ti_rect.proofs.Lemmas.{covers_map, covers_list}
 use Rattle.ti_rect.specs.Families.{AreApart, Covers}
 use Rattle.ti_domain.specs.Pieces.{IsShape, IsPiece, IsInSome, ArePieces, ArePiecesOf, points_in, point_count, total_count}
 use Rattle.ti_domain.specs.Domains.{Domain, IsDom, IsKept, alone}
-use Rattle.ti_rect.proofs.FamilyLaws.{covers_none, covers_one, covers_append, covers_map, covers_list}
 use Rattle.ti_domain.proofs.PieceLaws.{one_of, listed, shapes, length_in, length_filter}
 
 -- ---- a point is in one of the rectangles or in none
@@ -107,7 +104,12 @@ kept_meet d a b v is left right small c = record {
 
 alone_cases : (r : Rect) → IsRect r → ((r ≡ empty_rect r.dim) × (alone r ≡ [])) ⊎ (HasPoints r × (alone r ≡ r ∷ []))
 alone_cases r (d, inl e) = inl (e, ap alone e)
-alone_cases r (d, inr h) = inr (h, ap (λ t. if t then [] else r ∷ []) (full_of r.dim (first_range r) (second_range r) (third_range r) (ends_rise (first_range r) h.first) (ends_rise (second_range r) h.second) (ends_rise (third_range r) h.third)))
+alone_cases r (d, inr h) = inr (
+  h,
+  ap (λ t. if t then [] else r ∷ [])
+      (full_of r.dim (first_range r) (second_range r) (third_range r) (ends_rise (first_range r) h.first)
+      (ends_rise (second_range r) h.second) (ends_rise (third_range r) h.third)),
+)
   where
     ends_rise : (q : Range) → IsRange q → q.low ≤ℤ q.high
     ends_rise q is = omega (arith, ints, is.reached)

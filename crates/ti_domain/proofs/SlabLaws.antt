@@ -6,15 +6,13 @@ use Rattle.ti_base.specs.Ranges.{Range, IsOn, is_on, IsRange, unused}
 use Rattle.ti_base.specs.Rects.{HasPoints, IsIn, first_range, second_range, third_range}
 use Rattle.ti_rect.specs.declared.axis.Axis.{Axis}
 use Rattle.ti_rect.specs.Axes.{range}
-use Rattle.ti_rect.proofs.RectLaws.{low_on, high_on, zero_on, unused_second, unused_third}
-use Rattle.ti_rect.proofs.OneRect.{at_first, at_second, at_third}
-use Rattle.ti_rect.proofs.NumberLists.{on_from, on_to}
+use Rattle.ti_rect.proofs.Lemmas.{low_on, high_on, zero_on, unused_second, unused_third, at_first, at_second, at_third, on_from, on_to}
+use Rattle.ti_rect.proofs.Lemmas.{covers_append, covers_same, covers_map}
 use Rattle.ti_domain.specs.declared.cut.Coordinate.{Coordinate}
 use Rattle.ti_domain.specs.declared.cut.Coordinate.TheVariants.{First, Second, Third}
 use Rattle.ti_rect.specs.Parts.{IsOff, IsPart, IsOnPart, AreParts}
 use Rattle.ti_domain.specs.Pieces.{IsPiece, ArePiecesOf}
 use Rattle.ti_domain.specs.Slabs.{coordinate, range_at, IsBeside, with_range}
-use Rattle.ti_rect.proofs.FamilyLaws.{covers_append, covers_same, covers_map}
 
 -- ---- a number is on a range or not
 

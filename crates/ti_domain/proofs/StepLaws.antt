@@ -5,7 +5,7 @@ use Rattle.ti_base.specs.declared.point.Rect.{Rect}
 use Rattle.ti_base.specs.Rects.{IsRect, IsIn}
 use Rattle.ti_domain.specs.Domains.{alone}
 use Rattle.ti_domain.specs.Pieces.{IsPiece, IsInSome, ArePieces, ArePiecesOf}
-use Rattle.ti_rect.proofs.FamilyLaws.{in_more, apart_more, covers_append, covers_same}
+use Rattle.ti_rect.proofs.Lemmas.{in_more, apart_more, covers_append, covers_same}
 use Rattle.ti_domain.proofs.SetLaws.{alone_covers}
 
 -- what stands for an item beyond the end of a list

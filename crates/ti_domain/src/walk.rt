@@ -28,7 +28,8 @@ fn sooner(a: Option<Point>, b: Option<Point>) -> Option<Point>
 pub fn dom_next_after(a: &Dom, p: Option<&Point>) -> Option<Point>
     requires { IfSome (option_copied p) (λ q. q.dim ≡ a.now.dim) }
     ensures point { IfSome result IsPoint }
-    ensures next { MatchOption result (NoneAfter (IsAmong a.now.points) (option_copied p.entry)) (λ q. IsNextAfter (IsAmong a.now.points) (option_copied p.entry) q) }
+    ensures next { MatchOption result (NoneAfter (IsAmong a.now.points) (option_copied p.entry))
+        (λ q. IsNextAfter (IsAmong a.now.points) (option_copied p.entry) q) }
 {
     let pieces = dom_pieces(a);
     let mut next = None;

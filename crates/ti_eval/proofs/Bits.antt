@@ -7,7 +7,7 @@ use Rattle.std.specs.Int.Bits.{and_lt}
 use Rattle.std.specs.Int.{Width, w8, w16, w32, w64, w128, int_wrap}
 use mir.Val.{bits, hbits}
 use Rattle.ti_base.specs.WholeNumbers.{modulo, wrap, IsWrapped, IsRoundedDown, shift_count, rounded_down}
-use Rattle.ti_base.proofs.WholeLaws.{bits_modulo, read_back, wraps_some, rounds}
+use Rattle.ti_base.proofs.Lemmas.{bits_modulo, read_back, wraps_some, rounds}
 use Rattle.ti_lang.specs.Meaning.Operands.{on_bits}
 
 wrap_bits : (w : Width) (n : ℕ) → n < 2 ^ bits w → int_wrap w (pos n) ≡ to_z w n

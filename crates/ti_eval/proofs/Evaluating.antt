@@ -10,7 +10,7 @@ use Rattle.ti_lang.specs.Meaning.Asking.{Asking, Got, Gives, Asks, Fails, follow
 use Rattle.ti_lang.specs.Meaning.Literals.{Bounds, joined, no_bounds, numbers_in}
 use Rattle.ti_lang.specs.Meaning.Scoping.{Env}
 use Rattle.ti_lang.specs.Meaning.Evaluation.{eval, eval_all, eval_numbers, eval_range, eval_ranges}
-use Rattle.ti_lang.proofs.ProgramBridges.{program_bridges}
+use Rattle.ti_lang.proofs.Lemmas.{program_bridges}
 use Rattle.ti_eval.specs.declared.stop.Stop.{Stop}
 use Rattle.ti_eval.specs.Comes.{Stops}
 use Rattle.ti_eval.proofs.Steps.{then_stops}
@@ -37,7 +37,8 @@ assoc_list x y z = append_assoc x y z
 
 -- ---- lists of expressions
 
-pub exps_at : (xs : List Expr) (i : ℕ) (d : Expr) → i < length xs → numbered_exps (map expression_of (drop i xs)) ≡ MoreExp (expression_of (get_or xs i d)) (numbered_exps (map expression_of (drop (i + 1) xs)))
+pub exps_at : (xs : List Expr) (i : ℕ) (d : Expr) → i < length xs → numbered_exps (map expression_of (drop i xs))
+    ≡ MoreExp (expression_of (get_or xs i d)) (numbered_exps (map expression_of (drop (i + 1) xs)))
 exps_at xs i d h = ap (λ ys. numbered_exps (map expression_of ys)) (drop-cons xs i d h) ∙ rw add-one refl
 
 pub no_exps : (xs : List Expr) (i : ℕ) → length xs ≤ i → numbered_exps (map expression_of (drop i xs)) ≡ NoExp
@@ -57,7 +58,8 @@ pub more_numbers : (E : Env) (x : NumberedExp) (xs : NumberedExps) (found : List
     → behind ◌++◌ found (eval_numbers E (MoreExp x xs) answers) ≡ behind ◌++◌ (found ++ numbers_in h) (eval_numbers E xs rest)
 more_numbers E x xs found h answers rest e = collects {M = List ℤ} ◌++◌ (assoc_list {A = ℤ}) (eval E x answers) numbers_in (eval_numbers E xs) found h rest e
 
-pub numbers_stop : (s : Stop) (E : Env) (x : NumberedExp) (xs : NumberedExps) (found : List ℤ) (answers : List Answer) → Stops s (eval E x answers) → Stops s (behind ◌++◌ found (eval_numbers E (MoreExp x xs) answers))
+pub numbers_stop : (s : Stop) (E : Env) (x : NumberedExp) (xs : NumberedExps) (found : List ℤ) (answers : List Answer)
+    → Stops s (eval E x answers) → Stops s (behind ◌++◌ found (eval_numbers E (MoreExp x xs) answers))
 numbers_stop s E x xs found answers h = then_stops s (eval_numbers E (MoreExp x xs) answers) _ (then_stops s (eval E x answers) _ h)
 
 -- values
@@ -74,12 +76,14 @@ pub more_values : (E : Env) (x : NumberedExp) (xs : NumberedExps) (found : List 
     → behind ◌++◌ found (eval_all E (MoreExp x xs) answers) ≡ behind ◌++◌ (found ++ h ∷ []) (eval_all E xs rest)
 more_values E x xs found h answers rest e = collects {M = List Held} ◌++◌ (assoc_list {A = Held}) (eval E x answers) (λ k. k ∷ []) (eval_all E xs) found h rest e
 
-pub values_stop : (s : Stop) (E : Env) (x : NumberedExp) (xs : NumberedExps) (found : List Held) (answers : List Answer) → Stops s (eval E x answers) → Stops s (behind ◌++◌ found (eval_all E (MoreExp x xs) answers))
+pub values_stop : (s : Stop) (E : Env) (x : NumberedExp) (xs : NumberedExps) (found : List Held) (answers : List Answer)
+    → Stops s (eval E x answers) → Stops s (behind ◌++◌ found (eval_all E (MoreExp x xs) answers))
 values_stop s E x xs found answers h = then_stops s (eval_all E (MoreExp x xs) answers) _ (then_stops s (eval E x answers) _ h)
 
 -- ---- lists of ranges
 
-pub ranges_at : (rs : List Range) (i : ℕ) (d : Range) → i < length rs → numbered_ranges (map bound_of (drop i rs)) ≡ MoreRange (bound_of (get_or rs i d)) (numbered_ranges (map bound_of (drop (i + 1) rs)))
+pub ranges_at : (rs : List Range) (i : ℕ) (d : Range) → i < length rs → numbered_ranges (map bound_of (drop i rs))
+    ≡ MoreRange (bound_of (get_or rs i d)) (numbered_ranges (map bound_of (drop (i + 1) rs)))
 ranges_at rs i d h = ap (λ ys. numbered_ranges (map bound_of ys)) (drop-cons rs i d h) ∙ rw add-one refl
 
 pub no_ranges : (rs : List Range) (i : ℕ) → length rs ≤ i → numbered_ranges (map bound_of (drop i rs)) ≡ NoRange
@@ -100,7 +104,8 @@ pub more_bounds : (E : Env) (r : NumberedRange) (rs : NumberedRanges) (found b :
     → behind joined found (eval_ranges E (MoreRange r rs) answers) ≡ behind joined (joined found b) (eval_ranges E rs rest)
 more_bounds E r rs found b answers rest e = collects joined regroup_bounds (eval_range E r answers) (λ c. c) (eval_ranges E rs) found b rest e
 
-pub bounds_stop : (s : Stop) (E : Env) (r : NumberedRange) (rs : NumberedRanges) (found : Bounds) (answers : List Answer) → Stops s (eval_range E r answers) → Stops s (behind joined found (eval_ranges E (MoreRange r rs) answers))
+pub bounds_stop : (s : Stop) (E : Env) (r : NumberedRange) (rs : NumberedRanges) (found : Bounds) (answers : List Answer)
+    → Stops s (eval_range E r answers) → Stops s (behind joined found (eval_ranges E (MoreRange r rs) answers))
 bounds_stop s E r rs found answers h = then_stops s (eval_ranges E (MoreRange r rs) answers) _ (then_stops s (eval_range E r answers) _ h)
 
 -- ---- turns of the loops over them
@@ -110,7 +115,8 @@ pub all_stop : (s : Stop) (E : Env) (xs : List Expr) (i : ℕ) (d : Expr) (found
     → Stops s (eval E (expression_of (get_or xs i d)) left) → Stops s (eval_all E (numbered_exps (map expression_of xs)) answers)
 all_stop s E xs i d found left answers h inv st =
     subst (λ (g : Got (List Held)). Stops s g) inv
-    (subst (λ (ys : NumberedExps). Stops s (behind ◌++◌ found (eval_all E ys left))) (sym (exps_at xs i d h)) (values_stop s E (expression_of (get_or xs i d)) (numbered_exps (map expression_of (drop (i + 1) xs))) found left st))
+    (subst (λ (ys : NumberedExps). Stops s (behind ◌++◌ found (eval_all E ys left))) (sym (exps_at xs i d h))
+    (values_stop s E (expression_of (get_or xs i d)) (numbered_exps (map expression_of (drop (i + 1) xs))) found left st))
 
 pub all_next : (E : Env) (xs : List Expr) (i : ℕ) (d : Expr) (found : List Held) (h : Held) (left rest answers : List Answer) → i < length xs
     → behind ◌++◌ found (eval_all E (numbered_exps (map expression_of (drop i xs))) left) ≡ eval_all E (numbered_exps (map expression_of xs)) answers
@@ -125,7 +131,8 @@ pub numbers_stopped : (s : Stop) (E : Env) (xs : List Expr) (i : ℕ) (d : Expr)
     → Stops s (eval E (expression_of (get_or xs i d)) left) → Stops s (eval_numbers E (numbered_exps (map expression_of xs)) answers)
 numbers_stopped s E xs i d found left answers h inv st =
     subst (λ (g : Got (List ℤ)). Stops s g) inv
-    (subst (λ (ys : NumberedExps). Stops s (behind ◌++◌ found (eval_numbers E ys left))) (sym (exps_at xs i d h)) (numbers_stop s E (expression_of (get_or xs i d)) (numbered_exps (map expression_of (drop (i + 1) xs))) found left st))
+    (subst (λ (ys : NumberedExps). Stops s (behind ◌++◌ found (eval_numbers E ys left))) (sym (exps_at xs i d h))
+    (numbers_stop s E (expression_of (get_or xs i d)) (numbered_exps (map expression_of (drop (i + 1) xs))) found left st))
 
 pub numbers_next : (E : Env) (xs : List Expr) (i : ℕ) (d : Expr) (found : List ℤ) (h : Held) (left rest answers : List Answer) → i < length xs
     → behind ◌++◌ found (eval_numbers E (numbered_exps (map expression_of (drop i xs))) left) ≡ eval_numbers E (numbered_exps (map expression_of xs)) answers
@@ -140,7 +147,8 @@ pub bounds_stopped : (s : Stop) (E : Env) (rs : List Range) (i : ℕ) (d : Range
     → Stops s (eval_range E (bound_of (get_or rs i d)) left) → Stops s (eval_ranges E (numbered_ranges (map bound_of rs)) answers)
 bounds_stopped s E rs i d found left answers h inv st =
     subst (λ (g : Got Bounds). Stops s g) inv
-    (subst (λ (ys : NumberedRanges). Stops s (behind joined found (eval_ranges E ys left))) (sym (ranges_at rs i d h)) (bounds_stop s E (bound_of (get_or rs i d)) (numbered_ranges (map bound_of (drop (i + 1) rs))) found left st))
+    (subst (λ (ys : NumberedRanges). Stops s (behind joined found (eval_ranges E ys left))) (sym (ranges_at rs i d h))
+    (bounds_stop s E (bound_of (get_or rs i d)) (numbered_ranges (map bound_of (drop (i + 1) rs))) found left st))
 
 pub bounds_next : (E : Env) (rs : List Range) (i : ℕ) (d : Range) (found b : Bounds) (left rest answers : List Answer) → i < length rs
     → behind joined found (eval_ranges E (numbered_ranges (map bound_of (drop i rs))) left) ≡ eval_ranges E (numbered_ranges (map bound_of rs)) answers

@@ -1,11 +1,12 @@
-pub mod Bits
-pub mod Evaluating
-pub mod LiteralLaws
-pub mod MemberLaws
-pub mod Nexts
-pub mod Operands
-pub mod Points
-pub mod Sizes
-pub mod Slots
-pub mod Steps
-pub mod Turning
+mod Bits
+mod Evaluating
+mod LiteralLaws
+mod MemberLaws
+mod Nexts
+mod Operands
+mod Points
+mod Sizes
+mod Slots
+mod Steps
+mod Turning
+pub mod Lemmas

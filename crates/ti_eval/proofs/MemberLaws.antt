@@ -10,10 +10,9 @@ use Rattle.ti_base.specs.declared.entry.Answer.{Answer}
 use Rattle.ti_base.specs.Points.{IsPoint}
 use Rattle.ti_base.specs.PointSets.{IsAmong, AllOf, is_among}
 use Rattle.ti_base.specs.Rects.{IsRect, HasPoints, IsIn, is_in, empty_rect, points_of, size_of}
-use Rattle.ti_base.proofs.PointLaws.{length_points}
-use Rattle.ti_base.proofs.DomainLaws.{among_from, among_to}
-use Rattle.ti_rect.proofs.TestLaws.{in_tests}
-use Rattle.ti_domain.proofs.PieceLaws.{dim_of}
+use Rattle.ti_base.proofs.Lemmas.{length_points, among_from, among_to}
+use Rattle.ti_rect.proofs.Lemmas.{in_tests}
+use Rattle.ti_domain.proofs.Lemmas.{dim_of}
 use Rattle.ti_lang.specs.Meaning.Held.{Plain}
 use Rattle.ti_lang.specs.Meaning.Asking.{Gives, Fails}
 use Rattle.ti_lang.specs.Meaning.MemberForms.{sized}

@@ -5,10 +5,9 @@ use Rattle.ti_base.specs.declared.point.Rect.{Rect}
 use Rattle.ti_base.specs.Points.{IsPoint}
 use Rattle.ti_base.specs.PointSets.{IsAmong, AllOf, IsDomain}
 use Rattle.ti_base.specs.Rects.{IsRect, IsIn, points_of}
-use Rattle.ti_rect.proofs.PointLists.{points_listed}
-use Rattle.ti_rect.proofs.RectLaws.{point_in}
+use Rattle.ti_rect.proofs.Lemmas.{points_listed, point_in}
 use Rattle.ti_domain.specs.Walks.{IsNext}
-use Rattle.ti_domain.proofs.NextLaws as next
+use Rattle.ti_domain.proofs.Lemmas as next
 
 all_dim : (d : ℕ) (ps : List Point) → ((p : Point) → IsAmong ps p → p.dim ≡ d) → AllOf d ps
 all_dim d [] h = tt

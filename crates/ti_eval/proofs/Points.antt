@@ -7,9 +7,8 @@ use Rattle.ti_base.specs.WholeNumbers.{sum, difference}
 use Rattle.ti_base.specs.Points.{IsPoint, pt_sum, pt_difference}
 use Rattle.ti_base.specs.PointSets.{same_point, IsAmong}
 use Rattle.ti_base.specs.Rects.{IsRect, HasPoints, points_of}
-use Rattle.ti_rect.proofs.OneRect.{one_rect}
-use Rattle.ti_rect.proofs.PointLists.{points_listed}
-use Rattle.ti_base.proofs.DomainLaws.{same_from, same_self}
+use Rattle.ti_rect.proofs.Lemmas.{one_rect, points_listed}
+use Rattle.ti_base.proofs.Lemmas.{same_from, same_self}
 use Rattle.ti_lang.specs.Meaning.Operands.{same_points}
 
 zero_sum : (x y : ℤ) → x ≡ pos 0 → y ≡ pos 0 → sum w32 x y ≡ pos 0

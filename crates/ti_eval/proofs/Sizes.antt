@@ -9,7 +9,7 @@ use Rattle.ti_base.specs.declared.fault.FaultKind.{FaultKind}
 use Rattle.ti_base.specs.declared.fault.FaultKind.TheVariants.{DomainSize}
 use Rattle.ti_base.specs.declared.entry.Answer.{Answer}
 use Rattle.ti_base.specs.Rects.{points_of, size_of}
-use Rattle.ti_base.proofs.PointLaws.{length_points}
+use Rattle.ti_base.proofs.Lemmas.{length_points}
 use Rattle.ti_lang.specs.Meaning.Held.{Plain, Dm}
 use Rattle.ti_lang.specs.Meaning.Asking.{Gives, Fails, guarded}
 use Rattle.ti_lang.specs.Meaning.Conversions.{to_domain, domain_within}

@@ -143,8 +143,10 @@ work_of site x todo.Behind = Behind (loop_of x) ∷ end_of_for x
 work_of site x (todo.Each variable domain last) = Before (foreach_of x variable (points_above domain.value last)) ∷ []
 work_of site x (todo.Turn variable domain at) = Behind (foreach_of x variable (at.point ∷ points_above domain.value (Some at.point))) ∷ []
 work_of site x (todo.Copying copy last) =
-    CopyAll (member_place x) (reference site (member_receiver x) copy.value.to) (first_reference site (member_args x) copy.value.from) (points_above copy.value.domain last) ∷ []
-work_of site x (todo.Taking grid next) = TakeAll (member_place x) (reference site (member_receiver x) grid) (counted next (site.procs - next)) ∷ []
+    CopyAll (member_place x) (reference site (member_receiver x) copy.value.to) (first_reference site (member_args x) copy.value.from)
+    (points_above copy.value.domain last) ∷ []
+work_of site x (todo.Taking grid next) =
+    TakeAll (member_place x) (reference site (member_receiver x) grid) (counted next (site.procs - next)) ∷ []
 
 -- that is left of the body of a method
 abbrev pub work_of_body : NumberedStms → Todo → List Work

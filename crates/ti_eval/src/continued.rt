@@ -35,7 +35,8 @@ use ti_lang::typing::BuiltIn;
 /// The point of the numbers.
 #[tactic(auto, using(crate::proofs::Steps::steps))]
 pub fn point_from<'a>(got: Result<(Vec<i32>, &'a [Told]), Stop>) -> Result<(Held, &'a [Told]), Stop>
-    ensures { (m : Got (List ℤ)) → ComesAs (λ (v : Row ℤ Heap). v.items) got.entry m → Comes result (followed m (λ xs. gives (Plain (Pt (literal.point_of_numbers xs))))) }
+    ensures { (m : Got (List ℤ)) → ComesAs (λ (v : Row ℤ Heap). v.items) got.entry m
+        → Comes result (followed m (λ xs. gives (Plain (Pt (literal.point_of_numbers xs))))) }
 {
     match got {
         Ok((numbers, answers)) => Ok((Held::plain(Value::Pt(point_of_numbers(&numbers))), answers)),
@@ -80,7 +81,9 @@ pub fn cast_from<'a>(
     ty: &Ty,
     got: Result<(Held, &'a [Told]), Stop>,
 ) -> Result<(Held, &'a [Told]), Stop>
-    ensures { (m : Got Seen) → Comes got.entry m → Comes result (followed m (λ h rest. followed (conversions.converted at (value_type_of ty.now) h rest) (λ k. kept_local_spec number at (value_type_of ty.now) k))) }
+    ensures { (m : Got Seen) → Comes got.entry m → Comes result (followed m
+        (λ h rest. followed (conversions.converted at (value_type_of ty.now) h rest)
+        (λ k. kept_local_spec number at (value_type_of ty.now) k))) }
 {
     match got {
         Ok((h, answers)) => match converted(alloc, at, ty, h, answers) {
@@ -99,7 +102,8 @@ pub fn member_from<'a>(
     h: Held,
     got: Result<(Vec<Held>, &'a [Told]), Stop>,
 ) -> Result<(Held, &'a [Told]), Stop>
-    ensures { (type through : ValueType) (m : Got (List Seen)) → ComesAs (λ (v : Row Seen Heap). v.items) got.entry m → Comes result (followed m (λ hs. forms.member at type (option_map built_in_of called) through h hs)) }
+    ensures { (type through : ValueType) (m : Got (List Seen)) → ComesAs (λ (v : Row Seen Heap). v.items) got.entry m
+        → Comes result (followed m (λ hs. forms.member at type (option_map built_in_of called) through h hs)) }
 {
     match got {
         Ok((hs, answers)) => member(at, called, &h, &hs, answers),
@@ -115,7 +119,8 @@ pub fn index_from<'a>(
     h: Held,
     got: Result<(Vec<i32>, &'a [Told]), Stop>,
 ) -> Result<(Held, &'a [Told]), Stop>
-    ensures { (type through : ValueType) (m : Got (List ℤ)) → ComesAs (λ (v : Row ℤ Heap). v.items) got.entry m → Comes result (followed m (λ xs. indexed_spec is_point at type through h xs)) }
+    ensures { (type through : ValueType) (m : Got (List ℤ)) → ComesAs (λ (v : Row ℤ Heap). v.items) got.entry m
+        → Comes result (followed m (λ xs. indexed_spec is_point at type through h xs)) }
 {
     match got {
         Ok((numbers, answers)) => indexed(is_point, at, &h, &numbers, answers),

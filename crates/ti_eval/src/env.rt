@@ -62,14 +62,16 @@ pub fn type_of<'a>(env: &Env<'a>, e: &'a Expr) -> Seen<'a>
 
 /// The member of the language that a name means behind an expression.
 pub fn called_member(env: &Env, receiver: &Expr, name: u32) -> Option<BuiltIn>
-    ensures { option_map built_in_of result ≡ member_called_spec (program_of env.now.program.now) (this_of (method_seen env.now.method)) (expression_of receiver.now) name }
+    ensures { option_map built_in_of result ≡ member_called_spec (program_of env.now.program.now) (this_of (method_seen env.now.method))
+        (expression_of receiver.now) name }
 {
     member_called(env.program, class_of_this(env.method), receiver, name)
 }
 
 /// The point of the innermost foreach with this variable.
 pub fn point_of_turn(levels: &[Level], number: u32) -> Option<Point>
-    ensures value { (site : Site) (body : NumberedStms) → option_map_or (λ (p : At). Plain (Pt p)) result nothing ≡ point_at number (turns_at (rest_of site body (reverse levels.now))) }
+    ensures value { (site : Site) (body : NumberedStms) → option_map_or (λ (p : At). Plain (Pt p)) result nothing
+        ≡ point_at number (turns_at (rest_of site body (reverse levels.now))) }
     ensures form { IfSome result IsPoint }
 {
     let mut n = levels.len();

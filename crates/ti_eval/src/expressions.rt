@@ -83,7 +83,8 @@ fn selected<'a>(
     name: u32,
     got: Result<(Held, &'a [Told]), Stop>,
 ) -> Result<(Held, &'a [Told]), Stop>
-    ensures { (type through : ValueType) (m : Got Seen) → Comes got.entry m → Comes result (followed m (λ h. fetched at type (Field h through (selected_spec (env_of env.now) (expression_of e.now) name)))) }
+    ensures { (type through : ValueType) (m : Got Seen) → Comes got.entry m
+        → Comes result (followed m (λ h. fetched at type (Field h through (selected_spec (env_of env.now) (expression_of e.now) name)))) }
 {
     match got {
         Ok((h, answers)) => match field_selected(env, e, name) {
@@ -122,7 +123,8 @@ fn binary<'a>(
     got: Result<(Held, &'a [Told]), Stop>,
     e: &Expr,
 ) -> Result<(Held, &'a [Told]), Stop>
-    ensures { (m : Got Seen) → Comes got.entry m → Comes result (followed m (λ h. evaluation.with_right at op h (evaluation.eval (env_of env.now) (expression_of e.now)))) }
+    ensures { (m : Got Seen) → Comes got.entry m → Comes result (followed m
+        (λ h. evaluation.with_right at op h (evaluation.eval (env_of env.now) (expression_of e.now)))) }
 {
     match got {
         Ok((h, answers)) => match settled(op, &h) {
@@ -144,7 +146,10 @@ fn with_arguments<'a>(
     got: Result<(Held, &'a [Told]), Stop>,
     args: &[Expr],
 ) -> Result<(Held, &'a [Told]), Stop>
-    ensures { (type through : ValueType) (m : Got Seen) → Comes got.entry m → Comes result (followed m (λ h rest. followed (evaluation.eval_all (env_of env.now) (numbered_exps (map expression_of args.now)) rest) (λ hs. forms.member at type (option_map built_in_of called) through h hs))) }
+    ensures { (type through : ValueType) (m : Got Seen) → Comes got.entry m
+        → Comes result (followed m (λ h rest. followed (evaluation.eval_all (env_of env.now)
+        (numbered_exps (map expression_of args.now)) rest) (λ hs. forms.member at type
+        (option_map built_in_of called) through h hs))) }
 {
     match got {
         Ok((h, answers)) => { member_from(at, called, h, evaluate_all(alloc, env, args, answers)) }
@@ -163,7 +168,9 @@ fn with_indices<'a>(
     got: Result<(Held, &'a [Told]), Stop>,
     indices: &[Expr],
 ) -> Result<(Held, &'a [Told]), Stop>
-    ensures { (type through : ValueType) (m : Got Seen) → Comes got.entry m → Comes result (followed m (λ h rest. followed (evaluation.eval_numbers (env_of env.now) (numbered_exps (map expression_of indices.now)) rest) (λ xs. indexed_spec is_point at type through h xs))) }
+    ensures { (type through : ValueType) (m : Got Seen) → Comes got.entry m
+        → Comes result (followed m (λ h rest. followed (evaluation.eval_numbers (env_of env.now)
+        (numbered_exps (map expression_of indices.now)) rest) (λ xs. indexed_spec is_point at type through h xs))) }
 {
     match got {
         Ok((h, answers)) => {
@@ -186,7 +193,8 @@ pub fn evaluate_all<'a>(
     xs: &[Expr],
     answers: &'a [Told],
 ) -> Result<(Vec<Held>, &'a [Told]), Stop>
-    ensures { ComesAs (λ (v : Row Seen Heap). v.items) result (evaluation.eval_all (env_of env.now) (numbered_exps (map expression_of xs.now)) answers.now) }
+    ensures { ComesAs (λ (v : Row Seen Heap). v.items) result (evaluation.eval_all (env_of env.now)
+        (numbered_exps (map expression_of xs.now)) answers.now) }
 {
     let mut found = Vec::new(alloc);
     let mut left = answers;
@@ -210,7 +218,8 @@ pub fn evaluate_numbers<'a>(
     xs: &[Expr],
     answers: &'a [Told],
 ) -> Result<(Vec<i32>, &'a [Told]), Stop>
-    ensures { ComesAs (λ (v : Row ℤ Heap). v.items) result (evaluation.eval_numbers (env_of env.now) (numbered_exps (map expression_of xs.now)) answers.now) }
+    ensures { ComesAs (λ (v : Row ℤ Heap). v.items) result (evaluation.eval_numbers (env_of env.now)
+        (numbered_exps (map expression_of xs.now)) answers.now) }
 {
     let mut found = Vec::new(alloc);
     let mut left = answers;

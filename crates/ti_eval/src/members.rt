@@ -156,7 +156,9 @@ fn sliced<'a>(
     args: &[Held],
     answers: &'a [Told],
 ) -> Result<(Held, &'a [Told]), Stop>
-    ensures { (type through : ValueType) → Comes result (parts.viewed at type (Slice (held.int_of (slice_index_or args.now 0 held.nothing)) (held.int_of (slice_index_or args.now 1 held.nothing))) through h.now answers.now) }
+    ensures { (type through : ValueType) → Comes result (parts.viewed at type
+        (Slice (held.int_of (slice_index_or args.now 0 held.nothing)) (held.int_of (slice_index_or args.now 1 held.nothing))) through
+        h.now answers.now) }
 {
     fetch_view(at, slice_argument(args), h, answers)
 }
@@ -171,7 +173,8 @@ pub fn member<'a>(
     args: &[Held],
     answers: &'a [Told],
 ) -> Result<(Held, &'a [Told]), Stop>
-    ensures { (type through : ValueType) → Comes result (forms.member at type (option_map built_in_of b) through h.now args.now answers.now) }
+    ensures { (type through : ValueType) → Comes result (forms.member at type
+        (option_map built_in_of b) through h.now args.now answers.now) }
 {
     let Some(b) = b else {
         return Ok((Held::truth(false), answers));

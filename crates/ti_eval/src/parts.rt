@@ -13,7 +13,8 @@ use ti_base::{Action, FaultKind, Place, Point, ViewHow};
 
 /// An action: its answer, if it is there.
 pub fn asked<'a>(at: Place, action: Action, answers: &'a [Told]) -> Result<(Held, &'a [Told]), Stop>
-    ensures { (through : ValueType) (wanted : Wanted) → Comes result (asked_spec (record { place = at; action = action; through = through; wanted = wanted }) answers.now) }
+    ensures { (through : ValueType) (wanted : Wanted) → Comes result
+        (asked_spec (record { place = at; action = action; through = through; wanted = wanted }) answers.now) }
 {
     match answers.split_first() {
         Some((first, rest)) => Ok((value_told(*first), rest)),

@@ -17,7 +17,8 @@ fn next_in_rect(r: &Rect, p: Option<&Point>) -> Option<Point>
     requires dim { IfSome (option_copied p) (λ q. q.dim ≡ r.now.dim) }
     ensures list { IsDomain r.now.dim (points_of r.now) }
     ensures form { IfSome result IsPoint }
-    ensures next { MatchOption result (NoneAfter (IsAmong (points_of r.now)) (option_copied p.entry)) (λ q. IsNextAfter (IsAmong (points_of r.now)) (option_copied p.entry) q) }
+    ensures next { MatchOption result (NoneAfter (IsAmong (points_of r.now)) (option_copied p.entry))
+        (λ q. IsNextAfter (IsAmong (points_of r.now)) (option_copied p.entry) q) }
 {
     rect_next_after(r, p)
 }
@@ -27,7 +28,8 @@ fn next_in_domain(d: &Dom, p: Option<&Point>) -> Option<Point>
     requires { IfSome (option_copied p) (λ q. q.dim ≡ d.now.dim) }
     ensures list { IsDomain d.now.dim d.now.points }
     ensures form { IfSome result IsPoint }
-    ensures next { MatchOption result (NoneAfter (IsAmong d.now.points) (option_copied p.entry)) (λ q. IsNextAfter (IsAmong d.now.points) (option_copied p.entry) q) }
+    ensures next { MatchOption result (NoneAfter (IsAmong d.now.points) (option_copied p.entry))
+        (λ q. IsNextAfter (IsAmong d.now.points) (option_copied p.entry) q) }
 {
     let _ = dom_pieces(d);
     dom_next_after(d, p)
@@ -39,7 +41,8 @@ pub fn next_above(domain: &Held, p: Option<&Point>) -> Option<Point>
     requires { IfSome (option_copied p) (λ q. q.dim ≡ dim_of domain.now) }
     ensures list { IsDomain (dim_of domain.now) (points_in domain.now) }
     ensures form { IfSome result IsPoint }
-    ensures next { MatchOption result (NoneAfter (IsAmong (points_in domain.now)) (option_copied p.entry)) (λ q. IsNextAfter (IsAmong (points_in domain.now)) (option_copied p.entry) q) }
+    ensures next { MatchOption result (NoneAfter (IsAmong (points_in domain.now)) (option_copied p.entry))
+        (λ q. IsNextAfter (IsAmong (points_in domain.now)) (option_copied p.entry) q) }
 {
     match &domain.kept {
         Kept::Plain(Value::Rc(r)) => next_in_rect(r, p),

@@ -7,7 +7,7 @@ use Rattle.ti_lang.specs.Program.Classes.{NumberedProgram}
 use Rattle.ti_lang.specs.Meaning.Processes.{Process}
 use Rattle.ti_lang.specs.Meaning.Steps.{To, step}
 use Rattle.ti_lang.specs.Meaning.NextStep.{Reaches, here, later, After, none, more}
-use Rattle.ti_lang.proofs.MeaningLaws.Total.{Fitting, Falls, weight, step_falls}
+use Rattle.ti_lang.proofs.Lemmas.{Fitting, Falls, weight, step_falls}
 use Rattle.ti_exec.specs.declared.process.Mode.{Mode}
 use Rattle.ti_exec.specs.declared.process.Mode.TheVariants as mode
 use Rattle.ti_exec.specs.declared.process.Walker.{Walker}

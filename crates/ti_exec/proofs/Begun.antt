@@ -32,7 +32,7 @@ use Rattle.ti_eval.specs.declared.frame.Part.TheVariants as part
 use Rattle.ti_eval.specs.Comes.{Stops}
 use Rattle.ti_eval.specs.Places.{part_of}
 use Rattle.ti_eval.specs.Frames.{Site, slots_of, list_in, work_of, place_of, condition_in, update_in, loop_of, foreach_of, end_of_for, points_above, reference, first_reference, member_place, member_receiver, member_args}
-use Rattle.ti_eval.proofs.Steps.{then_stops}
+use Rattle.ti_eval.proofs.Lemmas.{then_stops}
 use Rattle.ti_exec.specs.declared.process.Mode.{Mode}
 use Rattle.ti_exec.specs.declared.process.Mode.TheVariants as mode
 use Rattle.ti_exec.specs.declared.process.Turn.{Turn}
@@ -73,7 +73,8 @@ went c old new t variables ws us s l e = s ∙ ap To (ap (done_with c old variab
 pub went_out : (c : NumberedProgram) (old new : Walker) (t : Todo) (variables : List Variable) → step (walking c old t) ≡ To (done_with c old variables (rest c old.team.procs old.top))
     → process_of c new ≡ done_with c old variables (left_in c old.team.procs old.top todo.Inside) → IsTurnAt c old t turn.Went new
 went_out c old new t variables s e =
-    went c old new t variables (rest c old.team.procs old.top) (left_in c old.team.procs old.top todo.Inside) s (left_inside (site_of c old.team.procs old.top) (body_of c old.top) (reverse old.top.levels.items)) e
+    went c old new t variables (rest c old.team.procs old.top) (left_in c old.team.procs old.top todo.Inside) s
+    (left_inside (site_of c old.team.procs old.top) (body_of c old.top) (reverse old.top.levels.items)) e
 
 -- the mode of the process
 pub turn_in_mode : (c : NumberedProgram) (old new : Walker) (t : Todo) (r : Turn) → old.mode ≡ mode.Walks t → IsTurnAt c old t r new → IsTurn c old r new
@@ -184,7 +185,8 @@ behind_there c w us h u =
     step_there c w todo.Behind _ h refl
     ∙ ap (λ xs. To (done_with c w (vars w) ((xs ++ Before (loop_of (here c w.top)) ∷ []) ++ (end_of_for (here c w.top) ++ rest c w.team.procs w.top)))) u
 
-update_there : (x y : NumberedStm) (b d : Bool) → x ≡ y → b ≡ d → maybe_do (update_in x) ≡ cond b (Do (part_of x part.Update) ∷ []) [] → maybe_do (update_in y) ≡ cond d (Do (part_of y part.Update) ∷ []) []
+update_there : (x y : NumberedStm) (b d : Bool) → x ≡ y → b ≡ d → maybe_do (update_in x) ≡ cond b (Do (part_of x part.Update) ∷ []) []
+    → maybe_do (update_in y) ≡ cond d (Do (part_of y part.Update) ∷ []) []
 update_there x y b d i t u =
     subst (λ (z : NumberedStm). maybe_do (update_in z) ≡ cond d (Do (part_of z part.Update) ∷ []) []) i (u ∙ ap (λ (k : Bool). cond k (Do (part_of x part.Update) ∷ []) []) t)
 
@@ -211,12 +213,14 @@ each_there : (c : NumberedProgram) (w : Walker) (v : ℕ) (d : Box Held Global) 
     (To (spends (done_with c w (vars w) (Do (part_of (here c w.top) part.Body) ∷ Behind (foreach_of (here c w.top) v (p ∷ ps)) ∷ rest c w.team.procs w.top))))
 each_there c w v d last p ps h e = step_there c w (todo.Each v d last) _ h (ap (λ qs. Before (foreach_of (here c w.top) v qs) ∷ []) e)
 
-pub each_fails : (c : NumberedProgram) (w : Walker) (v : ℕ) (d : Box Held Global) (last : Option Point) (p : Point) (ps : List Point) (x : NumberedStm) (at : Place) → 0 < length w.top.levels.items → points_above d.value last ≡ p ∷ ps
+pub each_fails : (c : NumberedProgram) (w : Walker) (v : ℕ) (d : Box Held Global) (last : Option Point) (p : Point) (ps : List Point)
+    (x : NumberedStm) (at : Place) → 0 < length w.top.levels.items → points_above d.value last ≡ p ∷ ps
     → w.fuel ≤ w.spent → x ≡ here c w.top → at ≡ place_of x → step (walking c w (todo.Each v d last)) ≡ Faults Fuel at
 each_fails c w v d last p ps x at h e f i a =
     each_there c w v d last p ps h e ∙ unticked (walking c w (todo.Each v d last)) (place_of (here c w.top)) _ f ∙ ap (Faults Fuel) (sym (a ∙ ap place_of i))
 
-pub each_turns : (c : NumberedProgram) (w new : Walker) (v : ℕ) (d : Box Held Global) (at : Spot) (last : Option Point) (p : Point) → 0 < length w.top.levels.items → points_above d.value last ≡ p ∷ points_above d.value (Some p)
+pub each_turns : (c : NumberedProgram) (w new : Walker) (v : ℕ) (d : Box Held Global) (at : Spot) (last : Option Point) (p : Point)
+    → 0 < length w.top.levels.items → points_above d.value last ≡ p ∷ points_above d.value (Some p)
     → w.spent < w.fuel → at.point ≡ p
     → process_of c new ≡ done_with c (record w { spent = w.spent + 1 }) (vars w) (Do (part_of (here c w.top) part.Body) ∷ left_in c w.team.procs w.top (todo.Turn v d at))
     → IsTurnAt c w (todo.Each v d last) turn.Went new
@@ -248,38 +252,52 @@ from_of c w id = record { thing = id; type = (first_reference (site_of c w.team.
 pub copy_done : (c : NumberedProgram) (w : Walker) (d : Box Copy Global) (last : Option Point) → 0 < length w.top.levels.items → points_above d.value.domain last ≡ []
     → step (walking c w (todo.Copying d last)) ≡ To (done_with c w (vars w) (rest c w.team.procs w.top))
 copy_done c w d last h e =
-    step_there c w (todo.Copying d last) _ h (ap (λ ps. CopyAll (member_place (here c w.top)) (to_of c w d.value.to) (first_reference (site_of c w.team.procs w.top) (member_args (here c w.top)) d.value.from) ps ∷ []) e)
+    step_there c w (todo.Copying d last) _ h (ap (λ ps. CopyAll (member_place (here c w.top)) (to_of c w d.value.to)
+    (first_reference (site_of c w.team.procs w.top) (member_args (here c w.top)) d.value.from) ps ∷ []) e)
 
-pub copy_there : (c : NumberedProgram) (w : Walker) (d : Box Copy Global) (last : Option Point) (p : Point) (ps : List Point) → 0 < length w.top.levels.items → points_above d.value.domain last ≡ p ∷ ps
+pub copy_there : (c : NumberedProgram) (w : Walker) (d : Box Copy Global) (last : Option Point) (p : Point) (ps : List Point)
+    → 0 < length w.top.levels.items → points_above d.value.domain last ≡ p ∷ ps
     → step (walking c w (todo.Copying d last))
     ≡ valued (walking c w (todo.Copying d last)) (copied (env_in c w) (member_place (here c w.top)) (to_of c w d.value.to) (from_of c w d.value.from) (p ∷ ps) w.answers.items)
     (moves (walking c w (todo.Copying d last)) (top_of c w (left_in c w.team.procs w.top (todo.Copying d last))) (below_of c w) (rest c w.team.procs w.top))
 copy_there c w d last p ps h e =
     step_there c w (todo.Copying d last) _ h
-    (ap (λ r. CopyAll (member_place (here c w.top)) (to_of c w d.value.to) r (points_above d.value.domain last) ∷ []) (first_thing (site_of c w.team.procs w.top) (member_args (here c w.top)) d.value.from)
+    (ap (λ r. CopyAll (member_place (here c w.top)) (to_of c w d.value.to) r (points_above d.value.domain last) ∷ [])
+    (first_thing (site_of c w.team.procs w.top) (member_args (here c w.top)) d.value.from)
     ∙ ap (λ qs. CopyAll (member_place (here c w.top)) (to_of c w d.value.to) (from_of c w d.value.from) qs ∷ []) e)
 
 pub copy_left : (c : NumberedProgram) (w : Walker) (d : Box Copy Global) (last : Option Point) → 0 < length w.top.levels.items
-    → left_in c w.team.procs w.top (todo.Copying d last) ≡ CopyAll (member_place (here c w.top)) (to_of c w d.value.to) (from_of c w d.value.from) (points_above d.value.domain last) ∷ rest c w.team.procs w.top
+    → left_in c w.team.procs w.top (todo.Copying d last) ≡ CopyAll (member_place (here c w.top)) (to_of c w d.value.to)
+    (from_of c w d.value.from) (points_above d.value.domain last) ∷ rest c w.team.procs w.top
 copy_left c w d last h =
     left_here c w (todo.Copying d last) h
-    ∙ ap (λ r. CopyAll (member_place (here c w.top)) (to_of c w d.value.to) r (points_above d.value.domain last) ∷ rest c w.team.procs w.top) (first_thing (site_of c w.team.procs w.top) (member_args (here c w.top)) d.value.from)
+    ∙ ap (λ r. CopyAll (member_place (here c w.top)) (to_of c w d.value.to) r (points_above d.value.domain last)
+    ∷ rest c w.team.procs w.top) (first_thing (site_of c w.team.procs w.top) (member_args (here c w.top)) d.value.from)
 
 pub copy_went : (c : NumberedProgram) (w new : Walker) (d : Box Copy Global) (last : Option Point) (p : Point) (x : NumberedStm) (at : Place) (ts more : List Answer) → 0 < length w.top.levels.items
     → points_above d.value.domain last ≡ p ∷ points_above d.value.domain (Some p) → x ≡ here c w.top → at ≡ member_place x → ts ≡ w.answers.items
-    → ((env : Env) (t u : ValueType) (ps : List Point) → copied env at (record { thing = d.value.to; type = t }) (record { thing = d.value.from; type = u }) (p ∷ ps) ts ≡ Gives (Goes env.variables (CopyAll at (record { thing = d.value.to; type = t }) (record { thing = d.value.from; type = u }) ps ∷ [])) more)
+    → ((env : Env) (t u : ValueType) (ps : List Point) → copied env at (record { thing = d.value.to; type = t })
+    (record { thing = d.value.from; type = u }) (p ∷ ps) ts ≡ Gives
+    (Goes env.variables (CopyAll at (record { thing = d.value.to; type = t }) (record { thing = d.value.from; type = u }) ps ∷ []))
+    more)
     → process_of c new ≡ done_with c w (vars w) (left_in c w.team.procs w.top (todo.Copying d (Some p))) → IsTurnAt c w (todo.Copying d last) turn.Went new
 copy_went c w new d last p x at ts more h e i a b k n =
     let env : Env = env_in c w in
     let qs : List Point = points_above d.value.domain (Some p) in
-    let g : copied env (member_place (here c w.top)) (to_of c w d.value.to) (from_of c w d.value.from) (p ∷ qs) w.answers.items ≡ Gives (Goes env.variables (CopyAll (member_place (here c w.top)) (to_of c w d.value.to) (from_of c w d.value.from) qs ∷ [])) more =
-    subst (λ (z : Place). copied env z (to_of c w d.value.to) (from_of c w d.value.from) (p ∷ qs) w.answers.items ≡ Gives (Goes env.variables (CopyAll z (to_of c w d.value.to) (from_of c w d.value.from) qs ∷ [])) more) (a ∙ ap member_place i)
-    (subst (λ (bs : List Answer). copied env at (to_of c w d.value.to) (from_of c w d.value.from) (p ∷ qs) bs ≡ Gives (Goes env.variables (CopyAll at (to_of c w d.value.to) (from_of c w d.value.from) qs ∷ [])) more) b (k env _ _ qs)) in
+    let g : copied env (member_place (here c w.top)) (to_of c w d.value.to) (from_of c w d.value.from) (p ∷ qs) w.answers.items
+    ≡ Gives (Goes env.variables (CopyAll (member_place (here c w.top)) (to_of c w d.value.to) (from_of c w d.value.from) qs ∷ []))
+    more =
+    subst (λ (z : Place). copied env z (to_of c w d.value.to) (from_of c w d.value.from) (p ∷ qs) w.answers.items
+    ≡ Gives (Goes env.variables (CopyAll z (to_of c w d.value.to) (from_of c w d.value.from) qs ∷ [])) more) (a ∙ ap member_place i)
+    (subst (λ (bs : List Answer). copied env at (to_of c w d.value.to) (from_of c w d.value.from) (p ∷ qs) bs
+    ≡ Gives (Goes env.variables (CopyAll at (to_of c w d.value.to) (from_of c w d.value.from) qs ∷ [])) more) b (k env _ _ qs)) in
     copy_there c w d last p qs h e
-    ∙ ap (λ got. valued (walking c w (todo.Copying d last)) got (moves (walking c w (todo.Copying d last)) (top_of c w (left_in c w.team.procs w.top (todo.Copying d last))) (below_of c w) (rest c w.team.procs w.top))) g
+    ∙ ap (λ got. valued (walking c w (todo.Copying d last)) got (moves (walking c w (todo.Copying d last))
+    (top_of c w (left_in c w.team.procs w.top (todo.Copying d last))) (below_of c w) (rest c w.team.procs w.top))) g
     ∙ ap To (ap (done_with c w (vars w)) (sym (copy_left c w d (Some p) h)) ∙ sym n)
 
-pub copy_stops : (c : NumberedProgram) (w new : Walker) (d : Box Copy Global) (last : Option Point) (p : Point) (x : NumberedStm) (at : Place) (ts : List Answer) (stop : Stop) (r : Turn) → 0 < length w.top.levels.items
+pub copy_stops : (c : NumberedProgram) (w new : Walker) (d : Box Copy Global) (last : Option Point) (p : Point) (x : NumberedStm)
+    (at : Place) (ts : List Answer) (stop : Stop) (r : Turn) → 0 < length w.top.levels.items
     → points_above d.value.domain last ≡ p ∷ points_above d.value.domain (Some p) → x ≡ here c w.top → at ≡ member_place x → ts ≡ w.answers.items
     → ((env : Env) (t u : ValueType) (ps : List Point) → Stops stop (copied env at (record { thing = d.value.to; type = t }) (record { thing = d.value.from; type = u }) (p ∷ ps) ts))
     → ((got : Got Move) (go : Move → Step) → Stops stop got → IsStep c (walking c w (todo.Copying d last)) (valued (walking c w (todo.Copying d last)) got go) r new)
@@ -315,7 +333,8 @@ take_left c w grid next h = left_here c w (todo.Taking grid next) h
 
 pub take_went : (c : NumberedProgram) (w new : Walker) (grid : Id) (next : ℕ) (x : NumberedStm) (at : Place) (ts more : List Answer) → 0 < length w.top.levels.items
     → next < w.team.procs → x ≡ here c w.top → at ≡ member_place x → ts ≡ w.answers.items
-    → ((env : Env) (t : ValueType) (is : List ℕ) → taken env at (record { thing = grid; type = t }) (next ∷ is) ts ≡ Gives (Goes env.variables (TakeAll at (record { thing = grid; type = t }) is ∷ [])) more)
+    → ((env : Env) (t : ValueType) (is : List ℕ) → taken env at (record { thing = grid; type = t }) (next ∷ is) ts
+    ≡ Gives (Goes env.variables (TakeAll at (record { thing = grid; type = t }) is ∷ [])) more)
     → process_of c new ≡ done_with c w (vars w) (left_in c w.team.procs w.top (todo.Taking grid (next + 1))) → IsTurnAt c w (todo.Taking grid next) turn.Went new
 take_went c w new grid next x at ts more h e i a b k n =
     let env : Env = env_in c w in
@@ -324,7 +343,8 @@ take_went c w new grid next x at ts more h e i a b k n =
     subst (λ (z : Place). taken env z (to_of c w grid) (next ∷ is) w.answers.items ≡ Gives (Goes env.variables (TakeAll z (to_of c w grid) is ∷ [])) more) (a ∙ ap member_place i)
     (subst (λ (bs : List Answer). taken env at (to_of c w grid) (next ∷ is) bs ≡ Gives (Goes env.variables (TakeAll at (to_of c w grid) is ∷ [])) more) b (k env _ is)) in
     take_there c w grid next h e
-    ∙ ap (λ got. valued (walking c w (todo.Taking grid next)) got (moves (walking c w (todo.Taking grid next)) (top_of c w (left_in c w.team.procs w.top (todo.Taking grid next))) (below_of c w) (rest c w.team.procs w.top))) g
+    ∙ ap (λ got. valued (walking c w (todo.Taking grid next)) got (moves (walking c w (todo.Taking grid next))
+    (top_of c w (left_in c w.team.procs w.top (todo.Taking grid next))) (below_of c w) (rest c w.team.procs w.top))) g
     ∙ ap To (ap (done_with c w (vars w)) (sym (take_left c w grid (next + 1) h)) ∙ sym n)
 
 pub take_stops : (c : NumberedProgram) (w new : Walker) (grid : Id) (next : ℕ) (x : NumberedStm) (at : Place) (ts : List Answer) (stop : Stop) (r : Turn) → 0 < length w.top.levels.items

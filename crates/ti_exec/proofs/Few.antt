@@ -9,7 +9,7 @@ use Rattle.ti_lang.specs.Meaning.Processes.{Variable}
 use Rattle.ti_lang.specs.Meaning.Scoping.{same_variable, with_changed, without}
 use Rattle.ti_eval.specs.declared.frame.Slot.{Slot}
 use Rattle.ti_eval.specs.Frames.{slot_of, slots_of}
-use Rattle.ti_eval.proofs.Slots.{newest, one_more}
+use Rattle.ti_eval.proofs.Lemmas.{newest, one_more}
 
 as_many : (xs : List Slot) → length (slots_of xs) ≡ length xs
 as_many xs = length-map (reverse xs) slot_of ∙ length-reverse xs

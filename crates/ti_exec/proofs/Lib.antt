@@ -1,12 +1,13 @@
-pub mod Advances
-pub mod Asked
-pub mod Beginnings
-pub mod Begun
-pub mod Few
-pub mod Fieldless
-pub mod Formed
-pub mod Marks
-pub mod Sending
-pub mod Settling
-pub mod Standings
-pub mod Works
+mod Advances
+mod Asked
+mod Beginnings
+mod Begun
+mod Few
+mod Fieldless
+mod Formed
+mod Marks
+mod Sending
+mod Settling
+mod Standings
+mod Works
+pub mod Lemmas

@@ -166,7 +166,8 @@ same_at_mark site x (todo.Taking grid next) ws vs h = cc
 pub left_at_mark : (site : Site) (body : NumberedStms) (xs : List Level) (t : Todo) → 0 < length xs → is_mark t ≡ true → from_mark (left_of site body (reverse xs) t) ≡ left_of site body (reverse xs) t
 left_at_mark site body xs t h m = rw (left_within site body xs t h) (at_mark site (inside body (reverse xs)) t (rest_of site body (reverse xs)) m)
 
-pub variables_there : (site : Site) (body : NumberedStms) (xs : List Level) (t : Todo) (vs : List Variable) → 0 < length xs → is_mark t ≡ true → variables_at_mark (left_of site body (reverse xs) t) vs ≡ vs
+pub variables_there : (site : Site) (body : NumberedStms) (xs : List Level) (t : Todo) (vs : List Variable) → 0 < length xs → is_mark t
+    ≡ true → variables_at_mark (left_of site body (reverse xs) t) vs ≡ vs
 variables_there site body xs t vs h m = rw (left_within site body xs t h) (same_at_mark site (inside body (reverse xs)) t (rest_of site body (reverse xs)) vs m)
 
 has_from : (ws : List Work) → has_mark (from_mark ws) ≡ has_mark ws
@@ -221,7 +222,8 @@ pub jumped : (c : NumberedProgram) (old : Walker) (f : Call) (new : _) (us vs : 
 jumped c old f new us vs ws ms m i u w e = e ∙ done_by c old f us ws m i ∙ ap (λ xs. done_with c old xs ws) u ∙ ap (done_with c old vs) w
 
 pub left_past : (c : NumberedProgram) (procs : ℕ) (old f : Call) (t past : Todo) (x : NumberedStm) → 0 < length f.levels.items → x ≡ here c f
-    → ((site : Site) (ws : List Work) → work_of site x past ++ ws ≡ past_mark (work_of site x t ++ ws)) → left_in c procs f t ≡ from_mark (rest c procs old) → left_in c procs f past ≡ past_mark (rest c procs old)
+    → ((site : Site) (ws : List Work) → work_of site x past ++ ws ≡ past_mark (work_of site x t ++ ws)) → left_in c procs f t
+    ≡ from_mark (rest c procs old) → left_in c procs f past ≡ past_mark (rest c procs old)
 left_past c procs old f t past x h i p e =
     left_within _ _ f.levels.items past h
     ∙ subst (λ (y : NumberedStm). work_of (site_of c procs f) y past ++ rest c procs f ≡ past_mark (work_of (site_of c procs f) y t ++ rest c procs f)) i (p (site_of c procs f) (rest c procs f))
@@ -241,10 +243,16 @@ continues_on c w ws h = rw (marked_rest (site_of c w.team.procs w.top) (body_of 
 
 pub breaks_nowhere : (c : NumberedProgram) (w : Walker) (ws : List Work) → in_loop w.top.levels.items ≡ false
     → moves (process_of c w) (top_of c w ws) (below_of c w) (rest c w.team.procs w.top) Breaks ≡ To (done_with c w (slots_of w.top.variables.slots.items) (left_in c w.team.procs w.top todo.Inside))
-breaks_nowhere c w ws h = rw (marked_rest (site_of c w.team.procs w.top) (body_of c w.top) w.top.levels.items ∙ h, left_inside (site_of c w.team.procs w.top) (body_of c w.top) (reverse w.top.levels.items)) refl
+breaks_nowhere c w ws h = rw (
+  marked_rest (site_of c w.team.procs w.top) (body_of c w.top) w.top.levels.items ∙ h,
+  left_inside (site_of c w.team.procs w.top) (body_of c w.top) (reverse w.top.levels.items),
+) refl
 
 pub continues_nowhere : (c : NumberedProgram) (w : Walker) (ws : List Work) → in_loop w.top.levels.items ≡ false
     → moves (process_of c w) (top_of c w ws) (below_of c w) (rest c w.team.procs w.top) Continues ≡ To (done_with c w (slots_of w.top.variables.slots.items) (left_in c w.team.procs w.top todo.Inside))
-continues_nowhere c w ws h = rw (marked_rest (site_of c w.team.procs w.top) (body_of c w.top) w.top.levels.items ∙ h, left_inside (site_of c w.team.procs w.top) (body_of c w.top) (reverse w.top.levels.items)) refl
+continues_nowhere c w ws h = rw (
+  marked_rest (site_of c w.team.procs w.top) (body_of c w.top) w.top.levels.items ∙ h,
+  left_inside (site_of c w.team.procs w.top) (body_of c w.top) (reverse w.top.levels.items),
+) refl
 
 pub ruleset marks = (variables_in_list, variables_at_end, from_passed, reverse-append)

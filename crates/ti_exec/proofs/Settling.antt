@@ -45,7 +45,8 @@ next_left : (site : Site) (body : NumberedStms) (ls : List Level) (n : ℕ) → 
 next_left site body [] n h = sym (drop_at (list_of body) n h)
 next_left site body (l ∷ ls) n h =
     let x : NumberedStm = inside body (l ∷ ls) in
-    let e : Do (part_of x (part.Item n)) ∷ map Do (drop (n + 1) (list_in x)) ≡ map Do (drop n (list_in x)) = ap (λ y. Do y ∷ map Do (drop (n + 1) (list_in x))) (part_item x n) ∙ sym (drop_at (list_in x) n h) in
+    let e : Do (part_of x (part.Item n)) ∷ map Do (drop (n + 1) (list_in x)) ≡ map Do (drop n (list_in x)) =
+    ap (λ y. Do y ∷ map Do (drop (n + 1) (list_in x))) (part_item x n) ∙ sym (drop_at (list_in x) n h) in
     ap (λ ws. (ws ++ End x ∷ []) ++ left_of site body ls l.todo) e
 
 pub next_item : (site : Site) (body : NumberedStms) (xs : List Level) (n : ℕ) → n < length (list_in (inside body (reverse xs)))

@@ -10,7 +10,7 @@ use Rattle.ti_lang.specs.Program.Views.{program_of}
 use Rattle.ti_lang.specs.Meaning.Processes.{Setting}
 use Rattle.ti_lang.specs.Meaning.Steps.{At, spends, answered, step}
 use Rattle.ti_lang.specs.Meaning.NextStep.{Reaches, here, shown, After, none, more}
-use Rattle.ti_lang.proofs.MeaningLaws.Limits.{Within, after_keeps, begin_within}
+use Rattle.ti_lang.proofs.Lemmas.{Within, after_keeps, begin_within}
 use Rattle.ti_exec.specs.declared.going_on.State.{State}
 use Rattle.ti_exec.specs.declared.going_on.State.TheVariants as state
 use Rattle.ti_exec.specs.declared.process.Walker.{Walker}
@@ -72,7 +72,8 @@ stands_with_room c w v pending n e s =
       goes = λ r. s.goes r ∙ told_with_room c w v pending r e;
     }
 
-follows_on : (s : Standing) (b : Bool) (old new : Walker) (v : Vec Answer Global) → v.items ≡ new.answers.items → Follows s old → Reaches (process_of (program_of s.program) old) (process_of (program_of s.program) new)
+follows_on : (s : Standing) (b : Bool) (old new : Walker) (v : Vec Answer Global) → v.items ≡ new.answers.items → Follows s old
+    → Reaches (process_of (program_of s.program) old) (process_of (program_of s.program) new)
     → Follows (record s { asks = b }) (record new { answers = v })
 follows_on s b old new v e f r =
     let c = program_of s.program in
@@ -100,7 +101,8 @@ goes s w pending r f a = subst (λ q. After f.process (r ∷ []) q) (a.stands.go
 abbrev pub with_answer : Standing → Answer → Standing
 with_answer s r = record s { told = s.told ++ r ∷ [] }
 
-after : (s : Standing) (w : Walker) (pending : Pending) (r : Answer) (f : Follows s w) → Awaits (program_of s.program) w pending → After (begun_of s) (s.told ++ r ∷ []) (told (program_of s.program) w pending r)
+after : (s : Standing) (w : Walker) (pending : Pending) (r : Answer) (f : Follows s w) → Awaits (program_of s.program) w pending
+    → After (begun_of s) (s.told ++ r ∷ []) (told (program_of s.program) w pending r)
 after s w pending r f a = one_more (begun_of s) f.process (told (program_of s.program) w pending r) s.told r f.is (goes s w pending r f a)
 
 spent_told : (c : NumberedProgram) (w : Walker) (pending : Pending) (r : Answer) → (told c w pending r).spent ≡ w.spent + 1
@@ -126,6 +128,7 @@ behind s w v pending r b f a e =
     let q = told (program_of s.program) w pending r in
     record { process = q; is = after s w pending r f a; reaches = subst (λ p. Reaches q p) (sym e) here }
 
-pub is_answered : (s : Standing) (w : Walker) (pending : Pending) (r : Answer) (b : Bool) → Follows s w → Awaits (program_of s.program) w pending → IsAnswered s r (record (with_answer s r) { asks = b })
+pub is_answered : (s : Standing) (w : Walker) (pending : Pending) (r : Answer) (b : Bool) → Follows s w
+    → Awaits (program_of s.program) w pending → IsAnswered s r (record (with_answer s r) { asks = b })
 is_answered s w pending r b f a =
     record { before = f.process; was = f.is; behind = told (program_of s.program) w pending r; is = after s w pending r f a; after = goes s w pending r f a }

@@ -42,7 +42,8 @@ within site body [] t h = absurd (omega arith)
 within site body (l ∷ ls) t h = refl
 
 -- inside a statement of the body
-pub left_within : (site : Site) (body : NumberedStms) (xs : List Level) (t : Todo) → 0 < length xs → left_of site body (reverse xs) t ≡ work_of site (inside body (reverse xs)) t ++ rest_of site body (reverse xs)
+pub left_within : (site : Site) (body : NumberedStms) (xs : List Level) (t : Todo) → 0 < length xs → left_of site body (reverse xs) t
+    ≡ work_of site (inside body (reverse xs)) t ++ rest_of site body (reverse xs)
 left_within site body xs t h = within site body (reverse xs) t (rw (length-reverse xs) h)
 
 -- a part is entered
@@ -87,7 +88,8 @@ walks_at c w t ws m e =
 
 -- the step of a process with a value on its way
 pub receives_at : (c : NumberedProgram) (w : Walker) (h : Held) → w.mode ≡ mode.Receives h
-    → step (process_of c w) ≡ works (process_of c w) (top_of c w (Receive (receiver_of (here c w.top)) h ∷ rest c w.team.procs w.top)) (below_of c w) (Receive (receiver_of (here c w.top)) h ∷ rest c w.team.procs w.top)
+    → step (process_of c w) ≡ works (process_of c w) (top_of c w (Receive (receiver_of (here c w.top)) h ∷ rest c w.team.procs w.top))
+    (below_of c w) (Receive (receiver_of (here c w.top)) h ∷ rest c w.team.procs w.top)
 receives_at c w h m =
     ap (λ (n : Mode). steps (process_of c w) (wait_in c w n)) m
     ∙ ap (λ (n : Mode). runs (process_of c w) (frames_in c w n)) m
@@ -132,7 +134,8 @@ too_deep c w ws left at m this vs receiver h d =
 -- a call where there is room for it
 pub deeper : (c : NumberedProgram) (w : Walker) (ws left : List Work) (at : Place) (m : NumberedMethod) (this : Option Id) (vs : List Variable) (receiver : Receiver)
     → w.spent < w.fuel → length w.below.calls.items + 1 < 200
-    → moves (process_of c w) (top_of c w ws) (below_of c w) left (Calls at m this vs receiver) ≡ To (spends (entering (process_of c w) (top_of c w ws) (below_of c w) left (entered m this vs receiver)))
+    → moves (process_of c w) (top_of c w ws) (below_of c w) left (Calls at m this vs receiver)
+    ≡ To (spends (entering (process_of c w) (top_of c w ws) (below_of c w) left (entered m this vs receiver)))
 deeper c w ws left at m this vs receiver h d =
     let e : ltb (suc (length (below_of c w))) 200 ≡ true = lt-ltb _ _ (omega (arith, below_counted c w)) in
     rw (lt-ltb w.spent w.fuel h, e) refl

@@ -53,7 +53,8 @@ rest c procs f = rest_of (site_of c procs f) (body_of c f) (reverse f.levels.ite
 
 -- the frame of a call with this work left, whose caller wants the result there
 abbrev pub frame_of : NumberedProgram → Receiver → Call → List Work → process.Frame
-frame_of c receiver f left = record { method = method_at c f.method; this = f.this; variables = slots_of f.variables.slots.items; left = left; receiver = receiver }
+frame_of c receiver f left =
+    record { method = method_at c f.method; this = f.this; variables = slots_of f.variables.slots.items; left = left; receiver = receiver }
 
 -- where the calls below want the result of the one above them
 abbrev pub receiver_below : NumberedProgram → List Call → Receiver
@@ -151,7 +152,8 @@ IsTurn c old t new = IsStep c (process_of c old) (step (process_of c old)) t new
 
 -- what the code makes of a move of the innermost statement, whatever else was left in its frame
 abbrev pub IsMoved : NumberedProgram → Walker → Move → Turn → Walker → Type 0
-IsMoved c old move t new = (ws : List Work) → IsStep c (process_of c old) (moves (process_of c old) (top_of c old ws) (below_of c old) (rest c old.team.procs old.top) move) t new
+IsMoved c old move t new = (ws : List Work) → IsStep c (process_of c old)
+    (moves (process_of c old) (top_of c old ws) (below_of c old) (rest c old.team.procs old.top) move) t new
 
 -- ---- what is at hand
 

@@ -33,13 +33,15 @@ done_with c w variables left = going (process_of c w) (top_of c w []) (below_of 
 -- the move of a `while` or a `for` whose condition has this value
 abbrev pub turn_if : NumberedProgram → Walker → Bool → Move
 turn_if c w again =
-    if again then Turns (place_of (here c w.top)) (slots_of w.top.variables.slots.items) (Do (part_of (here c w.top) Body) ∷ Behind (loop_of (here c w.top)) ∷ [])
+    if again then Turns (place_of (here c w.top)) (slots_of w.top.variables.slots.items)
+    (Do (part_of (here c w.top) Body) ∷ Behind (loop_of (here c w.top)) ∷ [])
     else Goes (slots_of w.top.variables.slots.items) []
 
 -- the step at that move
 abbrev pub turning : NumberedProgram → Walker → Bool → Step
 turning c w again =
-    moves (walking c w todo.Before) (top_of c w (left_in c w.team.procs w.top todo.Before)) (below_of c w) (end_of_for (here c w.top) ++ rest c w.team.procs w.top) (turn_if c w again)
+    moves (walking c w todo.Before) (top_of c w (left_in c w.team.procs w.top todo.Before)) (below_of c w) (end_of_for (here c w.top)
+    ++ rest c w.team.procs w.top) (turn_if c w again)
 
 -- whether the boolean is true that a computation comes to, if it comes to one
 abbrev pub truth_in : Got Held → Option Bool

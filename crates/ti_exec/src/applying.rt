@@ -59,7 +59,10 @@ impl Walker {
     #[tactic(auto, using(crate::proofs::Works::lefts))]
     fn goes(&mut self, left: Left) -> Result<(), Memory>
         requires { 0 < length self.old.top.levels.items }
-        ensures { OnOk result ((c : NumberedProgram) (ws : List Work) → process_of c self.new ≡ steps.going (process_of c self.old) (top_of c self.old ws) (below_of c self.old) (slots_of self.old.top.variables.slots.items) (works_of (site_of c self.old.team.procs self.old.top) (here c self.old.top) left ++ rest c self.old.team.procs self.old.top)) }
+        ensures { OnOk result ((c : NumberedProgram) (ws : List Work) → process_of c self.new
+            ≡ steps.going (process_of c self.old) (top_of c self.old ws) (below_of c self.old)
+            (slots_of self.old.top.variables.slots.items) (works_of (site_of c self.old.team.procs self.old.top)
+            (here c self.old.top) left ++ rest c self.old.team.procs self.old.top)) }
     {
         match left {
             Left::Of(todo) => {
@@ -73,7 +76,8 @@ impl Walker {
     /// The variables change, and this is left of the innermost statement.
     pub fn goes_by(&mut self, alloc: Global, way: Way) -> Result<Turn, Memory>
         requires { 0 < length self.old.top.levels.items }
-        ensures { (c : NumberedProgram) → IfOk result (λ t. IsMoved c self.old (move_by (env_in c self.old) (here c self.old.top) way.entry) t self.new) }
+        ensures { (c : NumberedProgram) → IfOk result (λ t. IsMoved c self.old
+            (move_by (env_in c self.old) (here c self.old.top) way.entry) t self.new) }
     {
         self.top.variables.vary_by(alloc, way)?;
         self.goes(left_by(way))?;
@@ -83,7 +87,9 @@ impl Walker {
     // The same of any change.
     fn varies(&mut self, change: Change, left: Left) -> Result<Turn, Memory>
         requires { 0 < length self.old.top.levels.items }
-        ensures { (c : NumberedProgram) → IfOk result (λ t. IsMoved c self.old (move.Goes (changed change.entry (slots_of self.old.top.variables.slots.items)) (works_of (site_of c self.old.team.procs self.old.top) (here c self.old.top) left)) t self.new) }
+        ensures { (c : NumberedProgram) → IfOk result (λ t. IsMoved c self.old
+            (move.Goes (changed change.entry (slots_of self.old.top.variables.slots.items))
+            (works_of (site_of c self.old.team.procs self.old.top) (here c self.old.top) left)) t self.new) }
     {
         self.top.variables.vary(change)?;
         self.goes(left)?;
@@ -100,7 +106,8 @@ impl Walker {
         this: Option<Id>,
         parameters: Vec<Slot>,
     ) -> Result<Turn, Memory>
-        ensures { (c : NumberedProgram) → IfOk result (λ t. IsMoved c self.old (move.Calls at (method_at c method) this (slots_of parameters.items) (receiver_of (here c self.old.top))) t self.new) }
+        ensures { (c : NumberedProgram) → IfOk result (λ t. IsMoved c self.old
+            (move.Calls at (method_at c method) this (slots_of parameters.items) (receiver_of (here c self.old.top))) t self.new) }
     {
         if self.spent >= self.fuel {
             return Ok(Turn::Fails(FaultKind::Fuel, at));
@@ -124,7 +131,8 @@ impl Walker {
     /// The innermost call ends, with a value, if it has one.
     #[tactic(auto, using(crate::proofs::Works::lefts))]
     pub fn returns(&mut self, value: Option<Held>) -> Turn
-        ensures { (c : NumberedProgram) (ws left : List Work) → IsStep c (process_of c self.old) (steps.moves (process_of c self.old) (top_of c self.old ws) (below_of c self.old) left (move.Returns value)) result self.new }
+        ensures { (c : NumberedProgram) (ws left : List Work) → IsStep c (process_of c self.old)
+            (steps.moves (process_of c self.old) (top_of c self.old ws) (below_of c self.old) left (move.Returns value)) result self.new }
     {
         match self.below.pop() {
             None => self.proceeds(Mode::Ended),
@@ -164,7 +172,8 @@ impl Walker {
     #[tactic(auto, using(crate::proofs::Works::lefts))]
     pub fn moves(&mut self, alloc: Global, c: &Parts, m: Move) -> Result<Turn, Memory>
         requires { 0 < length self.old.top.levels.items }
-        ensures { IfOk result (λ t. IsMoved (program_of c.now) self.old (move_of (env_in (program_of c.now) self.old) (here (program_of c.now) self.old.top) m.entry) t self.new) }
+        ensures { IfOk result (λ t. IsMoved (program_of c.now) self.old
+            (move_of (env_in (program_of c.now) self.old) (here (program_of c.now) self.old.top) m.entry) t self.new) }
     {
         match m {
             Move::Goes(change, left) => self.varies(change, left),

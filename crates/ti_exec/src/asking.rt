@@ -27,7 +27,9 @@ impl Walker {
         action: Action,
         pending: Pending,
     ) -> Result<Turn, Memory>
-        ensures { IfOk result (λ t. (c : NumberedProgram) (q : Request) (go : Answer → Process) → q.place ≡ place → q.action ≡ action → ((r : Answer) → spends (go r) ≡ told c self.now pending r) → IsStep c (process_of c self.now) (asks_spec (process_of c self.now) q go) t self.now) }
+        ensures { IfOk result (λ t. (c : NumberedProgram) (q : Request) (go : Answer → Process) → q.place ≡ place → q.action ≡ action
+            → ((r : Answer) → spends (go r) ≡ told c self.now pending r)
+            → IsStep c (process_of c self.now) (asks_spec (process_of c self.now) q go) t self.now) }
     {
         if self.spent >= self.fuel {
             return Ok(Turn::Fails(FaultKind::Fuel, place));
@@ -42,7 +44,8 @@ impl Walker {
 
     /// A computation that gives nothing yet.
     pub fn stops(&self, alloc: Global, stop: Stop) -> Result<Turn, Memory>
-        ensures { IfOk result (λ t. (c : NumberedProgram) (got : Got Move) (go : Move → Step) → Stops stop got → IsStep c (process_of c self.now) (valued (process_of c self.now) got go) t self.now) }
+        ensures { IfOk result (λ t. (c : NumberedProgram) (got : Got Move) (go : Move → Step) → Stops stop got
+            → IsStep c (process_of c self.now) (valued (process_of c self.now) got go) t self.now) }
     {
         match stop {
             Stop::Asks(at, action) => self.asks(alloc, at, action, Pending::Pushed),
@@ -59,7 +62,10 @@ impl Walker {
         deposit: Deposit,
         mode: Mode,
     ) -> Result<Turn, Memory>
-        ensures { IfOk result (λ t. (c : NumberedProgram) (frames : List Frame) (wanted : Wanted) (receiver : Receiver) → frames ≡ frames_in c self.now mode → Some (wait_of meeting wanted receiver) ≡ wait_in c self.now mode → IsStep c (process_of c self.now) (arrives (process_of c self.now) frames (wait_of meeting wanted receiver) deposit) t self.now) }
+        ensures { IfOk result (λ t. (c : NumberedProgram) (frames : List Frame) (wanted : Wanted) (receiver : Receiver) → frames
+            ≡ frames_in c self.now mode → Some (wait_of meeting wanted receiver) ≡ wait_in c self.now mode
+            → IsStep c (process_of c self.now) (arrives (process_of c self.now) frames (wait_of meeting wanted receiver) deposit) t
+            self.now) }
     {
         let action = Action::Arrive {
             kind: meeting.kind,

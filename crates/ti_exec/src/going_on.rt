@@ -75,7 +75,8 @@ impl Walker {
     // A process in a mode, whose innermost call stands before the first statement of a method.
     #[tactic(auto, using(crate::proofs::Beginnings::beginnings))]
     fn fresh(alloc: Global, team: Team, fuel: u32, method: usize, mode: Mode) -> Walker
-        ensures walks { (c : NumberedProgram) → mode ≡ Walks (From 0) → process_of c result ≡ fresh_process c team fuel (process.frame_of (method_at c method) None [] process.Nowhere ∷ []) }
+        ensures walks { (c : NumberedProgram) → mode ≡ Walks (From 0) → process_of c result
+            ≡ fresh_process c team fuel (process.frame_of (method_at c method) None [] process.Nowhere ∷ []) }
         ensures ended { (c : NumberedProgram) → mode ≡ Ended → process_of c result ≡ fresh_process c team fuel [] }
     {
         Walker {
@@ -97,7 +98,8 @@ impl Walker {
     /// A process before its first step.
     #[tactic(auto, using(crate::proofs::Beginnings::beginnings))]
     pub fn begin(alloc: Global, c: &Parts, team: Team, fuel: u32) -> Walker
-        ensures { process_of (program_of c.now) result ≡ process.begin (record { program = program_of c.now; procs = team.procs; fuel = fuel }) team.number }
+        ensures { process_of (program_of c.now) result ≡ process.begin
+            (record { program = program_of c.now; procs = team.procs; fuel = fuel }) team.number }
     {
         let main = c.main as usize;
         match c.methods.get(main) {

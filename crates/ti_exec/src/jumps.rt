@@ -43,7 +43,8 @@ fn in_loop(levels: &[Level]) -> bool
 #[tactic(auto, using(crate::proofs::Marks::marks))]
 fn ends(t: &Todo, x: Option<&Stmt>) -> bool
     requires { is_mark_spec t.now ≡ false }
-    ensures { (site : Site) (ws : List Work) (vs : List Variable) → variables_at_mark (work_of site (stm_seen x.entry) t.now ++ ws) vs ≡ variables_at_mark ws (if result then without (declared_in (stm_seen x.entry)) vs else vs) }
+    ensures { (site : Site) (ws : List Work) (vs : List Variable) → variables_at_mark (work_of site (stm_seen x.entry) t.now ++ ws) vs
+        ≡ variables_at_mark ws (if result then without (declared_in (stm_seen x.entry)) vs else vs) }
 {
     match t {
         Todo::Here => false,
@@ -63,7 +64,8 @@ fn ends(t: &Todo, x: Option<&Stmt>) -> bool
 #[tactic(auto, using(crate::proofs::Marks::marks))]
 fn past(t: &Todo, x: Option<&Stmt>) -> Todo
     requires { is_mark_spec t.now ≡ true }
-    ensures { (site : Site) (ws : List Work) → work_of site (stm_seen x.entry) result ++ ws ≡ past_mark (work_of site (stm_seen x.entry) t.now ++ ws) }
+    ensures { (site : Site) (ws : List Work) → work_of site (stm_seen x.entry) result ++ ws
+        ≡ past_mark (work_of site (stm_seen x.entry) t.now ++ ws) }
 {
     match t {
         Todo::Behind => behind_loop(x),
@@ -81,8 +83,11 @@ impl Call {
         ensures method { self.new.method ≡ self.old.method }
         ensures this { self.new.this ≡ self.old.this }
         ensures shorter { length self.new.levels.items < length self.old.levels.items }
-        ensures left { (procs : ℕ) → from_mark (left_in (program_of c.now) procs self.new result) ≡ from_mark (left_in (program_of c.now) procs self.old t.now) }
-        ensures variables { (procs : ℕ) → variables_at_mark (left_in (program_of c.now) procs self.new result) (slots_of self.new.variables.slots.items) ≡ variables_at_mark (left_in (program_of c.now) procs self.old t.now) (slots_of self.old.variables.slots.items) }
+        ensures left { (procs : ℕ) → from_mark (left_in (program_of c.now) procs self.new result)
+            ≡ from_mark (left_in (program_of c.now) procs self.old t.now) }
+        ensures variables { (procs : ℕ) → variables_at_mark (left_in (program_of c.now) procs self.new result)
+            (slots_of self.new.variables.slots.items) ≡ variables_at_mark (left_in (program_of c.now) procs self.old t.now)
+            (slots_of self.old.variables.slots.items) }
     {
         let x = self.stands(c);
         if ends(t, x) {
@@ -106,7 +111,8 @@ impl Call {
         ensures inner { 0 < length self.new.levels.items }
         ensures mark { is_mark_spec result ≡ true }
         ensures left { (procs : ℕ) → left_in (program_of c.now) procs self.new result ≡ from_mark (rest (program_of c.now) procs self.old) }
-        ensures variables { (procs : ℕ) → slots_of self.new.variables.slots.items ≡ variables_at_mark (rest (program_of c.now) procs self.old) (slots_of self.old.variables.slots.items) }
+        ensures variables { (procs : ℕ) → slots_of self.new.variables.slots.items
+            ≡ variables_at_mark (rest (program_of c.now) procs self.old) (slots_of self.old.variables.slots.items) }
     {
         let mut left = Todo::Inside;
         'up: while !is_mark(&left) {

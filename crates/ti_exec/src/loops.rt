@@ -53,7 +53,9 @@ impl Walker {
     #[tactic(auto, using(crate::proofs::Begun::begun))]
     fn end(&mut self, c: &Parts)
         requires { 0 < length self.old.top.levels.items }
-        ensures { (t : What) → work_of (site_of (program_of c.now) self.old.team.procs self.old.top) (here (program_of c.now) self.old.top) t ≡ End (here (program_of c.now) self.old.top) ∷ [] → IsTurnAt (program_of c.now) self.old t Went self.new }
+        ensures { (t : What) → work_of (site_of (program_of c.now) self.old.team.procs self.old.top)
+            (here (program_of c.now) self.old.top) t ≡ End (here (program_of c.now) self.old.top) ∷ []
+            → IsTurnAt (program_of c.now) self.old t Went self.new }
     {
         let x = self.top.stands(c);
         self.top.variables.leave(x);
@@ -63,7 +65,8 @@ impl Walker {
     // A turn of a `while` or a `for`, or what comes behind the last one.
     fn turn(&mut self, c: &Parts, again: bool) -> Result<Turn, Memory>
         requires { 0 < length self.old.top.levels.items }
-        ensures { IfOk result (λ r. IsStep (program_of c.now) (walking (program_of c.now) self.old left.Before) (turning (program_of c.now) self.old again) r self.new) }
+        ensures { IfOk result (λ r. IsStep (program_of c.now) (walking (program_of c.now) self.old left.Before)
+            (turning (program_of c.now) self.old again) r self.new) }
     {
         let x = self.top.stands(c);
         if !again {
@@ -83,7 +86,8 @@ impl Walker {
     #[tactic(auto, using(crate::proofs::Begun::begun))]
     fn again(&self, alloc: Global, c: &Parts) -> Result<bool, Stop>
         requires { 0 < length self.now.top.levels.items }
-        ensures { Decides result (condition_spec (env_in (program_of c.now) self.now) (condition_in (here (program_of c.now) self.now.top)) self.now.answers.items) }
+        ensures { Decides result (condition_spec (env_in (program_of c.now) self.now)
+            (condition_in (here (program_of c.now) self.now.top)) self.now.answers.items) }
     {
         let x = self.top.stands(c);
         let env = self.env(c);

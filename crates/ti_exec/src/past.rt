@@ -28,7 +28,14 @@ unsafe impl Send for Past {}
 impl Past {
     /// That of a process which was told nothing yet.
     pub(crate) fn of(_c: &Parts, _team: &Team, _fuel: &u32) -> Past
-        ensures { result.standing ≡ record { program = _c.now; procs = _team.now.procs; fuel = _fuel.now; number = _team.now.number; told = []; asks = false } }
+        ensures { result.standing ≡ record {
+          program = _c.now;
+          procs = _team.now.procs;
+          fuel = _fuel.now;
+          number = _team.now.number;
+          told = [];
+          asks = false;
+        } }
     {
         Past {}
     }

@@ -38,7 +38,8 @@ impl Walker {
     // What the innermost statement comes to.
     fn stated<'a, 'c>(&'a self, alloc: Global, c: &'c Parts) -> Result<(Move<'c>, &'a [Told]), Stop>
         requires { 0 < length self.now.top.levels.items }
-        ensures { ComesAs (move_of (env_in (program_of c.now) self.now) (here (program_of c.now) self.now.top)) result (statement_spec (env_in (program_of c.now) self.now) (here (program_of c.now) self.now.top) self.now.answers.items) }
+        ensures { ComesAs (move_of (env_in (program_of c.now) self.now) (here (program_of c.now) self.now.top)) result
+            (statement_spec (env_in (program_of c.now) self.now) (here (program_of c.now) self.now.top) self.now.answers.items) }
     {
         statement(alloc, &self.env(c), self.top.stands(c), &self.answers)
     }
@@ -59,7 +60,9 @@ impl Walker {
         h: &Held,
     ) -> Result<(Move<'c>, &'a [Told]), Stop>
         requires { 0 < length self.now.top.levels.items }
-        ensures { ComesAs (move_of (env_in (program_of c.now) self.now) (here (program_of c.now) self.now.top)) result (receives (env_in (program_of c.now) self.now) (receiver_of (here (program_of c.now) self.now.top)) (gives h.now) self.now.answers.items) }
+        ensures { ComesAs (move_of (env_in (program_of c.now) self.now) (here (program_of c.now) self.now.top)) result
+            (receives (env_in (program_of c.now) self.now) (receiver_of (here (program_of c.now) self.now.top))
+            (gives h.now) self.now.answers.items) }
     {
         received(alloc, &self.env(c), self.top.stands(c), h, &self.answers)
     }
@@ -114,8 +117,10 @@ impl Walker {
 
     /// The step of a process that waits at a collective.
     pub fn leaves(&self, alloc: Global, at: Place) -> Result<Turn, Memory>
-        ensures waits { IfOk result (λ r. (c : NumberedProgram) (m : Met) (t : Left) → self.now.mode ≡ Waits m t → m.place ≡ at → IsTurn c self.now r self.now) }
-        ensures expects { IfOk result (λ r. (c : NumberedProgram) (m : Met) → self.now.mode ≡ Expects m → m.place ≡ at → IsTurn c self.now r self.now) }
+        ensures waits { IfOk result (λ r. (c : NumberedProgram) (m : Met) (t : Left) → self.now.mode ≡ Waits m t → m.place ≡ at
+            → IsTurn c self.now r self.now) }
+        ensures expects { IfOk result (λ r. (c : NumberedProgram) (m : Met) → self.now.mode ≡ Expects m → m.place ≡ at
+            → IsTurn c self.now r self.now) }
     {
         self.asks(alloc, at, Action::Depart, Pending::Left)
     }

@@ -56,7 +56,14 @@ impl TreeProc {
         requires number { p < 2 ^ 31 }
         requires procs { procs < 2 ^ 31 }
         ensures ok { IsOk result }
-        ensures value { IfOk result (λ t. t ≡ record { program = c.now.program.parts; procs = procs; fuel = fuel; number = p; told = []; asks = false }) }
+        ensures value { IfOk result (λ t. t ≡ record {
+          program = c.now.program.parts;
+          procs = procs;
+          fuel = fuel;
+          number = p;
+          told = [];
+          asks = false;
+        }) }
     {
         let parts = &c.program().parts;
         let team = Team { number: p, procs };

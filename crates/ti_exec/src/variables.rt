@@ -119,7 +119,8 @@ impl Variables {
 impl Call {
     /// How many of its variables name something in a region; `this` is one.
     pub fn named(&self, region: u32) -> u32
-        ensures value { result ≡ count_by (λ (x : Variable). lies_in_spec region (thing_of x.held)) (slots_of self.now.variables.slots.items) + (if lies_in_spec region self.now.this then 1 else 0) }
+        ensures value { result ≡ count_by (λ (x : Variable). lies_in_spec region (thing_of x.held))
+            (slots_of self.now.variables.slots.items) + (if lies_in_spec region self.now.this then 1 else 0) }
         ensures small { result ≤ 2 ^ 24 }
     {
         let count = self.variables.named(region);

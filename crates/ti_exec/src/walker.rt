@@ -66,7 +66,8 @@ fn item_next(mode: &Mode) -> Option<usize>
 impl Walker {
     /// The current work is done, and this is left of the innermost statement.
     pub fn done(&mut self, todo: Todo)
-        ensures { (c : NumberedProgram) → process_of c self.new ≡ done_with c self.old (slots_of self.old.top.variables.slots.items) (left_in c self.old.team.procs self.old.top todo) }
+        ensures { (c : NumberedProgram) → process_of c self.new ≡ done_with c self.old (slots_of self.old.top.variables.slots.items)
+            (left_in c self.old.team.procs self.old.top todo) }
     {
         self.proceeds(Mode::Walks(todo));
     }
@@ -74,7 +75,9 @@ impl Walker {
     /// The current work is done, a part of the innermost statement comes next, and behind it this is left.
     #[tactic(auto, using(crate::proofs::Works::lefts))]
     pub fn enter(&mut self, inner: Part, todo: Todo) -> Result<(), Memory>
-        ensures { OnOk result ((c : NumberedProgram) → process_of c self.new ≡ done_with c self.old (slots_of self.old.top.variables.slots.items) (Do (part_of (here c self.old.top) inner) ∷ left_in c self.old.team.procs self.old.top todo)) }
+        ensures { OnOk result ((c : NumberedProgram) → process_of c self.new
+            ≡ done_with c self.old (slots_of self.old.top.variables.slots.items)
+            (Do (part_of (here c self.old.top) inner) ∷ left_in c self.old.team.procs self.old.top todo)) }
     {
         self.top.levels.push(Level { todo, inner })?;
         self.proceeds(Mode::Walks(Todo::Here));

@@ -1,5 +1,6 @@
-pub mod ListLaws
-pub mod SeenLaws
-pub mod SliceLaws
-pub mod StepLaws
-pub mod WholeLaws
+mod ListLaws
+mod SeenLaws
+mod SliceLaws
+mod StepLaws
+mod WholeLaws
+pub mod Lemmas

@@ -10,8 +10,7 @@ use Rattle.ti_base.specs.declared.point.Point.{Point}
 use Rattle.ti_base.specs.Points.{pt_lex_lt}
 use Rattle.ti_base.specs.PointSets.{same_point, IsAmong, IsBelow, Rises}
 use Rattle.ti_base.specs.Ranges.{numbers_from}
-use Rattle.ti_base.proofs.PointLaws.{irreflexive}
-use Rattle.ti_base.proofs.DomainLaws.{from_below, same_from, same_self}
+use Rattle.ti_base.proofs.Lemmas.{irreflexive, from_below, same_from, same_self}
 use Rattle.ti_grid.specs.Views.{place_in}
 
 -- ---- elements of joined lists

@@ -9,11 +9,8 @@ use Rattle.ti_base.specs.Points.{moved_back}
 use Rattle.ti_base.specs.Ranges.{Range, IsOn, IsRange, shifted}
 use Rattle.ti_base.specs.Rects.{IsRect, HasPoints, IsIn, is_in, points_of, empty_rect, translated, first_range, second_range, third_range}
 use Rattle.ti_base.specs.Cells.{view_domain, seen_point}
-use Rattle.ti_rect.proofs.PointLists.{points_listed}
-use Rattle.ti_rect.proofs.AxisLaws.{forward}
-use Rattle.ti_rect.proofs.RectLaws.{low_on, full_of, tidy_first, tidy_second, tidy_third}
-use Rattle.ti_rect.proofs.TranslateLaws.{shifted_form, translated_full}
-use Rattle.ti_rect.proofs.TestLaws.{in_tests}
+use Rattle.ti_rect.proofs.Lemmas.{points_listed, forward, low_on, full_of, tidy_first, tidy_second, tidy_third, shifted_form}
+use Rattle.ti_rect.proofs.Lemmas.{translated_full, in_tests}
 use Rattle.ti_grid.specs.declared.layout.Layout.{Layout}
 use Rattle.ti_grid.specs.Mirrors.Numbers.{steps_to, number_of}
 use Rattle.ti_grid.specs.Views.{IsLaid, IsSeen, cell_number, seen_number, DifferInCells, NumbersBelow}

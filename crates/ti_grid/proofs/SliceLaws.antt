@@ -11,14 +11,11 @@ use Rattle.ti_base.specs.PointSets.{same_number}
 use Rattle.ti_base.specs.Ranges.{Range, IsOn, IsRange, is_on, is_empty_range, unused}
 use Rattle.ti_base.specs.Rects.{IsRect, HasPoints, IsIn, is_empty, empty_rect, of_ranges, first_range, second_range, third_range}
 use Rattle.ti_base.specs.Cells.{has_coordinate, view_domain, seen_point}
-use Rattle.ti_rect.proofs.NumberLists.{on_from, on_to}
-use Rattle.ti_rect.proofs.PointLists.{first_step, second_step, third_step}
-use Rattle.ti_rect.proofs.RectLaws.{low_on, none_in, none_on, full, full_of, point_in}
-use Rattle.ti_rect.proofs.TestLaws.{any_of}
+use Rattle.ti_rect.proofs.Lemmas.{on_from, on_to, first_step, second_step, third_step, low_on, none_in, none_on, full, full_of, point_in}
+use Rattle.ti_rect.proofs.Lemmas.{any_of, view_inside}
 use Rattle.ti_grid.specs.declared.layout.Layout.{Layout}
 use Rattle.ti_grid.specs.Mirrors.Numbers.{steps_to, number_of}
 use Rattle.ti_grid.specs.Views.{SomeHas, IsLaid, IsSeen}
-use Rattle.ti_rect.proofs.ViewLaws.{view_inside}
 use Rattle.ti_grid.proofs.SeenLaws.{is_laid, is_seen}
 
 -- ---- tests on numbers
@@ -68,7 +65,8 @@ module _ (r : Rect) (is : IsRect r) where
   filled k j (inr (inr f)) = filled_third j f.1 f.2
 
   not_empty : HasPoints r → not (is_empty r) ≡ true
-  not_empty h = not_from_false (is_empty r) (full_of r.dim (first_range r) (second_range r) (third_range r) (rise (first_range r) h.first) (rise (second_range r) h.second) (rise (third_range r) h.third))
+  not_empty h = not_from_false (is_empty r) (full_of r.dim (first_range r) (second_range r) (third_range r) (rise (first_range r) h.first)
+      (rise (second_range r) h.second) (rise (third_range r) h.third))
     where
       rise : (s : Range) → IsRange s → s.low ≤ℤ s.high
       rise s k = omega (arith, ints, k.reached)
@@ -102,7 +100,9 @@ module _ (r : Rect) (is : IsRect r) where
           || same_number k (pos 3) && r.dim == 3 && is_on (third_range r) j) ≡ true
       by (inl f) =
           or_left (same_number k (pos 1) && is_on (first_range r) j || same_number k (pos 2) && not (r.dim == 1) && is_on (second_range r) j) _
-          (or_left (same_number k (pos 1) && is_on (first_range r) j) _ (and_from (same_number k (pos 1)) (is_on (first_range r) j) (number_to k (pos 1) f.0) (on_to (first_range r) j (first_step r is) f.1)))
+          (or_left (same_number k (pos 1) && is_on (first_range r) j) _
+          (and_from (same_number k (pos 1)) (is_on (first_range r) j) (number_to k (pos 1) f.0)
+          (on_to (first_range r) j (first_step r is) f.1)))
       by (inr (inl f)) =
           or_left (same_number k (pos 1) && is_on (first_range r) j || same_number k (pos 2) && not (r.dim == 1) && is_on (second_range r) j) _
           (or_right (same_number k (pos 1) && is_on (first_range r) j) (same_number k (pos 2) && not (r.dim == 1) && is_on (second_range r) j)

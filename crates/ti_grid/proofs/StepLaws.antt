@@ -5,7 +5,7 @@ use Rattle.std.proofs.lemmas.Nat.{mul-le}
 use Rattle.std.proofs.lemmas.Bool.{cases_lt}
 use Rattle.std.proofs.lemmas.Int.{ints}
 use Rattle.ti_base.specs.Ranges.{Range, IsOn, IsRange, natural, shifted}
-use Rattle.ti_rect.proofs.RectLaws.{low_on}
+use Rattle.ti_rect.proofs.Lemmas.{low_on}
 use Rattle.ti_grid.specs.Mirrors.Numbers.{steps_to}
 
 -- the steps to a number that is so many above the low end

@@ -10,13 +10,9 @@ use Rattle.ti_base.specs.declared.point.Point.{Point}
 use Rattle.ti_base.specs.declared.point.Rect.{Rect}
 use Rattle.ti_base.specs.Ranges.{Range, IsOn, IsRange, count_on, numbers_on}
 use Rattle.ti_base.specs.Rects.{IsRect, HasPoints, IsIn, is_in, points_of, first_range, second_range, third_range}
-use Rattle.ti_base.proofs.PointLaws.{length_points}
-use Rattle.ti_rect.proofs.AxisLaws.{count_some}
-use Rattle.ti_rect.proofs.RectLaws.{low_on}
-use Rattle.ti_rect.proofs.NumberLists.{span_between}
+use Rattle.ti_base.proofs.Lemmas.{length_points}
+use Rattle.ti_rect.proofs.Lemmas.{count_some, low_on, span_between, in_tests, points_listed, first_step, second_step, third_step}
 use Rattle.std.proofs.lemmas.Bool.{true≢false}
-use Rattle.ti_rect.proofs.TestLaws.{in_tests}
-use Rattle.ti_rect.proofs.PointLists.{points_listed, first_step, second_step, third_step}
 use Rattle.ti_grid.specs.declared.layout.Layout.{Layout}
 use Rattle.ti_grid.specs.Mirrors.Numbers.{steps_to, number_of}
 use Rattle.ti_grid.specs.Views.{IsLaid, IsWhole, NumbersBelow, place_in}

@@ -23,7 +23,8 @@ fn stretched(a: Axis, part: Axis, step: u64) -> u64
     requires form { IsRange (range part) }
     requires inside { (x : ℤ) → IsOn (range part) x → IsOn (range a) x }
     requires below { (x : ℤ) → IsOn (range part) x → steps_to (range a) x * step < 1048576 }
-    ensures { (x : ℤ) → IsOn (range part) x → steps_to (range a) x * step ≡ steps_to (range a) part.low * step + steps_to (range part) x * result }
+    ensures { (x : ℤ) → IsOn (range part) x → steps_to (range a) x * step
+        ≡ steps_to (range a) part.low * step + steps_to (range part) x * result }
 {
     if part.low < part.high {
         u64::from(part.step / a.step) * step

@@ -18,7 +18,8 @@ module _ (r : ℕ) (h : List (List Thing)) where
   at_dropped : (m s : ℕ) → thing_at (map (map (dropped r)) h) m s ≡ option_map (dropped r) (thing_at h m s)
   at_dropped m s = ap (option_and_then (λ (ts : List Thing). slice_get ts s)) (slice_get-map (map (dropped r)) h m) ∙ by (slice_get h m)
     where
-      by : (o : Option (List Thing)) → option_and_then (λ (ts : List Thing). slice_get ts s) (option_map (map (dropped r)) o) ≡ option_map (dropped r) (option_and_then (λ (ts : List Thing). slice_get ts s) o)
+      by : (o : Option (List Thing)) → option_and_then (λ (ts : List Thing). slice_get ts s) (option_map (map (dropped r)) o)
+          ≡ option_map (dropped r) (option_and_then (λ (ts : List Thing). slice_get ts s) o)
       by None = refl
       by (Some ts) = slice_get-map (dropped r) ts s
 

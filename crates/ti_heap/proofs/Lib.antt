@@ -1,9 +1,10 @@
-pub mod Changes
-pub mod Costs
-pub mod Dropping
-pub mod Grids
-pub mod Listing
-pub mod Lists
-pub mod Makings
-pub mod Names
-pub mod Puts
+mod Changes
+mod Costs
+mod Dropping
+mod Grids
+mod Listing
+mod Lists
+mod Makings
+mod Names
+mod Puts
+pub mod Lemmas

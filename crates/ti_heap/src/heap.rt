@@ -119,7 +119,8 @@ impl Heap {
         requires named { is_named id thing ≡ true }
         requires room { cost_of id.maker (contents self.old) + things.cost_of thing ≤ 1048576 }
         requires backed { HasBacking (thing_at self.old) id thing }
-        ensures ok { OnOk result (contents self.new ≡ with_thing id (values_of thing) (option_map map_of (layout_of thing)) (contents self.old)) }
+        ensures ok { OnOk result (contents self.new ≡ with_thing id (values_of thing) (option_map map_of (layout_of thing))
+            (contents self.old)) }
         ensures err { OnErr result (self.new ≡ self.old) }
     {
         let share = &mut self.shares[id.maker as usize];

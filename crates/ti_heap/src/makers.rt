@@ -52,7 +52,8 @@ impl Heap {
     fn room_for(&self, p: u32, dom: &Rect) -> Option<u64>
         requires proc { p < (contents self.now).procs }
         requires form { IsRect dom.now }
-        ensures { result ≡ (if nat_lt 1048576 (cost_of p (contents self.now) + (1 + length (points_of dom.now))) then None else Some (length (points_of dom.now))) }
+        ensures { result ≡ (if nat_lt 1048576 (cost_of p (contents self.now) + (1 + length (points_of dom.now))) then None else Some
+            (length (points_of dom.now))) }
     {
         match rect_size(dom) {
             Ok(count) => {
@@ -110,7 +111,8 @@ impl Heap {
         requires form { IsRect dom.now }
         ensures fault { FaultsAs (new_fault p (length (points_of dom.now)) (contents self.old)) result }
         ensures id { IfOk result (λ id. id ≡ own_id p region (contents self.old)) }
-        ensures made { IfOk result (λ id. contents self.new ≡ with_thing id (replicate (length (points_of dom.now)) (zero_value zero)) (Some (whole_map id dom.now)) (contents self.old)) }
+        ensures made { IfOk result (λ id. contents self.new ≡ with_thing id (replicate (length (points_of dom.now)) (zero_value zero))
+            (Some (whole_map id dom.now)) (contents self.old)) }
         ensures there { IfOk result (λ id. (contents self.new).grid id ≡ Some (whole_map id dom.now)) }
         ensures err { OnErr result (self.new ≡ self.old) }
     {
@@ -136,7 +138,8 @@ impl Heap {
         requires grid { IsSomeAnd ((contents self.old).grid grid) (λ g. suits how g.domain ≡ true) }
         ensures fault { IsSomeAnd ((contents self.old).grid grid) (λ g. FaultsAs (seen_fault p how g (contents self.old)) result) }
         ensures id { IfOk result (λ id. id ≡ view_id p grid (contents self.old)) }
-        ensures made { IfOk result (λ id. contents self.new ≡ with_thing id [] (option_map (seen_map how) ((contents self.old).grid grid)) (contents self.old)) }
+        ensures made { IfOk result (λ id. contents self.new ≡ with_thing id [] (option_map (seen_map how) ((contents self.old).grid grid))
+            (contents self.old)) }
         ensures there { IfOk result (λ id. (contents self.new).grid id ≡ option_map (seen_map how) ((contents self.old).grid grid)) }
         ensures kept { (contents self.new).grid grid ≡ (contents self.old).grid grid }
         ensures err { OnErr result (self.new ≡ self.old) }

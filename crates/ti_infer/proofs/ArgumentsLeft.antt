@@ -20,5 +20,6 @@ module _ (p : NumberedProgram) (m : NumberedMethod) (whole : Then) (inside : Lis
       → out ++ arguments_edges p m whole inside (map numbered_param_of (drop i params)) (numbered_exps (map expression_of (drop i args))) ≡ whole_out → out ≡ whole_out
   args_end params args i out whole_out le is =
       sym (append-nil out)
-      ∙ ap (λ z. out ++ z) (sym (ap (λ l. arguments_edges p m whole inside (map numbered_param_of (drop i params)) (numbered_exps (map expression_of l))) (drop_all i args le) ∙ no_argument (map numbered_param_of (drop i params))))
+      ∙ ap (λ z. out ++ z) (sym (ap (λ l. arguments_edges p m whole inside (map numbered_param_of (drop i params))
+      (numbered_exps (map expression_of l))) (drop_all i args le) ∙ no_argument (map numbered_param_of (drop i params))))
       ∙ is

@@ -79,10 +79,12 @@ module _ (counts : Place → Bool) (p : NumberedProgram) (m : NumberedMethod) (m
     asks_open (e.Binary at op a b) = joined (asks p m inside a) (asks p m inside b) _ _ (asks_open a) (asks_open b)
     asks_open (e.Cast at to a) = joined (plain_if (is_local to.type)) (asks p m inside a) (not (is_local to.type)) _ (refused (is_local to.type)) (asks_open a)
     asks_open (e.Index at a xs) =
-        joined (plain_if (not (is_point (type_in_text p (this_of m) a)))) (asks p m inside a ++ asks_all p m inside xs) (is_point (type_in_text p (this_of m) a)) _ (tested (is_point (type_in_text p (this_of m) a)))
+        joined (plain_if (not (is_point (type_in_text p (this_of m) a)))) (asks p m inside a ++ asks_all p m inside xs)
+        (is_point (type_in_text p (this_of m) a)) _ (tested (is_point (type_in_text p (this_of m) a)))
         (joined (asks p m inside a) (asks_all p m inside xs) _ _ (asks_open a) (all_open xs))
     asks_open (e.Member at a name args) =
-        joined (plain_if (not (tells_of_domain (member_called p (this_of m) a name)))) (asks p m inside a ++ asks_all p m inside args) (tells_of_domain (member_called p (this_of m) a name)) _ (tested (tells_of_domain (member_called p (this_of m) a name)))
+        joined (plain_if (not (tells_of_domain (member_called p (this_of m) a name)))) (asks p m inside a ++ asks_all p m inside args)
+        (tells_of_domain (member_called p (this_of m) a name)) _ (tested (tells_of_domain (member_called p (this_of m) a name)))
         (joined (asks p m inside a) (asks_all p m inside args) _ _ (asks_open a) (all_open args))
     asks_open (e.Null at) = refl
     asks_open (e.This at) = refl
@@ -98,7 +100,8 @@ module _ (counts : Place → Bool) (p : NumberedProgram) (m : NumberedMethod) (m
 
     range_open : (r : NumberedRange) → open_in (asks_range p m inside r) ≡ not (range_under p (this_of m) (variable_under marks m singles) r)
     range_open (e.Plain low high) = joined (asks p m inside low) (asks p m inside high) _ _ (asks_open low) (asks_open high)
-    range_open (e.Stepped low high step) = joined (asks p m inside low ++ asks p m inside high) (asks p m inside step) _ _ (joined (asks p m inside low) (asks p m inside high) _ _ (asks_open low) (asks_open high)) (asks_open step)
+    range_open (e.Stepped low high step) = joined (asks p m inside low ++ asks p m inside high) (asks p m inside step) _ _
+        (joined (asks p m inside low) (asks p m inside high) _ _ (asks_open low) (asks_open high)) (asks_open step)
 
     ranges_open : (rs : NumberedRanges) → open_in (asks_ranges p m inside rs) ≡ not (ranges_under p (this_of m) (variable_under marks m singles) rs)
     ranges_open e.NoRange = refl
@@ -124,7 +127,9 @@ module _ (counts : Place → Bool) (p : NumberedProgram) (m : NumberedMethod) (m
   pub whole_asks_open : (x : NumberedExp) → plain_at (whole_asks p m inside x) ≡ is_plain (marked marks p) (blame_around p m marks vs) (marked_exp (marks_variable marks m) x)
   whole_asks_open x = by (called_method p (this_of m) x) ∙ whole_is p m marks scope refl x
     where
-      by : (o : Option NumberedMethod) → plain_at (called_asks p m inside o x) ≡ not (option_map_or (λ y. has_single_result (marked_method marks y)) o (single_under p (this_of m) (variable_under marks m (singles_in scope)) x))
+      by : (o : Option NumberedMethod) → plain_at (called_asks p m inside o x)
+          ≡ not (option_map_or (λ y. has_single_result (marked_method marks y)) o
+          (single_under p (this_of m) (variable_under marks m (singles_in scope)) x))
       by None = asks_open counts p m marks inside (singles_in scope) alike x
       by (Some y) = result_open y.place y.result
 
@@ -135,7 +140,8 @@ module _ (counts : Place → Bool) (p : NumberedProgram) (m : NumberedMethod) (m
   initial_asks_open (st.NewGrid at region element dims_at dims) = refl
   initial_asks_open (st.Broadcast at x root) =
       by (is_single_sent (type_in_text p (this_of m) x))
-      ∙ sym (ap (λ t. not (is_single_sent t)) (ap (λ th. type_in_text (marked marks p) th (marked_exp (marks_variable marks m) x)) (this_same marks m) ∙ text_same marks p (this_of m) (marks_variable marks m) x))
+      ∙ sym (ap (λ t. not (is_single_sent t)) (ap (λ th. type_in_text (marked marks p) th (marked_exp (marks_variable marks m) x))
+      (this_same marks m) ∙ text_same marks p (this_of m) (marks_variable marks m) x))
     where
       by : (b : Bool) → plain_at (plain_if (not b)) ≡ not b
       by true = refl

@@ -29,7 +29,8 @@ beside_itself [] = tt
 beside_itself (v ∷ vs) = (refl, refl, (λ h. h), beside_itself vs)
 
 pub beside_types : (vs ws : List ScopeVariable) (number : ℕ) → BesideAll vs ws
-    → option_map (λ (v : ScopeVariable). v.type) (find (λ (v : ScopeVariable). v.number == number) vs) ≡ option_map (λ (v : ScopeVariable). v.type) (find (λ (v : ScopeVariable). v.number == number) ws)
+    → option_map (λ (v : ScopeVariable). v.type) (find (λ (v : ScopeVariable). v.number == number) vs)
+    ≡ option_map (λ (v : ScopeVariable). v.type) (find (λ (v : ScopeVariable). v.number == number) ws)
 beside_types [] [] number h = refl
 beside_types [] (w ∷ ws) number h = absurd h
 beside_types (v ∷ vs) [] number h = absurd h
@@ -45,7 +46,8 @@ beside_types (v ∷ vs) (w ∷ ws) number (e, t, g, rest) = by (w.number == numb
     by false h rest = ap (λ b. option_map (λ (v : ScopeVariable). v.type) (if b then Some v else find (λ (v : ScopeVariable). v.number == number) vs)) h ∙ rest
 
 pub beside_grows : (vs ws : List ScopeVariable) (number : ℕ) → BesideAll vs ws
-    → Grows (option_map_or (λ (v : ScopeVariable). v.is_single) (find (λ (v : ScopeVariable). v.number == number) vs) false) (option_map_or (λ (v : ScopeVariable). v.is_single) (find (λ (v : ScopeVariable). v.number == number) ws) false)
+    → Grows (option_map_or (λ (v : ScopeVariable). v.is_single) (find (λ (v : ScopeVariable). v.number == number) vs) false)
+    (option_map_or (λ (v : ScopeVariable). v.is_single) (find (λ (v : ScopeVariable). v.number == number) ws) false)
 beside_grows [] [] number h = λ k. k
 beside_grows [] (w ∷ ws) number h = absurd h
 beside_grows (v ∷ vs) [] number h = absurd h
@@ -99,21 +101,24 @@ module _ (p : NumberedProgram) (x : NumberedMethod) (m n : Marks) (part : IsPart
       → Grows (is_single_part (marked m p) (this_of (marked_method m x)) (singles_in (scope_of (around_in m x vs a))) (marked_exp i e))
       (is_single_part (marked n p) (this_of (marked_method n x)) (singles_in (scope_of (around_in n x ws b))) (marked_exp j e))
   part_at e =
-      grows_this (λ this. is_single_part (marked m p) this (singles_in (scope_of (around_in m x vs a))) (marked_exp i e)) (λ this. is_single_part (marked n p) this (singles_in (scope_of (around_in n x ws b))) (marked_exp j e))
+      grows_this (λ this. is_single_part (marked m p) this (singles_in (scope_of (around_in m x vs a))) (marked_exp i e))
+      (λ this. is_single_part (marked n p) this (singles_in (scope_of (around_in n x ws b))) (marked_exp j e))
       _ _ (this_of x) (this_same m x) (this_same n x) (part_grows p (this_of x) m n i j _ _ marks scopes_grow e)
 
   pub single_at : (e : NumberedExp)
       → Grows (is_single (marked m p) (this_of (marked_method m x)) (singles_in (scope_of (around_in m x vs a))) (marked_exp i e))
       (is_single (marked n p) (this_of (marked_method n x)) (singles_in (scope_of (around_in n x ws b))) (marked_exp j e))
   single_at e =
-      grows_this (λ this. is_single (marked m p) this (singles_in (scope_of (around_in m x vs a))) (marked_exp i e)) (λ this. is_single (marked n p) this (singles_in (scope_of (around_in n x ws b))) (marked_exp j e))
+      grows_this (λ this. is_single (marked m p) this (singles_in (scope_of (around_in m x vs a))) (marked_exp i e))
+      (λ this. is_single (marked n p) this (singles_in (scope_of (around_in n x ws b))) (marked_exp j e))
       _ _ (this_of x) (this_same m x) (this_same n x) (single_grows p (this_of x) m n i j _ _ part marks scopes_grow e)
 
   pub initial_at : (v : NumberedInit)
       → Grows (is_single_initial (marked m p) (this_of (marked_method m x)) (singles_in (scope_of (around_in m x vs a))) (marked_init i v))
       (is_single_initial (marked n p) (this_of (marked_method n x)) (singles_in (scope_of (around_in n x ws b))) (marked_init j v))
   initial_at v =
-      grows_this (λ this. is_single_initial (marked m p) this (singles_in (scope_of (around_in m x vs a))) (marked_init i v)) (λ this. is_single_initial (marked n p) this (singles_in (scope_of (around_in n x ws b))) (marked_init j v))
+      grows_this (λ this. is_single_initial (marked m p) this (singles_in (scope_of (around_in m x vs a))) (marked_init i v))
+      (λ this. is_single_initial (marked n p) this (singles_in (scope_of (around_in n x ws b))) (marked_init j v))
       _ _ (this_of x) (this_same m x) (this_same n x) (initial_grows p (this_of x) m n i j _ _ part marks scopes_grow v)
 
   types_at : SameTypes (scope_of (around_in m x vs a)) (scope_of (around_in n x ws b))
@@ -124,7 +129,8 @@ module _ (p : NumberedProgram) (x : NumberedMethod) (m n : Marks) (part : IsPart
 
   -- in the body of a foreach
   pub inside_beside : (number : ℕ) (domain : NumberedExp)
-      → BesideAll (variables_inside (marked m p) (scope_of (around_in m x vs a)) number (marked_exp i domain)) (variables_inside (marked n p) (scope_of (around_in n x ws b)) number (marked_exp j domain))
+      → BesideAll (variables_inside (marked m p) (scope_of (around_in m x vs a)) number (marked_exp i domain))
+      (variables_inside (marked n p) (scope_of (around_in n x ws b)) number (marked_exp j domain))
   inside_beside number domain =
       beside_point vs ws number _ _ _ _ beside (part_at domain)
       (ap (option_and_then domain_dim) (operand_same m p i _ (scope_of (around_in n x ws b)) types_at domain ∙ sym (operand_same n p j _ _ types_there domain)))

@@ -24,7 +24,9 @@ use Rattle.ti_infer.specs.Marks.{variable_place, marks_variable}
 use Rattle.ti_infer.specs.Marked.{marked_exp, marked_exps, marked_init, marked_stm, marked_maybe, marked_stms, marked_param, marked_params, marked_result, marked_method, marked}
 use Rattle.ti_blame.specs.declared.blame.Blame.{Blame}
 use Rattle.ti_blame.specs.declared.blame.Blame.TheVariants.{OfCollective, Always, OfResult, OfVariable}
-use Rattle.ti_infer.specs.Blame.{guarded, target_reasons, result_reasons, loop_reasons, effect_reasons, blame_around, plain_here, arguments_blamed, params_blamed, call_blamed, whole_blamed, initial_blamed, condition_plain, own_blamed, blamed, blamed_of_maybe, blamed_of_all, method_blamed, program_blamed}
+use Rattle.ti_infer.specs.Blame.{guarded, target_reasons, result_reasons, loop_reasons, effect_reasons, blame_around, plain_here}
+use Rattle.ti_infer.specs.Blame.{arguments_blamed, params_blamed, call_blamed, whole_blamed, initial_blamed, condition_plain, own_blamed}
+use Rattle.ti_infer.specs.Blame.{blamed, blamed_of_maybe, blamed_of_all, method_blamed, program_blamed}
 use Rattle.ti_infer.proofs.Truths.{Grows, true_false}
 use Rattle.ti_infer.proofs.Same.{this_same, call_same, language_same}
 use Rattle.ti_infer.proofs.Growing.{GrowAll}
@@ -53,14 +55,16 @@ part_grows_variable v u m part number = by (variable_place m number)
     by (Some at) = part.variables at
 
 -- a rule that isn't broken under the part: where what it wants isn't there under the whole, nothing that makes it ask is in the part
-rule_sound : (v : Marks) (asks s t : Bool) (r : Rule) (at : Place) (found : List Blame) → asks ≡ some_held v found → Grows s t → refused_if (asks && not s) r at ≡ [] → some_held v (guarded (not t) found) ≡ false
+rule_sound : (v : Marks) (asks s t : Bool) (r : Rule) (at : Place) (found : List Blame) → asks ≡ some_held v found → Grows s t
+    → refused_if (asks && not s) r at ≡ [] → some_held v (guarded (not t) found) ≡ false
 rule_sound v asks s true r at found e g h = refl
 rule_sound v asks true false r at found e g h = absurd (true_false (sym (g refl)))
 rule_sound v true false false r at found e g h = absurd (true_false (refused_none _ r at h))
 rule_sound v false false false r at found e g h = sym e
 
 -- a rule for which nothing is to blame isn't broken
-pub rule_complete : (u : Marks) (asks s : Bool) (r : Rule) (at : Place) (found : List Blame) → asks ≡ some_held u found → some_held u (guarded (not s) found) ≡ false → refused_if (asks && not s) r at ≡ []
+pub rule_complete : (u : Marks) (asks s : Bool) (r : Rule) (at : Place) (found : List Blame) → asks ≡ some_held u found
+    → some_held u (guarded (not s) found) ≡ false → refused_if (asks && not s) r at ≡ []
 rule_complete u asks true r at found e h = none_refused _ r at (and_false asks)
   where
     and_false : (a : Bool) → (a && false) ≡ false
@@ -75,40 +79,58 @@ module _ (p : NumberedProgram) (m : NumberedMethod) (v u : Marks) (part : IsPart
   growth : GrowAll (marks_variable v m) (marks_variable u m)
   growth = part_grows_variable v u m part
 
-  called_at : (marks : Marks) (x : NumberedExp) → called_method (marked marks p) (this_of (marked_method marks m)) (marked_exp (marks_variable marks m) x) ≡ option_map (marked_method marks) (called_method p (this_of m) x)
+  called_at : (marks : Marks) (x : NumberedExp) → called_method (marked marks p) (this_of (marked_method marks m))
+      (marked_exp (marks_variable marks m) x) ≡ option_map (marked_method marks) (called_method p (this_of m) x)
   called_at marks x = ap (λ this. called_method (marked marks p) this (marked_exp (marks_variable marks m) x)) (this_same marks m) ∙ call_same marks p (this_of m) (marks_variable marks m) x
 
-  delete_held : (marks : Marks) (a : NumberedExp) (name : ℕ) (at : Place) → is_delete (member_called (marked marks p) (this_of (marked_method marks m)) (marked_exp (marks_variable marks m) a) name) ≡ some_held marks (guarded (is_delete (member_called p (this_of m) a name)) (OfCollective at ∷ []))
+  delete_held : (marks : Marks) (a : NumberedExp) (name : ℕ) (at : Place)
+      → is_delete (member_called (marked marks p) (this_of (marked_method marks m)) (marked_exp (marks_variable marks m) a) name)
+      ≡ some_held marks (guarded (is_delete (member_called p (this_of m) a name)) (OfCollective at ∷ []))
   delete_held marks a name at =
-      ap (λ this. is_delete (member_called (marked marks p) this (marked_exp (marks_variable marks m) a) name)) (this_same marks m) ∙ ap is_delete (language_same marks p (this_of m) (marks_variable marks m) a name) ∙ by (is_delete (member_called p (this_of m) a name))
+      ap (λ this. is_delete (member_called (marked marks p) this (marked_exp (marks_variable marks m) a) name)) (this_same marks m)
+      ∙ ap is_delete (language_same marks p (this_of m) (marks_variable marks m) a name)
+      ∙ by (is_delete (member_called p (this_of m) a name))
     where
       by : (b : Bool) → b ≡ some_held marks (guarded b (OfCollective at ∷ []))
       by true = refl
       by false = refl
 
   module _ (vs ws : List ScopeVariable) (j : Option Bool) (jumping : List Blame) (beside : BesideAll vs ws) (jumps : unwrap_or j false ≡ some_held v jumping) where
-    here : (x : NumberedExp) → Grows (is_single_part (marked v p) (this_of (marked_method v m)) (singles_in (scope_of (around_in v m vs j))) (marked_exp (marks_variable v m) x)) (is_single_part (marked u p) (this_of (marked_method u m)) (singles_in (scope_of (blame_around p m u ws))) (marked_exp (marks_variable u m) x))
+    here : (x : NumberedExp) → Grows (is_single_part (marked v p) (this_of (marked_method v m)) (singles_in (scope_of (around_in v m vs j)))
+        (marked_exp (marks_variable v m) x)) (is_single_part (marked u p) (this_of (marked_method u m))
+        (singles_in (scope_of (blame_around p m u ws))) (marked_exp (marks_variable u m) x))
     here x = part_at p m v u part _ _ growth vs ws j None beside x
 
-    arguments_sound : (params : List NumberedParam) (args : NumberedExps) → argument_refusals (marked v p) (around_in v m vs j) (map (marked_param v) params) (marked_exps (marks_variable v m) args) ≡ [] → some_held v (arguments_blamed p m u ws params args) ≡ false
+    arguments_sound : (params : List NumberedParam) (args : NumberedExps)
+        → argument_refusals (marked v p) (around_in v m vs j) (map (marked_param v) params) (marked_exps (marks_variable v m) args) ≡ []
+        → some_held v (arguments_blamed p m u ws params args) ≡ false
     arguments_sound [] e.NoExp h = refl
     arguments_sound [] (e.MoreExp a rest) h = refl
     arguments_sound (w ∷ params) e.NoExp h = refl
     arguments_sound (w ∷ params) (e.MoreExp a rest) h =
         let f = none_both _ _ h in
-        both_held v (guarded (plain_here p m u ws a) (OfVariable w.place ∷ [])) (arguments_blamed p m u ws params rest) (rule_sound v (v.variables w.place) _ _ S5 _ (OfVariable w.place ∷ []) (or_false _) (here a) f.0) (arguments_sound params rest f.1)
+        both_held v (guarded (plain_here p m u ws a) (OfVariable w.place ∷ [])) (arguments_blamed p m u ws params rest)
+        (rule_sound v (v.variables w.place) _ _ S5 _ (OfVariable w.place ∷ []) (or_false _) (here a) f.0)
+        (arguments_sound params rest f.1)
 
-    params_sound : (params : NumberedParams) (args : NumberedExps) → params_refusals (marked v p) (around_in v m vs j) (marked_params v params) (marked_exps (marks_variable v m) args) ≡ [] → some_held v (params_blamed p m u ws params args) ≡ false
+    params_sound : (params : NumberedParams) (args : NumberedExps)
+        → params_refusals (marked v p) (around_in v m vs j) (marked_params v params) (marked_exps (marks_variable v m) args) ≡ []
+        → some_held v (params_blamed p m u ws params args) ≡ false
     params_sound Words args h = refl
     params_sound (Params params) args h = arguments_sound params args h
 
-    call_sound : (o : Option NumberedMethod) (args : NumberedExps) → call_refusals (marked v p) (around_in v m vs j) (option_map (marked_method v) o) (marked_exps (marks_variable v m) args) ≡ [] → some_held v (call_blamed p m u ws o args) ≡ false
+    call_sound : (o : Option NumberedMethod) (args : NumberedExps)
+        → call_refusals (marked v p) (around_in v m vs j) (option_map (marked_method v) o) (marked_exps (marks_variable v m) args) ≡ []
+        → some_held v (call_blamed p m u ws o args) ≡ false
     call_sound None args h = refl
     call_sound (Some y) args h = params_sound y.params args h
 
-    method_sound_at : (x : NumberedExp) (args : NumberedExps) → call_refusals (marked v p) (around_in v m vs j) (called_method (marked v p) (this_of (marked_method v m)) (marked_exp (marks_variable v m) x)) (marked_exps (marks_variable v m) args) ≡ []
+    method_sound_at : (x : NumberedExp) (args : NumberedExps) → call_refusals (marked v p) (around_in v m vs j)
+        (called_method (marked v p) (this_of (marked_method v m)) (marked_exp (marks_variable v m) x))
+        (marked_exps (marks_variable v m) args) ≡ []
         → some_held v (call_blamed p m u ws (called_method p (this_of m) x) args) ≡ false
-    method_sound_at x args h = call_sound (called_method p (this_of m) x) args (sym (ap (λ o. call_refusals (marked v p) (around_in v m vs j) o (marked_exps (marks_variable v m) args)) (called_at v x)) ∙ h)
+    method_sound_at x args h = call_sound (called_method p (this_of m) x) args
+        (sym (ap (λ o. call_refusals (marked v p) (around_in v m vs j) o (marked_exps (marks_variable v m) args)) (called_at v x)) ∙ h)
 
     whole_sound : (x : NumberedExp) → whole_refusals (marked v p) (around_in v m vs j) (marked_exp (marks_variable v m) x) ≡ [] → some_held v (whole_blamed p m u ws x) ≡ false
     whole_sound (e.Call at method args) h = method_sound_at (e.Call at method args) args h
@@ -142,12 +164,17 @@ module _ (p : NumberedProgram) (m : NumberedMethod) (v u : Marks) (part : IsPart
     initial_sound (st.NewGrid at region element dims_at dims) h = refl
 
     loop_sound : (r : Rule) (at : Place) (update : MaybeNumbered) (body : NumberedStm) (x : NumberedExp)
-        → refused_if (loop_acts (marked v p) (marked_method v m) (marked_maybe (marks_variable v m) v.variables update) (marked_stm (marks_variable v m) v.variables body) && not (is_single_part (marked v p) (this_of (marked_method v m)) (singles_in (scope_of (around_in v m vs j))) (marked_exp (marks_variable v m) x))) r at ≡ []
+        → refused_if (loop_acts (marked v p) (marked_method v m) (marked_maybe (marks_variable v m) v.variables update)
+        (marked_stm (marks_variable v m) v.variables body) && not
+        (is_single_part (marked v p) (this_of (marked_method v m)) (singles_in (scope_of (around_in v m vs j)))
+        (marked_exp (marks_variable v m) x))) r at ≡ []
         → some_held v (guarded (plain_here p m u ws x) (loop_reasons p m update body)) ≡ false
     loop_sound r at update body x h = rule_sound v _ _ _ r at (loop_reasons p m update body) (loop_held p m v update body) (here x) h
 
     condition_sound : (at : Place) (update : MaybeNumbered) (body : NumberedStm) (x : Option NumberedExp)
-        → refused_if (loop_acts (marked v p) (marked_method v m) (marked_maybe (marks_variable v m) v.variables update) (marked_stm (marks_variable v m) v.variables body) && is_plain_condition (marked v p) (around_in v m vs j) (option_map (marked_exp (marks_variable v m)) x)) S2 at ≡ []
+        → refused_if (loop_acts (marked v p) (marked_method v m) (marked_maybe (marks_variable v m) v.variables update)
+        (marked_stm (marks_variable v m) v.variables body) && is_plain_condition (marked v p) (around_in v m vs j)
+        (option_map (marked_exp (marks_variable v m)) x)) S2 at ≡ []
         → some_held v (guarded (condition_plain p m u ws x) (loop_reasons p m update body)) ≡ false
     condition_sound at update body None h = refl
     condition_sound at update body (Some x) h = loop_sound S2 at update body x h
@@ -159,13 +186,18 @@ module _ (p : NumberedProgram) (m : NumberedMethod) (v u : Marks) (part : IsPart
     own_sound : (s : NumberedStm) → single_refusals_at (marked v p) (around_in v m vs j) (marked_stm (marks_variable v m) v.variables s) ≡ [] → some_held v (own_blamed p m u ws jumping s) ≡ false
     own_sound (st.Declare at type variable value) h =
         let f = none_both _ _ h in
-        both_held v (initial_blamed p m u ws value) _ (initial_sound value f.0) (rule_sound v (v.variables at) _ _ S4 at (OfVariable at ∷ []) (or_false _) (initial_at p m v u part _ _ growth vs ws j None beside value) f.1)
+        both_held v (initial_blamed p m u ws value) _ (initial_sound value f.0)
+        (rule_sound v (v.variables at) _ _ S4 at (OfVariable at ∷ []) (or_false _)
+        (initial_at p m v u part _ _ growth vs ws j None beside value) f.1)
     own_sound (st.Assign at target value) h =
         let f = none_both _ _ h in
-        both_held v (initial_blamed p m u ws value) _ (initial_sound value f.0) (rule_sound v _ _ _ S4 at (target_reasons p m target) (target_held p m v target) (initial_at p m v u part _ _ growth vs ws j None beside value) f.1)
+        both_held v (initial_blamed p m u ws value) _ (initial_sound value f.0)
+        (rule_sound v _ _ _ S4 at (target_reasons p m target) (target_held p m v target)
+        (initial_at p m v u part _ _ growth vs ws j None beside value) f.1)
     own_sound (st.Update at op target x) h =
         let f = none_both _ _ h in
-        both_held v (whole_blamed p m u ws x) _ (whole_sound x f.0) (rule_sound v _ _ _ S4 at (target_reasons p m target) (target_held p m v target) (single_at p m v u part _ _ growth vs ws j None beside x) f.1)
+        both_held v (whole_blamed p m u ws x) _ (whole_sound x f.0) (rule_sound v _ _ _ S4 at (target_reasons p m target)
+        (target_held p m v target) (single_at p m v u part _ _ growth vs ws j None beside x) f.1)
     own_sound (st.Call x) h = whole_sound x h
     own_sound (st.If at c a) h = rule_sound v _ _ _ S1 at (effect_reasons p m jumping (st.If at c a)) (effects_held p m v vs j jumping (st.If at c a) jumps) (here c) h
     own_sound (st.IfElse at c a b) h = rule_sound v _ _ _ S1 at (effect_reasons p m jumping (st.IfElse at c a b)) (effects_held p m v vs j jumping (st.IfElse at c a b) jumps) (here c) h
@@ -200,7 +232,8 @@ module _ (p : NumberedProgram) (m : NumberedMethod) (v u : Marks) (part : IsPart
         both_held v (own_blamed p m u ws jumping (st.If at c a)) (blamed p m u ws jumping a) (own_sound vs ws j jumping b k (st.If at c a) f.0) (stm_sound a vs ws j jumping b k f.1)
     stm_sound (st.IfElse at c a d) vs ws j jumping b k h =
         let f = none_both _ _ h in
-        let g = wrong_both (marked v p) (inside (marked v p) (around_in v m vs j) (marked_stm (marks_variable v m) v.variables a)) (inside (marked v p) (around_in v m vs j) (marked_stm (marks_variable v m) v.variables d)) f.1 in
+        let g = wrong_both (marked v p) (inside (marked v p) (around_in v m vs j) (marked_stm (marks_variable v m) v.variables a))
+        (inside (marked v p) (around_in v m vs j) (marked_stm (marks_variable v m) v.variables d)) f.1 in
         both_held v (own_blamed p m u ws jumping (st.IfElse at c a d)) (blamed p m u ws jumping a ++ blamed p m u ws jumping d) (own_sound vs ws j jumping b k (st.IfElse at c a d) f.0)
         (both_held v (blamed p m u ws jumping a) (blamed p m u ws jumping d) (stm_sound a vs ws j jumping b k g.0) (stm_sound d vs ws j jumping b k g.1))
     stm_sound (st.While at c body) vs ws j jumping b k h =
@@ -213,13 +246,19 @@ module _ (p : NumberedProgram) (m : NumberedMethod) (v u : Marks) (part : IsPart
         let updating = inside_maybe (marked v p) (around_in v m vs j) (marked_maybe (marks_variable v m) v.variables update) in
         let g = wrong_both (marked v p) (inside_maybe (marked v p) (around_in v m vs j) (marked_maybe (marks_variable v m) v.variables first)) (updating ++ inner) f.1 in
         let l = wrong_both (marked v p) updating inner g.1 in
-        both_held v (own_blamed p m u ws jumping (st.For at first c update body)) (blamed_of_maybe p m u ws jumping first ++ (blamed_of_maybe p m u ws jumping update ++ blamed p m u ws (loop_reasons p m update body) body)) (own_sound vs ws j jumping b k (st.For at first c update body) f.0)
-        (both_held v (blamed_of_maybe p m u ws jumping first) (blamed_of_maybe p m u ws jumping update ++ blamed p m u ws (loop_reasons p m update body) body) (maybe_sound first vs ws j jumping b k g.0)
+        both_held v (own_blamed p m u ws jumping (st.For at first c update body)) (blamed_of_maybe p m u ws jumping first
+        ++ (blamed_of_maybe p m u ws jumping update ++ blamed p m u ws (loop_reasons p m update body) body))
+        (own_sound vs ws j jumping b k (st.For at first c update body) f.0)
+        (both_held v (blamed_of_maybe p m u ws jumping first) (blamed_of_maybe p m u ws jumping update
+        ++ blamed p m u ws (loop_reasons p m update body) body) (maybe_sound first vs ws j jumping b k g.0)
         (both_held v (blamed_of_maybe p m u ws jumping update) (blamed p m u ws (loop_reasons p m update body) body) (maybe_sound update vs ws j jumping b k l.0)
         (stm_sound body vs ws (jump_in update body) (loop_reasons p m update body) b (loop_held p m v update body) l.1)))
     stm_sound (st.Foreach at variable domain body) vs ws j jumping b k h =
         let f = none_both _ _ h in
-        both_held v (own_blamed p m u ws jumping (st.Foreach at variable domain body)) (blamed p m u (variables_inside (marked u p) (scope_of (blame_around p m u ws)) variable (marked_exp (marks_variable u m) domain)) (loop_reasons p m st.NoStm body) body) (own_sound vs ws j jumping b k (st.Foreach at variable domain body) f.0)
+        both_held v (own_blamed p m u ws jumping (st.Foreach at variable domain body))
+        (blamed p m u (variables_inside (marked u p) (scope_of (blame_around p m u ws)) variable
+        (marked_exp (marks_variable u m) domain)) (loop_reasons p m st.NoStm body) body)
+        (own_sound vs ws j jumping b k (st.Foreach at variable domain body) f.0)
         (stm_sound body _ _ (jump_in st.NoStm body) (loop_reasons p m st.NoStm body) (inside_beside p m v u part _ _ growth vs ws j None b variable domain) (loop_held p m v st.NoStm body) f.1)
     stm_sound st.Empty vs ws j jumping b k h = refl
     stm_sound (st.Declare at type variable value) vs ws j jumping b k h = own_sound vs ws j jumping b k (st.Declare at type variable value) (none_both _ _ h).0
@@ -242,7 +281,8 @@ module _ (p : NumberedProgram) (m : NumberedMethod) (v u : Marks) (part : IsPart
         → wrong (marked v p) (inside_all (marked v p) (around_in v m vs j) (marked_stms (marks_variable v m) v.variables ss)) ≡ [] → some_held v (blamed_of_all p m u ws jumping ss) ≡ false
     stms_sound st.Nil vs ws j jumping b k h = refl
     stms_sound (st.Cons s rest) vs ws j jumping b k h =
-        let f = wrong_both (marked v p) (inside (marked v p) (around_in v m vs j) (marked_stm (marks_variable v m) v.variables s)) (inside_all (marked v p) (around_in v m vs j) (marked_stms (marks_variable v m) v.variables rest)) h in
+        let f = wrong_both (marked v p) (inside (marked v p) (around_in v m vs j) (marked_stm (marks_variable v m) v.variables s))
+        (inside_all (marked v p) (around_in v m vs j) (marked_stms (marks_variable v m) v.variables rest)) h in
         both_held v (blamed p m u ws jumping s) (blamed_of_all p m u ws jumping rest) (stm_sound s vs ws j jumping b k f.0) (stms_sound rest vs ws j jumping b k f.1)
 
   -- ---- the method, under the part
@@ -254,7 +294,8 @@ module _ (p : NumberedProgram) (m : NumberedMethod) (v u : Marks) (part : IsPart
       by true h = refl
       by false h = part.methods m.place h
 
-  word_sound : (words : List Qualifier) (at : Place) (b s t : Bool) → Grows s t → (if s then [] else flat_map word_refusals (words ++ (if b then record { word = Single; place = at } ∷ [] else []))) ≡ []
+  word_sound : (words : List Qualifier) (at : Place) (b s t : Bool) → Grows s t
+      → (if s then [] else flat_map word_refusals (words ++ (if b then record { word = Single; place = at } ∷ [] else []))) ≡ []
       → b ≡ v.results at → some_held v (guarded (not t) (OfResult at ∷ [])) ≡ false
   word_sound words at b s true g h e = refl
   word_sound words at b true false g h e = absurd (true_false (sym (g refl)))
@@ -264,7 +305,8 @@ module _ (p : NumberedProgram) (m : NumberedMethod) (v u : Marks) (part : IsPart
       some_word k = cc
   word_sound words at false false false g h e = ap (λ a. a || false) (sym e)
 
-  result_sound : (r : NumberedResult) → result_refusals (marked_method v m).is_single (marked_result (v.results m.place) m.place r) ≡ [] → some_held v (guarded (not (marked_method u m).is_single) (result_reasons p m r)) ≡ false
+  result_sound : (r : NumberedResult) → result_refusals (marked_method v m).is_single (marked_result (v.results m.place) m.place r) ≡ []
+      → some_held v (guarded (not (marked_method u m).is_single) (result_reasons p m r)) ≡ false
   result_sound c.Void h = by (marked_method u m).is_single
     where
       by : (b : Bool) → some_held v (guarded (not b) []) ≡ false
@@ -283,7 +325,9 @@ module _ (p : NumberedProgram) (m : NumberedMethod) (v u : Marks) (part : IsPart
       (stms_sound (numbered_stms m.body) _ _ None [] (params_beside v u m.params part) refl
       (sym (ap (λ ss. wrong (marked v p) (inside_all (marked v p) (around_in v m (parameters (marked_method v m).params) None) ss)) (stms_of_map (marks_variable v m) v.variables m.body)) ∙ f.1))
 
-methods_sound : (p : NumberedProgram) (v u : Marks) (ms : List NumberedMethod) → IsPart v u → flat_map (method_single_refusals (marked v p)) (map (marked_method v) ms) ≡ [] → some_held v (flat_map (λ m. method_blamed p m u) ms) ≡ false
+methods_sound : (p : NumberedProgram) (v u : Marks) (ms : List NumberedMethod) → IsPart v u
+    → flat_map (method_single_refusals (marked v p)) (map (marked_method v) ms) ≡ [] → some_held v (flat_map (λ m. method_blamed p m u) ms)
+    ≡ false
 methods_sound p v u [] part h = refl
 methods_sound p v u (m ∷ ms) part h =
     let f = none_both _ _ h in

@@ -26,9 +26,15 @@ use Rattle.ti_blame.specs.Marks.{Marks}
 use Rattle.ti_blame.specs.Falling.{stands, meaning, starts}
 use Rattle.ti_infer.specs.Marks.{marks_variable}
 use Rattle.ti_infer.specs.Marked.{marked_exp, marked_param, marked_params, marked}
-use Rattle.ti_infer.specs.Blame.{guarded, target_reasons, reasons, reasons_of_maybe, reasons_of_all, result_reasons, return_reasons, loop_reasons, effect_reasons, blame_around, plain_here, arguments_blamed, params_blamed, call_blamed, whole_blamed, initial_blamed, condition_plain, returned_blamed, own_blamed, blamed, blamed_of_maybe, blamed_of_all}
+use Rattle.ti_infer.specs.Blame.{guarded, target_reasons, reasons, reasons_of_maybe, reasons_of_all, result_reasons, return_reasons}
+use Rattle.ti_infer.specs.Blame.{loop_reasons, effect_reasons, blame_around, plain_here, arguments_blamed, params_blamed, call_blamed}
+use Rattle.ti_infer.specs.Blame.{whole_blamed, initial_blamed, condition_plain, returned_blamed, own_blamed, blamed, blamed_of_maybe}
+use Rattle.ti_infer.specs.Blame.{blamed_of_all}
 use Rattle.ti_infer.specs.Mirrors.Asks.{asks, whole_asks, initial_asks}
-use Rattle.ti_infer.specs.Mirrors.Edges.{inside_at, same_ask, with_new, params_inside, first_inside, one_each, each, ones, then_if, loop_targets, effect_targets, arguments_edges, params_edges, call_edges, whole_edges, initial_edges, condition_edges, own_edges, inside_foreach, variables_foreach, edges, edges_of_maybe, edges_all}
+use Rattle.ti_infer.specs.Mirrors.Edges.{inside_at, same_ask, with_new, params_inside, first_inside, one_each, each, ones, then_if}
+use Rattle.ti_infer.specs.Mirrors.Edges.{loop_targets, effect_targets, arguments_edges, params_edges, call_edges, whole_edges}
+use Rattle.ti_infer.specs.Mirrors.Edges.{initial_edges, condition_edges, own_edges, inside_foreach, variables_foreach, edges}
+use Rattle.ti_infer.specs.Mirrors.Edges.{edges_of_maybe, edges_all}
 use Rattle.ti_infer.proofs.Knowing.{SameTypes, operand_same}
 use Rattle.ti_infer.proofs.Same.{this_same}
 use Rattle.ti_infer.proofs.ErasingPrograms.{TypesAll, types_found, types_point}
@@ -101,24 +107,28 @@ module _ (counts : Place → Bool) (marks : Marks) where
   AlikeAll (v ∷ vs) (w ∷ ws) = (v.number ≡ w.0) × (open_in w.1 ≡ not v.is_single) × AlikeAll vs ws
   AlikeAll _ _ = ⊥
 
-  pub alike_at : (this : Option ℕ) (vs : List ScopeVariable) (ws : List (ℕ × List (Option Mark))) → AlikeAll vs ws → (number : ℕ) → open_in (inside_at ws number) ≡ not (singles_in (record { this_class = this; variables = vs }) number)
+  pub alike_at : (this : Option ℕ) (vs : List ScopeVariable) (ws : List (ℕ × List (Option Mark))) → AlikeAll vs ws → (number : ℕ)
+      → open_in (inside_at ws number) ≡ not (singles_in (record { this_class = this; variables = vs }) number)
   alike_at this [] [] h number = refl
   alike_at this [] (w ∷ ws) h number = absurd h
   alike_at this (v ∷ vs) [] h number = absurd h
   alike_at this (v ∷ vs) (w ∷ ws) h number = by (w.0 == number) (ap (λ k. k == number) h.0) (alike_at this vs ws h.2 number)
     where
       by : (b : Bool) → (v.number == number) ≡ b → open_in (inside_at ws number) ≡ not (option_map_or (λ (v : ScopeVariable). v.is_single) (find (λ (v : ScopeVariable). v.number == number) vs) false)
-          → open_in (if b then w.1 else inside_at ws number) ≡ not (option_map_or (λ (v : ScopeVariable). v.is_single) (if v.number == number then Some v else find (λ (v : ScopeVariable). v.number == number) vs) false)
+          → open_in (if b then w.1 else inside_at ws number) ≡ not (option_map_or (λ (v : ScopeVariable). v.is_single)
+          (if v.number == number then Some v else find (λ (v : ScopeVariable). v.number == number) vs) false)
       by true k rest = h.1 ∙ sym (ap (λ b. not (option_map_or (λ (v : ScopeVariable). v.is_single) (if b then Some v else find (λ (v : ScopeVariable). v.number == number) vs) false)) k)
       by false k rest = rest ∙ sym (ap (λ b. not (option_map_or (λ (v : ScopeVariable). v.is_single) (if b then Some v else find (λ (v : ScopeVariable). v.number == number) vs) false)) k)
 
-  alike_behind : (vs : List ScopeVariable) (ws : List (ℕ × List (Option Mark))) (v : ScopeVariable) (w : ℕ × List (Option Mark)) → AlikeAll vs ws → v.number ≡ w.0 → open_in w.1 ≡ not v.is_single → AlikeAll (vs ++ v ∷ []) (ws ++ w ∷ [])
+  alike_behind : (vs : List ScopeVariable) (ws : List (ℕ × List (Option Mark))) (v : ScopeVariable) (w : ℕ × List (Option Mark))
+      → AlikeAll vs ws → v.number ≡ w.0 → open_in w.1 ≡ not v.is_single → AlikeAll (vs ++ v ∷ []) (ws ++ w ∷ [])
   alike_behind [] [] v w h k l = (k, l, tt)
   alike_behind [] (y ∷ ws) v w h k l = absurd h
   alike_behind (x ∷ vs) [] v w h k l = absurd h
   alike_behind (x ∷ vs) (y ∷ ws) v w h k l = (h.0, h.1, alike_behind vs ws v w h.2 k l)
 
-  pub alike_point : (vs : List ScopeVariable) (ws : List (ℕ × List (Option Mark))) (number : ℕ) (b : Bool) (found : List (Option Mark)) (o q : Option ℕ) → AlikeAll vs ws → open_in found ≡ not b → o ≡ q
+  pub alike_point : (vs : List ScopeVariable) (ws : List (ℕ × List (Option Mark))) (number : ℕ) (b : Bool) (found : List (Option Mark))
+      (o q : Option ℕ) → AlikeAll vs ws → open_in found ≡ not b → o ≡ q
       → AlikeAll (with_point vs number b o) (ws ++ (if is_some q then (number, found) ∷ [] else []))
   alike_point vs ws number b found o q h k same = rw (sym same) (by o)
     where
@@ -145,7 +155,8 @@ module _ (counts : Place → Bool) (marks : Marks) where
         there true t u h = ap (λ z. z || u) (h refl) ∙ sym (ap (λ z. z || true) (h refl))
         there false t u h = refl
 
-        by : (b : Bool) → list_any (same_ask a) old ≡ b → open_in (with_new old more) ≡ (open_in old || open_in more) → open_in (with_new (old ++ a ∷ []) more) ≡ (open_in (old ++ a ∷ []) || open_in more)
+        by : (b : Bool) → list_any (same_ask a) old ≡ b → open_in (with_new old more) ≡ (open_in old || open_in more)
+            → open_in (with_new (old ++ a ∷ []) more) ≡ (open_in (old ++ a ∷ []) || open_in more)
             → open_in (with_new (if b then old else old ++ a ∷ []) more) ≡ (open_in old || (starts (stands counts marks) a || open_in more))
         by true k first second = first ∙ there (starts (stands counts marks) a) (open_in old) (open_in more) (same a old k)
         by false k first second =
@@ -167,11 +178,13 @@ module _ (f : Blame → Bool) (counts : Place → Bool) (marks : Marks) (items :
 
   pub fired_one : (xs : List (Option Mark)) (t : Then) → fired (one_each xs t) ≡ (list_any (starts (stands counts marks)) xs && list_any f (meaning items t))
   fired_one [] t = refl
-  fired_one (a ∷ xs) t = ap (λ b. fires (record { from = a; then = t }) || b) (fired_one xs t) ∙ and_left (starts (stands counts marks) a) (list_any (starts (stands counts marks)) xs) (list_any f (meaning items t))
+  fired_one (a ∷ xs) t = ap (λ b. fires (record { from = a; then = t }) || b) (fired_one xs t)
+      ∙ and_left (starts (stands counts marks) a) (list_any (starts (stands counts marks)) xs) (list_any f (meaning items t))
 
   pub fired_each : (xs : List (Option Mark)) (ts : List Then) → fired (each xs ts) ≡ (list_any (starts (stands counts marks)) xs && meant ts)
   fired_each xs [] = sym (and_none (list_any (starts (stands counts marks)) xs))
-  fired_each xs (t ∷ ts) = list_any-append fires (one_each xs t) (each xs ts) ∙ ap₂ (λ a b. a || b) (fired_one xs t) (fired_each xs ts) ∙ and_right (list_any (starts (stands counts marks)) xs) (list_any f (meaning items t)) (meant ts)
+  fired_each xs (t ∷ ts) = list_any-append fires (one_each xs t) (each xs ts) ∙ ap₂ (λ a b. a || b) (fired_one xs t) (fired_each xs ts)
+      ∙ and_right (list_any (starts (stands counts marks)) xs) (list_any f (meaning items t)) (meant ts)
 
   meant_ones : (xs : List Blame) → meant (ones xs) ≡ list_any f xs
   meant_ones [] = refl
@@ -193,7 +206,9 @@ module _ (f : Blame → Bool) (counts : Place → Bool) (marks : Marks) (items :
     returned : (b : Bool) → (b && list_any f (meaning items whole)) ≡ list_any f (guarded b (return_reasons p m))
     returned b = ap (λ z. b && z) whole_is ∙ sym (any_guarded b (return_reasons p m))
 
-    pub loop_meant : (i : ℕ) (update : MaybeNumbered) (body : NumberedStm) → PartAt items i (reasons_of_maybe p m update ++ reasons p m body) → meant (loop_targets p m whole i update body) ≡ list_any f (loop_reasons p m update body)
+    pub loop_meant : (i : ℕ) (update : MaybeNumbered) (body : NumberedStm)
+        → PartAt items i (reasons_of_maybe p m update ++ reasons p m body) → meant (loop_targets p m whole i update body)
+        ≡ list_any f (loop_reasons p m update body)
     loop_meant i update body part =
         ap₂ (λ a b. a || b) (ap (list_any f) (part_meaning items i (reasons_of_maybe p m update ++ reasons p m body) part))
         (meant_if ((doings_of_maybe p (this_of m) update).returns || (doings p (this_of m) body).returns) whole
@@ -202,7 +217,8 @@ module _ (f : Blame → Bool) (counts : Place → Bool) (marks : Marks) (items :
         ∙ sym (list_any-append f (guarded (doings_of_maybe p (this_of m) update).returns (return_reasons p m)) (guarded (doings p (this_of m) body).returns (return_reasons p m))))
         ∙ sym (list_any-append f (reasons_of_maybe p m update ++ reasons p m body) _)
 
-    effect_meant : (i : ℕ) (jump : List Then) (jumping : List Blame) (s : NumberedStm) → PartAt items i (reasons p m s) → meant jump ≡ list_any f jumping → meant (effect_targets p m whole i jump s) ≡ list_any f (effect_reasons p m jumping s)
+    effect_meant : (i : ℕ) (jump : List Then) (jumping : List Blame) (s : NumberedStm) → PartAt items i (reasons p m s) → meant jump
+        ≡ list_any f jumping → meant (effect_targets p m whole i jump s) ≡ list_any f (effect_reasons p m jumping s)
     effect_meant i jump jumping s part h =
         ap₂ (λ a b. a || b) (ap (list_any f) (part_meaning items i (reasons p m s) part))
         (list_any-append (λ t. list_any f (meaning items t)) (then_if (doings p (this_of m) s).returns whole) (if (doings p (this_of m) s).jumps then jump else [])
@@ -220,7 +236,8 @@ module _ (f : Blame → Bool) (counts : Place → Bool) (marks : Marks) (items :
       there number = alike_at counts marks (this_of m) vs inside alike number
 
       -- what falls with a plain expression
-      rule : (b : Bool) (xs : List (Option Mark)) (found : List Blame) (ts : List Then) → list_any (starts (stands counts marks)) xs ≡ b → meant ts ≡ list_any f found → list_any f (guarded b found) ≡ fired (each xs ts)
+      rule : (b : Bool) (xs : List (Option Mark)) (found : List Blame) (ts : List Then) → list_any (starts (stands counts marks)) xs ≡ b
+          → meant ts ≡ list_any f found → list_any f (guarded b found) ≡ fired (each xs ts)
       rule b xs found ts h k = any_guarded b found ∙ sym (fired_each xs ts ∙ ap₂ (λ a b. a && b) h k)
 
       rule_one : (b : Bool) (xs : List (Option Mark)) (x : Blame) → list_any (starts (stands counts marks)) xs ≡ b → list_any f (guarded b (x ∷ [])) ≡ fired (one_each xs (One x))
@@ -234,7 +251,9 @@ module _ (f : Blame → Bool) (counts : Place → Bool) (marks : Marks) (items :
       arguments_meant [] (e.MoreExp a rest) = refl
       arguments_meant (w ∷ params) e.NoExp = refl
       arguments_meant (w ∷ params) (e.MoreExp a rest) =
-          both_fired (guarded (plain_here p m marks vs a) (OfVariable w.place ∷ [])) _ (one_each (asks p m (inside_at inside) a) (One (OfVariable w.place))) _ (rule_one _ (asks p m (inside_at inside) a) (OfVariable w.place) (part a)) (arguments_meant params rest)
+          both_fired (guarded (plain_here p m marks vs a) (OfVariable w.place ∷ [])) _
+          (one_each (asks p m (inside_at inside) a) (One (OfVariable w.place))) _
+          (rule_one _ (asks p m (inside_at inside) a) (OfVariable w.place) (part a)) (arguments_meant params rest)
 
       params_meant : (params : NumberedParams) (args : NumberedExps) → list_any f (params_blamed p m marks vs params args) ≡ fired (params_edges p m whole inside params args)
       params_meant Words args = refl
@@ -244,7 +263,9 @@ module _ (f : Blame → Bool) (counts : Place → Bool) (marks : Marks) (items :
       call_meant None args = refl
       call_meant (Some y) args = params_meant y.params args
 
-      delete_meant : (at : Place) (a : NumberedExp) (b : Bool) → list_any f (guarded (plain_here p m marks vs a) (guarded b (OfCollective at ∷ []))) ≡ fired (if b then one_each (asks p m (inside_at inside) a) (One (OfCollective at)) else [])
+      delete_meant : (at : Place) (a : NumberedExp) (b : Bool) → list_any f
+          (guarded (plain_here p m marks vs a) (guarded b (OfCollective at ∷ [])))
+          ≡ fired (if b then one_each (asks p m (inside_at inside) a) (One (OfCollective at)) else [])
       delete_meant at a true = rule_one _ (asks p m (inside_at inside) a) (OfCollective at) (part a)
       delete_meant at a false = any_guarded (plain_here p m marks vs a) [] ∙ and_none (plain_here p m marks vs a)
 
@@ -252,7 +273,8 @@ module _ (f : Blame → Bool) (counts : Place → Bool) (marks : Marks) (items :
       whole_meant (e.Call at method args) = call_meant (called_method p (this_of m) (e.Call at method args)) args
       whole_meant (e.OwnCall at method args) = call_meant (called_method p (this_of m) (e.OwnCall at method args)) args
       whole_meant (e.Member at a name args) =
-          both_fired (call_blamed p m marks vs (called_method p (this_of m) (e.Member at a name args)) args) _ (call_edges p m whole inside (called_method p (this_of m) (e.Member at a name args)) args) _
+          both_fired (call_blamed p m marks vs (called_method p (this_of m) (e.Member at a name args)) args) _
+          (call_edges p m whole inside (called_method p (this_of m) (e.Member at a name args)) args) _
           (call_meant (called_method p (this_of m) (e.Member at a name args)) args) (delete_meant at a (is_delete (member_called p (this_of m) a name)))
       whole_meant (e.Int at k) = refl
       whole_meant (e.Long at k) = refl
@@ -278,7 +300,8 @@ module _ (f : Blame → Bool) (counts : Place → Bool) (marks : Marks) (items :
       initial_meant (st.NewObject at region class) = refl
       initial_meant (st.NewGrid at region element dims_at dims) = refl
 
-      condition_meant : (c : Option NumberedExp) (found : List Blame) (ts : List Then) → meant ts ≡ list_any f found → list_any f (guarded (condition_plain p m marks vs c) found) ≡ fired (condition_edges p m whole inside c ts)
+      condition_meant : (c : Option NumberedExp) (found : List Blame) (ts : List Then) → meant ts ≡ list_any f found
+          → list_any f (guarded (condition_plain p m marks vs c) found) ≡ fired (condition_edges p m whole inside c ts)
       condition_meant None found ts h = refl
       condition_meant (Some x) found ts h = rule _ (asks p m (inside_at inside) x) found ts (part x) h
 
@@ -290,25 +313,37 @@ module _ (f : Blame → Bool) (counts : Place → Bool) (marks : Marks) (items :
       jumps_meant true = sym (or_none (f Always || false))
       jumps_meant false = refl
 
-      pub own_meant : (i : ℕ) (jump : List Then) (jumping : List Blame) (s : NumberedStm) → PartAt items i (reasons p m s) → meant jump ≡ list_any f jumping → list_any f (own_blamed p m marks vs jumping s) ≡ fired (own_edges p m whole inside i jump s)
+      pub own_meant : (i : ℕ) (jump : List Then) (jumping : List Blame) (s : NumberedStm) → PartAt items i (reasons p m s) → meant jump
+          ≡ list_any f jumping → list_any f (own_blamed p m marks vs jumping s) ≡ fired (own_edges p m whole inside i jump s)
       own_meant i jump jumping (st.Declare at type variable value) h j =
           both_fired (initial_blamed p m marks vs value) _ (initial_edges p m whole inside value) _ (initial_meant value)
           (rule_one _ (initial_asks p m (inside_at inside) value) (OfVariable at) (initial_asks_open counts p m marks (inside_at inside) vs there value))
       own_meant i jump jumping (st.Assign at target value) h j =
           both_fired (initial_blamed p m marks vs value) _ (initial_edges p m whole inside value) _ (initial_meant value)
-          (rule _ (initial_asks p m (inside_at inside) value) (target_reasons p m target) (ones (target_reasons p m target)) (initial_asks_open counts p m marks (inside_at inside) vs there value) (meant_ones (target_reasons p m target)))
+          (rule _ (initial_asks p m (inside_at inside) value) (target_reasons p m target) (ones (target_reasons p m target))
+          (initial_asks_open counts p m marks (inside_at inside) vs there value) (meant_ones (target_reasons p m target)))
       own_meant i jump jumping (st.Update at op target x) h j =
           both_fired (whole_blamed p m marks vs x) _ (whole_edges p m whole inside x) _ (whole_meant x)
-          (rule _ (whole_asks p m (inside_at inside) x) (target_reasons p m target) (ones (target_reasons p m target)) (whole_asks_open counts p m marks (inside_at inside) vs there x) (meant_ones (target_reasons p m target)))
+          (rule _ (whole_asks p m (inside_at inside) x) (target_reasons p m target) (ones (target_reasons p m target))
+          (whole_asks_open counts p m marks (inside_at inside) vs there x) (meant_ones (target_reasons p m target)))
       own_meant i jump jumping (st.Call x) h j = whole_meant x
-      own_meant i jump jumping (st.If at c a) h j = rule _ (asks p m (inside_at inside) c) (effect_reasons p m jumping (st.If at c a)) (effect_targets p m whole i jump (st.If at c a)) (part c) (effect_meant i jump jumping (st.If at c a) h j)
-      own_meant i jump jumping (st.IfElse at c a b) h j = rule _ (asks p m (inside_at inside) c) (effect_reasons p m jumping (st.IfElse at c a b)) (effect_targets p m whole i jump (st.IfElse at c a b)) (part c) (effect_meant i jump jumping (st.IfElse at c a b) h j)
-      own_meant i jump jumping (st.While at c body) h j = rule _ (asks p m (inside_at inside) c) (loop_reasons p m st.NoStm body) (loop_targets p m whole i st.NoStm body) (part c) (loop_meant i st.NoStm body h)
+      own_meant i jump jumping (st.If at c a) h j = rule _ (asks p m (inside_at inside) c) (effect_reasons p m jumping (st.If at c a))
+          (effect_targets p m whole i jump (st.If at c a)) (part c) (effect_meant i jump jumping (st.If at c a) h j)
+      own_meant i jump jumping (st.IfElse at c a b) h j = rule _ (asks p m (inside_at inside) c)
+          (effect_reasons p m jumping (st.IfElse at c a b)) (effect_targets p m whole i jump (st.IfElse at c a b)) (part c)
+          (effect_meant i jump jumping (st.IfElse at c a b) h j)
+      own_meant i jump jumping (st.While at c body) h j = rule _ (asks p m (inside_at inside) c) (loop_reasons p m st.NoStm body)
+          (loop_targets p m whole i st.NoStm body) (part c) (loop_meant i st.NoStm body h)
       own_meant i jump jumping (st.For at first c update body) h j =
-          both_fired (guarded (condition_plain p m marks vs c) (loop_reasons p m update body)) _ (condition_edges p m whole inside c (loop_targets p m whole (i + length (reasons_of_maybe p m first)) update body)) _
-          (condition_meant c (loop_reasons p m update body) (loop_targets p m whole (i + length (reasons_of_maybe p m first)) update body) (loop_meant (i + length (reasons_of_maybe p m first)) update body (part_second items i (reasons_of_maybe p m first) (reasons_of_maybe p m update ++ reasons p m body) h)))
+          both_fired (guarded (condition_plain p m marks vs c) (loop_reasons p m update body)) _
+          (condition_edges p m whole inside c (loop_targets p m whole (i + length (reasons_of_maybe p m first)) update body)) _
+          (condition_meant c (loop_reasons p m update body) (loop_targets p m whole (i + length (reasons_of_maybe p m first)) update body)
+          (loop_meant (i + length (reasons_of_maybe p m first)) update body
+          (part_second items i (reasons_of_maybe p m first) (reasons_of_maybe p m update ++ reasons p m body) h)))
           (jumps_meant (doings_of_maybe p (this_of m) update).jumps)
-      own_meant i jump jumping (st.Foreach at variable domain body) h j = rule _ (asks p m (inside_at inside) domain) (loop_reasons p m st.NoStm body) (loop_targets p m whole i st.NoStm body) (part domain) (loop_meant i st.NoStm body h)
+      own_meant i jump jumping (st.Foreach at variable domain body) h j =
+          rule _ (asks p m (inside_at inside) domain) (loop_reasons p m st.NoStm body) (loop_targets p m whole i st.NoStm body)
+          (part domain) (loop_meant i st.NoStm body h)
       own_meant i jump jumping (st.Return at value) h j = returned_meant value
       own_meant i jump jumping st.Empty h j = refl
       own_meant i jump jumping (st.Step at op target) h j = refl
@@ -323,9 +358,11 @@ module _ (f : Blame → Bool) (counts : Place → Bool) (marks : Marks) (items :
     same_types vs ws t = record { this = this_same marks m; types = λ number. types_found vs ws number t }
 
     alike_inside : (vs ws : List ScopeVariable) (inside : List (ℕ × List (Option Mark))) (variable : ℕ) (domain : NumberedExp) → AlikeAll counts marks vs inside → TypesAll vs ws
-        → AlikeAll counts marks (variables_inside (marked marks p) (scope_of (blame_around p m marks vs)) variable (marked_exp (marks_variable marks m) domain)) (inside_foreach p m whole ws inside variable domain)
+        → AlikeAll counts marks (variables_inside (marked marks p) (scope_of (blame_around p m marks vs)) variable
+        (marked_exp (marks_variable marks m) domain)) (inside_foreach p m whole ws inside variable domain)
     alike_inside vs ws inside variable domain alike t =
-        alike_point counts marks vs inside variable _ (with_new [] (asks p m (inside_at inside) domain)) _ _ alike (new_open counts marks same [] (asks p m (inside_at inside) domain) ∙ part vs inside alike domain)
+        alike_point counts marks vs inside variable _ (with_new [] (asks p m (inside_at inside) domain)) _ _ alike
+        (new_open counts marks same [] (asks p m (inside_at inside) domain) ∙ part vs inside alike domain)
         (ap (option_and_then domain_dim) (operand_same marks p (marks_variable marks m) _ _ (same_types vs ws t) domain))
 
     types_inside : (vs ws : List ScopeVariable) (variable : ℕ) (domain : NumberedExp) → TypesAll vs ws
@@ -333,7 +370,8 @@ module _ (f : Blame → Bool) (counts : Place → Bool) (marks : Marks) (items :
     types_inside vs ws variable domain t = types_point vs ws variable _ _ _ _ t (ap (option_and_then domain_dim) (operand_same marks p (marks_variable marks m) _ _ (same_types vs ws t) domain))
 
     mutual
-      pub edges_meant : (vs ws : List ScopeVariable) (inside : List (ℕ × List (Option Mark))) → AlikeAll counts marks vs inside → TypesAll vs ws → (i : ℕ) (jump : List Then) (jumping : List Blame) (s : NumberedStm)
+      pub edges_meant : (vs ws : List ScopeVariable) (inside : List (ℕ × List (Option Mark))) → AlikeAll counts marks vs inside
+          → TypesAll vs ws → (i : ℕ) (jump : List Then) (jumping : List Blame) (s : NumberedStm)
           → PartAt items i (reasons p m s) → meant jump ≡ list_any f jumping → list_any f (blamed p m marks vs jumping s) ≡ fired (edges p m whole ws inside i jump s)
       edges_meant vs ws inside alike t i jump jumping (st.Block body) h j = all_meant vs ws inside alike t i jump jumping body h j
       edges_meant vs ws inside alike t i jump jumping (st.If at c a) h j =
@@ -358,12 +396,17 @@ module _ (f : Blame → Bool) (counts : Place → Bool) (marks : Marks) (items :
           (maybe_meant vs ws inside alike t i jump jumping first (part_first items i (reasons_of_maybe p m first) (reasons_of_maybe p m update ++ reasons p m body) h) j)
           (both_fired (blamed_of_maybe p m marks vs jumping update) _ (edges_of_maybe p m whole ws inside k jump update) _
           (maybe_meant vs ws inside alike t k jump jumping update (part_first items k (reasons_of_maybe p m update) (reasons p m body) g) j)
-          (edges_meant vs ws inside alike t (k + length (reasons_of_maybe p m update)) (loop_targets p m whole k update body) (loop_reasons p m update body) body (part_second items k (reasons_of_maybe p m update) (reasons p m body) g) (loop_meant k update body g))))
+          (edges_meant vs ws inside alike t (k + length (reasons_of_maybe p m update)) (loop_targets p m whole k update body)
+          (loop_reasons p m update body) body (part_second items k (reasons_of_maybe p m update) (reasons p m body) g)
+          (loop_meant k update body g))))
       edges_meant vs ws inside alike t i jump jumping (st.Foreach at variable domain body) h j =
           both_fired (own_blamed p m marks vs jumping (st.Foreach at variable domain body)) _ (own_edges p m whole inside i jump (st.Foreach at variable domain body)) _
           (own_meant vs inside alike i jump jumping (st.Foreach at variable domain body) h j)
-          (edges_meant (variables_inside (marked marks p) (scope_of (blame_around p m marks vs)) variable (marked_exp (marks_variable marks m) domain)) (variables_foreach p m whole ws variable domain) (inside_foreach p m whole ws inside variable domain)
-          (alike_inside vs ws inside variable domain alike t) (types_inside vs ws variable domain t) i (loop_targets p m whole i st.NoStm body) (loop_reasons p m st.NoStm body) body h (loop_meant i st.NoStm body h))
+          (edges_meant (variables_inside (marked marks p) (scope_of (blame_around p m marks vs)) variable
+          (marked_exp (marks_variable marks m) domain)) (variables_foreach p m whole ws variable domain)
+          (inside_foreach p m whole ws inside variable domain)
+          (alike_inside vs ws inside variable domain alike t) (types_inside vs ws variable domain t) i
+          (loop_targets p m whole i st.NoStm body) (loop_reasons p m st.NoStm body) body h (loop_meant i st.NoStm body h))
       edges_meant vs ws inside alike t i jump jumping (st.Declare at type variable value) h j = own_meant vs inside alike i jump jumping (st.Declare at type variable value) h j
       edges_meant vs ws inside alike t i jump jumping (st.Assign at target value) h j = own_meant vs inside alike i jump jumping (st.Assign at target value) h j
       edges_meant vs ws inside alike t i jump jumping (st.Update at op target x) h j = own_meant vs inside alike i jump jumping (st.Update at op target x) h j
@@ -376,15 +419,18 @@ module _ (f : Blame → Bool) (counts : Place → Bool) (marks : Marks) (items :
       edges_meant vs ws inside alike t i jump jumping (st.Break at) h j = refl
       edges_meant vs ws inside alike t i jump jumping (st.Continue at) h j = refl
 
-      maybe_meant : (vs ws : List ScopeVariable) (inside : List (ℕ × List (Option Mark))) → AlikeAll counts marks vs inside → TypesAll vs ws → (i : ℕ) (jump : List Then) (jumping : List Blame) (s : MaybeNumbered)
+      maybe_meant : (vs ws : List ScopeVariable) (inside : List (ℕ × List (Option Mark))) → AlikeAll counts marks vs inside → TypesAll vs ws
+          → (i : ℕ) (jump : List Then) (jumping : List Blame) (s : MaybeNumbered)
           → PartAt items i (reasons_of_maybe p m s) → meant jump ≡ list_any f jumping → list_any f (blamed_of_maybe p m marks vs jumping s) ≡ fired (edges_of_maybe p m whole ws inside i jump s)
       maybe_meant vs ws inside alike t i jump jumping st.NoStm h j = refl
       maybe_meant vs ws inside alike t i jump jumping (st.SomeStm s) h j = edges_meant vs ws inside alike t i jump jumping s h j
 
-      pub all_meant : (vs ws : List ScopeVariable) (inside : List (ℕ × List (Option Mark))) → AlikeAll counts marks vs inside → TypesAll vs ws → (i : ℕ) (jump : List Then) (jumping : List Blame) (ss : NumberedStms)
+      pub all_meant : (vs ws : List ScopeVariable) (inside : List (ℕ × List (Option Mark))) → AlikeAll counts marks vs inside
+          → TypesAll vs ws → (i : ℕ) (jump : List Then) (jumping : List Blame) (ss : NumberedStms)
           → PartAt items i (reasons_of_all p m ss) → meant jump ≡ list_any f jumping → list_any f (blamed_of_all p m marks vs jumping ss) ≡ fired (edges_all p m whole ws inside i jump ss)
       all_meant vs ws inside alike t i jump jumping st.Nil h j = refl
       all_meant vs ws inside alike t i jump jumping (st.Cons s rest) h j =
-          both_fired (blamed p m marks vs jumping s) (blamed_of_all p m marks vs jumping rest) (edges p m whole ws inside i jump s) (edges_all p m whole ws inside (i + length (reasons p m s)) jump rest)
+          both_fired (blamed p m marks vs jumping s) (blamed_of_all p m marks vs jumping rest) (edges p m whole ws inside i jump s)
+          (edges_all p m whole ws inside (i + length (reasons p m s)) jump rest)
           (edges_meant vs ws inside alike t i jump jumping s (part_first items i (reasons p m s) (reasons_of_all p m rest) h) j)
           (all_meant vs ws inside alike t (i + length (reasons p m s)) jump jumping rest (part_second items i (reasons p m s) (reasons_of_all p m rest) h) j)

@@ -60,16 +60,21 @@ params_same : (marks : Marks) (at : Place) (places : List Place) (ws : NumberedP
 params_same marks at places Words ts = refl
 params_same marks at places (Params ws) ts = ap₂ (λ n us. if length ts == n then misfits places ts us else refused Y4 at) (length_same (marked_param marks) ws) (types_known marks ws)
 
-calls_same : (marks : Marks) (at : Place) (places : List Place) (o : Option NumberedMethod) (ts : List ValueType) → call_refusals at places (option_map (marked_method marks) o) ts ≡ call_refusals at places o ts
+calls_same : (marks : Marks) (at : Place) (places : List Place) (o : Option NumberedMethod) (ts : List ValueType)
+    → call_refusals at places (option_map (marked_method marks) o) ts ≡ call_refusals at places o ts
 calls_same marks at places None ts = refl
 calls_same marks at places (Some m) ts = params_same marks at places m.params ts
 
-instances_same : (marks : Marks) (at : Place) (places : List Place) (o : Option NumberedMethod) (ts : List ValueType) → instance_refusals at places (option_map (marked_method marks) o) ts ≡ instance_refusals at places o ts
+instances_same : (marks : Marks) (at : Place) (places : List Place) (o : Option NumberedMethod) (ts : List ValueType)
+    → instance_refusals at places (option_map (marked_method marks) o) ts ≡ instance_refusals at places o ts
 instances_same marks at places None ts = refl
 instances_same marks at places (Some m) ts = params_same marks at places m.params ts
 
-members_same : (marks : Marks) (p : NumberedProgram) (at : Place) (places : List Place) (name : ℕ) (x : ValueType) (ts : List ValueType) → member_refusals (marked marks p) at places name x ts ≡ member_refusals p at places name x ts
-members_same marks p at places name (t.Class class is_local) ts = ap (λ o. instance_refusals at places o ts) (instance_same marks p class name) ∙ instances_same marks at places (instance_method p class name) ts
+members_same : (marks : Marks) (p : NumberedProgram) (at : Place) (places : List Place) (name : ℕ) (x : ValueType) (ts : List ValueType)
+    → member_refusals (marked marks p) at places name x ts ≡ member_refusals p at places name x ts
+members_same marks p at places name (t.Class class is_local) ts =
+    ap (λ o. instance_refusals at places o ts) (instance_same marks p class name)
+    ∙ instances_same marks at places (instance_method p class name) ts
 members_same marks p at places name t.Int ts = ap (λ b. built_in_refusals at b t.Int ts) (built_in_same marks p name)
 members_same marks p at places name t.Long ts = ap (λ b. built_in_refusals at b t.Long ts) (built_in_same marks p name)
 members_same marks p at places name t.Boolean ts = ap (λ b. built_in_refusals at b t.Boolean ts) (built_in_same marks p name)
@@ -168,7 +173,9 @@ module _ (marks : Marks) (p : NumberedProgram) (singles : ℕ → Bool) (s r : S
   types : (x : NumberedExp) → operand_type (marked marks p) s (marked_exp singles x) ≡ operand_type p r x
   types x = operand_same marks p singles s r same x
 
-  called_at : (at : Place) (args : NumberedExps) (k : ℕ) (ts : List ValueType) → call_refusals at (places_of (marked_exps singles args)) (slice_get (marked marks p).methods k) ts ≡ call_refusals at (places_of args) (slice_get p.methods k) ts
+  called_at : (at : Place) (args : NumberedExps) (k : ℕ) (ts : List ValueType)
+      → call_refusals at (places_of (marked_exps singles args)) (slice_get (marked marks p).methods k) ts
+      ≡ call_refusals at (places_of args) (slice_get p.methods k) ts
   called_at at args k ts = ap₂ (λ places o. call_refusals at places o ts) (places_same singles args) (method_same marks p k) ∙ calls_same marks at (places_of args) (slice_get p.methods k) ts
 
   at_same : (x : NumberedExp) → refusals_at (marked marks p) s (marked_exp singles x) ≡ refusals_at p r x
@@ -177,15 +184,20 @@ module _ (marks : Marks) (p : NumberedProgram) (singles : ℕ → Bool) (s r : S
   at_same (e.Point at xs) = ap₂ (λ x y. x ++ y) (all_misplaced_same xs) (judged_same _ _ _ _ (operands_same marks p singles s r same xs) (λ ts. refl))
   at_same (e.Rect at ranges) =
       ap₂ (λ x y. x ++ y) (bounds_misplaced_same ranges)
-      (judged_same _ _ _ _ (bounds_same marks p singles s r same ranges) (λ ts. ap (λ n. mistaken at (is_some (rect_literal n ts)) (is_some (rect_literal n (map one_dim ts)))) (count_same singles ranges)))
+      (judged_same _ _ _ _ (bounds_same marks p singles s r same ranges)
+      (λ ts. ap (λ n. mistaken at (is_some (rect_literal n ts)) (is_some (rect_literal n (map one_dim ts))))
+      (count_same singles ranges)))
   at_same (e.Unary at op a) = ap₂ (λ x y. x ++ y) (misplaced_same a) (judged_same _ _ _ _ (types a) (λ y. refl))
   at_same (e.Binary at op a b) = ap₂ (λ x y. x ++ y) (ap₂ (λ x y. x ++ y) (misplaced_same a) (misplaced_same b)) (both_same _ _ _ _ _ _ (types a) (types b) (λ y z. refl))
   at_same (e.Cast at to a) = ap₂ (λ x y. x ++ y) (ap (λ x. type_word_refusals false to ++ x) (misplaced_same a)) (judged_same _ _ _ _ (types a) (λ y. refl))
   at_same (e.Select at a name) = ap₂ (λ x y. x ++ y) (misplaced_same a) (judged_same _ _ _ _ (types a) (λ y. ap (λ o. mistaken at (is_some o) false) (select_known marks p y name)))
   at_same (e.Member at a name args) =
       ap₂ (λ x y. x ++ y) (ap₂ (λ x y. x ++ y) (misplaced_same a) (all_misplaced_same args))
-      (both_same _ _ _ _ _ _ (types a) (operands_same marks p singles s r same args) (λ y ts. ap (λ places. member_refusals (marked marks p) at places name y ts) (places_same singles args) ∙ members_same marks p at (places_of args) name y ts))
-  at_same (e.Index at a xs) = ap₂ (λ x y. x ++ y) (ap₂ (λ x y. x ++ y) (misplaced_same a) (all_misplaced_same xs)) (both_same _ _ _ _ _ _ (types a) (operands_same marks p singles s r same xs) (λ y ts. refl))
+      (both_same _ _ _ _ _ _ (types a) (operands_same marks p singles s r same args)
+      (λ y ts. ap (λ places. member_refusals (marked marks p) at places name y ts) (places_same singles args)
+      ∙ members_same marks p at (places_of args) name y ts))
+  at_same (e.Index at a xs) = ap₂ (λ x y. x ++ y) (ap₂ (λ x y. x ++ y) (misplaced_same a) (all_misplaced_same xs))
+      (both_same _ _ _ _ _ _ (types a) (operands_same marks p singles s r same xs) (λ y ts. refl))
   at_same (e.Int at n) = refl
   at_same (e.Long at n) = refl
   at_same (e.Truth at b) = refl
@@ -201,4 +213,5 @@ module _ (marks : Marks) (p : NumberedProgram) (singles : ℕ → Bool) (s r : S
   exp_same x = ap (flat_map (refusals_at (marked marks p) s)) (parts_same singles x) ∙ each_same (refusals_at (marked marks p) s) (refusals_at p r) (marked_exp singles) (parts x) at_same
 
   pub spread_same : (rs : NumberedRanges) → flat_map (refusals_at (marked marks p) s) (parts_of_ranges (marked_ranges singles rs)) ≡ flat_map (refusals_at p r) (parts_of_ranges rs)
-  spread_same rs = ap (flat_map (refusals_at (marked marks p) s)) (parts_ranges_same singles rs) ∙ each_same (refusals_at (marked marks p) s) (refusals_at p r) (marked_exp singles) (parts_of_ranges rs) at_same
+  spread_same rs = ap (flat_map (refusals_at (marked marks p) s)) (parts_ranges_same singles rs)
+      ∙ each_same (refusals_at (marked marks p) s) (refusals_at p r) (marked_exp singles) (parts_of_ranges rs) at_same

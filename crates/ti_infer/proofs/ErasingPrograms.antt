@@ -31,7 +31,8 @@ TypesAll (v ∷ vs) (w ∷ ws) = (v.number ≡ w.number) × (v.type ≡ w.type) 
 TypesAll _ _ = ⊥
 
 pub types_found : (vs ws : List ScopeVariable) (number : ℕ) → TypesAll vs ws
-    → option_map (λ (v : ScopeVariable). v.type) (find (λ (v : ScopeVariable). v.number == number) vs) ≡ option_map (λ (v : ScopeVariable). v.type) (find (λ (v : ScopeVariable). v.number == number) ws)
+    → option_map (λ (v : ScopeVariable). v.type) (find (λ (v : ScopeVariable). v.number == number) vs)
+    ≡ option_map (λ (v : ScopeVariable). v.type) (find (λ (v : ScopeVariable). v.number == number) ws)
 types_found [] [] number h = refl
 types_found [] (w ∷ ws) number h = absurd h
 types_found (v ∷ vs) [] number h = absurd h
@@ -92,13 +93,15 @@ module _ (marks : Marks) (p : NumberedProgram) (m : NumberedMethod) where
   marked_there vs j x = inside (marked marks p) (marked_at vs j) (marked_stm (marks_variable marks m) marks.variables x)
 
   abbrev marked_jump : MaybeNumbered → NumberedStm → Option Bool
-  marked_jump update body = Some (loop_acts (marked marks p) (marked_method marks m) (marked_maybe (marks_variable marks m) marks.variables update) (marked_stm (marks_variable marks m) marks.variables body))
+  marked_jump update body = Some (loop_acts (marked marks p) (marked_method marks m)
+      (marked_maybe (marks_variable marks m) marks.variables update) (marked_stm (marks_variable marks m) marks.variables body))
 
   abbrev plain_jump : MaybeNumbered → NumberedStm → Option Bool
   plain_jump update body = Some (loop_acts p m update body)
 
   mutual
-    stm_fits : (x : NumberedStm) (vs ws : List ScopeVariable) (j k : Option Bool) → TypesAll vs ws → is_none j ≡ is_none k → ill p (inside p (plain_at ws k) x) ≡ [] → FitsIn marks.variables x → ill (marked marks p) (marked_there vs j x) ≡ []
+    stm_fits : (x : NumberedStm) (vs ws : List ScopeVariable) (j k : Option Bool) → TypesAll vs ws → is_none j ≡ is_none k
+        → ill p (inside p (plain_at ws k) x) ≡ [] → FitsIn marks.variables x → ill (marked marks p) (marked_there vs j x) ≡ []
     stm_fits (st.Block body) vs ws j k t l h f = stms_fit body vs ws j k t l h f
     stm_fits (st.If at c a) vs ws j k t l h f =
         let g = none_both _ _ h in
@@ -110,7 +113,8 @@ module _ (marks : Marks) (p : NumberedProgram) (m : NumberedMethod) where
         (both_ill (marked marks p) (marked_there vs j a) (marked_there vs j b) (stm_fits a vs ws j k t l d.0 f.0) (stm_fits b vs ws j k t l d.1 f.1))
     stm_fits (st.While at c body) vs ws j k t l h f =
         let g = none_both _ _ h in
-        both_none _ _ (statement_fits marks p m (marks_variable marks m) vs ws j k (same_at vs ws j k t) l (st.While at c body) g.0 tt) (stm_fits body vs ws (marked_jump st.NoStm body) (plain_jump st.NoStm body) t refl g.1 f)
+        both_none _ _ (statement_fits marks p m (marks_variable marks m) vs ws j k (same_at vs ws j k t) l (st.While at c body) g.0 tt)
+        (stm_fits body vs ws (marked_jump st.NoStm body) (plain_jump st.NoStm body) t refl g.1 f)
     stm_fits (st.For at first c update body) vs ws j k t l h f =
         let g = none_both _ _ h in
         let inner = inside p (plain_at ws (plain_jump update body)) body in
@@ -127,19 +131,30 @@ module _ (marks : Marks) (p : NumberedProgram) (m : NumberedMethod) where
         both_none _ _ (statement_fits marks p m (marks_variable marks m) vs ws j k (same_at vs ws j k t) l (st.Foreach at number domain body) g.0 tt)
         (stm_fits body _ _ (marked_jump st.NoStm body) (plain_jump st.NoStm body)
         (types_point vs ws number _ _ _ _ t (ap (option_and_then domain_dim) (operand_same marks p (marks_variable marks m) _ _ (same_at vs ws j k t) domain))) refl g.1 f)
-    stm_fits (st.Declare at type variable value) vs ws j k t l h f = both_none _ _ (statement_fits marks p m (marks_variable marks m) vs ws j k (same_at vs ws j k t) l (st.Declare at type variable value) (none_both _ _ h).0 f) refl
-    stm_fits (st.Assign at target value) vs ws j k t l h f = both_none _ _ (statement_fits marks p m (marks_variable marks m) vs ws j k (same_at vs ws j k t) l (st.Assign at target value) (none_both _ _ h).0 tt) refl
-    stm_fits (st.Update at op target e) vs ws j k t l h f = both_none _ _ (statement_fits marks p m (marks_variable marks m) vs ws j k (same_at vs ws j k t) l (st.Update at op target e) (none_both _ _ h).0 tt) refl
-    stm_fits (st.Step at op target) vs ws j k t l h f = both_none _ _ (statement_fits marks p m (marks_variable marks m) vs ws j k (same_at vs ws j k t) l (st.Step at op target) (none_both _ _ h).0 tt) refl
+    stm_fits (st.Declare at type variable value) vs ws j k t l h f =
+        both_none _ _ (statement_fits marks p m (marks_variable marks m) vs ws j k (same_at vs ws j k t) l
+        (st.Declare at type variable value) (none_both _ _ h).0 f) refl
+    stm_fits (st.Assign at target value) vs ws j k t l h f = both_none _ _
+        (statement_fits marks p m (marks_variable marks m) vs ws j k (same_at vs ws j k t) l (st.Assign at target value)
+        (none_both _ _ h).0 tt) refl
+    stm_fits (st.Update at op target e) vs ws j k t l h f = both_none _ _
+        (statement_fits marks p m (marks_variable marks m) vs ws j k (same_at vs ws j k t) l (st.Update at op target e)
+        (none_both _ _ h).0 tt) refl
+    stm_fits (st.Step at op target) vs ws j k t l h f = both_none _ _
+        (statement_fits marks p m (marks_variable marks m) vs ws j k (same_at vs ws j k t) l (st.Step at op target) (none_both _ _ h).0 tt)
+        refl
     stm_fits (st.Call e) vs ws j k t l h f = both_none _ _ (statement_fits marks p m (marks_variable marks m) vs ws j k (same_at vs ws j k t) l (st.Call e) (none_both _ _ h).0 tt) refl
     stm_fits (st.Print at what) vs ws j k t l h f = both_none _ _ (statement_fits marks p m (marks_variable marks m) vs ws j k (same_at vs ws j k t) l (st.Print at what) (none_both _ _ h).0 tt) refl
     stm_fits (st.Break at) vs ws j k t l h f = both_none _ _ (statement_fits marks p m (marks_variable marks m) vs ws j k (same_at vs ws j k t) l (st.Break at) (none_both _ _ h).0 tt) refl
     stm_fits (st.Continue at) vs ws j k t l h f = both_none _ _ (statement_fits marks p m (marks_variable marks m) vs ws j k (same_at vs ws j k t) l (st.Continue at) (none_both _ _ h).0 tt) refl
-    stm_fits (st.Return at value) vs ws j k t l h f = both_none _ _ (statement_fits marks p m (marks_variable marks m) vs ws j k (same_at vs ws j k t) l (st.Return at value) (none_both _ _ h).0 tt) refl
+    stm_fits (st.Return at value) vs ws j k t l h f = both_none _ _
+        (statement_fits marks p m (marks_variable marks m) vs ws j k (same_at vs ws j k t) l (st.Return at value) (none_both _ _ h).0 tt)
+        refl
     stm_fits st.Empty vs ws j k t l h f = refl
     stm_fits (st.Barrier at) vs ws j k t l h f = refl
 
-    maybe_fits : (x : MaybeNumbered) (vs ws : List ScopeVariable) (j k : Option Bool) → TypesAll vs ws → is_none j ≡ is_none k → ill p (inside_maybe p (plain_at ws k) x) ≡ [] → FitsMaybe marks.variables x
+    maybe_fits : (x : MaybeNumbered) (vs ws : List ScopeVariable) (j k : Option Bool) → TypesAll vs ws → is_none j ≡ is_none k
+        → ill p (inside_maybe p (plain_at ws k) x) ≡ [] → FitsMaybe marks.variables x
         → ill (marked marks p) (inside_maybe (marked marks p) (marked_at vs j) (marked_maybe (marks_variable marks m) marks.variables x)) ≡ []
     maybe_fits st.NoStm vs ws j k t l h f = refl
     maybe_fits (st.SomeStm x) vs ws j k t l h f = stm_fits x vs ws j k t l h f
@@ -149,7 +164,9 @@ module _ (marks : Marks) (p : NumberedProgram) (m : NumberedMethod) where
     stms_fit st.Nil vs ws j k t l h f = refl
     stms_fit (st.Cons x rest) vs ws j k t l h f =
         let g = ill_both p (inside p (plain_at ws k) x) (inside_all p (plain_at ws k) rest) h in
-        both_ill (marked marks p) (marked_there vs j x) (inside_all (marked marks p) (marked_at vs j) (marked_stms (marks_variable marks m) marks.variables rest)) (stm_fits x vs ws j k t l g.0 f.0) (stms_fit rest vs ws j k t l g.1 f.1)
+        both_ill (marked marks p) (marked_there vs j x) (inside_all (marked marks p) (marked_at vs j)
+        (marked_stms (marks_variable marks m) marks.variables rest)) (stm_fits x vs ws j k t l g.0 f.0)
+        (stms_fit rest vs ws j k t l g.1 f.1)
 
   -- ---- methods
 
@@ -188,7 +205,8 @@ module _ (marks : Marks) (p : NumberedProgram) (m : NumberedMethod) where
       (ap (λ ss. ill (marked marks p) (inside_all (marked marks p) (marked_at (parameters (marked_method marks m).params) None) ss)) (stms_of_map (marks_variable marks m) marks.variables m.body)
       ∙ stms_fit (numbered_stms m.body) _ _ None None (types_parameters marks m.params) refl g.1 f.1)
 
-methods_fit : (marks : Marks) (p : NumberedProgram) (ms : List NumberedMethod) → flat_map (method_refusals p) ms ≡ [] → MethodsFit marks ms → flat_map (method_refusals (marked marks p)) (map (marked_method marks) ms) ≡ []
+methods_fit : (marks : Marks) (p : NumberedProgram) (ms : List NumberedMethod) → flat_map (method_refusals p) ms ≡ [] → MethodsFit marks ms
+    → flat_map (method_refusals (marked marks p)) (map (marked_method marks) ms) ≡ []
 methods_fit marks p [] h f = refl
 methods_fit marks p (m ∷ ms) h f =
     let g = none_both _ _ h in
@@ -218,7 +236,11 @@ module _ (marks : Marks) (p : NumberedProgram) (m : NumberedMethod) where
         (fit_stm a vs j d.0, fit_stm b vs j d.1)
     fit_stm (st.While at c body) vs j h = fit_stm body vs _ (none_both _ _ h).1
     fit_stm (st.For at first c update body) vs j h =
-        let inner = inside (marked marks p) (around_there vs (Some (loop_acts (marked marks p) (marked_method marks m) (marked_maybe (marks_variable marks m) marks.variables update) (marked_stm (marks_variable marks m) marks.variables body)))) (marked_stm (marks_variable marks m) marks.variables body) in
+        let inner = inside (marked marks p)
+        (around_there vs (Some (loop_acts (marked marks p) (marked_method marks m)
+        (marked_maybe (marks_variable marks m) marks.variables update)
+        (marked_stm (marks_variable marks m) marks.variables body))))
+        (marked_stm (marks_variable marks m) marks.variables body) in
         let updates = inside_maybe (marked marks p) (around_there vs j) (marked_maybe (marks_variable marks m) marks.variables update) in
         let d = ill_both (marked marks p) (inside_maybe (marked marks p) (around_there vs j) (marked_maybe (marks_variable marks m) marks.variables first)) (updates ++ inner) (none_both _ _ h).1 in
         let n = ill_both (marked marks p) updates inner d.1 in
@@ -235,11 +257,15 @@ module _ (marks : Marks) (p : NumberedProgram) (m : NumberedMethod) where
     fit_stm (st.Continue at) vs j h = tt
     fit_stm (st.Return at value) vs j h = tt
 
-    fit_maybe : (x : MaybeNumbered) (vs : List ScopeVariable) (j : Option Bool) → ill (marked marks p) (inside_maybe (marked marks p) (around_there vs j) (marked_maybe (marks_variable marks m) marks.variables x)) ≡ [] → FitsMaybe marks.variables x
+    fit_maybe : (x : MaybeNumbered) (vs : List ScopeVariable) (j : Option Bool)
+        → ill (marked marks p) (inside_maybe (marked marks p) (around_there vs j) (marked_maybe (marks_variable marks m) marks.variables x))
+        ≡ [] → FitsMaybe marks.variables x
     fit_maybe st.NoStm vs j h = tt
     fit_maybe (st.SomeStm x) vs j h = fit_stm x vs j h
 
-    fit_stms : (xs : NumberedStms) (vs : List ScopeVariable) (j : Option Bool) → ill (marked marks p) (inside_all (marked marks p) (around_there vs j) (marked_stms (marks_variable marks m) marks.variables xs)) ≡ [] → FitsAll marks.variables xs
+    fit_stms : (xs : NumberedStms) (vs : List ScopeVariable) (j : Option Bool)
+        → ill (marked marks p) (inside_all (marked marks p) (around_there vs j) (marked_stms (marks_variable marks m) marks.variables xs))
+        ≡ [] → FitsAll marks.variables xs
     fit_stms st.Nil vs j h = tt
     fit_stms (st.Cons x rest) vs j h =
         let g = ill_both (marked marks p) (standing_there vs j x) (inside_all (marked marks p) (around_there vs j) (marked_stms (marks_variable marks m) marks.variables rest)) h in
@@ -249,7 +275,10 @@ module _ (marks : Marks) (p : NumberedProgram) (m : NumberedMethod) where
   fit_method h =
       let g = none_both _ _ h in (
         (none_both _ _ g.0).0,
-        fit_stms (numbered_stms m.body) _ None (sym (ap (λ ss. ill (marked marks p) (inside_all (marked marks p) (around_there (parameters (marked_method marks m).params) None) ss)) (stms_of_map (marks_variable marks m) marks.variables m.body)) ∙ g.1),
+        fit_stms (numbered_stms m.body) _ None
+            (sym (ap (λ ss. ill (marked marks p) (inside_all (marked marks p)
+            (around_there (parameters (marked_method marks m).params) None) ss))
+            (stms_of_map (marks_variable marks m) marks.variables m.body)) ∙ g.1),
       )
 
 fit_methods : (marks : Marks) (p : NumberedProgram) (ms : List NumberedMethod) → flat_map (method_refusals (marked marks p)) (map (marked_method marks) ms) ≡ [] → MethodsFit marks ms

@@ -104,7 +104,8 @@ module _ (marks : Marks) (p : NumberedProgram) (singles : ℕ → Bool) (s r : S
   initial_same (st.NewRegion at) = refl
   initial_same (st.NewObject at region class) = ap₂ (λ a b. a ++ b) (region_same region) (judged_same _ _ _ _ (region_type_same region) (λ y. refl))
   initial_same (st.NewGrid at region element dims_at dims) =
-      ap₂ (λ a b. a ++ b) (ap₂ (λ a b. (a ++ type_word_refusals false element) ++ b) (region_same region) (dims_same dims)) (both_same _ _ _ _ _ _ (region_type_same region) (spread_type_same dims) (λ y z. refl))
+      ap₂ (λ a b. a ++ b) (ap₂ (λ a b. (a ++ type_word_refusals false element) ++ b) (region_same region) (dims_same dims))
+      (both_same _ _ _ _ _ _ (region_type_same region) (spread_type_same dims) (λ y z. refl))
   initial_same (st.Broadcast at x root) = ap₂ (λ a b. a ++ b) (ap₂ (λ a b. a ++ b) (inner_same x) (inner_same root)) (both_same _ _ _ _ _ _ (types x) (types root) (λ y z. refl))
 
   -- ---- targets
@@ -178,7 +179,8 @@ module _ (marks : Marks) (p : NumberedProgram) (singles : ℕ → Bool) (s r : S
 
   write_same : (at : Place) (x : NumberedExp) (value : List Refusal) → write_refusals (marked marks p) s at (marked_exp singles x) value ≡ write_refusals p r at x value
   write_same at x value =
-      ap (λ c. if c then refused Y1 at else (refused_if (is_foreach_variable (marked_exp singles x)) Y2 at ++ refused_if (is_hidden_local (marked marks p) s (marked_exp singles x)) Q2 at) ++ value) (coordinate_same x)
+      ap (λ c. if c then refused Y1 at else (refused_if (is_foreach_variable (marked_exp singles x)) Y2 at
+      ++ refused_if (is_hidden_local (marked marks p) s (marked_exp singles x)) Q2 at) ++ value) (coordinate_same x)
       ∙ ap₂ (λ f h. if is_coordinate p r x then refused Y1 at else (refused_if f Y2 at ++ refused_if h Q2 at) ++ value) (foreach_same x) (hidden_same x)
 
   -- ---- parts of statements
@@ -225,10 +227,12 @@ module _ (marks : Marks) (p : NumberedProgram) (m : NumberedMethod) (singles : �
       both_none _ _ (both_none _ _ w (initial_same marks p singles _ _ same value ∙ g.1)) (judged_same _ _ _ _ (initial_type_same marks p singles _ _ same value) (λ y. refl) ∙ f.1)
   statement_fits (st.Assign at target value) h w =
       ap₂ (λ a b. a ++ b) (ap₂ (λ a b. a ++ b) (exp_same marks p singles _ _ same target) (initial_same marks p singles _ _ same value))
-      (both_same _ _ _ _ _ _ (operand_same marks p singles _ _ same target) (initial_type_same marks p singles _ _ same value) (λ y z. write_same marks p singles _ _ same at target (misfit at z y))) ∙ h
+      (both_same _ _ _ _ _ _ (operand_same marks p singles _ _ same target) (initial_type_same marks p singles _ _ same value)
+      (λ y z. write_same marks p singles _ _ same at target (misfit at z y))) ∙ h
   statement_fits (st.Update at op target x) h w =
       ap₂ (λ a b. a ++ b) (ap₂ (λ a b. a ++ b) (exp_same marks p singles _ _ same target) (value_same marks p singles _ _ same x))
-      (both_same _ _ _ _ _ _ (operand_same marks p singles _ _ same target) (value_type_same marks p singles _ _ same x) (λ y z. write_same marks p singles _ _ same at target (update_refusals at op y z))) ∙ h
+      (both_same _ _ _ _ _ _ (operand_same marks p singles _ _ same target) (value_type_same marks p singles _ _ same x)
+      (λ y z. write_same marks p singles _ _ same at target (update_refusals at op y z))) ∙ h
   statement_fits (st.Step at op target) h w =
       ap₂ (λ a b. a ++ b) (exp_same marks p singles _ _ same target)
       (judged_same _ _ _ _ (operand_same marks p singles _ _ same target) (λ y. write_same marks p singles _ _ same at target (update_refusals at (operator_of op) y Int))) ∙ h
@@ -242,7 +246,8 @@ module _ (marks : Marks) (p : NumberedProgram) (m : NumberedMethod) (singles : �
       ap₂ (λ a b. a ++ b) (inner_same marks p singles _ _ same domain) (judged_same _ _ _ _ (operand_same marks p singles _ _ same domain) (λ y. refl)) ∙ h
   statement_fits (st.Break at) h w = ap (λ b. refused_if b Y8 at) looped ∙ h
   statement_fits (st.Continue at) h w = ap (λ b. refused_if b Y8 at) looped ∙ h
-  statement_fits (st.Return at value) h w = ap (λ u. return_refusals (marked marks p) (scope_of there) at u (option_map (marked_exp singles) value)) (result_same marks m) ∙ return_same marks p singles _ _ same at (result_type m) value ∙ h
+  statement_fits (st.Return at value) h w = ap (λ u. return_refusals (marked marks p) (scope_of there) at u
+      (option_map (marked_exp singles) value)) (result_same marks m) ∙ return_same marks p singles _ _ same at (result_type m) value ∙ h
   statement_fits (st.Block body) h w = refl
   statement_fits (st.Barrier at) h w = refl
   statement_fits st.Empty h w = refl

@@ -133,7 +133,8 @@ one_single at before (m ∷ ws) h b k =
     let l = or_both (is_single_word m.word) (is_single ws) k in
     both_none _ _ n.0 (one_single at (m ∷ before) ws n.1 (ap₂ (λ s t. s || t) (same_single m.word ∙ l.0) b) l.1)
 
-not_before : (at : Place) (before ws : List Modifier) → repeated_modifiers before (ws ++ record { word = word.Single; place = at } ∷ []) ≡ [] → list_any (λ (other : Modifier). same_word word.Single other.word) before ≡ false
+not_before : (at : Place) (before ws : List Modifier) → repeated_modifiers before (ws ++ record { word = word.Single; place = at } ∷ [])
+    ≡ [] → list_any (λ (other : Modifier). same_word word.Single other.word) before ≡ false
 not_before at before [] h = refused_none _ Y7 at (none_both _ _ h).0
 not_before at before (m ∷ ws) h = (or_both (same_word word.Single m.word) _ (not_before at (m ∷ before) ws (none_both _ _ h).1)).1
 
@@ -170,7 +171,8 @@ module _ (counts : Place → Bool) (marks : Marks) (items : List Blame) where
 
   -- ---- declarations
 
-  declared_fits : (b : Bool) (at : Place) (t : NumberedType) → (b ≡ true → takes_mark at t ≡ true) → type_word_refusals true (marked_type false at t) ≡ [] → type_word_refusals true (marked_type b at t) ≡ []
+  declared_fits : (b : Bool) (at : Place) (t : NumberedType) → (b ≡ true → takes_mark at t ≡ true)
+      → type_word_refusals true (marked_type false at t) ≡ [] → type_word_refusals true (marked_type b at t) ≡ []
   declared_fits true at t f h = none_is _ (f refl)
   declared_fits false at t f h = h
 
@@ -266,7 +268,8 @@ module _ (counts : Place → Bool) (marks : Marks) (items : List Blame) where
       ends true e = true_false e
       ends false e = true_false e
 
-  param_fits : (s b v : Bool) (at : Place) (t : NumberedType) → type_word_refusals s t ≡ [] → (v ≡ true → takes_mark at t ≡ true) → (not (s || b) && (v || false)) ≡ false → type_word_refusals (s || b) (marked_type v at t) ≡ []
+  param_fits : (s b v : Bool) (at : Place) (t : NumberedType) → type_word_refusals s t ≡ [] → (v ≡ true → takes_mark at t ≡ true)
+      → (not (s || b) && (v || false)) ≡ false → type_word_refusals (s || b) (marked_type v at t) ≡ []
   param_fits s b false at t h f k = type_more s b (marked_type false at t) (unmarked s at t h)
   param_fits s b true at t h f k = by (s || b) k
     where
@@ -287,17 +290,22 @@ module _ (counts : Place → Bool) (marks : Marks) (items : List Blame) where
       let g = none_both _ _ h in
       let l = broken_both (falls_unless (takes_mark w.place w.ty) (OfVariable w.place) ++ one_each (own_asks m) (One (OfVariable w.place))) (param_edges m ws) k in
       let d = broken_both (falls_unless (takes_mark w.place w.ty) (OfVariable w.place)) (one_each (own_asks m) (One (OfVariable w.place))) l.0 in
-      both_none _ _ (param_fits m.is_single (marks.methods m.place) (marks.variables w.place) w.place w.ty g.0 (then_holds (takes_mark w.place w.ty) (OfVariable w.place) d.0) (sym (own_broken m w.place) ∙ d.1)) (params_fit m ws g.1 l.1)
+      both_none _ _ (param_fits m.is_single (marks.methods m.place) (marks.variables w.place) w.place w.ty g.0
+      (then_holds (takes_mark w.place w.ty) (OfVariable w.place) d.0) (sym (own_broken m w.place) ∙ d.1)) (params_fit m ws g.1 l.1)
 
-  fits_params : (m : NumberedMethod) (ws : List NumberedParam) → flat_map (λ (x : NumberedParam). type_word_refusals (m.is_single || marks.methods m.place) x.ty) (map (marked_param marks) ws) ≡ [] → broken (param_edges m ws) ≡ false
+  fits_params : (m : NumberedMethod) (ws : List NumberedParam) → flat_map
+      (λ (x : NumberedParam). type_word_refusals (m.is_single || marks.methods m.place) x.ty) (map (marked_param marks) ws) ≡ []
+      → broken (param_edges m ws) ≡ false
   fits_params m [] h = refl
   fits_params m (w ∷ ws) h =
       let g = none_both _ _ h in
       let d = fits_param (m.is_single || marks.methods m.place) (marks.variables w.place) w.place w.ty g.0 in
       both_broken (falls_unless (takes_mark w.place w.ty) (OfVariable w.place) ++ one_each (own_asks m) (One (OfVariable w.place))) (param_edges m ws)
-      (both_broken (falls_unless (takes_mark w.place w.ty) (OfVariable w.place)) (one_each (own_asks m) (One (OfVariable w.place))) (unless (takes_mark w.place w.ty) (OfVariable w.place) d.0) (own_broken m w.place ∙ d.1)) (fits_params m ws g.1)
+      (both_broken (falls_unless (takes_mark w.place w.ty) (OfVariable w.place)) (one_each (own_asks m) (One (OfVariable w.place)))
+      (unless (takes_mark w.place w.ty) (OfVariable w.place) d.0) (own_broken m w.place ∙ d.1)) (fits_params m ws g.1)
 
-  all_params_fit : (m : NumberedMethod) (ws : NumberedParams) → params_refusals m.is_single ws ≡ [] → broken (all_param_edges m ws) ≡ false → params_refusals (m.is_single || marks.methods m.place) (marked_params marks ws) ≡ []
+  all_params_fit : (m : NumberedMethod) (ws : NumberedParams) → params_refusals m.is_single ws ≡ [] → broken (all_param_edges m ws) ≡ false
+      → params_refusals (m.is_single || marks.methods m.place) (marked_params marks ws) ≡ []
   all_params_fit m Words h k = refl
   all_params_fit m (Params ws) h k = params_fit m ws h k
 
@@ -325,10 +333,13 @@ module _ (counts : Place → Bool) (marks : Marks) (items : List Blame) where
       let l = takes_both s (is_single ws) (f refl) in
       ap (λ z. words_refused z (ws ++ record { word = word.Single; place = at } ∷ [])) e
       ∙ both_none _ _ (one_single at [] ws n.0 refl l.1)
-      (flat_append (method_modifier_refusals s) ws (record { word = word.Single; place = at } ∷ []) ∙ both_none _ _ n.1 (both_none (refused_if (not s) Y7 at) [] (none_refused (not s) Y7 at (ap not l.0)) refl))
+      (flat_append (method_modifier_refusals s) ws (record { word = word.Single; place = at } ∷ [])
+      ∙ both_none _ _ n.1 (both_none (refused_if (not s) Y7 at) [] (none_refused (not s) Y7 at (ap not l.0)) refl))
   words_fit false s t at ws e h f = ap₂ (λ z qs. words_refused z qs) e (append-nil ws) ∙ h
 
-  fit_words : (b s t : Bool) (at : Place) (ws : List Modifier) → t ≡ s → words_refused t (ws ++ (if b then record { word = word.Single; place = at } ∷ [] else [])) ≡ [] → b ≡ true → (s && not (is_single ws)) ≡ true
+  fit_words : (b s t : Bool) (at : Place) (ws : List Modifier) → t ≡ s
+      → words_refused t (ws ++ (if b then record { word = word.Single; place = at } ∷ [] else [])) ≡ [] → b ≡ true
+      → (s && not (is_single ws)) ≡ true
   fit_words true s t at ws e h k =
       let n = none_both _ _ (ap (λ z. words_refused z (ws ++ record { word = word.Single; place = at } ∷ [])) (sym e) ∙ h) in
       let last = (none_both (flat_map (method_modifier_refusals s) ws) _ (sym (flat_append (method_modifier_refusals s) ws (record { word = word.Single; place = at } ∷ [])) ∙ n.1)).1 in
@@ -345,7 +356,9 @@ module _ (counts : Place → Bool) (marks : Marks) (items : List Blame) where
       let n = none_both _ _ h in
       let o = none_both _ _ n.0 in (
         both_none _ _
-            (both_none _ _ (words_fit (marks.methods m.place) (is_static_method m) (is_static_method (marked_method marks m)) m.place m.modifiers (static_same marks m) o.0 (then_holds (method_takes_mark m) (OfMethod m.place) d.0))
+            (both_none _ _ (words_fit (marks.methods m.place) (is_static_method m)
+            (is_static_method (marked_method marks m)) m.place m.modifiers (static_same marks m) o.0
+            (then_holds (method_takes_mark m) (OfMethod m.place) d.0))
             (result_fits m m.result o.1 d.1))
             (all_params_fit m m.params n.1 l.1),
         stms_fit (numbered_stms m.body) body g.1,
@@ -358,7 +371,8 @@ module _ (counts : Place → Bool) (marks : Marks) (items : List Blame) where
       both_broken ((falls_unless (method_takes_mark m) (OfMethod m.place) ++ result_edges m m.result) ++ all_param_edges m m.params) (declared_edges_all (numbered_stms m.body))
       (both_broken (falls_unless (method_takes_mark m) (OfMethod m.place) ++ result_edges m m.result) (all_param_edges m m.params)
       (both_broken (falls_unless (method_takes_mark m) (OfMethod m.place)) (result_edges m m.result)
-      (unless (method_takes_mark m) (OfMethod m.place) (fit_words (marks.methods m.place) (is_static_method m) (is_static_method (marked_method marks m)) m.place m.modifiers (static_same marks m) o.0))
+      (unless (method_takes_mark m) (OfMethod m.place) (fit_words (marks.methods m.place) (is_static_method m)
+      (is_static_method (marked_method marks m)) m.place m.modifiers (static_same marks m) o.0))
       (fits_result m m.result o.1))
       (fits_all_params m m.params n.1))
       (fits_stms (numbered_stms m.body) h.1)

@@ -53,7 +53,8 @@ type_more false true t h =
     both_none _ _ (both_none _ _ g.0 (words_more t.type t.qualifiers g.1)) f.1
 
 -- a declaration marked by either
-either_type : (a b : Bool) (at : Place) (t : NumberedType) → type_word_refusals true (marked_type a at t) ≡ [] → type_word_refusals true (marked_type b at t) ≡ [] → type_word_refusals true (marked_type (a || b) at t) ≡ []
+either_type : (a b : Bool) (at : Place) (t : NumberedType) → type_word_refusals true (marked_type a at t) ≡ []
+    → type_word_refusals true (marked_type b at t) ≡ [] → type_word_refusals true (marked_type (a || b) at t) ≡ []
 either_type true b at t h k = h
 either_type false b at t h k = k
 
@@ -94,16 +95,21 @@ modifiers_together : (ws : List Modifier) (at : Place) (a b s t u : Bool) → s 
     → (let f = ws ++ (if a then record { word = word.Single; place = at } ∷ [] else []) in repeated_modifiers [] f ++ flat_map (method_modifier_refusals s) f) ≡ []
     → (let f = ws ++ (if b then record { word = word.Single; place = at } ∷ [] else []) in repeated_modifiers [] f ++ flat_map (method_modifier_refusals t) f) ≡ []
     → (let f = ws ++ (if a || b then record { word = word.Single; place = at } ∷ [] else []) in repeated_modifiers [] f ++ flat_map (method_modifier_refusals u) f) ≡ []
-modifiers_together ws at true b s t u e g h k = ap (λ z. repeated_modifiers [] (ws ++ record { word = word.Single; place = at } ∷ []) ++ flat_map (method_modifier_refusals z) (ws ++ record { word = word.Single; place = at } ∷ [])) (sym e) ∙ h
-modifiers_together ws at false b s t u e g h k = ap (λ z. repeated_modifiers [] (ws ++ (if b then record { word = word.Single; place = at } ∷ [] else [])) ++ flat_map (method_modifier_refusals z) (ws ++ (if b then record { word = word.Single; place = at } ∷ [] else []))) (sym g) ∙ k
+modifiers_together ws at true b s t u e g h k = ap (λ z. repeated_modifiers [] (ws ++ record { word = word.Single; place = at } ∷ [])
+    ++ flat_map (method_modifier_refusals z) (ws ++ record { word = word.Single; place = at } ∷ [])) (sym e) ∙ h
+modifiers_together ws at false b s t u e g h k = ap (λ z. repeated_modifiers [] (ws
+    ++ (if b then record { word = word.Single; place = at } ∷ [] else []))
+    ++ flat_map (method_modifier_refusals z) (ws ++ (if b then record { word = word.Single; place = at } ∷ [] else []))) (sym g) ∙ k
 
-results_together : (a b : Bool) (at : Place) (r : NumberedResult) → result_refusals (marked_result a at r) ≡ [] → result_refusals (marked_result b at r) ≡ [] → result_refusals (marked_result (a || b) at r) ≡ []
+results_together : (a b : Bool) (at : Place) (r : NumberedResult) → result_refusals (marked_result a at r) ≡ []
+    → result_refusals (marked_result b at r) ≡ [] → result_refusals (marked_result (a || b) at r) ≡ []
 results_together a b at c.Void h k = refl
 results_together true b at (c.Typed t) h k = h
 results_together false b at (c.Typed t) h k = k
 
 -- a parameter of a method that is single in any case, or by one of two marks
-param_together : (s a b f g : Bool) (at : Place) (t : NumberedType) → type_word_refusals (s || a) (marked_type f at t) ≡ [] → type_word_refusals (s || b) (marked_type g at t) ≡ [] → type_word_refusals (s || (a || b)) (marked_type (f || g) at t) ≡ []
+param_together : (s a b f g : Bool) (at : Place) (t : NumberedType) → type_word_refusals (s || a) (marked_type f at t) ≡ []
+    → type_word_refusals (s || b) (marked_type g at t) ≡ [] → type_word_refusals (s || (a || b)) (marked_type (f || g) at t) ≡ []
 param_together true a b true g at t h k = h
 param_together true a b false g at t h k = k
 param_together false a b true g at t h k = type_more a b (marked_type true at t) h
@@ -115,7 +121,8 @@ param_together false true b false g at t h k = by b k
 param_together false false b false g at t h k = k
 
 param_list_together : (m n : Marks) (s a b : Bool) (ws : List NumberedParam)
-    → flat_map (λ (x : NumberedParam). type_word_refusals (s || a) x.ty) (map (marked_param m) ws) ≡ [] → flat_map (λ (x : NumberedParam). type_word_refusals (s || b) x.ty) (map (marked_param n) ws) ≡ []
+    → flat_map (λ (x : NumberedParam). type_word_refusals (s || a) x.ty) (map (marked_param m) ws) ≡ []
+    → flat_map (λ (x : NumberedParam). type_word_refusals (s || b) x.ty) (map (marked_param n) ws) ≡ []
     → flat_map (λ (x : NumberedParam). type_word_refusals (s || (a || b)) x.ty) (map (marked_param (union m n)) ws) ≡ []
 param_list_together m n s a b [] h k = refl
 param_list_together m n s a b (w ∷ ws) h k =
@@ -123,7 +130,8 @@ param_list_together m n s a b (w ∷ ws) h k =
     let g = none_both _ _ k in
     both_none _ _ (param_together s a b (m.variables w.place) (n.variables w.place) w.place w.ty f.0 g.0) (param_list_together m n s a b ws f.1 g.1)
 
-params_together : (m n : Marks) (s a b : Bool) (ws : NumberedParams) → params_refusals (s || a) (marked_params m ws) ≡ [] → params_refusals (s || b) (marked_params n ws) ≡ [] → params_refusals (s || (a || b)) (marked_params (union m n) ws) ≡ []
+params_together : (m n : Marks) (s a b : Bool) (ws : NumberedParams) → params_refusals (s || a) (marked_params m ws) ≡ []
+    → params_refusals (s || b) (marked_params n ws) ≡ [] → params_refusals (s || (a || b)) (marked_params (union m n) ws) ≡ []
 params_together m n s a b Words h k = refl
 params_together m n s a b (Params ws) h k = param_list_together m n s a b ws h k
 
@@ -135,7 +143,8 @@ head_together m n x h k =
     let e = none_both _ _ g.0 in
     both_none _ _
     (both_none _ _
-    (modifiers_together x.modifiers x.place (m.methods x.place) (n.methods x.place) _ _ _ (static_same m x ∙ sym (static_same (union m n) x)) (static_same n x ∙ sym (static_same (union m n) x)) d.0 e.0)
+    (modifiers_together x.modifiers x.place (m.methods x.place) (n.methods x.place) _ _ _ (static_same m x
+    ∙ sym (static_same (union m n) x)) (static_same n x ∙ sym (static_same (union m n) x)) d.0 e.0)
     (results_together (m.results x.place) (n.results x.place) x.place x.result d.1 e.1))
     (params_together m n x.is_single (m.methods x.place) (n.methods x.place) x.params f.1 g.1)
 

@@ -57,12 +57,15 @@ counted_before c at p h k = by (place_before p c) refl k
 
 -- ---- edges
 
-module _ (p : NumberedProgram) (names marks : List Mark) (first : Option Place) (plain : type_refusals p ≡ []) (results : HavePlainResults p.methods) (none_always : (m : Marks) → list_any is_always (program_blamed p m) ≡ false)
+module _ (p : NumberedProgram) (names marks : List Mark) (first : Option Place) (plain : type_refusals p ≡ [])
+    (results : HavePlainResults p.methods) (none_always : (m : Marks) → list_any is_always (program_blamed p m) ≡ false)
     (s : IsSettled names (all_reasons p) (program_edges p ++ fit_edges p) marks first) where
-  both_kept : (held : Blame → Bool) → KeepsEdges held (all_reasons p) (program_edges p) → KeepsEdges held (all_reasons p) (fit_edges p) → KeepsEdges held (all_reasons p) (program_edges p ++ fit_edges p)
+  both_kept : (held : Blame → Bool) → KeepsEdges held (all_reasons p) (program_edges p) → KeepsEdges held (all_reasons p) (fit_edges p)
+      → KeepsEdges held (all_reasons p) (program_edges p ++ fit_edges p)
   both_kept held h k = list_any-append (is_broken held (all_reasons p)) (program_edges p) (fit_edges p) ∙ ap₂ (λ a b. a || b) h k
 
-  kept_both : (held : Blame → Bool) → KeepsEdges held (all_reasons p) (program_edges p ++ fit_edges p) → KeepsEdges held (all_reasons p) (program_edges p) × KeepsEdges held (all_reasons p) (fit_edges p)
+  kept_both : (held : Blame → Bool) → KeepsEdges held (all_reasons p) (program_edges p ++ fit_edges p)
+      → KeepsEdges held (all_reasons p) (program_edges p) × KeepsEdges held (all_reasons p) (fit_edges p)
   kept_both held h = or_both _ _ (sym (list_any-append (is_broken held (all_reasons p)) (program_edges p) (fit_edges p)) ∙ h)
 
   -- a marking that breaks no rule breaks no edge
@@ -102,7 +105,8 @@ module _ (p : NumberedProgram) (names marks : List Mark) (first : Option Place) 
     kept_sooner : (c : Place) → place_before c at ≡ true → IsAcceptedTo (Some c) p (marks_of marks)
     kept_sooner c h = record {
       types = left_types;
-      single = fewer_keep (counts_to (Some c)) (before (Some at)) p (marks_of marks) (λ q k. counted_before c at q h k) (subst (λ (o : Option Place). KeepsSingle (before o) p (marks_of marks)) is left_single);
+      single = fewer_keep (counts_to (Some c)) (before (Some at)) p (marks_of marks) (λ q k. counted_before c at q h k)
+          (subst (λ (o : Option Place). KeepsSingle (before o) p (marks_of marks)) is left_single);
     }
 
     -- those before it, and itself
@@ -112,7 +116,8 @@ module _ (p : NumberedProgram) (names marks : List Mark) (first : Option Place) 
     with_it-at : with_it at ≡ true
     with_it-at = grows_right (place_before at at) (same_place at at) (same_itself at)
 
-    either_held : (xs : List Blame) → list_any (stands (before (Some at)) (marks_of marks)) xs ≡ false → list_any (is_collective_at (same_place at)) xs ≡ false → list_any (stands with_it (marks_of marks)) xs ≡ false
+    either_held : (xs : List Blame) → list_any (stands (before (Some at)) (marks_of marks)) xs ≡ false
+        → list_any (is_collective_at (same_place at)) xs ≡ false → list_any (stands with_it (marks_of marks)) xs ≡ false
     either_held [] h k = refl
     either_held (x ∷ xs) h k =
         let f = or_both _ _ h in
@@ -134,12 +139,16 @@ module _ (p : NumberedProgram) (names marks : List Mark) (first : Option Place) 
         by false e =
             let blamed = isnt _ _ (collectives_within (same_place at) p (marks_of marks)) e in
             let before_held : list_any (stands (before (Some at)) (marks_of marks)) (program_blamed p (marks_of marks)) ≡ false =
-            subst (λ (o : Option Place). list_any (stands (before o) (marks_of marks)) (program_blamed p (marks_of marks)) ≡ false) is (program_meant (stands (before first) (marks_of marks)) (before first) (marks_of marks) p ∙ left.0) in
+            subst (λ (o : Option Place). list_any (stands (before o) (marks_of marks)) (program_blamed p (marks_of marks)) ≡ false) is
+            (program_meant (stands (before first) (marks_of marks)) (before first) (marks_of marks) p ∙ left.0) in
             let kept : KeepsEdges (stands with_it (marks_of marks)) (all_reasons p) (program_edges p) =
             sym (program_meant (stands with_it (marks_of marks)) with_it (marks_of marks) p) ∙ either_held (program_blamed p (marks_of marks)) before_held blamed in
-            absurd (true_false (sym with_it-at ∙ first_not with_it (marks_of marks) s.part (both_kept (stands with_it (marks_of marks)) kept (fit_edges_kept with_it (marks_of marks) (all_reasons p) p left_fits))))
+            absurd (true_false (sym with_it-at ∙ first_not with_it (marks_of marks) s.part
+            (both_kept (stands with_it (marks_of marks)) kept (fit_edges_kept with_it (marks_of marks)
+            (all_reasons p) p left_fits))))
 
-pub inferred : (p : NumberedProgram) (names marks : List Mark) (first : Option Place) → type_refusals p ≡ [] → HavePlainResults p.methods → ((m : Marks) → list_any is_always (program_blamed p m) ≡ false)
+pub inferred : (p : NumberedProgram) (names marks : List Mark) (first : Option Place) → type_refusals p ≡ [] → HavePlainResults p.methods
+    → ((m : Marks) → list_any is_always (program_blamed p m) ≡ false)
     → IsSettled names (all_reasons p) (program_edges p ++ fit_edges p) marks first → IsInferred p names marks first
 inferred p names marks None plain results none s = record {
   accepted = left_accepted p names marks None plain results none s;

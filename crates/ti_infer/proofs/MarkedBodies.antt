@@ -14,7 +14,7 @@ use Rattle.ti_lang.specs.Program.Expressions.{NumberedExp}
 use Rattle.ti_lang.specs.Program.Statements.{NumberedStm, MaybeNumbered, NoStm, SomeStm, numbered_stms}
 use Rattle.ti_lang.specs.Program.Statements as s
 use Rattle.ti_lang.specs.Program.Views.{expression_of, statement_of}
-use Rattle.ti_lang.proofs.ProgramBridges.{seen_numbered_block}
+use Rattle.ti_lang.proofs.Lemmas.{seen_numbered_block}
 use Rattle.ti_single.specs.Mirrors.Maybe.{maybe_in}
 use Rattle.ti_infer.specs.Marked.{marked_exp, marked_stm, marked_maybe}
 use Rattle.ti_infer.proofs.Lists.{stms_of_map}
@@ -37,12 +37,14 @@ module _ (singles : ℕ → Bool) (declared : Place → Bool) where
   block_marked a v w is h =
       seen_numbered_block (Block w) w refl ∙ ap s.Block (ap numbered_stms h ∙ stms_of_map singles declared _) ∙ sym (ap (marked_stm singles declared) (seen_numbered_block a v is))
 
-  if_marked_of : (at : Place) (c : NumberedExp) (a : NumberedStm) (o : MaybeNumbered) → marked_stm singles declared (if_of at c a o) ≡ if_of at (marked_exp singles c) (marked_stm singles declared a) (marked_maybe singles declared o)
+  if_marked_of : (at : Place) (c : NumberedExp) (a : NumberedStm) (o : MaybeNumbered) → marked_stm singles declared (if_of at c a o)
+      ≡ if_of at (marked_exp singles c) (marked_stm singles declared a) (marked_maybe singles declared o)
   if_marked_of at c a NoStm = refl
   if_marked_of at c a (SomeStm b) = refl
 
   pub if_marked : (a : Stmt) (at : Place) (c e : Expr) (b d : Box Stmt Global) (o p : Option (Box Stmt Global)) → a ≡ If at c b o → expression_of e ≡ marked_exp singles (expression_of c)
-      → statement_of d.value ≡ marked_stm singles declared (statement_of b.value) → maybe_in p ≡ marked_maybe singles declared (maybe_in o) → statement_of (If at e d p) ≡ marked_stm singles declared (statement_of a)
+      → statement_of d.value ≡ marked_stm singles declared (statement_of b.value) → maybe_in p ≡ marked_maybe singles declared (maybe_in o)
+      → statement_of (If at e d p) ≡ marked_stm singles declared (statement_of a)
   if_marked a at c e b d o p is f g h =
       if_seen at e d p ∙ ap₂ (λ x y. if_of at x y (maybe_in p)) f g ∙ ap (if_of at (marked_exp singles (expression_of c)) (marked_stm singles declared (statement_of b.value))) h
       ∙ sym (ap (λ z. marked_stm singles declared (statement_of z)) is ∙ ap (marked_stm singles declared) (if_seen at c b o) ∙ if_marked_of at (expression_of c) (statement_of b.value) (maybe_in o))
@@ -51,11 +53,13 @@ module _ (singles : ℕ → Bool) (declared : Place → Bool) where
       → y ≡ marked_stm singles declared (statement_of b.value) → s.While at x y ≡ marked_stm singles declared (statement_of a)
   while_marked a at c b x y is f g = ap₂ (s.While at) f g ∙ sym (ap (λ z. marked_stm singles declared (statement_of z)) is)
 
-  pub foreach_marked : (a : Stmt) (at : Place) (variable : ℕ) (c : Expr) (b : Box Stmt Global) (x : NumberedExp) (y : NumberedStm) → a ≡ Foreach at variable c b → x ≡ marked_exp singles (expression_of c)
+  pub foreach_marked : (a : Stmt) (at : Place) (variable : ℕ) (c : Expr) (b : Box Stmt Global) (x : NumberedExp) (y : NumberedStm) → a
+      ≡ Foreach at variable c b → x ≡ marked_exp singles (expression_of c)
       → y ≡ marked_stm singles declared (statement_of b.value) → s.Foreach at variable x y ≡ marked_stm singles declared (statement_of a)
   foreach_marked a at variable c b x y is f g = ap₂ (s.Foreach at variable) f g ∙ sym (ap (λ z. marked_stm singles declared (statement_of z)) is)
 
-  for_seen : (at : Place) (o p : Option (Box Stmt Global)) (c : Option Expr) (b : Box Stmt Global) → statement_of (For at o c p b) ≡ s.For at (maybe_in o) (maybe_of expression_of c) (maybe_in p) (statement_of b.value)
+  for_seen : (at : Place) (o p : Option (Box Stmt Global)) (c : Option Expr) (b : Box Stmt Global) → statement_of (For at o c p b)
+      ≡ s.For at (maybe_in o) (maybe_of expression_of c) (maybe_in p) (statement_of b.value)
   for_seen at None None c b = refl
   for_seen at None (Some p) c b = refl
   for_seen at (Some o) None c b = refl
@@ -63,7 +67,9 @@ module _ (singles : ℕ → Bool) (declared : Place → Bool) where
 
   pub for_marked : (a : Stmt) (at : Place) (o p q r : Option (Box Stmt Global)) (c e : Option Expr) (b d : Box Stmt Global) → a ≡ For at o c p b
       → maybe_in q ≡ marked_maybe singles declared (maybe_in o) → maybe_of expression_of e ≡ option_map (marked_exp singles) (maybe_of expression_of c)
-      → maybe_in r ≡ marked_maybe singles declared (maybe_in p) → statement_of d.value ≡ marked_stm singles declared (statement_of b.value) → statement_of (For at q e r d) ≡ marked_stm singles declared (statement_of a)
+      → maybe_in r ≡ marked_maybe singles declared (maybe_in p) → statement_of d.value ≡ marked_stm singles declared (statement_of b.value)
+      → statement_of (For at q e r d) ≡ marked_stm singles declared (statement_of a)
   for_marked a at o p q r c e b d is f g h k =
-      for_seen at q r e d ∙ ap₂ (λ x y. s.For at x y (maybe_in r) (statement_of d.value)) f g ∙ ap₂ (s.For at (marked_maybe singles declared (maybe_in o)) (option_map (marked_exp singles) (maybe_of expression_of c))) h k
+      for_seen at q r e d ∙ ap₂ (λ x y. s.For at x y (maybe_in r) (statement_of d.value)) f g
+      ∙ ap₂ (s.For at (marked_maybe singles declared (maybe_in o)) (option_map (marked_exp singles) (maybe_of expression_of c))) h k
       ∙ sym (ap (λ z. marked_stm singles declared (statement_of z)) is ∙ ap (marked_stm singles declared) (for_seen at o p c b))

@@ -29,7 +29,10 @@ use Rattle.ti_infer.specs.Marked.{marked_type, marked_exp, marked_init, marked_s
 use Rattle.ti_infer.specs.Stripped.{plain_type, plain_stm, plain_maybe, plain_stms, plain_params, plain_result, plain_methods, stripped}
 use Rattle.ti_infer.proofs.Respelled.{respelled}
 use Rattle.ti_infer.proofs.Refound.{any_static, IsMild, reworded_own, methods_same, method_same, names_same, name_same, reworded_map, body_literals, text_literals}
-use Rattle.ti_infer.proofs.Renumbered.{retyped, Restating, restated, restated_init, restated_maybe, restated_all, restated_params, restated_field, restated_class, IsFine, AreFine, MaybeFine, AllFine, ParamsFine, AreRetyped, numbers_type, site_there, stms_there, restated_map, classes_there, HeadFine, params_there, body_site_same, method_site_same, form_same, main_there}
+use Rattle.ti_infer.proofs.Renumbered.{retyped, Restating, restated, restated_init, restated_maybe, restated_all, restated_params}
+use Rattle.ti_infer.proofs.Renumbered.{restated_field, restated_class, IsFine, AreFine, MaybeFine, AllFine, ParamsFine, AreRetyped}
+use Rattle.ti_infer.proofs.Renumbered.{numbers_type, site_there, stms_there, restated_map, classes_there, HeadFine, params_there}
+use Rattle.ti_infer.proofs.Renumbered.{body_site_same, method_site_same, form_same, main_there}
 use Rattle.ti_infer.proofs.Declaring.{count, count_maybe, count_all, past_counted, past_maybe_counted, behind_counted, behind_maybe_counted, params_counted, AreAlike, first_alike, rest_alike, both_within, stm_within, maybe_within, stms_within}
 use Rattle.ti_infer.proofs.Stripping.{no_single}
 
@@ -389,7 +392,9 @@ module _ (marks : Marks) (text : TextTree) (before : ℕ) (own : OwnMethod) (n :
   head_fine Words i h = tt
   head_fine (Params ws) i h =
       params_fine marks (variable_place n) 0 ws h
-      (λ k w at. ap (variable_place n) (zero_more k) ∙ ap (λ (ps : NumberedParams). option_or (params_place ps k) (declared_place_all (numbered_stms n.body) k)) i ∙ ap (λ (o : Option NumberedParam). option_or (option_map (λ (v : NumberedParam). v.place) o) (declared_place_all (numbered_stms n.body) k)) at)
+      (λ k w at. ap (variable_place n) (zero_more k) ∙ ap (λ (ps : NumberedParams). option_or (params_place ps k)
+      (declared_place_all (numbered_stms n.body) k)) i ∙ ap (λ (o : Option NumberedParam). option_or
+      (option_map (λ (v : NumberedParam). v.place) o) (declared_place_all (numbered_stms n.body) k)) at)
     where
       zero_more : (k : ℕ) → 0 + k ≡ k
       zero_more k = omega arith
@@ -403,7 +408,8 @@ module _ (marks : Marks) (text : TextTree) (before : ℕ) (own : OwnMethod) (n :
   body_fine ps ws all (number.params {params = trees} {ys = vs} g) i h k =
       stms_fine marks (variable_place n) (behind_params here trees) all (numbered_stms n.body) h k (λ number more less.
       ap (λ (ps : NumberedParams). option_or (params_place ps number) (declared_place_all (numbered_stms n.body) number)) i
-      ∙ ap (λ (o : Option NumberedParam). option_or (option_map (λ (v : NumberedParam). v.place) o) (declared_place_all (numbered_stms n.body) number)) (none_beyond vs number (by number (params_counted here trees vs g) more)))
+      ∙ ap (λ (o : Option NumberedParam). option_or (option_map (λ (v : NumberedParam). v.place) o)
+      (declared_place_all (numbered_stms n.body) number)) (none_beyond vs number (by number (params_counted here trees vs g) more)))
     where
       by : (k : ℕ) → (behind_params here trees).variables ≡ 0 + length vs → (behind_params here trees).variables ≤ k → length vs ≤ k
       by k e l = omega arith
@@ -433,8 +439,10 @@ method_marked marks text before own n (number.method {result = result} {params =
     let head = head_fine marks text before own n params refl plain.1 in
     let inner : NumbersStms (body_site there (reworded_params k tree.params)) (stms (map (reworded k) tree.body)) (numbered_stms (map (marked_stm singles marks.variables) body)) =
     subst (λ l. NumbersStms (body_site there (reworded_params k tree.params)) l (numbered_stms (map (marked_stm singles marks.variables) body))) (reworded_map k tree.body)
-    (subst (NumbersStms (body_site there (reworded_params k tree.params)) (reworded_all k (stms tree.body))) (restated_map k (mild marks) restating (types marks singles) body ∙ ap numbered_stms (body_marked marks singles body))
-    (subst (λ l. NumbersStms l (reworded_all k (stms tree.body)) (restated_all restating (numbered_stms body))) (sym (body_site_same k (mild marks) restating (types marks singles) site tree.params params ps head))
+    (subst (NumbersStms (body_site there (reworded_params k tree.params)) (reworded_all k (stms tree.body)))
+    (restated_map k (mild marks) restating (types marks singles) body ∙ ap numbered_stms (body_marked marks singles body))
+    (subst (λ l. NumbersStms l (reworded_all k (stms tree.body)) (restated_all restating (numbered_stms body)))
+    (sym (body_site_same k (mild marks) restating (types marks singles) site tree.params params ps head))
     (stms_there k (mild marks) restating (types marks singles) (body_site site tree.params) _ _ h (body_fine marks text before own n tree.params params _ ps refl h plain.2)))) in
     let outer : NumbersParams there (reworded_params k tree.params) (marked_params marks params) =
     subst (NumbersParams there (reworded_params k tree.params)) (params_marked marks singles params)
@@ -450,7 +458,8 @@ method_marked marks text before own n (number.method {result = result} {params =
       body = map (marked_stm singles marks.variables) body;
       end = tree.end;
     } in
-    subst (λ l. NumbersMethod l (reworded_own k own) (whole (is_single tree.modifiers || marks.methods tree.place) (name_number text tree.name))) (sym (method_site_same k (mild marks) restating (types marks singles) text own before))
+    subst (λ l. NumbersMethod l (reworded_own k own) (whole (is_single tree.modifiers || marks.methods tree.place)
+    (name_number text tree.name))) (sym (method_site_same k (mild marks) restating (types marks singles) text own before))
     (subst (NumbersMethod there (reworded_own k own)) (ap₂ whole (single_method_with tree.modifiers (marks.methods tree.place) tree.place) (name_same k text tree.name))
     (number.method (result_marked marks text tree.place _ _ r plain.0) outer inner))
 

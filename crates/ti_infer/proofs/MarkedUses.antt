@@ -13,8 +13,8 @@ use Rattle.ti_lang.specs.declared.program.exprs.Expr.{Expr, Call, OwnCall, Point
 use Rattle.ti_lang.specs.Program.Expressions.{NumberedExp, NumberedRange, numbered_exps, numbered_ranges}
 use Rattle.ti_lang.specs.Program.Expressions as x
 use Rattle.ti_lang.specs.Program.Views.{expression_of, bound_of}
-use Rattle.ti_lang.proofs.ProgramBridges.{seen_static_call, seen_own_call, seen_numbered_point, seen_numbered_member, seen_numbered_index}
-use Rattle.ti_lang.proofs.ProgramBridges.{seen_numbered_rect}
+use Rattle.ti_lang.proofs.Lemmas.{seen_static_call, seen_own_call, seen_numbered_point, seen_numbered_member, seen_numbered_index}
+use Rattle.ti_lang.proofs.Lemmas.{seen_numbered_rect}
 use Rattle.ti_infer.specs.Marked.{marked_exp, marked_exps, marked_range, marked_ranges}
 
 -- what an expression of a known variant holds

@@ -1,5 +1,7 @@
 -- In a stripped program in which no rule of types is broken no statement calls a single method: `main` alone is one, and is never called.
-use Rattle.std.proofs.Common.{◌≡◌, ◌⊎◌, inl, inr, ℕ, zero, suc, ◌+◌, ◌≤◌, ◌==◌, Bool, true, false, not, ◌&&◌, ◌||◌, cond, if◌then◌else◌, find, length, flat_map, is_some, slice_get, option_map, option_and_then, Option, Some, None, List, [], ◌∷◌, ◌++◌, refl, ap, ap₂, sym, ◌∙◌, subst, arith, eqb-true, eq-eqb}
+use Rattle.std.proofs.Common.{◌≡◌, ◌⊎◌, inl, inr, ℕ, zero, suc, ◌+◌, ◌≤◌, ◌==◌, Bool, true, false, not, ◌&&◌, ◌||◌, cond, if◌then◌else◌}
+use Rattle.std.proofs.Common.{find, length, flat_map, is_some, slice_get, option_map, option_and_then, Option, Some, None, List, [], ◌∷◌}
+use Rattle.std.proofs.Common.{◌++◌, refl, ap, ap₂, sym, ◌∙◌, subst, arith, eqb-true, eq-eqb}
 use Rattle.std.proofs.Math.Bool.{Bool-set}
 use Rattle.std.proofs.Math.Logic.{∥∥₁_elim}
 use Rattle.std.specs.List.{list_any}
@@ -39,8 +41,7 @@ use Rattle.ti_rules.specs.Broken.RightSides.{inner_refusals, value_refusals, ini
 use Rattle.ti_rules.specs.Broken.Targets.{write_refusals}
 use Rattle.ti_rules.specs.Broken.Statements.{update_refusals, standing_refusals}
 use Rattle.ti_rules.specs.TypeRules.{class_refusals, head_refusals, end_refusals, method_refusals, type_refusals}
-use Rattle.ti_rules.proofs.Sound.Refused.{nil_left, nil_right, each_left, each_right, not_mistaken, operand_there, and_left, and_right}
-use Rattle.ti_rules.proofs.Sound.Expressions.{has_type}
+use Rattle.ti_rules.proofs.Lemmas.{nil_left, nil_right, each_left, each_right, not_mistaken, operand_there, and_left, and_right, has_type}
 use Rattle.ti_blame.specs.declared.blame.Blame.{Blame}
 use Rattle.ti_blame.specs.declared.blame.Blame.TheVariants.{OfMethod, OfCollective, Always}
 use Rattle.ti_blame.specs.Marks.{Marks}
@@ -154,7 +155,8 @@ module _ (p : NumberedProgram) (plain : MethodsPlain p.methods) (s : ScopeConten
 
 -- ---- in the body of a foreach
 
-find_more : {B : Type 0} (f : ScopeVariable → B) (test : ScopeVariable → Bool) (vs ws : List ScopeVariable) (b : B) → option_map f (find test vs) ≡ Some b → option_map f (find test (vs ++ ws)) ≡ Some b
+find_more : {B : Type 0} (f : ScopeVariable → B) (test : ScopeVariable → Bool) (vs ws : List ScopeVariable) (b : B)
+    → option_map f (find test vs) ≡ Some b → option_map f (find test (vs ++ ws)) ≡ Some b
 find_more f test [] ws b h = absurd (none_some b h)
 find_more {B} f test (v ∷ vs) ws b h = by (test v) h (find_more f test vs ws b)
   where
@@ -167,7 +169,8 @@ find_last : (test : ScopeVariable → Bool) (vs : List ScopeVariable) (w : Scope
 find_last test [] w h = refl
 find_last test (v ∷ vs) w h = by (test v) h (find_last test vs w)
   where
-    by : (c : Bool) → cond c (Some v) (find test vs) ≡ None → (find test vs ≡ None → find test (vs ++ w ∷ []) ≡ cond (test w) (Some w) None) → cond c (Some v) (find test (vs ++ w ∷ [])) ≡ cond (test w) (Some w) None
+    by : (c : Bool) → cond c (Some v) (find test vs) ≡ None → (find test vs ≡ None → find test (vs ++ w ∷ []) ≡ cond (test w) (Some w) None)
+        → cond c (Some v) (find test (vs ++ w ∷ [])) ≡ cond (test w) (Some w) None
     by true h ih = absurd (none_some v (sym h))
     by false h ih = ih h
 
@@ -176,7 +179,9 @@ more_known : (this : Option ℕ) (vs ws : List ScopeVariable) (number : ℕ) (d 
 more_known this vs ws number (Typed is_single type) k = tt
 more_known this vs ws number Foreach k = (k.0, find_more (λ (v : ScopeVariable). v.type) (λ (v : ScopeVariable). v.number == number) vs ws (t.Pt k.0) k.1)
 
-all_more : (this : Option ℕ) (vs ws : List ScopeVariable) (scope : List Known) → AllVariables (record { this_class = this; variables = vs }) scope → AllVariables (record { this_class = this; variables = vs ++ ws }) scope
+all_more : (this : Option ℕ) (vs ws : List ScopeVariable) (scope : List Known)
+    → AllVariables (record { this_class = this; variables = vs }) scope
+    → AllVariables (record { this_class = this; variables = vs ++ ws }) scope
 all_more this vs ws [] a = tt
 all_more this vs ws (known ∷ rest) a = (more_known this vs ws known.1.number known.1.declared a.0, all_more this vs ws rest a.1)
 
@@ -191,14 +196,16 @@ point_fits : (p : NumberedProgram) (this : Option ℕ) (vs : List ScopeVariable)
 point_fits p this vs site name n b k = record {
   text = k.text;
   this = k.this;
-  scope = with_known (with_last this vs (point_in site n b)) site.scope name (record { number = site.variables; declared = Foreach }) (all_more this vs (point_in site n b ∷ []) site.scope k.scope) (n, there);
+  scope = with_known (with_last this vs (point_in site n b)) site.scope name (record { number = site.variables; declared = Foreach })
+      (all_more this vs (point_in site n b ∷ []) site.scope k.scope) (n, there);
   fresh = free;
 }
   where
     there : declared_type (with_last this vs (point_in site n b)) site.variables Foreach ≡ Some (t.Pt n)
     there =
         let low : site.variables ≤ site.variables = omega arith in
-        ap (λ (o : Option ScopeVariable). option_map (λ (v : ScopeVariable). v.type) o) (find_last (λ (v : ScopeVariable). v.number == site.variables) vs (point_in site n b) (k.fresh site.variables low)
+        ap (λ (o : Option ScopeVariable). option_map (λ (v : ScopeVariable). v.type) o)
+        (find_last (λ (v : ScopeVariable). v.number == site.variables) vs (point_in site n b) (k.fresh site.variables low)
         ∙ ap (λ c. cond c (Some (point_in site n b)) None) (eq-eqb site.variables site.variables refl))
 
     free : (i : ℕ) → site.variables + 1 ≤ i → in_scope (with_last this vs (point_in site n b)) i ≡ None
@@ -222,14 +229,17 @@ module _ (p : NumberedProgram) (plain : MethodsPlain p.methods) (m : NumberedMet
   abbrev wrong : List Standing → List Refusal
   wrong xs = flat_map (standing_refusals p) xs
 
-  whole_calm : (vs : List ScopeVariable) (site : Site) → SiteFits p (scope vs) site → (x : Exp) (y : NumberedExp) → NumbersExp site x y → exp_refusals p (scope vs) y ≡ [] → acts_always (acts_reasons p m y) ≡ false
+  whole_calm : (vs : List ScopeVariable) (site : Site) → SiteFits p (scope vs) site → (x : Exp) (y : NumberedExp) → NumbersExp site x y
+      → exp_refusals p (scope vs) y ≡ [] → acts_always (acts_reasons p m y) ≡ false
   whole_calm vs site k x y h r =
       both_calm (method_reasons (called_method p (this_of m) y)) _ (called_calm p plain (scope vs) site k x y h r) (guarded_calm (is_collective_call p (this_of m) y) (place_of_numbered y))
 
-  value_calm : (vs : List ScopeVariable) (site : Site) → SiteFits p (scope vs) site → (x : Exp) (y : NumberedExp) → NumbersExp site x y → value_refusals p (scope vs) y ≡ [] → acts_always (acts_reasons p m y) ≡ false
+  value_calm : (vs : List ScopeVariable) (site : Site) → SiteFits p (scope vs) site → (x : Exp) (y : NumberedExp) → NumbersExp site x y
+      → value_refusals p (scope vs) y ≡ [] → acts_always (acts_reasons p m y) ≡ false
   value_calm vs site k x y h r = whole_calm vs site k x y h (nil_left (exp_refusals p (scope vs) y) _ r)
 
-  init_calm : (vs : List ScopeVariable) (site : Site) → SiteFits p (scope vs) site → (x : InitTree) (v : NumberedInit) → NumbersInit site x v → initial_refusals p (scope vs) v ≡ [] → acts_always (initial_reasons p m v) ≡ false
+  init_calm : (vs : List ScopeVariable) (site : Site) → SiteFits p (scope vs) site → (x : InitTree) (v : NumberedInit)
+      → NumbersInit site x v → initial_refusals p (scope vs) v ≡ [] → acts_always (initial_reasons p m v) ≡ false
   init_calm vs site k x v (number.value h) r = value_calm vs site k _ _ h r
   init_calm vs site k x v number.new_region r = refl
   init_calm vs site k x v (number.new_object h i) r = refl
@@ -255,17 +265,20 @@ module _ (p : NumberedProgram) (plain : MethodsPlain p.methods) (m : NumberedMet
   dim_there None h = absurd (true_false (sym h))
   dim_there (Some n) h = (n, refl)
 
-  inner_there : (vs : List ScopeVariable) (site : Site) → SiteFits p (scope vs) site → (x : Exp) (y : NumberedExp) → NumbersExp site x y → inner_refusals p (scope vs) y ≡ [] → IsThere (operand_type p (scope vs) y)
+  inner_there : (vs : List ScopeVariable) (site : Site) → SiteFits p (scope vs) site → (x : Exp) (y : NumberedExp) → NumbersExp site x y
+      → inner_refusals p (scope vs) y ≡ [] → IsThere (operand_type p (scope vs) y)
   inner_there vs site k x y n h =
       operand_there (known p (scope vs) y) (place_of_numbered y)
-      (has_type p (scope vs) y (exp_known p (scope vs) site k x y n) (nil_left (exp_refusals p (scope vs) y) (misplaced p (scope vs) y) h)) (nil_right (exp_refusals p (scope vs) y) (misplaced p (scope vs) y) h)
+      (has_type p (scope vs) y (exp_known p (scope vs) site k x y n) (nil_left (exp_refusals p (scope vs) y) (misplaced p (scope vs) y) h))
+      (nil_right (exp_refusals p (scope vs) y) (misplaced p (scope vs) y) h)
 
   foreach_fits : (vs : List ScopeVariable) (site : Site) (name : List ℕ) (n : ℕ) (b : Bool) (o : Option ℕ) → o ≡ Some n → SiteFits p (scope vs) site
       → SiteFits p (scope (with_point vs site.variables b o)) (declares site name Foreach)
   foreach_fits vs site name n b o i k = subst (λ q. SiteFits p (scope (with_point vs site.variables b q)) (declares site name Foreach)) (sym i) (point_fits p (this_of m) vs site name n b k)
 
   mutual
-    stm_calm : (vs : List ScopeVariable) (j : Option Bool) (site : Site) → SiteFits p (scope vs) site → (x : Stm) (y : NumberedStm) → NumbersStm site x y → wrong (inside p (here vs j) y) ≡ [] → acts_always (reasons p m y) ≡ false
+    stm_calm : (vs : List ScopeVariable) (j : Option Bool) (site : Site) → SiteFits p (scope vs) site → (x : Stm) (y : NumberedStm)
+        → NumbersStm site x y → wrong (inside p (here vs j) y) ≡ [] → acts_always (reasons p m y) ≡ false
     stm_calm vs j site k x y number.empty r = refl
     stm_calm vs j site k x y (number.declare {at = at} {type = type} {value = value} {v = v} type_known fresh room h) r =
         let own = type_word_refusals true type ++ initial_refusals p (scope vs) v in
@@ -323,13 +336,16 @@ module _ (p : NumberedProgram) (plain : MethodsPlain p.methods) (m : NumberedMet
         (some_rule (operand_type p (scope vs) d) rule there.0 there.1 (nil_right (inner_refusals p (scope vs) d) (judged (operand_type p (scope vs) d) rule) right)) in
         let dim = dim_there (domain_dim there.0) taken in
         let known = ap (option_and_then domain_dim) there.1 ∙ dim.1 in
-        stm_calm vars l (declares site name Foreach) (foreach_fits vs site name dim.0 _ (option_and_then domain_dim (operand_type p (scope vs) d)) known k) b c h (nil_right own (wrong (inside p (here vars l) c)) r)
+        stm_calm vars l (declares site name Foreach) (foreach_fits vs site name dim.0 _
+        (option_and_then domain_dim (operand_type p (scope vs) d)) known k) b c h (nil_right own (wrong (inside p (here vars l) c)) r)
 
-    maybe_calm : (vs : List ScopeVariable) (j : Option Bool) (site : Site) → SiteFits p (scope vs) site → (x : MaybeStm) (y : MaybeNumbered) → NumbersMaybeStm site x y → wrong (inside_maybe p (here vs j) y) ≡ [] → acts_always (reasons_of_maybe p m y) ≡ false
+    maybe_calm : (vs : List ScopeVariable) (j : Option Bool) (site : Site) → SiteFits p (scope vs) site → (x : MaybeStm) (y : MaybeNumbered)
+        → NumbersMaybeStm site x y → wrong (inside_maybe p (here vs j) y) ≡ [] → acts_always (reasons_of_maybe p m y) ≡ false
     maybe_calm vs j site k x y number.no_stm r = refl
     maybe_calm vs j site k x y (number.some_stm {x = a} {y = c} h) r = stm_calm vs j site k a c h r
 
-    stms_calm : (vs : List ScopeVariable) (j : Option Bool) (site : Site) → SiteFits p (scope vs) site → (xs : Stms) (ys : NumberedStms) → NumbersStms site xs ys → wrong (inside_all p (here vs j) ys) ≡ [] → acts_always (reasons_of_all p m ys) ≡ false
+    stms_calm : (vs : List ScopeVariable) (j : Option Bool) (site : Site) → SiteFits p (scope vs) site → (xs : Stms) (ys : NumberedStms)
+        → NumbersStms site xs ys → wrong (inside_all p (here vs j) ys) ≡ [] → acts_always (reasons_of_all p m ys) ≡ false
     stms_calm vs j site k xs ys number.nil r = refl
     stms_calm vs j site k xs ys (number.cons {x = x} {y = y} {xs = us} {ys = rest} h more) r =
         both_calm (reasons p m y) (reasons_of_all p m rest) (stm_calm vs j site k x y h (each_left (standing_refusals p) (inside p (here vs j) y) (inside_all p (here vs j) rest) r))
@@ -356,7 +372,8 @@ record Behind (s : ScopeContents) (a b : Site) (n : ℕ) : Type 0 where
   scope : AllVariables s b.scope
   variables : b.variables ≡ a.variables + n
 
-params_behind : (s : ScopeContents) (site : Site) (ps : List ParamTree) (ys : List NumberedParam) → NumbersParamList site ps ys → AllVariables s site.scope → Behind s site (behind_params site ps) (length ys)
+params_behind : (s : ScopeContents) (site : Site) (ps : List ParamTree) (ys : List NumberedParam) → NumbersParamList site ps ys
+    → AllVariables s site.scope → Behind s site (behind_params site ps) (length ys)
 params_behind s site ps ys number.none a = record { text = refl; class = refl; static = refl; scope = a; variables = omega arith }
 params_behind s site ps ys (number.more {param = param} {params = params} {ys = rest} type fresh room h) a =
     let inside = declares site param.name (typed_as site.text param.ty) in
@@ -366,8 +383,10 @@ params_behind s site ps ys (number.more {param = param} {params = params} {ys = 
     plus : (a b : ℕ) → (a + 1) + b ≡ a + suc b
     plus a b = omega arith
 
-body_fits : (p : NumberedProgram) (this : Option ℕ) (site : Site) (ps : ParamsTree) (params : NumberedParams) → NumbersParams site ps params → TextFits p site.text → (site.static ≡ false → this ≡ Some site.class)
-    → AllVariables (record { this_class = this; variables = parameters params }) site.scope → site.variables ≡ 0 → SiteFits p (record { this_class = this; variables = parameters params }) (body_site site ps)
+body_fits : (p : NumberedProgram) (this : Option ℕ) (site : Site) (ps : ParamsTree) (params : NumberedParams) → NumbersParams site ps params
+    → TextFits p site.text → (site.static ≡ false → this ≡ Some site.class)
+    → AllVariables (record { this_class = this; variables = parameters params }) site.scope → site.variables ≡ 0
+    → SiteFits p (record { this_class = this; variables = parameters params }) (body_site site ps)
 body_fits p this site ps params number.words k h a z = record { text = k; this = h; scope = a; fresh = λ i l. refl }
 body_fits p this site ps params (number.params {params = trees} {ys = ys} n) k h a z =
     let q = params_behind (record { this_class = this; variables = parameters_from 0 ys }) site trees ys n a in
@@ -382,7 +401,8 @@ body_fits p this site ps params (number.params {params = trees} {ys = ys} n) k h
 
 -- ---- methods
 
-method_calm : (p : NumberedProgram) → MethodsPlain p.methods → (text : TextTree) (before : ℕ) (own : OwnMethod) (m : NumberedMethod) → TextFits p text → NumbersMethod (method_site text own before) own m → method_refusals p m ≡ []
+method_calm : (p : NumberedProgram) → MethodsPlain p.methods → (text : TextTree) (before : ℕ) (own : OwnMethod) (m : NumberedMethod)
+    → TextFits p text → NumbersMethod (method_site text own before) own m → method_refusals p m ≡ []
     → acts_always (reasons_of_all p m (numbered_stms m.body)) ≡ false
 method_calm p plain text before own m k (number.method {result = result} {params = params} {body = body} r ps h) e =
     let m : NumberedMethod = record {
@@ -400,7 +420,8 @@ method_calm p plain text before own m k (number.method {result = result} {params
     stms_calm p plain m (parameters params) None (body_site (method_site text own before) own.method.params) fits (stms own.method.body) (numbered_stms body) h
     (nil_right (head_refusals m ++ end_refusals m) (flat_map (standing_refusals p) (standing_in_method p m)) e)
 
-methods_calm : (p : NumberedProgram) → MethodsPlain p.methods → (text : TextTree) (n before : ℕ) (owns : List OwnMethod) (ms : List NumberedMethod) → TextFits p text → NumbersMethods text n before owns ms
+methods_calm : (p : NumberedProgram) → MethodsPlain p.methods → (text : TextTree) (n before : ℕ) (owns : List OwnMethod)
+    (ms : List NumberedMethod) → TextFits p text → NumbersMethods text n before owns ms
     → flat_map (method_refusals p) ms ≡ [] → acts_always (flat_map (λ m. reasons_of_all p m (numbered_stms m.body)) ms) ≡ false
 methods_calm p plain text n before owns ms k number.none e = refl
 methods_calm p plain text n before owns ms k (number.more {own = own} {method = m} {methods = rest} named h others) e =
@@ -461,7 +482,8 @@ plain_number k n h = omega (arith, h)
 
 pub stripped_methods_plain : (p : NumberedProgram) (text : TextTree) → Numbers text p → stripped p ≡ p → MethodsPlain p.methods
 stripped_methods_plain p text n e =
-    methods_plain p.main 0 p.methods (λ k m i z. main_at text 0 0 (methods_of text) p.methods n.methods p.main n.main.own n.main.stands n.main.form m (sym (ap (slice_get p.methods) (plain_number k p.main z)) ∙ i)) (ap (λ (q : NumberedProgram). q.methods) e)
+    methods_plain p.main 0 p.methods (λ k m i z. main_at text 0 0 (methods_of text) p.methods n.methods p.main n.main.own n.main.stands
+    n.main.form m (sym (ap (slice_get p.methods) (plain_number k p.main z)) ∙ i)) (ap (λ (q : NumberedProgram). q.methods) e)
 
 -- in such a program of a text nothing is to blame in any case, whatever is marked
 pub none_always : (p : NumberedProgram) → ∥ IsNumbered p ∥₁ → type_refusals p ≡ [] → stripped p ≡ p → (marks : Marks) → acts_always (program_blamed p marks) ≡ false
@@ -470,4 +492,5 @@ none_always p numbered types plain marks = ∥∥₁_elim numbered (Bool-set _ _
     by : IsNumbered p → acts_always (program_blamed p marks) ≡ false
     by n =
         never_blamed p marks (text_still p n.0 n.1 n.2.methods)
-        (methods_calm p (stripped_methods_plain p n.0 n.2 plain) n.0 0 0 (methods_of n.0) p.methods (text_fits p n.0 n.2) n.2.methods (nil_right (flat_map class_refusals p.classes) (flat_map (method_refusals p) p.methods) types))
+        (methods_calm p (stripped_methods_plain p n.0 n.2 plain) n.0 0 0 (methods_of n.0) p.methods (text_fits p n.0 n.2) n.2.methods
+        (nil_right (flat_map class_refusals p.classes) (flat_map (method_refusals p) p.methods) types))

@@ -9,7 +9,7 @@ use Rattle.ti_blame.specs.declared.mark.Mark.{Mark}
 use Rattle.ti_blame.specs.declared.mark.Name.{Name}
 use Rattle.ti_blame.specs.Names.{name_of, name_cmp}
 use Rattle.ti_blame.specs.Marks.{IsPart, marks_of, same_kind, is_mark}
-use Rattle.ti_blame.proofs.Order.{names_total}
+use Rattle.ti_blame.proofs.Lemmas.{names_total}
 use Rattle.ti_infer.proofs.Truths.{true_false, grows_left, grows_right}
 use Rattle.ti_infer.proofs.ProgramEdges.{mark_is}
 

@@ -182,7 +182,8 @@ method_still p site own m (number.method {result = result} {params = params} {bo
     } in
     stms_still p m _ _ _ h c
 
-methods_still : (p : NumberedProgram) (text : TextTree) (n before : ℕ) (owns : List OwnMethod) (ms : List NumberedMethod) → NumbersMethods text n before owns ms → MethodsChanges owns → MethodsStill p ms
+methods_still : (p : NumberedProgram) (text : TextTree) (n before : ℕ) (owns : List OwnMethod) (ms : List NumberedMethod)
+    → NumbersMethods text n before owns ms → MethodsChanges owns → MethodsStill p ms
 methods_still p text n before owns ms number.none c = tt
 methods_still p text n before owns ms (number.more h k rest) c = (method_still p _ _ _ k c.0, methods_still p text _ _ _ _ rest c.1)
 

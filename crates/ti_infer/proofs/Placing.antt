@@ -31,7 +31,9 @@ all_params_place Words n = refl
 all_params_place (Params ws) n = param_place ws n
 
 -- all places of a method
-pub all_placed : (m : NumberedMethod) (new : List (Option Place)) → AreAdded (places_of_params (params_of m.params)) new (place_among (locals_in_all (numbered_stms m.body))) → (n : ℕ) → place_in new n ≡ variable_place m n
+pub all_placed : (m : NumberedMethod) (new : List (Option Place))
+    → AreAdded (places_of_params (params_of m.params)) new (place_among (locals_in_all (numbered_stms m.body))) → (n : ℕ) → place_in new n
+    ≡ variable_place m n
 all_placed m new h n = h n ∙ ap₂ option_or (all_params_place m.params n) (places_told_all n (numbered_stms m.body))
 
 -- ---- one more

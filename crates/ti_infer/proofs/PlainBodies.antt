@@ -10,7 +10,7 @@ use Rattle.ti_lang.specs.declared.program.stmts.Stmt.{Stmt, Block}
 use Rattle.ti_lang.specs.Program.Statements.{NumberedStm, numbered_stms}
 use Rattle.ti_lang.specs.Program.Statements as s
 use Rattle.ti_lang.specs.Program.Views.{statement_of}
-use Rattle.ti_lang.proofs.ProgramBridges.{seen_numbered_block}
+use Rattle.ti_lang.proofs.Lemmas.{seen_numbered_block}
 use Rattle.ti_infer.specs.Stripped.{plain_stm, plain_stms}
 
 -- what a statement of a known variant holds

@@ -17,7 +17,9 @@ use Rattle.ti_infer.proofs.Same.{this_same, call_same}
 use Rattle.ti_infer.proofs.Under.{under}
 
 module _ (p : NumberedProgram) (m : NumberedMethod) (marks : Marks) (s : ScopeContents) (this : s.this_class ≡ this_of m) where
-  part_is : (x : NumberedExp) → single_under p s.this_class (variable_under marks m (singles_in s)) x ≡ is_single_part (marked marks p) (this_of (marked_method marks m)) (singles_in (scope_of (blame_around p m marks s.variables))) (marked_exp (marks_variable marks m) x)
+  part_is : (x : NumberedExp) → single_under p s.this_class (variable_under marks m (singles_in s)) x
+      ≡ is_single_part (marked marks p) (this_of (marked_method marks m)) (singles_in (scope_of (blame_around p m marks s.variables)))
+      (marked_exp (marks_variable marks m) x)
   part_is x =
       ap (λ th. single_under p th (variable_under marks m (singles_in s)) x) this ∙ sym (under p (this_of m) marks m (singles_in s) x)
       ∙ sym (ap (λ th. is_single_part (marked marks p) th (singles_in s) (marked_exp (marks_variable marks m) x)) (this_same marks m))
@@ -26,8 +28,13 @@ module _ (p : NumberedProgram) (m : NumberedMethod) (marks : Marks) (s : ScopeCo
   plain_is x = ap not (part_is x)
 
   -- a whole right side
-  pub whole_is : (x : NumberedExp) → not (option_map_or (λ y. has_single_result (marked_method marks y)) (called_method p (this_of m) x) (single_under p s.this_class (variable_under marks m (singles_in s)) x)) ≡ is_plain (marked marks p) (blame_around p m marks s.variables) (marked_exp (marks_variable marks m) x)
-  whole_is x = ap not (ap (option_map_or (λ y. has_single_result (marked_method marks y)) (called_method p (this_of m) x)) (part_is x) ∙ chosen (called_method p (this_of m) x) _ ∙ sym (ap (λ o. option_map_or has_single_result o (is_single_part (marked marks p) (this_of (marked_method marks m)) (singles_in (scope_of (blame_around p m marks s.variables))) (marked_exp (marks_variable marks m) x))) called))
+  pub whole_is : (x : NumberedExp) → not (option_map_or (λ y. has_single_result (marked_method marks y)) (called_method p (this_of m) x)
+      (single_under p s.this_class (variable_under marks m (singles_in s)) x))
+      ≡ is_plain (marked marks p) (blame_around p m marks s.variables) (marked_exp (marks_variable marks m) x)
+  whole_is x = ap not (ap (option_map_or (λ y. has_single_result (marked_method marks y)) (called_method p (this_of m) x)) (part_is x)
+      ∙ chosen (called_method p (this_of m) x) _
+      ∙ sym (ap (λ o. option_map_or has_single_result o (is_single_part (marked marks p) (this_of (marked_method marks m))
+      (singles_in (scope_of (blame_around p m marks s.variables))) (marked_exp (marks_variable marks m) x))) called))
     where
       chosen : (o : Option NumberedMethod) (b : Bool) → option_map_or (λ y. has_single_result (marked_method marks y)) o b ≡ option_map_or has_single_result (option_map (marked_method marks) o) b
       chosen None b = refl

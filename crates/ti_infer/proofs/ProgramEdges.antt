@@ -110,13 +110,18 @@ module _ (f : Blame → Bool) (counts : Place → Bool) (marks : Marks) (items :
     abbrev isnt_single : Bool
     isnt_single = not (marked_method marks m).is_single
 
-    effect_is : list_any f (effect_reasons p m [] (st.Block body)) ≡ ((list_any f (reasons_of_all p m body) || ((doings p (this_of m) (st.Block body)).returns && (list_any f (result_reasons p m m.result) || list_any f (reasons_of_all p m body)))) || ((doings p (this_of m) (st.Block body)).jumps && false))
+    effect_is : list_any f (effect_reasons p m [] (st.Block body))
+        ≡ ((list_any f (reasons_of_all p m body) || ((doings p (this_of m) (st.Block body)).returns &&
+        (list_any f (result_reasons p m m.result) || list_any f (reasons_of_all p m body)))) ||
+        ((doings p (this_of m) (st.Block body)).jumps && false))
     effect_is =
         list_any-append f (reasons_of_all p m body ++ guarded (doings p (this_of m) (st.Block body)).returns (return_reasons p m)) (guarded (doings p (this_of m) (st.Block body)).jumps [])
         ∙ ap₂ (λ a b. a || b)
         (list_any-append f (reasons_of_all p m body) (guarded (doings p (this_of m) (st.Block body)).returns (return_reasons p m))
         ∙ ap (λ b. list_any f (reasons_of_all p m body) || b)
-        (any_guarded f counts marks items (doings p (this_of m) (st.Block body)).returns (return_reasons p m) ∙ ap (λ b. (doings p (this_of m) (st.Block body)).returns && b) (list_any-append f (result_reasons p m m.result) (reasons_of_all p m body))))
+        (any_guarded f counts marks items (doings p (this_of m) (st.Block body)).returns (return_reasons p m)
+        ∙ ap (λ b. (doings p (this_of m) (st.Block body)).returns && b)
+        (list_any-append f (result_reasons p m m.result) (reasons_of_all p m body))))
         (any_guarded f counts marks items (doings p (this_of m) (st.Block body)).jumps [])
 
     pub method_meant : list_any f (method_blamed p m marks) ≡ fired f counts marks items (method_edges p m i)
@@ -124,18 +129,25 @@ module _ (f : Blame → Bool) (counts : Place → Bool) (marks : Marks) (items :
         list_any-append f (guarded isnt_single (effect_reasons p m [] (st.Block body)) ++ guarded isnt_single (result_reasons p m m.result)) _
         ∙ ap₂ (λ a b. a || b)
         (list_any-append f (guarded isnt_single (effect_reasons p m [] (st.Block body))) (guarded isnt_single (result_reasons p m m.result))
-        ∙ ap₂ (λ a b. a || b) (any_guarded f counts marks items isnt_single (effect_reasons p m [] (st.Block body)) ∙ ap (λ b. isnt_single && b) effect_is) (any_guarded f counts marks items isnt_single (result_reasons p m m.result))
-        ∙ effects isnt_single (list_any f (result_reasons p m m.result)) (list_any f (reasons_of_all p m body)) (doings p (this_of m) (st.Block body)).returns (doings p (this_of m) (st.Block body)).jumps
+        ∙ ap₂ (λ a b. a || b) (any_guarded f counts marks items isnt_single (effect_reasons p m [] (st.Block body))
+        ∙ ap (λ b. isnt_single && b) effect_is) (any_guarded f counts marks items isnt_single (result_reasons p m m.result))
+        ∙ effects isnt_single (list_any f (result_reasons p m m.result)) (list_any f (reasons_of_all p m body))
+        (doings p (this_of m) (st.Block body)).returns (doings p (this_of m) (st.Block body)).jumps
         ∙ sym (fired_one f counts marks items (own_asks m) (whole_of p m i) ∙ ap₂ (λ a b. a && b) (own_open m) (whole_is ∙ list_any-append f (result_reasons p m m.result) (reasons_of_all p m body))))
-        (all_meant f counts marks items p m (whole_of p m i) whole_is (asked (starts (stands counts marks))) (parameters (marked_params marks m.params)) (parameters m.params) (first_inside m.params) (alike_first counts marks m.params) (types_parameters marks m.params)
+        (all_meant f counts marks items p m (whole_of p m i) whole_is (asked (starts (stands counts marks)))
+        (parameters (marked_params marks m.params)) (parameters m.params) (first_inside m.params) (alike_first counts marks m.params)
+        (types_parameters marks m.params)
         (i + length (result_reasons p m m.result)) [] [] body (part_second items i (result_reasons p m m.result) (reasons_of_all p m body) part) refl)
         ∙ sym (list_any-append (fires f counts marks items) (one_each (own_asks m) (whole_of p m i)) _)
 
-  pub methods_meant : (ms : List NumberedMethod) (i : ℕ) → PartAt items i (flat_map (return_reasons p) ms) → list_any f (flat_map (λ m. method_blamed p m marks) ms) ≡ fired f counts marks items (methods_edges p ms i)
+  pub methods_meant : (ms : List NumberedMethod) (i : ℕ) → PartAt items i (flat_map (return_reasons p) ms)
+      → list_any f (flat_map (λ m. method_blamed p m marks) ms) ≡ fired f counts marks items (methods_edges p ms i)
   methods_meant [] i part = refl
   methods_meant (m ∷ ms) i part =
       list_any-append f (method_blamed p m marks) (flat_map (λ m. method_blamed p m marks) ms)
-      ∙ ap₂ (λ a b. a || b) (method_meant m i (part_first items i (return_reasons p m) (flat_map (return_reasons p) ms) part)) (methods_meant ms (i + length (return_reasons p m)) (part_second items i (return_reasons p m) (flat_map (return_reasons p) ms) part))
+      ∙ ap₂ (λ a b. a || b) (method_meant m i (part_first items i (return_reasons p m) (flat_map (return_reasons p) ms) part))
+      (methods_meant ms (i + length (return_reasons p m)) (part_second items i (return_reasons p m)
+      (flat_map (return_reasons p) ms) part))
       ∙ sym (list_any-append (fires f counts marks items) (method_edges p m i) (methods_edges p ms (i + length (return_reasons p m))))
 
 -- ---- programs
@@ -162,7 +174,8 @@ kept_edges counts p marks h = sym (program_meant (stands counts marks) counts ma
     isnt false b g e = refl
 
 -- where nothing is to blame in any case, what breaks no edge keeps the rules
-pub edges_kept : (counts : Place → Bool) (p : NumberedProgram) (marks : Marks) → list_any is_always (program_blamed p marks) ≡ false → KeepsEdges (stands counts marks) (all_reasons p) (program_edges p) → KeepsSingle counts p marks
+pub edges_kept : (counts : Place → Bool) (p : NumberedProgram) (marks : Marks) → list_any is_always (program_blamed p marks) ≡ false
+    → KeepsEdges (stands counts marks) (all_reasons p) (program_edges p) → KeepsSingle counts p marks
 edges_kept counts p marks none h = by (program_blamed p marks) none (program_meant (stands counts marks) counts marks p ∙ h)
   where
     or_none_both : (a b : Bool) → (a || b) ≡ false → (a ≡ false) × (b ≡ false)

@@ -22,7 +22,8 @@ pub pushed_as : {A R E : Type 0} (r : Result R E) (old new xs ys : List A) → x
 pushed_as r old new xs ys e h = on_ok_weaker r (λ k. k ∙ ap (λ z. old ++ z) e) h
 
 -- three parts that are pushed one after the other
-pub pushed_three : {A R E : Type 0} (r : Result R E) (old one two new xs ys zs all : List A) → one ≡ old ++ xs → two ≡ one ++ ys → xs ++ (ys ++ zs) ≡ all → OnOk r (new ≡ two ++ zs) → OnOk r (new ≡ old ++ all)
+pub pushed_three : {A R E : Type 0} (r : Result R E) (old one two new xs ys zs all : List A) → one ≡ old ++ xs → two ≡ one ++ ys → xs
+    ++ (ys ++ zs) ≡ all → OnOk r (new ≡ two ++ zs) → OnOk r (new ≡ old ++ all)
 pushed_three r old one two new xs ys zs all f g e h =
     on_ok_weaker r (λ k. k ∙ ap (λ z. z ++ zs) (g ∙ ap (λ z. z ++ ys) f) ∙ append_assoc (old ++ xs) ys zs ∙ append_assoc old xs (ys ++ zs) ∙ ap (λ z. old ++ z) e) h
 

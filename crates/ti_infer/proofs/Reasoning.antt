@@ -77,7 +77,8 @@ module _ (p : NumberedProgram) (m : NumberedMethod) (marks : Marks) where
 
   pub acts_held : (x : NumberedExp) → acts (marked marks p) (this_of m) (marked_exp (marks_variable marks m) x) ≡ some_held marks (acts_reasons p m x)
   acts_held x =
-      ap₂ (λ a b. a || b) (ap (λ o. option_map_or (λ (y : NumberedMethod). y.is_single) o false) (call_same marks p (this_of m) (marks_variable marks m) x) ∙ method_held (called_method p (this_of m) x))
+      ap₂ (λ a b. a || b) (ap (λ o. option_map_or (λ (y : NumberedMethod). y.is_single) o false)
+      (call_same marks p (this_of m) (marks_variable marks m) x) ∙ method_held (called_method p (this_of m) x))
       (collective_same p (this_of m) marks (marks_variable marks m) x ∙ by (is_collective_call p (this_of m) x))
       ∙ sym (held_append marks (method_reasons (called_method p (this_of m) x)) _)
     where
@@ -148,11 +149,13 @@ module _ (p : NumberedProgram) (m : NumberedMethod) (marks : Marks) where
     stm_told st.Empty = told_same marks _ refl
     stm_told (st.Print at what) = told_same marks _ refl
 
-    maybe_told : (s : MaybeNumbered) → Told marks (doings_of_maybe (marked marks p) (this_of m) (marked_maybe (marks_variable marks m) marks.variables s)) (reasons_of_maybe p m s) (doings_of_maybe p (this_of m) s)
+    maybe_told : (s : MaybeNumbered) → Told marks (doings_of_maybe (marked marks p) (this_of m)
+        (marked_maybe (marks_variable marks m) marks.variables s)) (reasons_of_maybe p m s) (doings_of_maybe p (this_of m) s)
     maybe_told st.NoStm = told_same marks _ refl
     maybe_told (st.SomeStm s) = stm_told s
 
-    stms_told : (ss : NumberedStms) → Told marks (doings_of_all (marked marks p) (this_of m) (marked_stms (marks_variable marks m) marks.variables ss)) (reasons_of_all p m ss) (doings_of_all p (this_of m) ss)
+    stms_told : (ss : NumberedStms) → Told marks (doings_of_all (marked marks p) (this_of m)
+        (marked_stms (marks_variable marks m) marks.variables ss)) (reasons_of_all p m ss) (doings_of_all p (this_of m) ss)
     stms_told st.Nil = told_same marks _ refl
     stms_told (st.Cons s rest) = told_together marks _ _ _ _ (reasons p m s) (reasons_of_all p m rest) (stm_told s) (stms_told rest)
 
@@ -161,14 +164,17 @@ module _ (p : NumberedProgram) (m : NumberedMethod) (marks : Marks) where
   told_by : (a b d : Doings) (xs : List Blame) → a ≡ b → Told marks b xs d → Told marks a xs d
   told_by a b d xs h t = rw h t
 
-  pub stm_held : (s : NumberedStm) → Told marks (doings (marked marks p) (this_of (marked_method marks m)) (marked_stm (marks_variable marks m) marks.variables s)) (reasons p m s) (doings p (this_of m) s)
+  pub stm_held : (s : NumberedStm) → Told marks (doings (marked marks p) (this_of (marked_method marks m))
+      (marked_stm (marks_variable marks m) marks.variables s)) (reasons p m s) (doings p (this_of m) s)
   stm_held s = told_by _ _ _ _ (ap (λ this. doings (marked marks p) this (marked_stm (marks_variable marks m) marks.variables s)) (this_same marks m)) (stm_told s)
 
-  pub maybe_held : (s : MaybeNumbered) → Told marks (doings_of_maybe (marked marks p) (this_of (marked_method marks m)) (marked_maybe (marks_variable marks m) marks.variables s)) (reasons_of_maybe p m s) (doings_of_maybe p (this_of m) s)
+  pub maybe_held : (s : MaybeNumbered) → Told marks (doings_of_maybe (marked marks p) (this_of (marked_method marks m))
+      (marked_maybe (marks_variable marks m) marks.variables s)) (reasons_of_maybe p m s) (doings_of_maybe p (this_of m) s)
   maybe_held s = told_by _ _ _ _ (ap (λ this. doings_of_maybe (marked marks p) this (marked_maybe (marks_variable marks m) marks.variables s)) (this_same marks m)) (maybe_told s)
 
   pub method_held_all : Told marks (doings_of_method (marked marks p) (marked_method marks m)) (reasons_of_all p m (numbered_stms m.body)) (doings_of_all p (this_of m) (numbered_stms m.body))
-  method_held_all = told_by _ _ _ _ (ap₂ (λ this xs. doings_of_all (marked marks p) this xs) (this_same marks m) (stms_of_map (marks_variable marks m) marks.variables m.body)) (stms_told (numbered_stms m.body))
+  method_held_all = told_by _ _ _ _ (ap₂ (λ this xs. doings_of_all (marked marks p) this xs) (this_same marks m)
+      (stms_of_map (marks_variable marks m) marks.variables m.body)) (stms_told (numbered_stms m.body))
 
   result_held : (r : NumberedResult) → single_result (marked_result (marks.results m.place) m.place r) ≡ some_held marks (result_reasons p m r)
   result_held c.Void = refl
@@ -196,15 +202,23 @@ module _ (p : NumberedProgram) (m : NumberedMethod) (marks : Marks) where
   loop_by : (a b : Doings) (r : Bool) → jump_acts r (together a b) ≡ ((a.acts || b.acts) || ((a.returns && r) || (b.returns && r)))
   loop_by a b r = ap (λ t. (a.acts || b.acts) || t) (or_and a.returns b.returns r)
 
-  pub loop_held : (update : MaybeNumbered) (body : NumberedStm) → loop_acts (marked marks p) (marked_method marks m) (marked_maybe (marks_variable marks m) marks.variables update) (marked_stm (marks_variable marks m) marks.variables body) ≡ some_held marks (loop_reasons p m update body)
+  pub loop_held : (update : MaybeNumbered) (body : NumberedStm) → loop_acts (marked marks p) (marked_method marks m)
+      (marked_maybe (marks_variable marks m) marks.variables update) (marked_stm (marks_variable marks m) marks.variables body)
+      ≡ some_held marks (loop_reasons p m update body)
   loop_held update body =
       let u = maybe_held update in
       let b = stm_held body in
-      loop_by (doings_of_maybe (marked marks p) (this_of (marked_method marks m)) (marked_maybe (marks_variable marks m) marks.variables update)) (doings (marked marks p) (this_of (marked_method marks m)) (marked_stm (marks_variable marks m) marks.variables body)) (return_acts (marked marks p) (marked_method marks m))
-      ∙ both_held _ _ (reasons_of_maybe p m update ++ reasons p m body) (guarded (doings_of_maybe p (this_of m) update).returns (return_reasons p m) ++ guarded (doings p (this_of m) body).returns (return_reasons p m))
+      loop_by (doings_of_maybe (marked marks p) (this_of (marked_method marks m))
+      (marked_maybe (marks_variable marks m) marks.variables update))
+      (doings (marked marks p) (this_of (marked_method marks m)) (marked_stm (marks_variable marks m) marks.variables body))
+      (return_acts (marked marks p) (marked_method marks m))
+      ∙ both_held _ _ (reasons_of_maybe p m update ++ reasons p m body)
+      (guarded (doings_of_maybe p (this_of m) update).returns (return_reasons p m)
+      ++ guarded (doings p (this_of m) body).returns (return_reasons p m))
       (both_held _ _ (reasons_of_maybe p m update) (reasons p m body) u.acts b.acts)
       (both_held _ _ (guarded (doings_of_maybe p (this_of m) update).returns (return_reasons p m)) (guarded (doings p (this_of m) body).returns (return_reasons p m))
-      (behind_held _ (doings_of_maybe p (this_of m) update).returns _ (return_reasons p m) u.returns return_held) (behind_held _ (doings p (this_of m) body).returns _ (return_reasons p m) b.returns return_held))
+      (behind_held _ (doings_of_maybe p (this_of m) update).returns _ (return_reasons p m) u.returns return_held)
+      (behind_held _ (doings p (this_of m) body).returns _ (return_reasons p m) b.returns return_held))
 
   global_held : (j : Bool) (d q : Doings) (xs jumping : List Blame) → Told marks d xs q → j ≡ some_held marks jumping
       → has_global_effects (return_acts (marked marks p) (marked_method marks m)) j d ≡ some_held marks ((xs ++ guarded q.returns (return_reasons p m)) ++ guarded q.jumps jumping)
@@ -217,5 +231,7 @@ module _ (p : NumberedProgram) (m : NumberedMethod) (marks : Marks) where
       → has_effects (marked marks p) (around_in marks m vs j) (marked_stm (marks_variable marks m) marks.variables s) ≡ some_held marks (effect_reasons p m jumping s)
   effects_held vs j jumping s h = global_held (unwrap_or j false) _ (doings p (this_of m) s) (reasons p m s) jumping (stm_held s) h
 
-  pub method_effects_held : has_global_effects (return_acts (marked marks p) (marked_method marks m)) false (doings_of_method (marked marks p) (marked_method marks m)) ≡ some_held marks (effect_reasons p m [] (st.Block (numbered_stms m.body)))
+  pub method_effects_held : has_global_effects (return_acts (marked marks p) (marked_method marks m)) false
+      (doings_of_method (marked marks p) (marked_method marks m)) ≡ some_held marks
+      (effect_reasons p m [] (st.Block (numbered_stms m.body)))
   method_effects_held = global_held false _ (doings_of_all p (this_of m) (numbered_stms m.body)) (reasons_of_all p m (numbered_stms m.body)) [] method_held_all refl

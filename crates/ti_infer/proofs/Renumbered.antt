@@ -123,7 +123,12 @@ module _ (r : Rewording) (k : IsMild r) where
       (retyped r words n)
   numbers_type text words h y n (number.known w) =
       subst (NumbersType (reworded_text r text) (reworded_type r words y))
-      (ap (λ (v : ValueType). record { type = v; is_single = has_single (words y.qualifiers); qualifiers = words y.qualifiers; grids = map (reworded_grid r) y.grids }) (value_same r k text words y (h y.qualifiers)))
+      (ap (λ (v : ValueType). record {
+        type = v;
+        is_single = has_single (words y.qualifiers);
+        qualifiers = words y.qualifiers;
+        grids = map (reworded_grid r) y.grids;
+      }) (value_same r k text words y (h y.qualifiers)))
       (number.known (known_same r text y.base w))
 
   cast_numbers_type : (text : TextTree) (y : TypeTree) (n : NumberedType) → NumbersType text y n → NumbersType (reworded_text r text) y n
@@ -419,7 +424,8 @@ module _ (r : Rewording) (k : IsMild r) (u : Restating) (types : AreRetyped u r)
         number.for (maybe_stm_there site _ _ h f.0)
         (subst (λ l. NumbersMaybe l g (option_map (marked_exp u.singles) d)) is (maybe_there next g d i))
         (subst (λ l. NumbersMaybeStm l (reworded_maybe r update) (restated_maybe u changed)) is (maybe_stm_there next update changed j f.1))
-        (subst (λ l. NumbersStm l (reworded r v) (restated u z)) (sym (past_maybe_same next update) ∙ ap (λ l. past_maybe l (reworded_maybe r update)) is) (stm_there (past_maybe next update) v z w f.2))
+        (subst (λ l. NumbersStm l (reworded r v) (restated u z)) (sym (past_maybe_same next update)
+        ∙ ap (λ l. past_maybe l (reworded_maybe r update)) is) (stm_there (past_maybe next update) v z w f.2))
     stm_there site a y (number.foreach {name = name} {x = v} {y = z} fresh room g h) f =
         number.foreach (fresh_same site name fresh) (room_same site room) (exp_there site _ _ g)
         (subst (λ l. NumbersStm l (reworded r v) (restated u z)) (sym (declares_same site name Foreach)) (stm_there (declares site name Foreach) v z h f))
@@ -452,7 +458,8 @@ module _ (r : Rewording) (k : IsMild r) (u : Restating) (types : AreRetyped u r)
       → NumbersFields (reworded_text r text) class n (map (reworded_field r) fs) (map restated_field gs)
   fields_there text class n fs gs number.none = number.none
   fields_there text class n fs gs (number.more {f = f} {type = type} {fs = us} {gs = vs} h t rest) =
-      subst (λ l. NumbersFields (reworded_text r text) class n (map (reworded_field r) (f ∷ us)) (record { modifiers = r.fields f.modifiers; ty = u.ty type; name = l } ∷ map restated_field vs)) (name_same r text f.name)
+      subst (λ l. NumbersFields (reworded_text r text) class n (map (reworded_field r) (f ∷ us))
+      (record { modifiers = r.fields f.modifiers; ty = u.ty type; name = l } ∷ map restated_field vs)) (name_same r text f.name)
       (number.more (field_same r text class f.name ∙ h) (numbers_inner text f.ty type t) (fields_there text class (n + 1) us vs rest))
 
   pub classes_there : (text : TextTree) (n : ℕ) (cs : List ClassTree) (ds : List NumberedClass) → NumbersClasses text n cs ds

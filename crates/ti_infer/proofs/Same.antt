@@ -33,7 +33,8 @@ or_false false = refl
 -- the word is no `static`
 static_behind : (words : List Modifier) (b : Bool) (m : Modifier) → is_static_word m.word ≡ false
     → list_any (λ (x : Modifier). is_static_word x.word) (words ++ (if b then m ∷ [] else [])) ≡ list_any (λ (x : Modifier). is_static_word x.word) words
-static_behind words true m h = list_any-append (λ (x : Modifier). is_static_word x.word) words (m ∷ []) ∙ ap (λ b. list_any (λ (x : Modifier). is_static_word x.word) words || (b || false)) h ∙ or_false _
+static_behind words true m h = list_any-append (λ (x : Modifier). is_static_word x.word) words (m ∷ [])
+    ∙ ap (λ b. list_any (λ (x : Modifier). is_static_word x.word) words || (b || false)) h ∙ or_false _
 static_behind words false m h = list_any-append (λ (x : Modifier). is_static_word x.word) words [] ∙ or_false _
 
 pub static_same : (marks : Marks) (m : NumberedMethod) → is_static_method (marked_method marks m) ≡ is_static_method m
@@ -73,7 +74,8 @@ pub instance_same : (marks : Marks) (p : NumberedProgram) (class name : ℕ) →
 unfolding instance_method
 instance_same marks p class name =
     ap (only_if (λ (m : NumberedMethod). not (is_static_method m))) (find_map (marked_method marks) (λ (m : NumberedMethod). (m.class == class) && (m.name == name)) p.methods (λ m. refl))
-    ∙ only_map (marked_method marks) (λ (m : NumberedMethod). not (is_static_method m)) (find (λ (m : NumberedMethod). (m.class == class) && (m.name == name)) p.methods) (λ m. ap not (static_same marks m))
+    ∙ only_map (marked_method marks) (λ (m : NumberedMethod). not (is_static_method m))
+    (find (λ (m : NumberedMethod). (m.class == class) && (m.name == name)) p.methods) (λ m. ap not (static_same marks m))
 
 -- what a method gives that is there or not
 given_same : (marks : Marks) (o : Option NumberedMethod) → option_map_or result_type (option_map (marked_method marks) o) t.Void ≡ option_map_or result_type o t.Void
@@ -205,4 +207,5 @@ call_same marks p this singles (e.Index at x parts) = refl
 
 pub language_same : (marks : Marks) (p : NumberedProgram) (this : Option ℕ) (singles : ℕ → Bool) (x : NumberedExp) (name : ℕ)
     → member_called (marked marks p) this (marked_exp singles x) name ≡ member_called p this x name
-language_same marks p this singles x name = ap (λ y. if is_object y then None else built_in (marked marks p) name) (text_same marks p this singles x) ∙ ap (λ b. if is_object (type_in_text p this x) then None else b) (built_in_same marks p name)
+language_same marks p this singles x name = ap (λ y. if is_object y then None else built_in (marked marks p) name)
+    (text_same marks p this singles x) ∙ ap (λ b. if is_object (type_in_text p this x) then None else b) (built_in_same marks p name)

@@ -15,7 +15,9 @@ use Rattle.ti_blame.specs.Marks.{Marks, IsPart}
 use Rattle.ti_infer.specs.Marks.{marks_variable}
 use Rattle.ti_infer.specs.Marked.{marked_exp, marked_init, marked_method, marked}
 use Rattle.ti_blame.specs.declared.blame.Blame.{Blame}
-use Rattle.ti_infer.specs.Blame.{guarded, effect_reasons, result_reasons, loop_reasons, target_reasons, blame_around, plain_here, arguments_blamed, params_blamed, call_blamed, whole_blamed, initial_blamed, condition_plain, own_blamed, blamed, blamed_of_maybe, blamed_of_all, method_blamed, program_blamed}
+use Rattle.ti_infer.specs.Blame.{guarded, effect_reasons, result_reasons, loop_reasons, target_reasons, blame_around, plain_here}
+use Rattle.ti_infer.specs.Blame.{arguments_blamed, params_blamed, call_blamed, whole_blamed, initial_blamed, condition_plain, own_blamed}
+use Rattle.ti_infer.specs.Blame.{blamed, blamed_of_maybe, blamed_of_all, method_blamed, program_blamed}
 use Rattle.ti_infer.proofs.Truths.{Grows, true_false}
 use Rattle.ti_infer.proofs.Growing.{GrowAll}
 use Rattle.ti_infer.proofs.Beside.{BesideAll, params_beside, part_at, single_at, initial_at, inside_beside}
@@ -55,7 +57,8 @@ module _ (q : Blame → Bool) where
       arguments_shrink [] (e.MoreExp a rest) = same []
       arguments_shrink (w ∷ params) e.NoExp = same []
       arguments_shrink (w ∷ params) (e.MoreExp a rest) =
-          appended (guarded (plain_here p m u ws a) _) (arguments_blamed p m u ws params rest) (guarded (plain_here p m v vs a) _) (arguments_blamed p m v vs params rest) (plain a _) (arguments_shrink params rest)
+          appended (guarded (plain_here p m u ws a) _) (arguments_blamed p m u ws params rest) (guarded (plain_here p m v vs a) _)
+          (arguments_blamed p m v vs params rest) (plain a _) (arguments_shrink params rest)
 
       params_shrink : (params : NumberedParams) (args : NumberedExps) → Grows (list_any q (params_blamed p m u ws params args)) (list_any q (params_blamed p m v vs params args))
       params_shrink Words args = same []
@@ -99,19 +102,23 @@ module _ (q : Blame → Bool) where
       condition_shrinks None xs = same []
       condition_shrinks (Some x) xs = plain x xs
 
-      given : (value : NumberedInit) (xs : List Blame) → Grows (list_any q (initial_blamed p m u ws value ++ guarded (is_plain_initial (marked u p) (blame_around p m u ws) (marked_init (marks_variable u m) value)) xs))
+      given : (value : NumberedInit) (xs : List Blame) → Grows (list_any q (initial_blamed p m u ws value
+          ++ guarded (is_plain_initial (marked u p) (blame_around p m u ws) (marked_init (marks_variable u m) value)) xs))
           (list_any q (initial_blamed p m v vs value ++ guarded (is_plain_initial (marked v p) (blame_around p m v vs) (marked_init (marks_variable v m) value)) xs))
-      given value xs = appended (initial_blamed p m u ws value) _ (initial_blamed p m v vs value) _ (initial_shrinks value) (behind _ _ xs (initial_at p m v u part _ _ growth vs ws None None beside value))
+      given value xs = appended (initial_blamed p m u ws value) _ (initial_blamed p m v vs value) _ (initial_shrinks value)
+          (behind _ _ xs (initial_at p m v u part _ _ growth vs ws None None beside value))
 
       own_shrinks : (s : NumberedStm) → Grows (list_any q (own_blamed p m u ws jumping s)) (list_any q (own_blamed p m v vs jumping s))
       own_shrinks (st.Declare at type variable value) = given value _
       own_shrinks (st.Assign at target value) = given value _
-      own_shrinks (st.Update at op target x) = appended (whole_blamed p m u ws x) _ (whole_blamed p m v vs x) _ (whole_shrinks x) (behind _ _ (target_reasons p m target) (single_at p m v u part _ _ growth vs ws None None beside x))
+      own_shrinks (st.Update at op target x) = appended (whole_blamed p m u ws x) _ (whole_blamed p m v vs x) _ (whole_shrinks x)
+          (behind _ _ (target_reasons p m target) (single_at p m v u part _ _ growth vs ws None None beside x))
       own_shrinks (st.Call x) = whole_shrinks x
       own_shrinks (st.If at c a) = plain c _
       own_shrinks (st.IfElse at c a b) = plain c _
       own_shrinks (st.While at c body) = plain c _
-      own_shrinks (st.For at first c update body) = appended (guarded (condition_plain p m u ws c) _) _ (guarded (condition_plain p m v vs c) _) _ (condition_shrinks c (loop_reasons p m update body)) (same _)
+      own_shrinks (st.For at first c update body) = appended (guarded (condition_plain p m u ws c) _) _
+          (guarded (condition_plain p m v vs c) _) _ (condition_shrinks c (loop_reasons p m update body)) (same _)
       own_shrinks (st.Foreach at variable domain body) = plain domain _
       own_shrinks (st.Return at None) = same []
       own_shrinks (st.Return at (Some x)) = plain x _
@@ -127,13 +134,16 @@ module _ (q : Blame → Bool) where
       stm_shrinks : (s : NumberedStm) (vs ws : List ScopeVariable) (jumping : List Blame) → BesideAll vs ws → Grows (list_any q (blamed p m u ws jumping s)) (list_any q (blamed p m v vs jumping s))
       stm_shrinks (st.Block body) vs ws jumping b = stms_shrink body vs ws jumping b
       stm_shrinks (st.If at c a) vs ws jumping b =
-          appended (own_blamed p m u ws jumping (st.If at c a)) (blamed p m u ws jumping a) (own_blamed p m v vs jumping (st.If at c a)) (blamed p m v vs jumping a) (own_shrinks vs ws jumping b (st.If at c a)) (stm_shrinks a vs ws jumping b)
+          appended (own_blamed p m u ws jumping (st.If at c a)) (blamed p m u ws jumping a) (own_blamed p m v vs jumping (st.If at c a))
+          (blamed p m v vs jumping a) (own_shrinks vs ws jumping b (st.If at c a)) (stm_shrinks a vs ws jumping b)
       stm_shrinks (st.IfElse at c a d) vs ws jumping b =
-          appended (own_blamed p m u ws jumping (st.IfElse at c a d)) (blamed p m u ws jumping a ++ blamed p m u ws jumping d) (own_blamed p m v vs jumping (st.IfElse at c a d)) (blamed p m v vs jumping a ++ blamed p m v vs jumping d)
+          appended (own_blamed p m u ws jumping (st.IfElse at c a d)) (blamed p m u ws jumping a ++ blamed p m u ws jumping d)
+          (own_blamed p m v vs jumping (st.IfElse at c a d)) (blamed p m v vs jumping a ++ blamed p m v vs jumping d)
           (own_shrinks vs ws jumping b (st.IfElse at c a d))
           (appended (blamed p m u ws jumping a) (blamed p m u ws jumping d) (blamed p m v vs jumping a) (blamed p m v vs jumping d) (stm_shrinks a vs ws jumping b) (stm_shrinks d vs ws jumping b))
       stm_shrinks (st.While at c body) vs ws jumping b =
-          appended (own_blamed p m u ws jumping (st.While at c body)) (blamed p m u ws (loop_reasons p m st.NoStm body) body) (own_blamed p m v vs jumping (st.While at c body)) (blamed p m v vs (loop_reasons p m st.NoStm body) body)
+          appended (own_blamed p m u ws jumping (st.While at c body)) (blamed p m u ws (loop_reasons p m st.NoStm body) body)
+          (own_blamed p m v vs jumping (st.While at c body)) (blamed p m v vs (loop_reasons p m st.NoStm body) body)
           (own_shrinks vs ws jumping b (st.While at c body)) (stm_shrinks body vs ws (loop_reasons p m st.NoStm body) b)
       stm_shrinks (st.For at first c update body) vs ws jumping b =
           let inner_u = blamed p m u ws (loop_reasons p m update body) body in
@@ -141,13 +151,20 @@ module _ (q : Blame → Bool) where
           appended (own_blamed p m u ws jumping (st.For at first c update body)) (blamed_of_maybe p m u ws jumping first ++ (blamed_of_maybe p m u ws jumping update ++ inner_u))
           (own_blamed p m v vs jumping (st.For at first c update body)) (blamed_of_maybe p m v vs jumping first ++ (blamed_of_maybe p m v vs jumping update ++ inner_v))
           (own_shrinks vs ws jumping b (st.For at first c update body))
-          (appended (blamed_of_maybe p m u ws jumping first) (blamed_of_maybe p m u ws jumping update ++ inner_u) (blamed_of_maybe p m v vs jumping first) (blamed_of_maybe p m v vs jumping update ++ inner_v) (maybe_shrinks first vs ws jumping b)
-          (appended (blamed_of_maybe p m u ws jumping update) inner_u (blamed_of_maybe p m v vs jumping update) inner_v (maybe_shrinks update vs ws jumping b) (stm_shrinks body vs ws (loop_reasons p m update body) b)))
+          (appended (blamed_of_maybe p m u ws jumping first) (blamed_of_maybe p m u ws jumping update ++ inner_u)
+          (blamed_of_maybe p m v vs jumping first) (blamed_of_maybe p m v vs jumping update ++ inner_v)
+          (maybe_shrinks first vs ws jumping b)
+          (appended (blamed_of_maybe p m u ws jumping update) inner_u (blamed_of_maybe p m v vs jumping update) inner_v
+          (maybe_shrinks update vs ws jumping b) (stm_shrinks body vs ws (loop_reasons p m update body) b)))
       stm_shrinks (st.Foreach at variable domain body) vs ws jumping b =
           let us = variables_inside (marked u p) (scope_of (blame_around p m u ws)) variable (marked_exp (marks_variable u m) domain) in
           let xs = variables_inside (marked v p) (scope_of (blame_around p m v vs)) variable (marked_exp (marks_variable v m) domain) in
-          appended (own_blamed p m u ws jumping (st.Foreach at variable domain body)) (blamed p m u us (loop_reasons p m st.NoStm body) body) (own_blamed p m v vs jumping (st.Foreach at variable domain body)) (blamed p m v xs (loop_reasons p m st.NoStm body) body)
-          (own_shrinks vs ws jumping b (st.Foreach at variable domain body)) (stm_shrinks body xs us (loop_reasons p m st.NoStm body) (inside_beside p m v u part _ _ growth vs ws None None b variable domain))
+          appended (own_blamed p m u ws jumping (st.Foreach at variable domain body))
+          (blamed p m u us (loop_reasons p m st.NoStm body) body) (own_blamed p m v vs jumping (st.Foreach at variable domain body))
+          (blamed p m v xs (loop_reasons p m st.NoStm body) body)
+          (own_shrinks vs ws jumping b (st.Foreach at variable domain body))
+          (stm_shrinks body xs us (loop_reasons p m st.NoStm body) (inside_beside p m v u part _ _ growth vs ws None None b variable
+          domain))
       stm_shrinks st.Empty vs ws jumping b = same []
       stm_shrinks (st.Declare at type variable value) vs ws jumping b = own_shrinks vs ws jumping b (st.Declare at type variable value)
       stm_shrinks (st.Assign at target value) vs ws jumping b = own_shrinks vs ws jumping b (st.Assign at target value)
@@ -160,14 +177,17 @@ module _ (q : Blame → Bool) where
       stm_shrinks (st.Break at) vs ws jumping b = same []
       stm_shrinks (st.Continue at) vs ws jumping b = same []
 
-      maybe_shrinks : (s : MaybeNumbered) (vs ws : List ScopeVariable) (jumping : List Blame) → BesideAll vs ws → Grows (list_any q (blamed_of_maybe p m u ws jumping s)) (list_any q (blamed_of_maybe p m v vs jumping s))
+      maybe_shrinks : (s : MaybeNumbered) (vs ws : List ScopeVariable) (jumping : List Blame) → BesideAll vs ws
+          → Grows (list_any q (blamed_of_maybe p m u ws jumping s)) (list_any q (blamed_of_maybe p m v vs jumping s))
       maybe_shrinks st.NoStm vs ws jumping b = same []
       maybe_shrinks (st.SomeStm s) vs ws jumping b = stm_shrinks s vs ws jumping b
 
-      stms_shrink : (ss : NumberedStms) (vs ws : List ScopeVariable) (jumping : List Blame) → BesideAll vs ws → Grows (list_any q (blamed_of_all p m u ws jumping ss)) (list_any q (blamed_of_all p m v vs jumping ss))
+      stms_shrink : (ss : NumberedStms) (vs ws : List ScopeVariable) (jumping : List Blame) → BesideAll vs ws
+          → Grows (list_any q (blamed_of_all p m u ws jumping ss)) (list_any q (blamed_of_all p m v vs jumping ss))
       stms_shrink st.Nil vs ws jumping b = same []
       stms_shrink (st.Cons s rest) vs ws jumping b =
-          appended (blamed p m u ws jumping s) (blamed_of_all p m u ws jumping rest) (blamed p m v vs jumping s) (blamed_of_all p m v vs jumping rest) (stm_shrinks s vs ws jumping b) (stms_shrink rest vs ws jumping b)
+          appended (blamed p m u ws jumping s) (blamed_of_all p m u ws jumping rest) (blamed p m v vs jumping s)
+          (blamed_of_all p m v vs jumping rest) (stm_shrinks s vs ws jumping b) (stms_shrink rest vs ws jumping b)
 
     method_grows : Grows (marked_method v m).is_single (marked_method u m).is_single
     method_grows = by m.is_single
@@ -179,14 +199,17 @@ module _ (q : Blame → Bool) where
     pub method_shrinks : Grows (list_any q (method_blamed p m u)) (list_any q (method_blamed p m v))
     method_shrinks =
         appended _ (blamed_of_all p m u _ [] (numbered_stms m.body)) _ (blamed_of_all p m v _ [] (numbered_stms m.body))
-        (appended (guarded (not (marked_method u m).is_single) _) (guarded (not (marked_method u m).is_single) _) (guarded (not (marked_method v m).is_single) _) (guarded (not (marked_method v m).is_single) _)
+        (appended (guarded (not (marked_method u m).is_single) _) (guarded (not (marked_method u m).is_single) _)
+        (guarded (not (marked_method v m).is_single) _) (guarded (not (marked_method v m).is_single) _)
         (behind _ _ (effect_reasons p m [] (st.Block (numbered_stms m.body))) method_grows) (behind _ _ (result_reasons p m m.result) method_grows))
         (stms_shrink (numbered_stms m.body) _ _ [] (params_beside v u m.params part))
 
-  methods_shrink : (p : NumberedProgram) (v u : Marks) (ms : List NumberedMethod) → IsPart v u → Grows (list_any q (flat_map (λ m. method_blamed p m u) ms)) (list_any q (flat_map (λ m. method_blamed p m v) ms))
+  methods_shrink : (p : NumberedProgram) (v u : Marks) (ms : List NumberedMethod) → IsPart v u
+      → Grows (list_any q (flat_map (λ m. method_blamed p m u) ms)) (list_any q (flat_map (λ m. method_blamed p m v) ms))
   methods_shrink p v u [] part = same []
   methods_shrink p v u (m ∷ ms) part =
-      appended (method_blamed p m u) (flat_map (λ m. method_blamed p m u) ms) (method_blamed p m v) (flat_map (λ m. method_blamed p m v) ms) (method_shrinks p m v u part) (methods_shrink p v u ms part)
+      appended (method_blamed p m u) (flat_map (λ m. method_blamed p m u) ms) (method_blamed p m v) (flat_map (λ m. method_blamed p m v) ms)
+      (method_shrinks p m v u part) (methods_shrink p v u ms part)
 
   pub program_shrinks : (p : NumberedProgram) (v u : Marks) → IsPart v u → Grows (list_any q (program_blamed p u)) (list_any q (program_blamed p v))
   program_shrinks p v u part = methods_shrink p v u p.methods part

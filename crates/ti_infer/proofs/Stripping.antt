@@ -25,7 +25,10 @@ use Rattle.ti_infer.specs.Stripped.{plain_words, plain_modifiers, plain_grid, pl
 use Rattle.ti_infer.proofs.Truths.{true_false}
 use Rattle.ti_infer.proofs.Respelled.{respelled}
 use Rattle.ti_infer.proofs.Refound.{any_static, IsMild, reworded_own, methods_same, method_same, names_same, name_same, reworded_map, body_literals, text_literals}
-use Rattle.ti_infer.proofs.Renumbered.{retyped, Restating, restated, restated_init, restated_maybe, restated_all, restated_params, IsFine, AreFine, MaybeFine, AllFine, ParamsFine, AreRetyped, numbers_type, site_there, stms_there, restated_map, classes_there, HeadFine, params_there, body_site_same, method_site_same, form_same, main_there}
+use Rattle.ti_infer.proofs.Renumbered.{retyped, Restating, restated, restated_init, restated_maybe, restated_all, restated_params, IsFine}
+use Rattle.ti_infer.proofs.Renumbered.{AreFine, MaybeFine, AllFine, ParamsFine, AreRetyped, numbers_type, site_there, stms_there}
+use Rattle.ti_infer.proofs.Renumbered.{restated_map, classes_there, HeadFine, params_there, body_site_same, method_site_same, form_same}
+use Rattle.ti_infer.proofs.Renumbered.{main_there}
 
 -- ---- words
 
@@ -222,8 +225,10 @@ method_plain text before own n (number.method {result = result} {params = params
     let inner : NumbersStms (body_site (plain_site here) (reworded_params stripping tree.params)) (stms (map (reworded stripping) tree.body)) (numbered_stms (map plain_stm body)) =
     subst (λ k. NumbersStms (body_site (plain_site here) (reworded_params stripping tree.params)) k (numbered_stms (map plain_stm body)))
     (reworded_map stripping tree.body)
-    (subst (NumbersStms (body_site (plain_site here) (reworded_params stripping tree.params)) (reworded_all stripping (stms tree.body))) (restated_map stripping mild plainly types body ∙ ap numbered_stms (body_plain body))
-    (subst (λ k. NumbersStms k (reworded_all stripping (stms tree.body)) (restated_all plainly (numbered_stms body))) (sym (body_site_same stripping mild plainly types here tree.params params ps (head_fine here params)))
+    (subst (NumbersStms (body_site (plain_site here) (reworded_params stripping tree.params)) (reworded_all stripping (stms tree.body)))
+    (restated_map stripping mild plainly types body ∙ ap numbered_stms (body_plain body))
+    (subst (λ k. NumbersStms k (reworded_all stripping (stms tree.body)) (restated_all plainly (numbered_stms body)))
+    (sym (body_site_same stripping mild plainly types here tree.params params ps (head_fine here params)))
     (stms_there stripping mild plainly types (body_site here tree.params) _ _ h (all_fine (numbered_stms body))))) in
     let outer : NumbersParams (plain_site here) (reworded_params stripping tree.params) (plain_params params) =
     subst (NumbersParams (plain_site here) (reworded_params stripping tree.params)) (params_plain params)
@@ -239,7 +244,8 @@ method_plain text before own n (number.method {result = result} {params = params
       body = map plain_stm body;
       end = tree.end;
     } in
-    subst (λ k. NumbersMethod k (plain_own own) (whole (if is_words tree.params then is_single tree.modifiers else false) (name_number text tree.name))) (sym (method_site_same stripping mild plainly types text own before))
+    subst (λ k. NumbersMethod k (plain_own own) (whole (if is_words tree.params then is_single tree.modifiers else false)
+    (name_number text tree.name))) (sym (method_site_same stripping mild plainly types text own before))
     (subst (NumbersMethod (plain_site here) (plain_own own)) (ap₂ whole (single_kept (is_words tree.params) tree.modifiers) (name_same stripping text tree.name))
     (number.method (result_plain text tree.place _ _ r) outer inner))
 
@@ -250,7 +256,8 @@ methods_numbered : (text : TextTree) (main n before : ℕ) (owns : List OwnMetho
 methods_numbered text main n before owns ns number.none f = number.none
 methods_numbered text main n before owns ns (number.more {own = own} {method = y} {rest = us} {methods = vs} named h rest) f =
     number.more (method_same stripping text own.class own.method.name ∙ named)
-    (subst (λ b. NumbersMethod (method_site (plain_text text) (plain_own own) before) (plain_own own) (plain_method b y)) (f 0 own refl ∙ ap (λ k. k == main) (no_more n)) (method_plain text before own y h))
+    (subst (λ b. NumbersMethod (method_site (plain_text text) (plain_own own) before) (plain_own own) (plain_method b y)) (f 0 own refl
+    ∙ ap (λ k. k == main) (no_more n)) (method_plain text before own y h))
     (subst (λ ls. NumbersMethods (plain_text text) (n + 1) (before + length ls) (map plain_own us) (plain_methods main (n + 1) vs)) (sym (body_literals stripping own))
     (methods_numbered text main (n + 1) (before + length (literals_in (stms own.method.body))) us vs rest (λ k o i. f (suc k) o i ∙ ap (λ z. z == main) (later n k))))
   where
@@ -297,7 +304,8 @@ words_where_main text n h k own i = by (k == n) (is_words own.method.params) ref
     by true false e z =
         let same : k ≡ n = eqb-true k n e in
         let is : own ≡ h.own = some_same own h.own (sym i ∙ ap (slice_get (methods_of text)) same ∙ h.stands) in
-        absurd (true_false (sym (and_last (has_main_modifiers h.own.method) (is_void h.own.method.result) (is_words h.own.method.params) h.form) ∙ ap (λ (o : OwnMethod). is_words o.method.params) (sym is) ∙ z))
+        absurd (true_false (sym (and_last (has_main_modifiers h.own.method) (is_void h.own.method.result)
+        (is_words h.own.method.params) h.form) ∙ ap (λ (o : OwnMethod). is_words o.method.params) (sym is) ∙ z))
 
 -- ---- programs
 

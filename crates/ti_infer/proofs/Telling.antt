@@ -20,6 +20,7 @@ params_inside_told Words = refl
 params_inside_told (Params ws) = refl
 
 -- four parts of a list that are pushed one after the other
-pub pushed_left : {A R E : Type 0} (r : Result R E) (out one two three new a b d e : List A) → one ≡ out ++ a → two ≡ one ++ b → three ≡ two ++ d → OnOk r (new ≡ three ++ e) → OnOk r (new ≡ out ++ (((a ++ b) ++ d) ++ e))
+pub pushed_left : {A R E : Type 0} (r : Result R E) (out one two three new a b d e : List A) → one ≡ out ++ a → two ≡ one ++ b → three ≡ two
+    ++ d → OnOk r (new ≡ three ++ e) → OnOk r (new ≡ out ++ (((a ++ b) ++ d) ++ e))
 pushed_left r out one two three new a b d e f g h k =
     on_ok_weaker r (λ z. z ∙ ap (λ l. l ++ e) (h ∙ ap (λ l. l ++ d) (g ∙ ap (λ l. l ++ b) f ∙ append_assoc out a b) ∙ append_assoc out (a ++ b) d) ∙ append_assoc out ((a ++ b) ++ d) e) k

@@ -1,5 +1,7 @@
 -- What the numbers of a text say of its program: what the names in its expressions mean.
-use Rattle.std.proofs.Common.{◌≡◌, ◌⊎◌, inl, inr, ℕ, zero, suc, ◌<◌, ◌≤◌, ◌==◌, nat_lt, Bool, true, false, not, ◌||◌, ◌&&◌, cond, if◌then◌else◌, length, position, slice_get, get_or, is_some, option_map, option_and_then, Option, Some, None, List, [], ◌∷◌, ◌++◌, bytes_eq, refl, ap, sym, ◌∙◌, subst, arith}
+use Rattle.std.proofs.Common.{◌≡◌, ◌⊎◌, inl, inr, ℕ, zero, suc, ◌<◌, ◌≤◌, ◌==◌, nat_lt, Bool, true, false, not, ◌||◌, ◌&&◌, cond}
+use Rattle.std.proofs.Common.{if◌then◌else◌, length, position, slice_get, get_or, is_some, option_map, option_and_then, Option, Some, None}
+use Rattle.std.proofs.Common.{List, [], ◌∷◌, ◌++◌, bytes_eq, refl, ap, sym, ◌∙◌, subst, arith}
 use Rattle.std.specs.List.{position_or_len}
 use Rattle.std.specs.Option.{option_map_or}
 use Rattle.std.specs.Map.{lookup}
@@ -36,7 +38,9 @@ position_there {A} test xs k h = by (slice_get_cases xs (position_or_len test xs
     there : (nat_lt (position_or_len test xs) (length xs) ≡ true) × (position_or_len test xs ≡ k)
     there = cond_some (nat_lt (position_or_len test xs) (length xs)) (position_or_len test xs) k h
 
-    by : ((a : A) × (position_or_len test xs < length xs) × (slice_get xs (position_or_len test xs) ≡ Some a) × (get_or xs (position_or_len test xs) a ≡ a)) ⊎ ((length xs ≤ position_or_len test xs) × (slice_get xs (position_or_len test xs) ≡ None))
+    by : ((a : A) × (position_or_len test xs < length xs) × (slice_get xs (position_or_len test xs) ≡ Some a)
+        × (get_or xs (position_or_len test xs) a ≡ a)) ⊎ ((length xs ≤ position_or_len test xs)
+        × (slice_get xs (position_or_len test xs) ≡ None))
         → (a : A) × (slice_get xs k ≡ Some a)
     by (inl q) = (q.0, subst (λ i. slice_get xs i ≡ Some q.0) there.1 q.2)
     by (inr q) = let lt = ltb-true (position_or_len test xs) (length xs) there.0 in absurd (omega (arith, lt, q.0))
@@ -68,7 +72,8 @@ class_at text n cs ds (number.more {c = y} {gs = gs} e h rest) zero x i =
     (n, record { modifiers = y.modifiers; fields = gs }, refl, subst (λ (z : ClassTree). NumbersFields text n 0 (fields_in z.members) gs) (some_same y x i) h)
 class_at text n cs ds (number.more e h rest) (suc k) x i = class_at text _ _ _ rest k x i
 
-field_at : (text : TextTree) (class n : ℕ) (fs : List FieldTree) (gs : List NumberedField) → NumbersFields text class n fs gs → (k : ℕ) (f : FieldTree) → slice_get fs k ≡ Some f → (g : NumberedField) × (slice_get gs k ≡ Some g)
+field_at : (text : TextTree) (class n : ℕ) (fs : List FieldTree) (gs : List NumberedField) → NumbersFields text class n fs gs
+    → (k : ℕ) (f : FieldTree) → slice_get fs k ≡ Some f → (g : NumberedField) × (slice_get gs k ≡ Some g)
 field_at text class n fs gs number.none k f e = absurd (none_some f e)
 field_at text class n fs gs (number.more e h rest) zero f i = (_, refl)
 field_at text class n fs gs (number.more e h rest) (suc k) f i = field_at text class _ _ _ rest k f i
@@ -86,7 +91,9 @@ text_fits p text n = record { fields = field_there; methods = λ k own e. method
         by None e = absurd (none_some found.0 (ap (λ (o : Option ClassTree). slice_get (option_map_or (λ (c : ClassTree). fields_in c.members) o []) field) (sym e) ∙ found.1))
         by (Some x) e =
             let d = class_at text 0 text p.classes n.classes class x e in
-            let g = field_at text d.0 0 (fields_in x.members) d.1.fields d.3 field found.0 (ap (λ (o : Option ClassTree). slice_get (option_map_or (λ (c : ClassTree). fields_in c.members) o []) field) (sym e) ∙ found.1) in (
+            let g = field_at text d.0 0 (fields_in x.members) d.1.fields d.3 field found.0
+            (ap (λ (o : Option ClassTree). slice_get (option_map_or (λ (c : ClassTree). fields_in c.members) o []) field) (sym e)
+            ∙ found.1) in (
               g.0.ty.type,
               ap (λ (o : Option NumberedClass). option_map (λ (f : NumberedField). f.ty.type) (slice_get (option_map_or (λ (c : NumberedClass). c.fields) o []) field)) d.2
                   ∙ ap (λ (o : Option NumberedField). option_map (λ (f : NumberedField). f.ty.type) o) g.1,
@@ -136,7 +143,8 @@ pub record SiteFits (p : NumberedProgram) (s : ScopeContents) (site : Site) : Ty
   pub scope : AllVariables s site.scope
   pub fresh : (k : ℕ) → site.variables ≤ k → in_scope s k ≡ None
 
-pub declares_fits : (p : NumberedProgram) (s : ScopeContents) (site : Site) (name : List ℕ) (is_single : Bool) (type : ValueType) → SiteFits p s site → SiteFits p s (declares site name (t.Typed is_single type))
+pub declares_fits : (p : NumberedProgram) (s : ScopeContents) (site : Site) (name : List ℕ) (is_single : Bool) (type : ValueType)
+    → SiteFits p s site → SiteFits p s (declares site name (t.Typed is_single type))
 declares_fits p s site name is_single type k = record {
   text = k.text;
   this = k.this;
@@ -236,10 +244,12 @@ module _ (p : NumberedProgram) (s : ScopeContents) (site : Site) (k : SiteFits p
       (c.0, c.1, c.2 ∙ sym (ap (λ (o : Option OwnMethod). option_map_or (λ (own : OwnMethod). is_static own.method) o false) q.1))
 
   -- the method of a call
-  pub own_there : (name : List ℕ) (method : ℕ) → own_method_named site name ≡ Some method → (m : NumberedMethod) × (slice_get p.methods method ≡ Some m) × (is_static_method m ≡ members.is_static_method site.text method)
+  pub own_there : (name : List ℕ) (method : ℕ) → own_method_named site name ≡ Some method → (m : NumberedMethod)
+      × (slice_get p.methods method ≡ Some m) × (is_static_method m ≡ members.is_static_method site.text method)
   own_there name method h = method_there site.class name method (only_if_there (λ j. members.is_static_method site.text j || not site.static) (method_named site.text site.class name) method h).0
 
-  pub static_there : (class : ℕ) (name : List ℕ) (method : ℕ) → static_method_named site class name ≡ Some method → (m : NumberedMethod) × (slice_get p.methods method ≡ Some m) × (is_static_method m ≡ true)
+  pub static_there : (class : ℕ) (name : List ℕ) (method : ℕ) → static_method_named site class name ≡ Some method → (m : NumberedMethod)
+      × (slice_get p.methods method ≡ Some m) × (is_static_method m ≡ true)
   static_there class name method h =
       let q = only_if_there (members.is_static_method site.text) (method_named site.text class name) method h in
       let c = method_there class name method q.0 in

@@ -24,7 +24,9 @@ use Rattle.ti_infer.specs.Marked.{marked_exp, marked_exps, marked_init, marked_s
 use Rattle.ti_infer.specs.Stripped.{IsPlainResult, HavePlainResults}
 use Rattle.ti_blame.specs.declared.blame.Blame.{Blame}
 use Rattle.ti_blame.specs.declared.blame.Blame.TheVariants.{OfCollective, Always, OfResult, OfVariable}
-use Rattle.ti_infer.specs.Blame.{guarded, target_reasons, result_reasons, loop_reasons, effect_reasons, blame_around, plain_here, arguments_blamed, params_blamed, call_blamed, whole_blamed, initial_blamed, condition_plain, own_blamed, blamed, blamed_of_maybe, blamed_of_all, method_blamed, program_blamed}
+use Rattle.ti_infer.specs.Blame.{guarded, target_reasons, result_reasons, loop_reasons, effect_reasons, blame_around, plain_here}
+use Rattle.ti_infer.specs.Blame.{arguments_blamed, params_blamed, call_blamed, whole_blamed, initial_blamed, condition_plain, own_blamed}
+use Rattle.ti_infer.specs.Blame.{blamed, blamed_of_maybe, blamed_of_all, method_blamed, program_blamed}
 use Rattle.ti_infer.proofs.Truths.{true_false}
 use Rattle.ti_infer.proofs.Same.{this_same, call_same, language_same}
 use Rattle.ti_infer.proofs.Beside.{around_in}
@@ -37,16 +39,20 @@ module _ (p : NumberedProgram) (m : NumberedMethod) (u : Marks) where
   called_at : (x : NumberedExp) → called_method (marked u p) (this_of (marked_method u m)) (marked_exp (marks_variable u m) x) ≡ option_map (marked_method u) (called_method p (this_of m) x)
   called_at x = ap (λ this. called_method (marked u p) this (marked_exp (marks_variable u m) x)) (this_same u m) ∙ call_same u p (this_of m) (marks_variable u m) x
 
-  delete_held : (a : NumberedExp) (name : ℕ) (at : Place) → is_delete (member_called (marked u p) (this_of (marked_method u m)) (marked_exp (marks_variable u m) a) name) ≡ some_held u (guarded (is_delete (member_called p (this_of m) a name)) (OfCollective at ∷ []))
+  delete_held : (a : NumberedExp) (name : ℕ) (at : Place) → is_delete
+      (member_called (marked u p) (this_of (marked_method u m)) (marked_exp (marks_variable u m) a) name)
+      ≡ some_held u (guarded (is_delete (member_called p (this_of m) a name)) (OfCollective at ∷ []))
   delete_held a name at =
-      ap (λ this. is_delete (member_called (marked u p) this (marked_exp (marks_variable u m) a) name)) (this_same u m) ∙ ap is_delete (language_same u p (this_of m) (marks_variable u m) a name) ∙ by (is_delete (member_called p (this_of m) a name))
+      ap (λ this. is_delete (member_called (marked u p) this (marked_exp (marks_variable u m) a) name)) (this_same u m)
+      ∙ ap is_delete (language_same u p (this_of m) (marks_variable u m) a name) ∙ by (is_delete (member_called p (this_of m) a name))
     where
       by : (b : Bool) → b ≡ some_held u (guarded b (OfCollective at ∷ []))
       by true = refl
       by false = refl
 
   module _ (ws : List ScopeVariable) (j : Option Bool) (jumping : List Blame) (jumps : unwrap_or j false ≡ some_held u jumping) where
-    arguments_complete : (params : List NumberedParam) (args : NumberedExps) → some_held u (arguments_blamed p m u ws params args) ≡ false → argument_refusals (marked u p) (around_in u m ws j) (map (marked_param u) params) (marked_exps (marks_variable u m) args) ≡ []
+    arguments_complete : (params : List NumberedParam) (args : NumberedExps) → some_held u (arguments_blamed p m u ws params args) ≡ false
+        → argument_refusals (marked u p) (around_in u m ws j) (map (marked_param u) params) (marked_exps (marks_variable u m) args) ≡ []
     arguments_complete [] e.NoExp h = refl
     arguments_complete [] (e.MoreExp a rest) h = refl
     arguments_complete (w ∷ params) e.NoExp h = refl
@@ -54,23 +60,27 @@ module _ (p : NumberedProgram) (m : NumberedMethod) (u : Marks) where
         let f = held_both u (guarded (plain_here p m u ws a) (OfVariable w.place ∷ [])) (arguments_blamed p m u ws params rest) h in
         both_none _ _ (rule_complete u (u.variables w.place) _ S5 _ (OfVariable w.place ∷ []) (or_false _) f.0) (arguments_complete params rest f.1)
 
-    params_complete : (params : NumberedParams) (args : NumberedExps) → some_held u (params_blamed p m u ws params args) ≡ false → params_refusals (marked u p) (around_in u m ws j) (marked_params u params) (marked_exps (marks_variable u m) args) ≡ []
+    params_complete : (params : NumberedParams) (args : NumberedExps) → some_held u (params_blamed p m u ws params args) ≡ false
+        → params_refusals (marked u p) (around_in u m ws j) (marked_params u params) (marked_exps (marks_variable u m) args) ≡ []
     params_complete Words args h = refl
     params_complete (Params params) args h = arguments_complete params args h
 
-    call_complete : (o : Option NumberedMethod) (args : NumberedExps) → some_held u (call_blamed p m u ws o args) ≡ false → call_refusals (marked u p) (around_in u m ws j) (option_map (marked_method u) o) (marked_exps (marks_variable u m) args) ≡ []
+    call_complete : (o : Option NumberedMethod) (args : NumberedExps) → some_held u (call_blamed p m u ws o args) ≡ false
+        → call_refusals (marked u p) (around_in u m ws j) (option_map (marked_method u) o) (marked_exps (marks_variable u m) args) ≡ []
     call_complete None args h = refl
     call_complete (Some y) args h = params_complete y.params args h
 
     method_complete_at : (x : NumberedExp) (args : NumberedExps) → some_held u (call_blamed p m u ws (called_method p (this_of m) x) args) ≡ false
         → call_refusals (marked u p) (around_in u m ws j) (called_method (marked u p) (this_of (marked_method u m)) (marked_exp (marks_variable u m) x)) (marked_exps (marks_variable u m) args) ≡ []
-    method_complete_at x args h = ap (λ o. call_refusals (marked u p) (around_in u m ws j) o (marked_exps (marks_variable u m) args)) (called_at x) ∙ call_complete (called_method p (this_of m) x) args h
+    method_complete_at x args h = ap (λ o. call_refusals (marked u p) (around_in u m ws j) o (marked_exps (marks_variable u m) args))
+        (called_at x) ∙ call_complete (called_method p (this_of m) x) args h
 
     whole_complete : (x : NumberedExp) → some_held u (whole_blamed p m u ws x) ≡ false → whole_refusals (marked u p) (around_in u m ws j) (marked_exp (marks_variable u m) x) ≡ []
     whole_complete (e.Call at method args) h = method_complete_at (e.Call at method args) args h
     whole_complete (e.OwnCall at method args) h = method_complete_at (e.OwnCall at method args) args h
     whole_complete (e.Member at a name args) h =
-        let f = held_both u (call_blamed p m u ws (called_method p (this_of m) (e.Member at a name args)) args) (guarded (plain_here p m u ws a) (guarded (is_delete (member_called p (this_of m) a name)) (OfCollective at ∷ []))) h in
+        let f = held_both u (call_blamed p m u ws (called_method p (this_of m) (e.Member at a name args)) args)
+        (guarded (plain_here p m u ws a) (guarded (is_delete (member_called p (this_of m) a name)) (OfCollective at ∷ []))) h in
         both_none _ _ (method_complete_at (e.Member at a name args) args f.0)
         (rule_complete u _ _ S8 at (guarded (is_delete (member_called p (this_of m) a name)) (OfCollective at ∷ [])) (delete_held a name at) f.1)
     whole_complete (e.Int at i) h = refl
@@ -99,7 +109,10 @@ module _ (p : NumberedProgram) (m : NumberedMethod) (u : Marks) where
 
     loop_complete : (r : Rule) (at : Place) (update : MaybeNumbered) (body : NumberedStm) (x : NumberedExp)
         → some_held u (guarded (plain_here p m u ws x) (loop_reasons p m update body)) ≡ false
-        → refused_if (loop_acts (marked u p) (marked_method u m) (marked_maybe (marks_variable u m) u.variables update) (marked_stm (marks_variable u m) u.variables body) && not (is_single_part (marked u p) (this_of (marked_method u m)) (singles_in (scope_of (around_in u m ws j))) (marked_exp (marks_variable u m) x))) r at ≡ []
+        → refused_if (loop_acts (marked u p) (marked_method u m) (marked_maybe (marks_variable u m) u.variables update)
+        (marked_stm (marks_variable u m) u.variables body) && not
+        (is_single_part (marked u p) (this_of (marked_method u m)) (singles_in (scope_of (around_in u m ws j)))
+        (marked_exp (marks_variable u m) x))) r at ≡ []
     loop_complete r at update body x h = rule_complete u _ _ r at (loop_reasons p m update body) (loop_held p m u update body) h
 
     and_false : (a : Bool) → (a && false) ≡ false
@@ -108,7 +121,9 @@ module _ (p : NumberedProgram) (m : NumberedMethod) (u : Marks) where
 
     condition_complete : (at : Place) (update : MaybeNumbered) (body : NumberedStm) (x : Option NumberedExp)
         → some_held u (guarded (condition_plain p m u ws x) (loop_reasons p m update body)) ≡ false
-        → refused_if (loop_acts (marked u p) (marked_method u m) (marked_maybe (marks_variable u m) u.variables update) (marked_stm (marks_variable u m) u.variables body) && is_plain_condition (marked u p) (around_in u m ws j) (option_map (marked_exp (marks_variable u m)) x)) S2 at ≡ []
+        → refused_if (loop_acts (marked u p) (marked_method u m) (marked_maybe (marks_variable u m) u.variables update)
+        (marked_stm (marks_variable u m) u.variables body) && is_plain_condition (marked u p) (around_in u m ws j)
+        (option_map (marked_exp (marks_variable u m)) x)) S2 at ≡ []
     condition_complete at update body None h = none_refused _ S2 at (and_false _)
     condition_complete at update body (Some x) h = loop_complete S2 at update body x h
 
@@ -160,7 +175,8 @@ module _ (p : NumberedProgram) (m : NumberedMethod) (u : Marks) where
         let f = held_both u (own_blamed p m u ws jumping (st.IfElse at c a d)) (blamed p m u ws jumping a ++ blamed p m u ws jumping d) h in
         let g = held_both u (blamed p m u ws jumping a) (blamed p m u ws jumping d) f.1 in
         both_none _ _ (own_complete ws j jumping k (st.IfElse at c a d) f.0)
-        (both_wrong (marked u p) (inside (marked u p) (around_in u m ws j) (marked_stm (marks_variable u m) u.variables a)) (inside (marked u p) (around_in u m ws j) (marked_stm (marks_variable u m) u.variables d))
+        (both_wrong (marked u p) (inside (marked u p) (around_in u m ws j) (marked_stm (marks_variable u m) u.variables a))
+        (inside (marked u p) (around_in u m ws j) (marked_stm (marks_variable u m) u.variables d))
         (stm_complete a ws j jumping k g.0) (stm_complete d ws j jumping k g.1))
     stm_complete (st.While at c body) ws j jumping k h =
         let f = held_both u (own_blamed p m u ws jumping (st.While at c body)) (blamed p m u ws (loop_reasons p m st.NoStm body) body) h in
@@ -173,11 +189,16 @@ module _ (p : NumberedProgram) (m : NumberedMethod) (u : Marks) where
         let body_there = inside (marked u p) (around_in u m ws (jump_in update body)) (marked_stm (marks_variable u m) u.variables body) in
         let update_there = inside_maybe (marked u p) (around_in u m ws j) (marked_maybe (marks_variable u m) u.variables update) in
         both_none _ _ (own_complete ws j jumping k (st.For at first c update body) f.0)
-        (both_wrong (marked u p) (inside_maybe (marked u p) (around_in u m ws j) (marked_maybe (marks_variable u m) u.variables first)) (update_there ++ body_there) (maybe_complete first ws j jumping k g.0)
-        (both_wrong (marked u p) update_there body_there (maybe_complete update ws j jumping k l.0) (stm_complete body ws (jump_in update body) (loop_reasons p m update body) (loop_held p m u update body) l.1)))
+        (both_wrong (marked u p) (inside_maybe (marked u p) (around_in u m ws j) (marked_maybe (marks_variable u m) u.variables first))
+        (update_there ++ body_there) (maybe_complete first ws j jumping k g.0)
+        (both_wrong (marked u p) update_there body_there (maybe_complete update ws j jumping k l.0)
+        (stm_complete body ws (jump_in update body) (loop_reasons p m update body) (loop_held p m u update body) l.1)))
     stm_complete (st.Foreach at variable domain body) ws j jumping k h =
-        let f = held_both u (own_blamed p m u ws jumping (st.Foreach at variable domain body)) (blamed p m u (variables_inside (marked u p) (scope_of (blame_around p m u ws)) variable (marked_exp (marks_variable u m) domain)) (loop_reasons p m st.NoStm body) body) h in
-        both_none _ _ (own_complete ws j jumping k (st.Foreach at variable domain body) f.0) (stm_complete body _ (jump_in st.NoStm body) (loop_reasons p m st.NoStm body) (loop_held p m u st.NoStm body) f.1)
+        let f = held_both u (own_blamed p m u ws jumping (st.Foreach at variable domain body))
+        (blamed p m u (variables_inside (marked u p) (scope_of (blame_around p m u ws)) variable
+        (marked_exp (marks_variable u m) domain)) (loop_reasons p m st.NoStm body) body) h in
+        both_none _ _ (own_complete ws j jumping k (st.Foreach at variable domain body) f.0)
+        (stm_complete body _ (jump_in st.NoStm body) (loop_reasons p m st.NoStm body) (loop_held p m u st.NoStm body) f.1)
     stm_complete st.Empty ws j jumping k h = refl
     stm_complete (st.Declare at type variable value) ws j jumping k h = both_none _ _ (own_complete ws j jumping k (st.Declare at type variable value) h) refl
     stm_complete (st.Assign at target value) ws j jumping k h = both_none _ _ (own_complete ws j jumping k (st.Assign at target value) h) refl
@@ -190,17 +211,20 @@ module _ (p : NumberedProgram) (m : NumberedMethod) (u : Marks) where
     stm_complete (st.Break at) ws j jumping k h = refl
     stm_complete (st.Continue at) ws j jumping k h = refl
 
-    maybe_complete : (s : MaybeNumbered) (ws : List ScopeVariable) (j : Option Bool) (jumping : List Blame) → unwrap_or j false ≡ some_held u jumping → some_held u (blamed_of_maybe p m u ws jumping s) ≡ false
+    maybe_complete : (s : MaybeNumbered) (ws : List ScopeVariable) (j : Option Bool) (jumping : List Blame) → unwrap_or j false
+        ≡ some_held u jumping → some_held u (blamed_of_maybe p m u ws jumping s) ≡ false
         → wrong (marked u p) (inside_maybe (marked u p) (around_in u m ws j) (marked_maybe (marks_variable u m) u.variables s)) ≡ []
     maybe_complete st.NoStm ws j jumping k h = refl
     maybe_complete (st.SomeStm s) ws j jumping k h = stm_complete s ws j jumping k h
 
-    stms_complete : (ss : NumberedStms) (ws : List ScopeVariable) (j : Option Bool) (jumping : List Blame) → unwrap_or j false ≡ some_held u jumping → some_held u (blamed_of_all p m u ws jumping ss) ≡ false
+    stms_complete : (ss : NumberedStms) (ws : List ScopeVariable) (j : Option Bool) (jumping : List Blame) → unwrap_or j false
+        ≡ some_held u jumping → some_held u (blamed_of_all p m u ws jumping ss) ≡ false
         → wrong (marked u p) (inside_all (marked u p) (around_in u m ws j) (marked_stms (marks_variable u m) u.variables ss)) ≡ []
     stms_complete st.Nil ws j jumping k h = refl
     stms_complete (st.Cons s rest) ws j jumping k h =
         let f = held_both u (blamed p m u ws jumping s) (blamed_of_all p m u ws jumping rest) h in
-        both_wrong (marked u p) (inside (marked u p) (around_in u m ws j) (marked_stm (marks_variable u m) u.variables s)) (inside_all (marked u p) (around_in u m ws j) (marked_stms (marks_variable u m) u.variables rest))
+        both_wrong (marked u p) (inside (marked u p) (around_in u m ws j) (marked_stm (marks_variable u m) u.variables s))
+        (inside_all (marked u p) (around_in u m ws j) (marked_stms (marks_variable u m) u.variables rest))
         (stm_complete s ws j jumping k f.0) (stms_complete rest ws j jumping k f.1)
 
   -- ---- the method
@@ -212,7 +236,9 @@ module _ (p : NumberedProgram) (m : NumberedMethod) (u : Marks) where
   word_complete words at true false plain h e = absurd (true_false (ap (λ a. a || false) e ∙ h))
   word_complete words at false false plain h e = flat_append word_refusals words [] ∙ both_none _ _ plain refl
 
-  result_complete : (r : NumberedResult) → IsPlainResult r → some_held u (guarded (not (marked_method u m).is_single) (result_reasons p m r)) ≡ false → result_refusals (marked_method u m).is_single (marked_result (u.results m.place) m.place r) ≡ []
+  result_complete : (r : NumberedResult) → IsPlainResult r → some_held u
+      (guarded (not (marked_method u m).is_single) (result_reasons p m r)) ≡ false
+      → result_refusals (marked_method u m).is_single (marked_result (u.results m.place) m.place r) ≡ []
   result_complete c.Void plain h = refl
   result_complete (c.Typed type) plain h = word_complete type.qualifiers m.place (u.results m.place) _ plain h refl
 
@@ -227,7 +253,9 @@ module _ (p : NumberedProgram) (m : NumberedMethod) (u : Marks) where
       (ap (λ ss. wrong (marked u p) (inside_all (marked u p) (around_in u m (parameters (marked_method u m).params) None) ss)) (stms_of_map (marks_variable u m) u.variables m.body)
       ∙ stms_complete (numbered_stms m.body) _ None [] refl f.1)
 
-methods_complete : (p : NumberedProgram) (u : Marks) (ms : List NumberedMethod) → HavePlainResults ms → some_held u (flat_map (λ m. method_blamed p m u) ms) ≡ false → flat_map (method_single_refusals (marked u p)) (map (marked_method u) ms) ≡ []
+methods_complete : (p : NumberedProgram) (u : Marks) (ms : List NumberedMethod) → HavePlainResults ms
+    → some_held u (flat_map (λ m. method_blamed p m u) ms) ≡ false
+    → flat_map (method_single_refusals (marked u p)) (map (marked_method u) ms) ≡ []
 methods_complete p u [] plain h = refl
 methods_complete p u (m ∷ ms) plain h =
     let f = held_both u (method_blamed p m u) (flat_map (λ m. method_blamed p m u) ms) h in

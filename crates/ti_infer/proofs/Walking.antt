@@ -40,9 +40,11 @@ pushed_four out one two three new a b d e f g h k =
     k ∙ ap (λ z. z ++ e) (h ∙ ap (λ z. z ++ d) (g ∙ ap (λ z. z ++ b) f)) ∙ append_assoc ((out ++ a) ++ b) d e ∙ append_assoc (out ++ a) b (d ++ e) ∙ append_assoc out a (b ++ (d ++ e))
 
 -- what falls by itself, and what falls inside
-inner_walked : {V I R E : Type 0} (r : Result R E) (own_edges : List Then → List Edge) (inside : V → I → ℕ → List Then → NumberedStm → List Edge) (i : ℕ) (w v t : List Then) (b body : NumberedStm) (vs vs' : V) (ins ins' : I)
+inner_walked : {V I R E : Type 0} (r : Result R E) (own_edges : List Then → List Edge) (inside : V → I → ℕ → List Then → NumberedStm
+    → List Edge) (i : ℕ) (w v t : List Then) (b body : NumberedStm) (vs vs' : V) (ins ins' : I)
     (around : ℕ → List Then → NumberedStm → List Edge) (out own new : List Edge)
-    → b ≡ body → w ≡ t → v ≡ t → vs ≡ vs' → ins ≡ ins' → around ≡ inside vs ins → own ≡ out ++ own_edges w → OnOk r (new ≡ own ++ around i v b) → OnOk r (new ≡ out ++ (own_edges t ++ inside vs' ins' i t body))
+    → b ≡ body → w ≡ t → v ≡ t → vs ≡ vs' → ins ≡ ins' → around ≡ inside vs ins → own ≡ out ++ own_edges w
+    → OnOk r (new ≡ own ++ around i v b) → OnOk r (new ≡ out ++ (own_edges t ++ inside vs' ins' i t body))
 inner_walked r own_edges inside i w v t b body vs vs' ins ins' around out own new is_body is_w is_v is_vs is_ins is_around f k =
     let told : around i v b ≡ inside vs' ins' i t body =
     ap (λ (g : ℕ → List Then → NumberedStm → List Edge). g i v b) (is_around ∙ ap₂ inside is_vs is_ins) ∙ ap₂ (inside vs' ins' i) is_v is_body in
@@ -63,7 +65,8 @@ module _ (a : Around) (i : ℕ) (jump : List Then) (at : Place) where
   pub for_walked : {R E : Type 0} (r : Result R E) (second third : ℕ) (w v : List Then) (first update : MaybeNumbered) (c : Option NumberedExp) (b body : NumberedStm) (out own one two new : List Edge)
       → second ≡ i + length (reasons_of_maybe (program_at a.site) (method_at a.site) first) → third ≡ second + length (reasons_of_maybe (program_at a.site) (method_at a.site) update) → b ≡ body
       → w ≡ loop_targets (program_at a.site) (method_at a.site) a.whole second update b → v ≡ loop_targets (program_at a.site) (method_at a.site) a.whole second update b
-      → own ≡ out ++ (condition_edges (program_at a.site) (method_at a.site) a.whole (inside_of a.inside.now) c w ++ always_if (doings_of_maybe (program_at a.site) (this_of (method_at a.site)) update).jumps)
+      → own ≡ out ++ (condition_edges (program_at a.site) (method_at a.site) a.whole (inside_of a.inside.now) c w
+      ++ always_if (doings_of_maybe (program_at a.site) (this_of (method_at a.site)) update).jumps)
       → one ≡ own ++ maybe_around a i jump first → two ≡ one ++ maybe_around a second jump update → OnOk r (new ≡ two ++ edges_around a third v b)
       → OnOk r (new ≡ out ++ edges_around a i jump (st.For at first c update body))
   for_walked r second third w v first update c b body out own one two new is_second is_third is_body is_w is_v f g h k =
@@ -91,8 +94,10 @@ module _ (a : Around) (i : ℕ) (jump : List Then) (at : Place) where
       → OnOk r (new ≡ out ++ edges_around a i jump (st.Foreach at variable domain body))
   foreach_walked r variable w v domain b body vs ins around out own new is_body is_w is_v is_vs is_ins is_around f k =
       let targets : NumberedStm → List Then = λ x. loop_targets (program_at a.site) (method_at a.site) a.whole i st.NoStm x in
-      inner_walked r (each (asks_at a.site a.inside.now domain)) (edges_with a.site a.whole) i w v (targets body) b body vs (variables_foreach (program_at a.site) (method_at a.site) a.whole (variables_at a) variable domain) ins
-      (inside_foreach (program_at a.site) (method_at a.site) a.whole (variables_at a) (inside_of a.inside.now) variable domain) around out own new is_body (is_w ∙ ap targets is_body) (is_v ∙ ap targets is_body) is_vs is_ins is_around f k
+      inner_walked r (each (asks_at a.site a.inside.now domain)) (edges_with a.site a.whole) i w v (targets body) b body vs
+      (variables_foreach (program_at a.site) (method_at a.site) a.whole (variables_at a) variable domain) ins
+      (inside_foreach (program_at a.site) (method_at a.site) a.whole (variables_at a) (inside_of a.inside.now) variable domain) around out
+      own new is_body (is_w ∙ ap targets is_body) (is_v ∙ ap targets is_body) is_vs is_ins is_around f k
 
 -- ---- methods
 
@@ -109,7 +114,8 @@ module _ (p : NumberedProgram) (ms : List NumberedMethod) (i : ℕ) (m : Numbere
       ap (λ l. l ++ flat_map (return_reasons p) (drop (i + 1) ms)) f ∙ append_assoc old (return_reasons p m) (flat_map (return_reasons p) (drop (i + 1) ms))
       ∙ ap (λ l. old ++ flat_map (return_reasons p) l) (sym (method_next ms i m less here)) ∙ g
 
-  pub edges_step : (items more : List Blame) (old new all : List Edge) → more ≡ items ++ return_reasons p m → new ≡ old ++ method_edges p m (length items) → old ++ methods_edges p (drop i ms) (length items) ≡ all
+  pub edges_step : (items more : List Blame) (old new all : List Edge) → more ≡ items ++ return_reasons p m → new ≡ old
+      ++ method_edges p m (length items) → old ++ methods_edges p (drop i ms) (length items) ≡ all
       → new ++ methods_edges p (drop (i + 1) ms) (length more) ≡ all
   edges_step items more old new all e f g =
       ap₂ (λ l n. l ++ methods_edges p (drop (i + 1) ms) n) f (ap length e ∙ length-append items (return_reasons p m))

@@ -23,7 +23,11 @@ use Rattle.ti_blame.specs.Marks.{Marks}
 use Rattle.ti_infer.specs.Marks.{marks_variable, variable_place}
 use Rattle.ti_infer.specs.Marked.{marked_exp, marked_params, marked_method, marked}
 use Rattle.ti_blame.specs.Marks.{holds}
-use Rattle.ti_infer.specs.Blame.{guarded, method_reasons, acts_reasons, initial_reasons, place_reasons, declared_reasons, target_reasons, reasons, reasons_of_maybe, reasons_of_all, result_reasons, return_reasons, loop_reasons, effect_reasons, blame_around, plain_here, arguments_blamed, params_blamed, call_blamed, whole_blamed, initial_blamed, condition_plain, own_blamed, blamed, blamed_of_maybe, blamed_of_all, method_blamed, program_blamed, every_one, KeepsSingle}
+use Rattle.ti_infer.specs.Blame.{guarded, method_reasons, acts_reasons, initial_reasons, place_reasons, declared_reasons, target_reasons}
+use Rattle.ti_infer.specs.Blame.{reasons, reasons_of_maybe, reasons_of_all, result_reasons, return_reasons, loop_reasons, effect_reasons}
+use Rattle.ti_infer.specs.Blame.{blame_around, plain_here, arguments_blamed, params_blamed, call_blamed, whole_blamed, initial_blamed}
+use Rattle.ti_infer.specs.Blame.{condition_plain, own_blamed, blamed, blamed_of_maybe, blamed_of_all, method_blamed, program_blamed}
+use Rattle.ti_infer.specs.Blame.{every_one, KeepsSingle}
 use Rattle.ti_infer.specs.Collectives.{is_collective_at, program_reasons}
 use Rattle.ti_infer.specs.Descent.{is_always}
 use Rattle.ti_infer.proofs.Truths.{Grows, true_false, grows_left, grows_right}
@@ -94,7 +98,8 @@ module _ (test : Place → Bool) (always : Bool) where
   jumping_within false d f = λ k. absurd (true_false (sym k))
 
   module _ (p : NumberedProgram) (m : NumberedMethod) (marks : Marks) (all : Bool) (returns : Grows (found (return_reasons p m)) all) where
-    loop_within : (update : MaybeNumbered) (body : NumberedStm) → Grows (found (reasons_of_maybe p m update)) all → Grows (found (reasons p m body)) all → Grows (found (loop_reasons p m update body)) all
+    loop_within : (update : MaybeNumbered) (body : NumberedStm) → Grows (found (reasons_of_maybe p m update)) all
+        → Grows (found (reasons p m body)) all → Grows (found (loop_reasons p m update body)) all
     loop_within update body f g =
         both (reasons_of_maybe p m update ++ reasons p m body) _ all (both (reasons_of_maybe p m update) (reasons p m body) all f g)
         (both (guarded (doings_of_maybe p (this_of m) update).returns (return_reasons p m)) _ all (behind _ (return_reasons p m) all returns) (behind _ (return_reasons p m) all returns))
@@ -141,7 +146,8 @@ module _ (test : Place → Bool) (always : Bool) where
     no_arguments vs [] (e.MoreExp a rest) = λ k. absurd (true_false (sym k))
     no_arguments vs (w ∷ params) e.NoExp = λ k. absurd (true_false (sym k))
     no_arguments vs (w ∷ params) (e.MoreExp a rest) =
-        both (guarded (plain_here p m marks vs a) (OfVariable w.place ∷ [])) (arguments_blamed p m marks vs params rest) all (behind _ (OfVariable w.place ∷ []) all (λ k. absurd (true_false (sym k)))) (no_arguments vs params rest)
+        both (guarded (plain_here p m marks vs a) (OfVariable w.place ∷ [])) (arguments_blamed p m marks vs params rest) all
+        (behind _ (OfVariable w.place ∷ []) all (λ k. absurd (true_false (sym k)))) (no_arguments vs params rest)
 
     no_call : (vs : List ScopeVariable) (o : Option NumberedMethod) (args : NumberedExps) → Grows (found (call_blamed p m marks vs o args)) all
     no_call vs None args = λ k. absurd (true_false (sym k))
@@ -197,17 +203,26 @@ module _ (test : Place → Bool) (always : Bool) where
     initial_within vs (st.NewObject at region class) f = λ k. absurd (true_false (sym k))
     initial_within vs (st.NewGrid at region element dims_at dims) f = λ k. absurd (true_false (sym k))
 
-    own_within : (vs : List ScopeVariable) (jumping : List Blame) (s : NumberedStm) → (always ≡ true → Still p m s) → Grows (found jumping) all → Grows (found (reasons p m s)) all → Grows (found (own_blamed p m marks vs jumping s)) all
-    own_within vs jumping (st.Declare at type variable value) h f g = both (initial_blamed p m marks vs value) _ all (initial_within vs value (λ k. g k)) (behind _ (OfVariable at ∷ []) all (λ k. absurd (true_false (sym k))))
-    own_within vs jumping (st.Assign at target value) h f g = both (initial_blamed p m marks vs value) _ all (initial_within vs value (λ k. g (second (target_reasons p m target) (initial_reasons p m value) k))) (behind _ (target_reasons p m target) all (λ k. absurd (true_false (sym k ∙ no_target target))))
-    own_within vs jumping (st.Update at op target x) h f g = both (whole_blamed p m marks vs x) _ all (whole_within vs x (λ k. g (second (target_reasons p m target) (acts_reasons p m x) k))) (behind _ (target_reasons p m target) all (λ k. absurd (true_false (sym k ∙ no_target target))))
+    own_within : (vs : List ScopeVariable) (jumping : List Blame) (s : NumberedStm) → (always ≡ true → Still p m s)
+        → Grows (found jumping) all → Grows (found (reasons p m s)) all → Grows (found (own_blamed p m marks vs jumping s)) all
+    own_within vs jumping (st.Declare at type variable value) h f g =
+        both (initial_blamed p m marks vs value) _ all (initial_within vs value (λ k. g k))
+        (behind _ (OfVariable at ∷ []) all (λ k. absurd (true_false (sym k))))
+    own_within vs jumping (st.Assign at target value) h f g = both (initial_blamed p m marks vs value) _ all
+        (initial_within vs value (λ k. g (second (target_reasons p m target) (initial_reasons p m value) k)))
+        (behind _ (target_reasons p m target) all (λ k. absurd (true_false (sym k ∙ no_target target))))
+    own_within vs jumping (st.Update at op target x) h f g = both (whole_blamed p m marks vs x) _ all
+        (whole_within vs x (λ k. g (second (target_reasons p m target) (acts_reasons p m x) k)))
+        (behind _ (target_reasons p m target) all (λ k. absurd (true_false (sym k ∙ no_target target))))
     own_within vs jumping (st.Call x) h f g = whole_within vs x g
     own_within vs jumping (st.If at c a) h f g = behind _ (effect_reasons p m jumping (st.If at c a)) all (effect_within jumping (st.If at c a) f g)
     own_within vs jumping (st.IfElse at c a b) h f g = behind _ (effect_reasons p m jumping (st.IfElse at c a b)) all (effect_within jumping (st.IfElse at c a b) f g)
     own_within vs jumping (st.While at c body) h f g = behind _ (loop_reasons p m st.NoStm body) all (loop_within st.NoStm body (λ k. absurd (true_false (sym k))) g)
     own_within vs jumping (st.For at initial c update body) h f g =
         both (guarded (condition_plain p m marks vs c) (loop_reasons p m update body)) _ all
-        (behind _ (loop_reasons p m update body) all (loop_within update body (λ k. g (second (reasons_of_maybe p m initial) _ (first (reasons_of_maybe p m update) (reasons p m body) k))) (λ k. g (second (reasons_of_maybe p m initial) _ (second (reasons_of_maybe p m update) (reasons p m body) k)))))
+        (behind _ (loop_reasons p m update body) all (loop_within update body
+        (λ k. g (second (reasons_of_maybe p m initial) _ (first (reasons_of_maybe p m update) (reasons p m body) k)))
+        (λ k. g (second (reasons_of_maybe p m initial) _ (second (reasons_of_maybe p m update) (reasons p m body) k)))))
         (jumping_within _ all (λ k. (h k).0))
     own_within vs jumping (st.Foreach at variable domain body) h f g = behind _ (loop_reasons p m st.NoStm body) all (loop_within st.NoStm body (λ k. absurd (true_false (sym k))) g)
     own_within vs jumping (st.Return at None) h f g = λ k. absurd (true_false (sym k))
@@ -221,25 +236,34 @@ module _ (test : Place → Bool) (always : Bool) where
     own_within vs jumping (st.Block body) h f g = λ k. absurd (true_false (sym k))
 
     mutual
-      within : (s : NumberedStm) (vs : List ScopeVariable) (jumping : List Blame) → (always ≡ true → Still p m s) → Grows (found jumping) all → Grows (found (reasons p m s)) all → Grows (found (blamed p m marks vs jumping s)) all
+      within : (s : NumberedStm) (vs : List ScopeVariable) (jumping : List Blame) → (always ≡ true → Still p m s)
+          → Grows (found jumping) all → Grows (found (reasons p m s)) all → Grows (found (blamed p m marks vs jumping s)) all
       within (st.Block body) vs jumping h f g = within_all body vs jumping h f g
-      within (st.If at c a) vs jumping h f g = both (own_blamed p m marks vs jumping (st.If at c a)) (blamed p m marks vs jumping a) all (own_within vs jumping (st.If at c a) h f g) (within a vs jumping h f g)
+      within (st.If at c a) vs jumping h f g = both (own_blamed p m marks vs jumping (st.If at c a)) (blamed p m marks vs jumping a) all
+          (own_within vs jumping (st.If at c a) h f g) (within a vs jumping h f g)
       within (st.IfElse at c a d) vs jumping h f g =
           both (own_blamed p m marks vs jumping (st.IfElse at c a d)) (blamed p m marks vs jumping a ++ blamed p m marks vs jumping d) all (own_within vs jumping (st.IfElse at c a d) h f g)
-          (both (blamed p m marks vs jumping a) (blamed p m marks vs jumping d) all (within a vs jumping (λ k. (h k).0) f (λ k. g (first (reasons p m a) (reasons p m d) k))) (within d vs jumping (λ k. (h k).1) f (λ k. g (second (reasons p m a) (reasons p m d) k))))
+          (both (blamed p m marks vs jumping a) (blamed p m marks vs jumping d) all
+          (within a vs jumping (λ k. (h k).0) f (λ k. g (first (reasons p m a) (reasons p m d) k)))
+          (within d vs jumping (λ k. (h k).1) f (λ k. g (second (reasons p m a) (reasons p m d) k))))
       within (st.While at c body) vs jumping h f g =
           both (own_blamed p m marks vs jumping (st.While at c body)) (blamed p m marks vs (loop_reasons p m st.NoStm body) body) all (own_within vs jumping (st.While at c body) h f g)
           (within body vs (loop_reasons p m st.NoStm body) h (loop_within st.NoStm body (λ k. absurd (true_false (sym k))) g) g)
       within (st.For at initial c update body) vs jumping h f g =
           let up : Grows (found (reasons_of_maybe p m update)) all = λ k. g (second (reasons_of_maybe p m initial) _ (first (reasons_of_maybe p m update) (reasons p m body) k)) in
           let inner : Grows (found (reasons p m body)) all = λ k. g (second (reasons_of_maybe p m initial) _ (second (reasons_of_maybe p m update) (reasons p m body) k)) in
-          both (own_blamed p m marks vs jumping (st.For at initial c update body)) (blamed_of_maybe p m marks vs jumping initial ++ (blamed_of_maybe p m marks vs jumping update ++ blamed p m marks vs (loop_reasons p m update body) body)) all
+          both (own_blamed p m marks vs jumping (st.For at initial c update body)) (blamed_of_maybe p m marks vs jumping initial
+          ++ (blamed_of_maybe p m marks vs jumping update ++ blamed p m marks vs (loop_reasons p m update body) body)) all
           (own_within vs jumping (st.For at initial c update body) h f g)
-          (both (blamed_of_maybe p m marks vs jumping initial) (blamed_of_maybe p m marks vs jumping update ++ blamed p m marks vs (loop_reasons p m update body) body) all (within_maybe initial vs jumping (λ k. (h k).1) f (λ k. g (first (reasons_of_maybe p m initial) _ k)))
+          (both (blamed_of_maybe p m marks vs jumping initial) (blamed_of_maybe p m marks vs jumping update
+          ++ blamed p m marks vs (loop_reasons p m update body) body) all
+          (within_maybe initial vs jumping (λ k. (h k).1) f (λ k. g (first (reasons_of_maybe p m initial) _ k)))
           (both (blamed_of_maybe p m marks vs jumping update) (blamed p m marks vs (loop_reasons p m update body) body) all (within_maybe update vs jumping (λ k. (h k).2) f up)
           (within body vs (loop_reasons p m update body) (λ k. (h k).3) (loop_within update body up inner) inner)))
       within (st.Foreach at variable domain body) vs jumping h f g =
-          both (own_blamed p m marks vs jumping (st.Foreach at variable domain body)) (blamed p m marks (variables_inside (marked marks p) (scope_of (blame_around p m marks vs)) variable (marked_exp (marks_variable marks m) domain)) (loop_reasons p m st.NoStm body) body) all
+          both (own_blamed p m marks vs jumping (st.Foreach at variable domain body))
+          (blamed p m marks (variables_inside (marked marks p) (scope_of (blame_around p m marks vs)) variable
+          (marked_exp (marks_variable marks m) domain)) (loop_reasons p m st.NoStm body) body) all
           (own_within vs jumping (st.Foreach at variable domain body) h f g)
           (within body _ (loop_reasons p m st.NoStm body) h (loop_within st.NoStm body (λ k. absurd (true_false (sym k))) g) g)
       within (st.Declare at type variable value) vs jumping h f g = own_within vs jumping (st.Declare at type variable value) h f g
@@ -254,19 +278,27 @@ module _ (test : Place → Bool) (always : Bool) where
       within (st.Break at) vs jumping h f g = λ k. absurd (true_false (sym k))
       within (st.Continue at) vs jumping h f g = λ k. absurd (true_false (sym k))
 
-      within_maybe : (s : MaybeNumbered) (vs : List ScopeVariable) (jumping : List Blame) → (always ≡ true → StillMaybe p m s) → Grows (found jumping) all → Grows (found (reasons_of_maybe p m s)) all → Grows (found (blamed_of_maybe p m marks vs jumping s)) all
+      within_maybe : (s : MaybeNumbered) (vs : List ScopeVariable) (jumping : List Blame) → (always ≡ true → StillMaybe p m s)
+          → Grows (found jumping) all → Grows (found (reasons_of_maybe p m s)) all
+          → Grows (found (blamed_of_maybe p m marks vs jumping s)) all
       within_maybe st.NoStm vs jumping h f g = λ k. absurd (true_false (sym k))
       within_maybe (st.SomeStm s) vs jumping h f g = within s vs jumping h f g
 
-      within_all : (ss : NumberedStms) (vs : List ScopeVariable) (jumping : List Blame) → (always ≡ true → StillAll p m ss) → Grows (found jumping) all → Grows (found (reasons_of_all p m ss)) all → Grows (found (blamed_of_all p m marks vs jumping ss)) all
+      within_all : (ss : NumberedStms) (vs : List ScopeVariable) (jumping : List Blame) → (always ≡ true → StillAll p m ss)
+          → Grows (found jumping) all → Grows (found (reasons_of_all p m ss)) all
+          → Grows (found (blamed_of_all p m marks vs jumping ss)) all
       within_all st.Nil vs jumping h f g = λ k. absurd (true_false (sym k))
       within_all (st.Cons s rest) vs jumping h f g =
-          both (blamed p m marks vs jumping s) (blamed_of_all p m marks vs jumping rest) all (within s vs jumping (λ k. (h k).0) f (λ k. g (first (reasons p m s) (reasons_of_all p m rest) k))) (within_all rest vs jumping (λ k. (h k).1) f (λ k. g (second (reasons p m s) (reasons_of_all p m rest) k)))
+          both (blamed p m marks vs jumping s) (blamed_of_all p m marks vs jumping rest) all
+          (within s vs jumping (λ k. (h k).0) f (λ k. g (first (reasons p m s) (reasons_of_all p m rest) k)))
+          (within_all rest vs jumping (λ k. (h k).1) f (λ k. g (second (reasons p m s) (reasons_of_all p m rest) k)))
 
-  method_within : (p : NumberedProgram) (m : NumberedMethod) (marks : Marks) → (always ≡ true → StillAll p m (numbered_stms m.body)) → Grows (found (method_blamed p m marks)) (found (reasons_of_all p m (numbered_stms m.body)))
+  method_within : (p : NumberedProgram) (m : NumberedMethod) (marks : Marks) → (always ≡ true → StillAll p m (numbered_stms m.body))
+      → Grows (found (method_blamed p m marks)) (found (reasons_of_all p m (numbered_stms m.body)))
   method_within p m marks h =
       let all = found (reasons_of_all p m (numbered_stms m.body)) in
-      let returns : Grows (found (return_reasons p m)) all = both (result_reasons p m m.result) (reasons_of_all p m (numbered_stms m.body)) all (λ k. absurd (true_false (sym k ∙ by m.result))) (λ k. k) in
+      let returns : Grows (found (return_reasons p m)) all = both (result_reasons p m m.result)
+      (reasons_of_all p m (numbered_stms m.body)) all (λ k. absurd (true_false (sym k ∙ by m.result))) (λ k. k) in
       let plain = not (marked_method marks m).is_single in
       let effects = effect_reasons p m [] (st.Block (numbered_stms m.body)) in
       let result = result_reasons p m m.result in
@@ -280,11 +312,13 @@ module _ (test : Place → Bool) (always : Bool) where
       by c.Void = refl
       by (c.Typed type) = refl
 
-  methods_within : (p : NumberedProgram) (marks : Marks) (ms : List NumberedMethod) → (always ≡ true → MethodsStill p ms) → Grows (found (flat_map (λ m. method_blamed p m marks) ms)) (found (flat_map (λ m. reasons_of_all p m (numbered_stms m.body)) ms))
+  methods_within : (p : NumberedProgram) (marks : Marks) (ms : List NumberedMethod) → (always ≡ true → MethodsStill p ms)
+      → Grows (found (flat_map (λ m. method_blamed p m marks) ms)) (found (flat_map (λ m. reasons_of_all p m (numbered_stms m.body)) ms))
   methods_within p marks [] h = λ k. k
   methods_within p marks (m ∷ ms) h =
       both (method_blamed p m marks) (flat_map (λ m. method_blamed p m marks) ms) _
-      (λ k. first (reasons_of_all p m (numbered_stms m.body)) _ (method_within p m marks (λ z. (h z).0) k)) (λ k. second (reasons_of_all p m (numbered_stms m.body)) _ (methods_within p marks ms (λ z. (h z).1) k))
+      (λ k. first (reasons_of_all p m (numbered_stms m.body)) _ (method_within p m marks (λ z. (h z).0) k))
+      (λ k. second (reasons_of_all p m (numbered_stms m.body)) _ (methods_within p marks ms (λ z. (h z).1) k))
 
 is_hit : (test : Place → Bool) (xs : List Blame) → list_any (is_collective_at test) xs ≡ list_any (hits test false) xs
 is_hit test [] = refl
@@ -308,7 +342,8 @@ is_hit_always (x ∷ xs) = ap₂ (λ a b. a || b) (one x) (is_hit_always xs)
     one (OfCollective at) = refl
     one Always = refl
 
-pub collectives_within : (test : Place → Bool) (p : NumberedProgram) (marks : Marks) → Grows (list_any (is_collective_at test) (program_blamed p marks)) (list_any (is_collective_at test) (program_reasons p))
+pub collectives_within : (test : Place → Bool) (p : NumberedProgram) (marks : Marks)
+    → Grows (list_any (is_collective_at test) (program_blamed p marks)) (list_any (is_collective_at test) (program_reasons p))
 collectives_within test p marks k =
     is_hit test (program_reasons p) ∙ methods_within test false p marks p.methods (λ z. absurd (true_false (sym z))) (sym (is_hit test (program_blamed p marks)) ∙ k)
 
@@ -334,7 +369,8 @@ not_counted counts at h = by (counts at) h
     by true h = refl
     by false h = absurd (true_false h)
 
-counted_held : (counts : Place → Bool) (m : Marks) (xs : List Blame) → list_any (is_collective_at (λ at. not (counts at))) xs ≡ false → list_any (holds counts m) xs ≡ false → list_any (holds every_one m) xs ≡ false
+counted_held : (counts : Place → Bool) (m : Marks) (xs : List Blame) → list_any (is_collective_at (λ at. not (counts at))) xs ≡ false
+    → list_any (holds counts m) xs ≡ false → list_any (holds every_one m) xs ≡ false
 counted_held counts m [] h k = refl
 counted_held counts m (x ∷ xs) h k =
     let f = or_none _ _ h in
@@ -353,5 +389,6 @@ counted_held counts m (x ∷ xs) h k =
     one Always h k = k
 
 -- where all collectives of the program count, the rules are kept as where every one does
-pub all_counted : (counts : Place → Bool) (p : NumberedProgram) (m : Marks) → list_any (is_collective_at (λ at. not (counts at))) (program_reasons p) ≡ false → KeepsSingle counts p m → KeepsSingle every_one p m
+pub all_counted : (counts : Place → Bool) (p : NumberedProgram) (m : Marks)
+    → list_any (is_collective_at (λ at. not (counts at))) (program_reasons p) ≡ false → KeepsSingle counts p m → KeepsSingle every_one p m
 all_counted counts p m h k = counted_held counts m (program_blamed p m) (is_false _ (λ t. true_false (sym (collectives_within (λ at. not (counts at)) p m t) ∙ h))) k

@@ -44,7 +44,8 @@ method_reasons (Some m) = (if m.is_single then Always else OfMethod m.place) ∷
 
 module _ (p : NumberedProgram) (m : NumberedMethod) where
   abbrev pub acts_reasons : NumberedExp → List Blame
-  acts_reasons e = method_reasons (called_method p (this_of m) e) ++ guarded (is_collective_call p (this_of m) e) (OfCollective (place_of_numbered e) ∷ [])
+  acts_reasons e = method_reasons (called_method p (this_of m) e)
+      ++ guarded (is_collective_call p (this_of m) e) (OfCollective (place_of_numbered e) ∷ [])
 
   abbrev pub initial_reasons : NumberedInit → List Blame
   initial_reasons (st.Value e) = acts_reasons e
@@ -102,11 +103,13 @@ module _ (p : NumberedProgram) (m : NumberedMethod) where
   abbrev pub loop_reasons : MaybeNumbered → NumberedStm → List Blame
   loop_reasons update body =
       (reasons_of_maybe update ++ reasons body)
-      ++ (guarded (doings_of_maybe p (this_of m) update).returns return_reasons ++ guarded (doings p (this_of m) body).returns return_reasons)
+      ++ (guarded (doings_of_maybe p (this_of m) update).returns return_reasons
+      ++ guarded (doings p (this_of m) body).returns return_reasons)
 
   -- why a statement has effects, where jumps have them for these reasons
   abbrev pub effect_reasons : List Blame → NumberedStm → List Blame
-  effect_reasons jumping s = (reasons s ++ guarded (doings p (this_of m) s).returns return_reasons) ++ guarded (doings p (this_of m) s).jumps jumping
+  effect_reasons jumping s =
+      (reasons s ++ guarded (doings p (this_of m) s).returns return_reasons) ++ guarded (doings p (this_of m) s).jumps jumping
 
 -- ---- by the rules
 
@@ -119,7 +122,8 @@ module _ (p : NumberedProgram) (m : NumberedMethod) (marks : Marks) where
   plain_here vs e = is_plain_part (marked marks p) (blame_around vs) (marked_exp (marks_variable marks m) e)
 
   abbrev pub arguments_blamed : List ScopeVariable → List NumberedParam → NumberedExps → List Blame
-  arguments_blamed vs (w ∷ params) (x.MoreExp e rest) = guarded (plain_here vs e) (OfVariable w.place ∷ []) ++ arguments_blamed vs params rest
+  arguments_blamed vs (w ∷ params) (x.MoreExp e rest) =
+      guarded (plain_here vs e) (OfVariable w.place ∷ []) ++ arguments_blamed vs params rest
   arguments_blamed vs _ _ = []
 
   abbrev pub params_blamed : List ScopeVariable → NumberedParams → NumberedExps → List Blame
@@ -153,11 +157,14 @@ module _ (p : NumberedProgram) (m : NumberedMethod) (marks : Marks) where
   -- by a statement apart from those in it
   abbrev pub own_blamed : List ScopeVariable → List Blame → NumberedStm → List Blame
   own_blamed vs jumping (st.Declare at type variable value) =
-      initial_blamed vs value ++ guarded (is_plain_initial (marked marks p) (blame_around vs) (marked_init (marks_variable marks m) value)) (OfVariable at ∷ [])
+      initial_blamed vs value ++ guarded (is_plain_initial (marked marks p) (blame_around vs) (marked_init (marks_variable marks m) value))
+      (OfVariable at ∷ [])
   own_blamed vs jumping (st.Assign at target value) =
-      initial_blamed vs value ++ guarded (is_plain_initial (marked marks p) (blame_around vs) (marked_init (marks_variable marks m) value)) (target_reasons p m target)
+      initial_blamed vs value ++ guarded (is_plain_initial (marked marks p) (blame_around vs) (marked_init (marks_variable marks m) value))
+      (target_reasons p m target)
   own_blamed vs jumping (st.Update at op target e) =
-      whole_blamed vs e ++ guarded (is_plain (marked marks p) (blame_around vs) (marked_exp (marks_variable marks m) e)) (target_reasons p m target)
+      whole_blamed vs e ++ guarded (is_plain (marked marks p) (blame_around vs) (marked_exp (marks_variable marks m) e))
+      (target_reasons p m target)
   own_blamed vs jumping (st.Call e) = whole_blamed vs e
   own_blamed vs jumping (st.If at c a) = guarded (plain_here vs c) (effect_reasons p m jumping (st.If at c a))
   own_blamed vs jumping (st.IfElse at c a b) = guarded (plain_here vs c) (effect_reasons p m jumping (st.IfElse at c a b))
@@ -176,10 +183,12 @@ module _ (p : NumberedProgram) (m : NumberedMethod) (marks : Marks) where
     blamed vs jumping (st.IfElse at c a b) = own_blamed vs jumping (st.IfElse at c a b) ++ (blamed vs jumping a ++ blamed vs jumping b)
     blamed vs jumping (st.While at c body) = own_blamed vs jumping (st.While at c body) ++ blamed vs (loop_reasons p m st.NoStm body) body
     blamed vs jumping (st.For at first c update body) =
-        own_blamed vs jumping (st.For at first c update body) ++ (blamed_of_maybe vs jumping first ++ (blamed_of_maybe vs jumping update ++ blamed vs (loop_reasons p m update body) body))
+        own_blamed vs jumping (st.For at first c update body) ++ (blamed_of_maybe vs jumping first
+        ++ (blamed_of_maybe vs jumping update ++ blamed vs (loop_reasons p m update body) body))
     blamed vs jumping (st.Foreach at variable domain body) =
         own_blamed vs jumping (st.Foreach at variable domain body)
-        ++ blamed (variables_inside (marked marks p) (scope_of (blame_around vs)) variable (marked_exp (marks_variable marks m) domain)) (loop_reasons p m st.NoStm body) body
+        ++ blamed (variables_inside (marked marks p) (scope_of (blame_around vs)) variable (marked_exp (marks_variable marks m) domain))
+        (loop_reasons p m st.NoStm body) body
     blamed vs jumping s = own_blamed vs jumping s
 
     pub blamed_of_maybe : List ScopeVariable → List Blame → MaybeNumbered → List Blame
@@ -193,7 +202,8 @@ module _ (p : NumberedProgram) (m : NumberedMethod) (marks : Marks) where
   -- by a method: its effects, and its result, where it isn't single, and its statements
   abbrev pub method_blamed : List Blame
   method_blamed =
-      (guarded (not (marked_method marks m).is_single) (effect_reasons p m [] (st.Block (numbered_stms m.body))) ++ guarded (not (marked_method marks m).is_single) (result_reasons p m m.result))
+      (guarded (not (marked_method marks m).is_single) (effect_reasons p m [] (st.Block (numbered_stms m.body)))
+      ++ guarded (not (marked_method marks m).is_single) (result_reasons p m m.result))
       ++ blamed_of_all (parameters (marked_params marks m.params)) [] (numbered_stms m.body)
 
 -- by a program

@@ -96,7 +96,8 @@ module _ (singles : ℕ → Bool) where
       marked_stm (st.If at c a) = st.If at (marked_exp c) (marked_stm a)
       marked_stm (st.IfElse at c a b) = st.IfElse at (marked_exp c) (marked_stm a) (marked_stm b)
       marked_stm (st.While at c body) = st.While at (marked_exp c) (marked_stm body)
-      marked_stm (st.For at first c update body) = st.For at (marked_maybe first) (option_map marked_exp c) (marked_maybe update) (marked_stm body)
+      marked_stm (st.For at first c update body) =
+          st.For at (marked_maybe first) (option_map marked_exp c) (marked_maybe update) (marked_stm body)
       marked_stm (st.Foreach at variable domain body) = st.Foreach at variable (marked_exp domain) (marked_stm body)
       marked_stm st.Empty = st.Empty
       marked_stm (st.Barrier at) = st.Barrier at

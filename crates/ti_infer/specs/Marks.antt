@@ -20,7 +20,8 @@ abbrev mutual
   declared_place (st.If at c a) number = declared_place a number
   declared_place (st.IfElse at c a b) number = option_or (declared_place a number) (declared_place b number)
   declared_place (st.While at c body) number = declared_place body number
-  declared_place (st.For at first c update body) number = option_or (declared_place_maybe first number) (option_or (declared_place_maybe update number) (declared_place body number))
+  declared_place (st.For at first c update body) number =
+      option_or (declared_place_maybe first number) (option_or (declared_place_maybe update number) (declared_place body number))
   declared_place (st.Foreach at variable domain body) number = declared_place body number
   declared_place x number = None
 

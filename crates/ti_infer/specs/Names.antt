@@ -45,7 +45,8 @@ result_names at (c.Typed type) = record { place = at; kind = kind.Result } ∷ [
 
 -- a method, its result, its parameters and its variables
 abbrev pub method_names : NumberedMethod → List Mark
-method_names m = record { place = m.place; kind = kind.Method } ∷ (result_names m.place m.result ++ (param_names m.params ++ declared_names_all (numbered_stms m.body)))
+method_names m = record { place = m.place; kind = kind.Method } ∷ (result_names m.place m.result
+    ++ (param_names m.params ++ declared_names_all (numbered_stms m.body)))
 
 -- all that can be marked
 abbrev pub names_of : NumberedProgram → List Mark

@@ -38,7 +38,10 @@ pub fn declare(
     value: &Init,
     out: &mut Vec<Edge>,
 ) -> Result<(), Memory>
-    ensures { OnOk result (out.new.items ≡ out.old.items ++ (initial_edges (program_at a.entry.site) (method_at a.entry.site) a.entry.whole (inside_of a.entry.inside.now) (initial_of value.now) ++ one_each (initial_asks (program_at a.entry.site) (method_at a.entry.site) (inside_at (inside_of a.entry.inside.now)) (initial_of value.now)) (One (OfVariable at)))) }
+    ensures { OnOk result (out.new.items ≡ out.old.items ++ (initial_edges (program_at a.entry.site) (method_at a.entry.site) a.entry.whole
+        (inside_of a.entry.inside.now) (initial_of value.now) ++ one_each
+        (initial_asks (program_at a.entry.site) (method_at a.entry.site) (inside_at (inside_of a.entry.inside.now))
+        (initial_of value.now)) (One (OfVariable at)))) }
 {
     initial(alloc, a.site, a.whole, a.inside, value, out)?;
     let found = initial_asks(alloc, a.site, a.inside, value)?;
@@ -53,7 +56,10 @@ pub fn assign(
     value: &Init,
     out: &mut Vec<Edge>,
 ) -> Result<(), Memory>
-    ensures { OnOk result (out.new.items ≡ out.old.items ++ (initial_edges (program_at a.entry.site) (method_at a.entry.site) a.entry.whole (inside_of a.entry.inside.now) (initial_of value.now) ++ each (initial_asks (program_at a.entry.site) (method_at a.entry.site) (inside_at (inside_of a.entry.inside.now)) (initial_of value.now)) (ones (target_reasons (program_at a.entry.site) (method_at a.entry.site) (expression_of to.now))))) }
+    ensures { OnOk result (out.new.items ≡ out.old.items ++ (initial_edges (program_at a.entry.site) (method_at a.entry.site) a.entry.whole
+        (inside_of a.entry.inside.now) (initial_of value.now) ++ each
+        (initial_asks (program_at a.entry.site) (method_at a.entry.site) (inside_at (inside_of a.entry.inside.now))
+        (initial_of value.now)) (ones (target_reasons (program_at a.entry.site) (method_at a.entry.site) (expression_of to.now))))) }
 {
     initial(alloc, a.site, a.whole, a.inside, value, out)?;
     let found = initial_asks(alloc, a.site, a.inside, value)?;
@@ -68,7 +74,11 @@ pub fn update(
     value: &Expr,
     out: &mut Vec<Edge>,
 ) -> Result<(), Memory>
-    ensures { OnOk result (out.new.items ≡ out.old.items ++ (whole_edges (program_at a.entry.site) (method_at a.entry.site) a.entry.whole (inside_of a.entry.inside.now) (expression_of value.now) ++ each (whole_asks (program_at a.entry.site) (method_at a.entry.site) (inside_at (inside_of a.entry.inside.now)) (expression_of value.now)) (ones (target_reasons (program_at a.entry.site) (method_at a.entry.site) (expression_of to.now))))) }
+    ensures { OnOk result (out.new.items ≡ out.old.items ++ (whole_edges (program_at a.entry.site) (method_at a.entry.site) a.entry.whole
+        (inside_of a.entry.inside.now) (expression_of value.now) ++ each
+        (whole_asks (program_at a.entry.site) (method_at a.entry.site) (inside_at (inside_of a.entry.inside.now))
+        (expression_of value.now)) (ones (target_reasons (program_at a.entry.site) (method_at a.entry.site)
+        (expression_of to.now))))) }
 {
     whole(alloc, a.site, a.whole, a.inside, value, out)?;
     let found = whole_asks(alloc, a.site, a.inside, value)?;
@@ -85,7 +95,8 @@ pub fn condition(
     whats: &[Then],
     out: &mut Vec<Edge>,
 ) -> Result<(), Memory>
-    ensures { OnOk result (out.new.items ≡ out.old.items ++ each (asks_at a.entry.site a.entry.inside.now (expression_of c.now)) whats.now) }
+    ensures { OnOk result (out.new.items ≡ out.old.items ++ each (asks_at a.entry.site a.entry.inside.now (expression_of c.now))
+        whats.now) }
 {
     let found = part_asks(alloc, a.site, a.inside, c)?;
     each(&found, whats, out)
@@ -99,7 +110,8 @@ pub fn condition_of(
     whats: &[Then],
     out: &mut Vec<Edge>,
 ) -> Result<(), Memory>
-    ensures { OnOk result (out.new.items ≡ out.old.items ++ condition_edges (program_at a.entry.site) (method_at a.entry.site) a.entry.whole (inside_of a.entry.inside.now) (maybe_of expression_of c.now) whats.now) }
+    ensures { OnOk result (out.new.items ≡ out.old.items ++ condition_edges (program_at a.entry.site) (method_at a.entry.site) a.entry.whole
+        (inside_of a.entry.inside.now) (maybe_of expression_of c.now) whats.now) }
 {
     match c {
         Some(c) => condition(alloc, a, c, whats, out),
@@ -114,7 +126,9 @@ pub fn give_back(
     value: &Option<Expr>,
     out: &mut Vec<Edge>,
 ) -> Result<(), Memory>
-    ensures { OnOk result (out.new.items ≡ out.old.items ++ condition_edges (program_at a.entry.site) (method_at a.entry.site) a.entry.whole (inside_of a.entry.inside.now) (maybe_of expression_of value.now) (ones (result_reasons (program_at a.entry.site) (method_at a.entry.site) (method_at a.entry.site).result))) }
+    ensures { OnOk result (out.new.items ≡ out.old.items ++ condition_edges (program_at a.entry.site) (method_at a.entry.site) a.entry.whole
+        (inside_of a.entry.inside.now) (maybe_of expression_of value.now)
+        (ones (result_reasons (program_at a.entry.site) (method_at a.entry.site) (method_at a.entry.site).result))) }
 {
     match value {
         Some(e) => {
@@ -131,7 +145,8 @@ pub fn update_jumps(
     update: &Option<Box<Stmt>>,
     out: &mut Vec<Edge>,
 ) -> Result<(), Memory>
-    ensures { OnOk result (out.new.items ≡ out.old.items ++ always_if (doings_of_maybe (program_at a.entry.site) (this_of (method_at a.entry.site)) (maybe_in update.now)).jumps) }
+    ensures { OnOk result (out.new.items ≡ out.old.items ++ always_if
+        (doings_of_maybe (program_at a.entry.site) (this_of (method_at a.entry.site)) (maybe_in update.now)).jumps) }
 {
     if jumps_in(a.site, update) {
         out.push(Edge {
@@ -155,7 +170,8 @@ fn domain_dim(t: Option<Seen>) -> Option<usize>
 
 /// Of how many dimensions a domain is, where it's one.
 pub fn dim(a: Around, domain: &Expr) -> Option<usize>
-    ensures { result ≡ option_and_then domain_dim (operand_type (program_at a.entry.site) (contents_of a.entry.scope.now) (expression_of domain.now)) }
+    ensures { result ≡ option_and_then domain_dim (operand_type (program_at a.entry.site) (contents_of a.entry.scope.now)
+        (expression_of domain.now)) }
 {
     let judge = Judge {
         program: &a.site.program.parts,

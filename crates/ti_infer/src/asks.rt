@@ -56,7 +56,8 @@ fn variable(
     v: &Variable,
     out: &mut Vec<Option<Mark>>,
 ) -> Result<(), Memory>
-    ensures { OnOk result (out.new.items ≡ out.old.items ++ variable_asks (program_at site.entry) (method_at site.entry) (inside_at (inside_of inside.now)) (variable_of v.now).number (variable_of v.now).declared) }
+    ensures { OnOk result (out.new.items ≡ out.old.items ++ variable_asks (program_at site.entry) (method_at site.entry)
+        (inside_at (inside_of inside.now)) (variable_of v.now).number (variable_of v.now).declared) }
 {
     match &v.declared {
         Declared::Typed { .. } => Ok(out.push(declared_ask(site, v.number))?),
@@ -90,7 +91,8 @@ fn indexes_point(site: Site, receiver: &Expr) -> bool
 
 // A member that tells something of a domain.
 fn tells(site: Site, receiver: &Expr, name: u32) -> bool
-    ensures { result ≡ tells_of_domain (member_called (program_at site.entry) (this_of (method_at site.entry)) (expression_of receiver.now) name) }
+    ensures { result ≡ tells_of_domain (member_called (program_at site.entry) (this_of (method_at site.entry))
+        (expression_of receiver.now) name) }
 {
     tells_of_domain(built_in(site, receiver, name))
 }
@@ -161,7 +163,7 @@ fn all_ranges(
 
 /// What an expression inside another one, or a condition, asks for.
 #[cycle(asks)]
-#[tactic(auto, using(ti_lang::proofs::ProgramBridges::program_bridges, crate::proofs::Pushing::pushing))]
+#[tactic(auto, using(ti_lang::proofs::Lemmas::program_bridges, crate::proofs::Pushing::pushing))]
 pub fn asks(
     site: Site,
     inside: &[Inside],

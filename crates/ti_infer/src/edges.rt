@@ -85,7 +85,8 @@ pub fn part_asks(
 
 // A single result is that of a method whose result is marked.
 fn result_ask(site: Site, inside: &[Inside], place: Place, t: &ResultType) -> Option<Mark>
-    ensures { result ∷ [] ≡ result_asks (program_at site.entry) (method_at site.entry) (inside_at (inside_of inside.now)) place (numbered_result_of t.now) }
+    ensures { result ∷ [] ≡ result_asks (program_at site.entry) (method_at site.entry) (inside_at (inside_of inside.now)) place
+        (numbered_result_of t.now) }
 {
     match t {
         ResultType::Void => None,
@@ -112,7 +113,8 @@ fn called_asks(
     m: Option<&Method>,
     e: &Expr,
 ) -> Result<Vec<Option<Mark>>, Memory>
-    ensures { IfOk result (λ v. v.items ≡ called_asks (program_at site.entry) (method_at site.entry) (inside_at (inside_of inside.now)) (option_map (λ m. numbered_method_of m.now) m.entry) (expression_of e.now)) }
+    ensures { IfOk result (λ v. v.items ≡ called_asks (program_at site.entry) (method_at site.entry) (inside_at (inside_of inside.now))
+        (option_map (λ m. numbered_method_of m.now) m.entry) (expression_of e.now)) }
 {
     match m {
         Some(m) => one_ask(alloc, result_ask(site, inside, m.place, &m.result)),
@@ -127,7 +129,8 @@ pub fn whole_asks(
     inside: &[Inside],
     e: &Expr,
 ) -> Result<Vec<Option<Mark>>, Memory>
-    ensures { IfOk result (λ v. v.items ≡ whole_asks (program_at site.entry) (method_at site.entry) (inside_at (inside_of inside.now)) (expression_of e.now)) }
+    ensures { IfOk result (λ v. v.items ≡ whole_asks (program_at site.entry) (method_at site.entry) (inside_at (inside_of inside.now))
+        (expression_of e.now)) }
 {
     let m = callee(site, e);
     called_asks(alloc, site, inside, m, e)
@@ -157,7 +160,8 @@ pub fn initial_asks(
     inside: &[Inside],
     value: &Init,
 ) -> Result<Vec<Option<Mark>>, Memory>
-    ensures { IfOk result (λ v. v.items ≡ initial_asks (program_at site.entry) (method_at site.entry) (inside_at (inside_of inside.now)) (initial_of value.now)) }
+    ensures { IfOk result (λ v. v.items ≡ initial_asks (program_at site.entry) (method_at site.entry) (inside_at (inside_of inside.now))
+        (initial_of value.now)) }
 {
     match value {
         Init::Value(e) => whole_asks(alloc, site, inside, e),
@@ -179,7 +183,8 @@ fn argument(
     e: &Expr,
     out: &mut Vec<Edge>,
 ) -> Result<(), Memory>
-    ensures { OnOk result (out.new.items ≡ out.old.items ++ one_each (asks_at site.entry inside.now (expression_of e.now)) (One (OfVariable (numbered_param_of param.now).place))) }
+    ensures { OnOk result (out.new.items ≡ out.old.items ++ one_each (asks_at site.entry inside.now (expression_of e.now))
+        (One (OfVariable (numbered_param_of param.now).place))) }
 {
     let found = part_asks(alloc, site, inside, e)?;
     one_each(&found, Then::One(Blame::OfVariable(param.place)), out)
@@ -194,7 +199,8 @@ fn arguments(
     args: &[Expr],
     out: &mut Vec<Edge>,
 ) -> Result<(), Memory>
-    ensures { OnOk result (out.new.items ≡ out.old.items ++ arguments_edges (program_at site.entry) (method_at site.entry) whole (inside_of inside.now) (map numbered_param_of params.now) (numbered_exps (map expression_of args.now))) }
+    ensures { OnOk result (out.new.items ≡ out.old.items ++ arguments_edges (program_at site.entry) (method_at site.entry) whole
+        (inside_of inside.now) (map numbered_param_of params.now) (numbered_exps (map expression_of args.now))) }
 {
     for i in 0..args.len() {
         if i >= params.len() {
@@ -214,7 +220,8 @@ fn params(
     args: &[Expr],
     out: &mut Vec<Edge>,
 ) -> Result<(), Memory>
-    ensures { OnOk result (out.new.items ≡ out.old.items ++ params_edges (program_at site.entry) (method_at site.entry) whole (inside_of inside.now) (numbered_params_of params.now) (numbered_exps (map expression_of args.now))) }
+    ensures { OnOk result (out.new.items ≡ out.old.items ++ params_edges (program_at site.entry) (method_at site.entry) whole
+        (inside_of inside.now) (numbered_params_of params.now) (numbered_exps (map expression_of args.now))) }
 {
     match params {
         Params::Words => Ok(()),
@@ -232,7 +239,8 @@ pub fn call(
     args: &[Expr],
     out: &mut Vec<Edge>,
 ) -> Result<(), Memory>
-    ensures { OnOk result (out.new.items ≡ out.old.items ++ call_edges (program_at site.entry) (method_at site.entry) whole (inside_of inside.now) (option_map (λ m. numbered_method_of m.now) m.entry) (numbered_exps (map expression_of args.now))) }
+    ensures { OnOk result (out.new.items ≡ out.old.items ++ call_edges (program_at site.entry) (method_at site.entry) whole
+        (inside_of inside.now) (option_map (λ m. numbered_method_of m.now) m.entry) (numbered_exps (map expression_of args.now))) }
 {
     match m {
         Some(m) => params(alloc, site, whole, inside, &m.params, args, out),
@@ -303,7 +311,8 @@ pub fn loop_targets(
     update: &Option<Box<Stmt>>,
     body: &Stmt,
 ) -> Result<Vec<Then>, Memory>
-    ensures { IfOk result (λ v. v.items ≡ loop_targets (program_at site.entry) (method_at site.entry) whole i (maybe_in update.now) (statement_of body.now)) }
+    ensures { IfOk result (λ v. v.items ≡ loop_targets (program_at site.entry) (method_at site.entry) whole i (maybe_in update.now)
+        (statement_of body.now)) }
 {
     let mut found = Vec::new(alloc);
     reasons_of_maybe(site, update, &mut found)?;
@@ -321,7 +330,8 @@ pub fn effect_targets(
     jump: &[Then],
     x: &Stmt,
 ) -> Result<Vec<Then>, Memory>
-    ensures { IfOk result (λ v. v.items ≡ effect_targets (program_at site.entry) (method_at site.entry) whole i jump.now (statement_of x.now)) }
+    ensures { IfOk result (λ v. v.items ≡ effect_targets (program_at site.entry) (method_at site.entry) whole i jump.now
+        (statement_of x.now)) }
 {
     let mut found = Vec::new(alloc);
     reasons(site, x, &mut found)?;

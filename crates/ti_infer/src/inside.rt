@@ -43,7 +43,9 @@ fn with_variable(
 /// What is in scope in the body of a foreach.
 pub fn scope_inside(alloc: Global, a: Around, number: u32, domain: &Expr) -> Result<Scope, Memory>
     ensures this { IfOk result (λ s. s.this ≡ a.entry.scope.now.this) }
-    ensures variables { IfOk result (λ s. (contents_of s).variables ≡ variables_foreach (program_at a.entry.site) (method_at a.entry.site) a.entry.whole (variables_at a.entry) number (expression_of domain.now)) }
+    ensures variables { IfOk result (λ s. (contents_of s).variables
+        ≡ variables_foreach (program_at a.entry.site) (method_at a.entry.site) a.entry.whole (variables_at a.entry) number
+        (expression_of domain.now)) }
 {
     let variables = with_variable(alloc, &a.scope.variables, number, dim(a, domain))?;
     Ok(Scope {
@@ -66,7 +68,8 @@ fn distinct_asks(alloc: Global, a: Around, domain: &Expr) -> Result<Vec<Option<M
 
 /// What the variables of foreach loops ask for in the body of one: its own too, where its domain is one.
 pub fn with_own(alloc: Global, a: Around, number: u32, domain: &Expr) -> Result<Vec<Inside>, Memory>
-    ensures { IfOk result (λ v. inside_of v.items ≡ inside_foreach (program_at a.entry.site) (method_at a.entry.site) a.entry.whole (variables_at a.entry) (inside_of a.entry.inside.now) number (expression_of domain.now)) }
+    ensures { IfOk result (λ v. inside_of v.items ≡ inside_foreach (program_at a.entry.site) (method_at a.entry.site) a.entry.whole
+        (variables_at a.entry) (inside_of a.entry.inside.now) number (expression_of domain.now)) }
 {
     let mut found = insides(alloc, a.inside)?;
     if dim(a, domain).is_some() {

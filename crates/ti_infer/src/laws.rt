@@ -25,28 +25,36 @@ ghost use Rattle.ti_blame.specs.Settling.{IsSettled};
 
 /// Where a program breaks no rule of single values under two markings, it breaks none under their union, whichever collectives count.
 pub fn union_keeps_single_rules()
-    ensures { (counts : Place → Bool) (p : NumberedProgram) (m n : Marks) → KeepsSingle counts p m → KeepsSingle counts p n → KeepsSingle counts p (union m n) }
+    ensures { (counts : Place → Bool) (p : NumberedProgram) (m n : Marks) → KeepsSingle counts p m → KeepsSingle counts p n
+        → KeepsSingle counts p (union m n) }
 {}
 
 /// Where all collectives count, the rules by reasons are the rules of single values of the marked program.
 pub fn reasons_are_rules()
     ensures by_rules { (p : NumberedProgram) (m : Marks) → single_refusals (marked m p) ≡ [] → KeepsSingle every_one p m }
-    ensures by_reasons { (p : NumberedProgram) (m : Marks) → HavePlainResults p.methods → KeepsSingle every_one p m → single_refusals (marked m p) ≡ [] }
+    ensures by_reasons { (p : NumberedProgram) (m : Marks) → HavePlainResults p.methods → KeepsSingle every_one p m
+        → single_refusals (marked m p) ≡ [] }
     ensures stripped { (p : NumberedProgram) → HavePlainResults (stripped p).methods }
 {}
 
 /// The fewer collectives count, the more markings keep the rules; where all of the program count, the rules are kept as where every one does.
 pub fn fewer_collectives()
-    ensures fewer { (fewer more : Place → Bool) (p : NumberedProgram) (m : Marks) → ((at : Place) → fewer at ≡ true → more at ≡ true) → KeepsSingle more p m → KeepsSingle fewer p m }
-    ensures all { (counts : Place → Bool) (p : NumberedProgram) (m : Marks) → list_any (is_collective_at (λ at. not (counts at))) (program_reasons p) ≡ false → KeepsSingle counts p m → KeepsSingle every_one p m }
+    ensures fewer { (fewer more : Place → Bool) (p : NumberedProgram) (m : Marks) → ((at : Place) → fewer at ≡ true → more at ≡ true)
+        → KeepsSingle more p m → KeepsSingle fewer p m }
+    ensures all { (counts : Place → Bool) (p : NumberedProgram) (m : Marks)
+        → list_any (is_collective_at (λ at. not (counts at))) (program_reasons p) ≡ false → KeepsSingle counts p m
+        → KeepsSingle every_one p m }
 {}
 
 /// Taking away what is to blame loses no part that keeps the rules; where that takes nothing away and nothing fixed is to blame, the
 /// rules are kept; where something fixed is to blame, no part keeps them.
 pub fn greatest_is_found()
-    ensures stays { (counts : Place → Bool) (p : NumberedProgram) (a u : Marks) → IsPart a u → KeepsSingle counts p a → IsPart a (without (program_blamed p u) u) }
-    ensures ends { (counts : Place → Bool) (p : NumberedProgram) (u : Marks) → IsPart u (without (program_blamed p u) u) → list_any (is_fixed counts) (program_blamed p u) ≡ false → KeepsSingle counts p u }
-    ensures none { (counts : Place → Bool) (p : NumberedProgram) (a u : Marks) → IsPart a u → KeepsSingle counts p a → list_any (is_fixed counts) (program_blamed p u) ≡ true → ⊥ }
+    ensures stays { (counts : Place → Bool) (p : NumberedProgram) (a u : Marks) → IsPart a u → KeepsSingle counts p a
+        → IsPart a (without (program_blamed p u) u) }
+    ensures ends { (counts : Place → Bool) (p : NumberedProgram) (u : Marks) → IsPart u (without (program_blamed p u) u)
+        → list_any (is_fixed counts) (program_blamed p u) ≡ false → KeepsSingle counts p u }
+    ensures none { (counts : Place → Bool) (p : NumberedProgram) (a u : Marks) → IsPart a u → KeepsSingle counts p a
+        → list_any (is_fixed counts) (program_blamed p u) ≡ true → ⊥ }
 {}
 
 /// The marked program breaks no rule of types and qualifiers exactly where the marks can stand where they do.
@@ -57,21 +65,28 @@ pub fn marks_and_types()
 
 /// The union of two accepted markings is accepted.
 pub fn union_is_accepted()
-    ensures { (p : NumberedProgram) (m n : Marks) → type_refusals p ≡ [] → HavePlainResults p.methods → IsAccepted p m → IsAccepted p n → IsAccepted p (union m n) }
+    ensures { (p : NumberedProgram) (m n : Marks) → type_refusals p ≡ [] → HavePlainResults p.methods → IsAccepted p m → IsAccepted p n
+        → IsAccepted p (union m n) }
 {}
 
 /// The edges of a program say what is to blame in it, and which marks can't stand where they do.
 pub fn edges_are_rules()
-    ensures kept { (counts : Place → Bool) (p : NumberedProgram) (m : Marks) → KeepsSingle counts p m → KeepsEdges (stands counts m) (all_reasons p) (program_edges p) }
-    ensures keeps { (counts : Place → Bool) (p : NumberedProgram) (m : Marks) → list_any is_always (program_blamed p m) ≡ false → KeepsEdges (stands counts m) (all_reasons p) (program_edges p) → KeepsSingle counts p m }
-    ensures fits { (counts : Place → Bool) (m : Marks) (items : List Blame) (p : NumberedProgram) → MarksFit m p → KeepsEdges (stands counts m) items (fit_edges p) }
-    ensures fit { (counts : Place → Bool) (m : Marks) (items : List Blame) (p : NumberedProgram) → type_refusals p ≡ [] → KeepsEdges (stands counts m) items (fit_edges p) → MarksFit m p }
+    ensures kept { (counts : Place → Bool) (p : NumberedProgram) (m : Marks) → KeepsSingle counts p m
+        → KeepsEdges (stands counts m) (all_reasons p) (program_edges p) }
+    ensures keeps { (counts : Place → Bool) (p : NumberedProgram) (m : Marks) → list_any is_always (program_blamed p m) ≡ false
+        → KeepsEdges (stands counts m) (all_reasons p) (program_edges p) → KeepsSingle counts p m }
+    ensures fits { (counts : Place → Bool) (m : Marks) (items : List Blame) (p : NumberedProgram) → MarksFit m p
+        → KeepsEdges (stands counts m) items (fit_edges p) }
+    ensures fit { (counts : Place → Bool) (m : Marks) (items : List Blame) (p : NumberedProgram) → type_refusals p ≡ []
+        → KeepsEdges (stands counts m) items (fit_edges p) → MarksFit m p }
 {}
 
 /// What is left once all that falls has fallen is the greatest accepted marking, or tells the first collective that no marking aligns.
 /// Nothing may be to blame in any case, as in the program of a text.
 pub fn settled_is_inferred()
-    ensures { (p : NumberedProgram) (names marks : List Mark) (first : Option Place) → type_refusals p ≡ [] → HavePlainResults p.methods → ((m : Marks) → list_any is_always (program_blamed p m) ≡ false) → IsSettled names (all_reasons p) (program_edges p ++ fit_edges p) marks first → IsInferred p names marks first }
+    ensures { (p : NumberedProgram) (names marks : List Mark) (first : Option Place) → type_refusals p ≡ [] → HavePlainResults p.methods
+        → ((m : Marks) → list_any is_always (program_blamed p m) ≡ false)
+        → IsSettled names (all_reasons p) (program_edges p ++ fit_edges p) marks first → IsInferred p names marks first }
 {}
 
 /// The stripped program of a text is the program of a text.
@@ -83,13 +98,15 @@ pub fn stripped_is_numbered()
 /// a variable says of it what its declaration does. `main`, whose words are three, isn't marked; where the marked program breaks no rule
 /// of types and qualifiers, it isn't.
 pub fn marked_is_numbered()
-    ensures numbered { (p : NumberedProgram) (m : Marks) → ∥ IsNumbered p ∥₁ → stripped p ≡ p → marks_main m p ≡ false → ∥ IsNumbered (marked m p) ∥₁ }
+    ensures numbered { (p : NumberedProgram) (m : Marks) → ∥ IsNumbered p ∥₁ → stripped p ≡ p → marks_main m p ≡ false
+        → ∥ IsNumbered (marked m p) ∥₁ }
     ensures main { (p : NumberedProgram) (m : Marks) → ∥ IsNumbered p ∥₁ → type_refusals (marked m p) ≡ [] → marks_main m p ≡ false }
 {}
 
 /// In the stripped program of a text nothing is to blame in any case, whatever is marked: no statement calls `main`, and no update jumps.
 pub fn nothing_blamed_in_any_case()
-    ensures { (p : NumberedProgram) (m : Marks) → ∥ IsNumbered p ∥₁ → type_refusals p ≡ [] → stripped p ≡ p → list_any is_always (program_blamed p m) ≡ false }
+    ensures { (p : NumberedProgram) (m : Marks) → ∥ IsNumbered p ∥₁ → type_refusals p ≡ [] → stripped p ≡ p
+        → list_any is_always (program_blamed p m) ≡ false }
 {}
 
 /// A program without its marks has none to take off.

@@ -61,7 +61,7 @@ fn in_maybe(alloc: Global, x: &Option<Box<Stmt>>, out: &mut Vec<Local>) -> Resul
 
 // Those that a statement declares; that of a foreach is none.
 #[cycle(locals)]
-#[tactic(auto, using(ti_lang::proofs::ProgramBridges::program_bridges, crate::proofs::Pushing::pushing))]
+#[tactic(auto, using(ti_lang::proofs::Lemmas::program_bridges, crate::proofs::Pushing::pushing))]
 fn in_statement(alloc: Global, x: &Stmt, out: &mut Vec<Local>) -> Result<(), Memory>
     ensures { OnOk result (out.new.items ≡ out.old.items ++ locals_in (statement_of x.now)) }
 {

@@ -44,7 +44,8 @@ fn marked_among(
 
 // Which variables of a method are marked.
 fn marked_variables(alloc: Global, marks: &[Mark], m: &Method) -> Result<MarkedVariables, Memory>
-    ensures { IfOk result (λ v. (number : ℕ) → get_or v.singles.items number false ≡ marks_variable (marks_of marks.now) (numbered_method_of m.now) number) }
+    ensures { IfOk result (λ v. (number : ℕ) → get_or v.singles.items number false
+        ≡ marks_variable (marks_of marks.now) (numbered_method_of m.now) number) }
 {
     let places = places(alloc, m)?;
     let singles = marked_among(alloc, marks, &places)?;
@@ -61,7 +62,8 @@ fn mark_param(marks: &[Mark], w: &mut Param) -> Result<(), Memory>
 }
 
 fn mark_listed(marks: &[Mark], ws: &mut Vec<Param>) -> Result<(), Memory>
-    ensures { OnOk result (map numbered_param_of ws.new.items ≡ map (marked_param (marks_of marks.now)) (map numbered_param_of ws.old.items)) }
+    ensures { OnOk result (map numbered_param_of ws.new.items ≡ map (marked_param (marks_of marks.now))
+        (map numbered_param_of ws.old.items)) }
 {
     for i in 0..ws.len() {
         mark_param(marks, &mut ws[i])?;
@@ -88,7 +90,8 @@ fn mark_result(single: bool, place: Place, t: &mut ResultType) -> Result<(), Mem
 }
 
 fn mark_words(single: bool, place: Place, words: &mut Vec<Modifier>) -> Result<(), Memory>
-    ensures { OnOk result (words.new.items ≡ words.old.items ++ (if single then record { word = word.Single; place = place } ∷ [] else [])) }
+    ensures { OnOk result (words.new.items ≡ words.old.items ++ (if single then record { word = word.Single; place = place }
+        ∷ [] else [])) }
 {
     if single {
         words.push(Modifier {
@@ -124,7 +127,8 @@ fn mark_method(alloc: Global, marks: &[Mark], m: &mut Method) -> Result<(), Memo
 
 /// Marks each of these methods.
 pub fn mark_methods(alloc: Global, marks: &[Mark], ms: &mut Vec<Method>) -> Result<(), Memory>
-    ensures { OnOk result (map numbered_method_of ms.new.items ≡ map (marked_method (marks_of marks.now)) (map numbered_method_of ms.old.items)) }
+    ensures { OnOk result (map numbered_method_of ms.new.items ≡ map (marked_method (marks_of marks.now))
+        (map numbered_method_of ms.old.items)) }
 {
     for i in 0..ms.len() {
         mark_method(alloc, marks, &mut ms[i])?;

@@ -60,7 +60,8 @@ pub fn mark_statements(
     variables: &MarkedVariables,
     xs: &mut Vec<Stmt>,
 ) -> Result<(), Memory>
-    ensures { OnOk result (map statement_of xs.new.items ≡ map (marked_stm (λ number. get_or variables.now.singles.items number false) (marks_of marks.now).variables) (map statement_of xs.old.items)) }
+    ensures { OnOk result (map statement_of xs.new.items ≡ map (marked_stm (λ number. get_or variables.now.singles.items number false)
+        (marks_of marks.now).variables) (map statement_of xs.old.items)) }
 {
     for i in 0..xs.len() {
         mark_statement(marks, variables, &mut xs[i])?;
@@ -74,7 +75,8 @@ fn mark_maybe(
     variables: &MarkedVariables,
     x: &mut Option<Box<Stmt>>,
 ) -> Result<(), Memory>
-    ensures { OnOk result (maybe_in x.new ≡ marked_maybe (λ number. get_or variables.now.singles.items number false) (marks_of marks.now).variables (maybe_in x.old)) }
+    ensures { OnOk result (maybe_in x.new ≡ marked_maybe (λ number. get_or variables.now.singles.items number false)
+        (marks_of marks.now).variables (maybe_in x.old)) }
 {
     if let Some(x) = x {
         mark_statement(marks, variables, x)?;
@@ -84,7 +86,8 @@ fn mark_maybe(
 
 #[cycle(mark_statement)]
 fn mark_statement(marks: &[Mark], variables: &MarkedVariables, x: &mut Stmt) -> Result<(), Memory>
-    ensures { OnOk result (statement_of x.new ≡ marked_stm (λ number. get_or variables.now.singles.items number false) (marks_of marks.now).variables (statement_of x.old)) }
+    ensures { OnOk result (statement_of x.new ≡ marked_stm (λ number. get_or variables.now.singles.items number false)
+        (marks_of marks.now).variables (statement_of x.old)) }
 {
     match x {
         Stmt::Declare {

@@ -61,7 +61,10 @@ fn body_edges(
 ) -> Result<(), Memory>
     requires within { number < length (program_of site.program.now.parts).methods }
     requires is_method { slice_get (program_of site.program.now.parts).methods number ≡ Some (numbered_method_of site.method.now) }
-    ensures { OnOk result (out.new.items ≡ out.old.items ++ edges_all (program_at site.entry) (method_at site.entry) whole (parameters (method_at site.entry).params) (first_inside (method_at site.entry).params) (i + length (result_reasons (program_at site.entry) (method_at site.entry) (method_at site.entry).result)) [] (numbered_stms (method_at site.entry).body)) }
+    ensures { OnOk result (out.new.items ≡ out.old.items ++ edges_all (program_at site.entry) (method_at site.entry) whole
+        (parameters (method_at site.entry).params) (first_inside (method_at site.entry).params)
+        (i + length (result_reasons (program_at site.entry) (method_at site.entry) (method_at site.entry).result)) []
+        (numbered_stms (method_at site.entry).body)) }
 {
     let scope = Scope::begin(alloc, site.program, number)?;
     let inside = inside_params(alloc, listed_params(&site.method.params))?;
@@ -112,7 +115,8 @@ fn method_edges(
     requires within { number < length (program_of p.now.parts).methods }
     requires is_method { slice_get (program_of p.now.parts).methods number ≡ Some (numbered_method_of m.now) }
     ensures items { OnOk result (items.new.items ≡ items.old.items ++ return_reasons (program_of p.now.parts) (numbered_method_of m.now)) }
-    ensures edges { OnOk result (out.new.items ≡ out.old.items ++ method_edges (program_of p.now.parts) (numbered_method_of m.now) (length items.old.items)) }
+    ensures edges { OnOk result (out.new.items ≡ out.old.items ++ method_edges (program_of p.now.parts) (numbered_method_of m.now)
+        (length items.old.items)) }
 {
     let places = places(alloc, m)?;
     let site = Site {

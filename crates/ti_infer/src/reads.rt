@@ -22,14 +22,16 @@ pub fn typed<'a>(site: Site<'a>, e: &'a Expr) -> Seen<'a>
 
 /// The declared method that it calls, if it's such a call.
 pub fn callee<'a>(site: Site<'a>, e: &'a Expr) -> Option<&'a Method>
-    ensures { option_map (λ m. numbered_method_of m.now) result ≡ called_method (program_at site.entry) (this_of (method_at site.entry)) (expression_of e.now) }
+    ensures { option_map (λ m. numbered_method_of m.now) result ≡ called_method (program_at site.entry) (this_of (method_at site.entry))
+        (expression_of e.now) }
 {
     called_method(&site.program.parts, this_of(site.method), e)
 }
 
 /// The member of the language that a name means behind it.
 pub fn built_in(site: Site, receiver: &Expr, name: u32) -> Option<BuiltIn>
-    ensures { option_map built_in_of result ≡ member_called (program_at site.entry) (this_of (method_at site.entry)) (expression_of receiver.now) name }
+    ensures { option_map built_in_of result ≡ member_called (program_at site.entry) (this_of (method_at site.entry))
+        (expression_of receiver.now) name }
 {
     member_called(&site.program.parts, this_of(site.method), receiver, name)
 }

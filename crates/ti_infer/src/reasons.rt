@@ -55,7 +55,7 @@ fn is_collective(b: Option<BuiltIn>) -> bool
     matches!(b, Some(BuiltIn::Exchange | BuiltIn::Delete))
 }
 
-#[tactic(auto, using(ti_lang::proofs::ProgramBridges::program_bridges))]
+#[tactic(auto, using(ti_lang::proofs::Lemmas::program_bridges))]
 fn is_collective_call(site: Site, e: &Expr) -> bool
     ensures { result ≡ is_collective_call (program_at site.entry) (this_of (method_at site.entry)) (expression_of e.now) }
 {
@@ -66,7 +66,8 @@ fn is_collective_call(site: Site, e: &Expr) -> bool
 }
 
 fn collective(site: Site, e: &Expr) -> Option<Blame>
-    ensures { listed result ≡ guarded (is_collective_call (program_at site.entry) (this_of (method_at site.entry)) (expression_of e.now)) (OfCollective (place_of_numbered (expression_of e.now)) ∷ []) }
+    ensures { listed result ≡ guarded (is_collective_call (program_at site.entry) (this_of (method_at site.entry)) (expression_of e.now))
+        (OfCollective (place_of_numbered (expression_of e.now)) ∷ []) }
 {
     if is_collective_call(site, e) {
         Some(Blame::OfCollective(e.place()))
@@ -77,7 +78,8 @@ fn collective(site: Site, e: &Expr) -> Option<Blame>
 
 #[tactic(auto, using(crate::proofs::Pushing::pushing))]
 fn acts(site: Site, e: &Expr, out: &mut Vec<Blame>) -> Result<(), Memory>
-    ensures { OnOk result (out.new.items ≡ out.old.items ++ acts_reasons (program_at site.entry) (method_at site.entry) (expression_of e.now)) }
+    ensures { OnOk result (out.new.items ≡ out.old.items ++ acts_reasons (program_at site.entry) (method_at site.entry)
+        (expression_of e.now)) }
 {
     let m = callee(site, e);
     push(called(m), out)?;
@@ -85,7 +87,8 @@ fn acts(site: Site, e: &Expr, out: &mut Vec<Blame>) -> Result<(), Memory>
 }
 
 fn initial(site: Site, value: &Init, out: &mut Vec<Blame>) -> Result<(), Memory>
-    ensures { OnOk result (out.new.items ≡ out.old.items ++ initial_reasons (program_at site.entry) (method_at site.entry) (initial_of value.now)) }
+    ensures { OnOk result (out.new.items ≡ out.old.items ++ initial_reasons (program_at site.entry) (method_at site.entry)
+        (initial_of value.now)) }
 {
     match value {
         Init::Value(e) => acts(site, e, out),
@@ -111,7 +114,8 @@ pub fn place_at(site: Site, number: u32) -> Option<Place>
 }
 
 fn declared(site: Site, v: &Variable) -> Option<Blame>
-    ensures { listed result ≡ declared_reasons (program_at site.entry) (method_at site.entry) (variable_of v.now).number (variable_of v.now).declared }
+    ensures { listed result ≡ declared_reasons (program_at site.entry) (method_at site.entry) (variable_of v.now).number
+        (variable_of v.now).declared }
 {
     match &v.declared {
         Declared::Typed { .. } => match place_at(site, v.number) {
@@ -123,7 +127,7 @@ fn declared(site: Site, v: &Variable) -> Option<Blame>
 }
 
 /// The variable that is assigned to, where it's a declared one.
-#[tactic(auto, using(ti_lang::proofs::ProgramBridges::program_bridges))]
+#[tactic(auto, using(ti_lang::proofs::Lemmas::program_bridges))]
 pub fn target(site: Site, e: &Expr) -> Option<Blame>
     ensures { listed result ≡ target_reasons (program_at site.entry) (method_at site.entry) (expression_of e.now) }
 {
@@ -138,7 +142,8 @@ pub fn target(site: Site, e: &Expr) -> Option<Blame>
 /// Why one of these statements acts.
 #[cycle(reasons)]
 pub fn reasons_of_all(site: Site, xs: &[Stmt], out: &mut Vec<Blame>) -> Result<(), Memory>
-    ensures { OnOk result (out.new.items ≡ out.old.items ++ reasons_of_all (program_at site.entry) (method_at site.entry) (numbered_stms (map statement_of xs.now))) }
+    ensures { OnOk result (out.new.items ≡ out.old.items ++ reasons_of_all (program_at site.entry) (method_at site.entry)
+        (numbered_stms (map statement_of xs.now))) }
 {
     for x in xs {
         reasons(site, x, out)?;
@@ -152,7 +157,8 @@ pub fn reasons_of_maybe(
     x: &Option<Box<Stmt>>,
     out: &mut Vec<Blame>,
 ) -> Result<(), Memory>
-    ensures { OnOk result (out.new.items ≡ out.old.items ++ reasons_of_maybe (program_at site.entry) (method_at site.entry) (maybe_in x.now)) }
+    ensures { OnOk result (out.new.items ≡ out.old.items ++ reasons_of_maybe (program_at site.entry) (method_at site.entry)
+        (maybe_in x.now)) }
 {
     match x {
         Some(x) => reasons(site, boxed_statement(x), out),
@@ -162,7 +168,7 @@ pub fn reasons_of_maybe(
 
 /// Why a statement acts.
 #[cycle(reasons)]
-#[tactic(auto, using(ti_lang::proofs::ProgramBridges::program_bridges, crate::proofs::Pushing::pushing))]
+#[tactic(auto, using(ti_lang::proofs::Lemmas::program_bridges, crate::proofs::Pushing::pushing))]
 pub fn reasons(site: Site, x: &Stmt, out: &mut Vec<Blame>) -> Result<(), Memory>
     ensures { OnOk result (out.new.items ≡ out.old.items ++ reasons (program_at site.entry) (method_at site.entry) (statement_of x.now)) }
 {

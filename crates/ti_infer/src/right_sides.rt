@@ -29,7 +29,8 @@ fn is_delete(b: Option<BuiltIn>) -> bool
 }
 
 fn is_deleting(site: Site, receiver: &Expr, name: u32) -> bool
-    ensures { result ≡ is_delete (member_called (program_at site.entry) (this_of (method_at site.entry)) (expression_of receiver.now) name) }
+    ensures { result ≡ is_delete (member_called (program_at site.entry) (this_of (method_at site.entry))
+        (expression_of receiver.now) name) }
 {
     is_delete(built_in(site, receiver, name))
 }
@@ -43,7 +44,8 @@ fn wanting(
     e: &Expr,
     out: &mut Vec<Edge>,
 ) -> Result<(), Memory>
-    ensures { OnOk result (out.new.items ≡ out.old.items ++ one_each (asks_at site.entry inside.now (expression_of e.now)) (One (OfCollective at))) }
+    ensures { OnOk result (out.new.items ≡ out.old.items ++ one_each (asks_at site.entry inside.now (expression_of e.now))
+        (One (OfCollective at))) }
 {
     let found = part_asks(alloc, site, inside, e)?;
     one_each(&found, Then::One(Blame::OfCollective(at)), out)
@@ -59,7 +61,9 @@ fn deleting(
     name: u32,
     out: &mut Vec<Edge>,
 ) -> Result<(), Memory>
-    ensures { OnOk result (out.new.items ≡ out.old.items ++ (if is_delete (member_called (program_at site.entry) (this_of (method_at site.entry)) (expression_of receiver.now) name) then one_each (asks_at site.entry inside.now (expression_of receiver.now)) (One (OfCollective at)) else [])) }
+    ensures { OnOk result (out.new.items ≡ out.old.items ++ (if is_delete
+        (member_called (program_at site.entry) (this_of (method_at site.entry)) (expression_of receiver.now) name) then one_each
+        (asks_at site.entry inside.now (expression_of receiver.now)) (One (OfCollective at)) else [])) }
 {
     if is_deleting(site, receiver, name) {
         wanting(alloc, site, inside, at, receiver, out)
@@ -99,14 +103,16 @@ fn named(
     args: &[Expr],
     out: &mut Vec<Edge>,
 ) -> Result<(), Memory>
-    ensures { OnOk result (out.new.items ≡ out.old.items ++ call_edges (program_at site.entry) (method_at site.entry) whole (inside_of inside.now) (called_method (program_at site.entry) (this_of (method_at site.entry)) (expression_of e.now)) (numbered_exps (map expression_of args.now))) }
+    ensures { OnOk result (out.new.items ≡ out.old.items ++ call_edges (program_at site.entry) (method_at site.entry) whole
+        (inside_of inside.now) (called_method (program_at site.entry) (this_of (method_at site.entry)) (expression_of e.now))
+        (numbered_exps (map expression_of args.now))) }
 {
     let m = callee(site, e);
     call(alloc, site, whole, inside, m, args, out)
 }
 
 /// An expression that stands whole.
-#[tactic(auto, using(ti_lang::proofs::ProgramBridges::program_bridges))]
+#[tactic(auto, using(ti_lang::proofs::Lemmas::program_bridges))]
 pub fn whole(
     alloc: Global,
     site: Site,
@@ -115,7 +121,8 @@ pub fn whole(
     e: &Expr,
     out: &mut Vec<Edge>,
 ) -> Result<(), Memory>
-    ensures { OnOk result (out.new.items ≡ out.old.items ++ whole_edges (program_at site.entry) (method_at site.entry) target (inside_of inside.now) (expression_of e.now)) }
+    ensures { OnOk result (out.new.items ≡ out.old.items ++ whole_edges (program_at site.entry) (method_at site.entry) target
+        (inside_of inside.now) (expression_of e.now)) }
 {
     match e {
         Expr::Call { args, .. } => {
@@ -170,7 +177,8 @@ pub fn initial(
     value: &Init,
     out: &mut Vec<Edge>,
 ) -> Result<(), Memory>
-    ensures { OnOk result (out.new.items ≡ out.old.items ++ initial_edges (program_at site.entry) (method_at site.entry) target (inside_of inside.now) (initial_of value.now)) }
+    ensures { OnOk result (out.new.items ≡ out.old.items ++ initial_edges (program_at site.entry) (method_at site.entry) target
+        (inside_of inside.now) (initial_of value.now)) }
 {
     match value {
         Init::Value(e) => whole(alloc, site, target, inside, e, out),

@@ -29,7 +29,10 @@ impl Singles for NoneSingle {
 // ---- expressions
 
 fn set_use<S: Singles>(singles: &S, v: &mut Variable)
-    ensures { variable_of v.new ≡ record (variable_of v.old) { declared = marked_declaration (S.says singles.now (variable_of v.old).number) (variable_of v.old).declared } }
+    ensures { variable_of v.new ≡ record (variable_of v.old) {
+      declared = marked_declaration (S.says singles.now (variable_of v.old).number)
+          (variable_of v.old).declared;
+    } }
 {
     let is_single = singles.is_single(v.number);
     if let Declared::Typed { single, .. } = &mut v.declared {

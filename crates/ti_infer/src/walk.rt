@@ -34,7 +34,8 @@ fn own_if(
     c: &Expr,
     out: &mut Vec<Edge>,
 ) -> Result<(), Memory>
-    ensures { OnOk result (out.new.items ≡ out.old.items ++ each (asks_at a.entry.site a.entry.inside.now (expression_of c.now)) (effect_targets (program_at a.entry.site) (method_at a.entry.site) a.entry.whole i jump.now (statement_of x.now))) }
+    ensures { OnOk result (out.new.items ≡ out.old.items ++ each (asks_at a.entry.site a.entry.inside.now (expression_of c.now))
+        (effect_targets (program_at a.entry.site) (method_at a.entry.site) a.entry.whole i jump.now (statement_of x.now))) }
 {
     let whats = effect_targets(alloc, a.site, a.whole, i, jump, x)?;
     condition(alloc, a, c, &whats, out)
@@ -42,7 +43,8 @@ fn own_if(
 
 // What falls with a plain condition of a loop without update, and with a jump out of it.
 fn body_targets(alloc: Global, a: Around, i: usize, body: &Stmt) -> Result<Vec<Then>, Memory>
-    ensures { IfOk result (λ v. v.items ≡ loop_targets (program_at a.entry.site) (method_at a.entry.site) a.entry.whole i NoStm (statement_of body.now)) }
+    ensures { IfOk result (λ v. v.items ≡ loop_targets (program_at a.entry.site) (method_at a.entry.site) a.entry.whole i NoStm
+        (statement_of body.now)) }
 {
     let none = None;
     loop_targets(alloc, a.site, a.whole, i, &none, body)
@@ -58,7 +60,9 @@ fn own_for(
     update: &Option<Box<Stmt>>,
     out: &mut Vec<Edge>,
 ) -> Result<(), Memory>
-    ensures { OnOk result (out.new.items ≡ out.old.items ++ (condition_edges (program_at a.entry.site) (method_at a.entry.site) a.entry.whole (inside_of a.entry.inside.now) (maybe_of expression_of c.now) whats.now ++ always_if (doings_of_maybe (program_at a.entry.site) (this_of (method_at a.entry.site)) (maybe_in update.now)).jumps)) }
+    ensures { OnOk result (out.new.items ≡ out.old.items ++ (condition_edges (program_at a.entry.site)
+        (method_at a.entry.site) a.entry.whole (inside_of a.entry.inside.now) (maybe_of expression_of c.now) whats.now
+        ++ always_if (doings_of_maybe (program_at a.entry.site) (this_of (method_at a.entry.site)) (maybe_in update.now)).jumps)) }
 {
     condition_of(alloc, a, c, whats, out)?;
     update_jumps(a, update, out)
@@ -121,7 +125,7 @@ fn maybe(
 
 // The same of one statement.
 #[cycle(walk)]
-#[tactic(auto, using(ti_lang::proofs::ProgramBridges::program_bridges, crate::proofs::Pushing::pushing))]
+#[tactic(auto, using(ti_lang::proofs::Lemmas::program_bridges, crate::proofs::Pushing::pushing))]
 fn statement(
     alloc: Global,
     a: Around,

@@ -129,7 +129,9 @@ later_fields class m name (c ∷ cs) lt =
     lookup_append (same_key (class, name)) (numbered_fields m 0 c.fields.items) (field_rows (m + 1) cs)
     ∙ (λ j. option_or (other_fields class m name 0 c.fields.items apart j) (later_fields class (m + 1) name cs (omega (arith, lt)) j))
 
-fields_at : (m i name : ℕ) (cs : List Class) → lookup (same_key (m + i, name)) (field_rows m cs) ≡ position (λ (f : NumberedField). f.name == name) (option_map_or (λ (c : NumberedClass). c.fields) (slice_get (map numbered_class_of cs) i) [])
+fields_at : (m i name : ℕ) (cs : List Class) → lookup (same_key (m + i, name)) (field_rows m cs)
+    ≡ position (λ (f : NumberedField). f.name == name) (option_map_or (λ (c : NumberedClass). c.fields)
+    (slice_get (map numbered_class_of cs) i) [])
 fields_at m i name [] = refl
 fields_at m zero name (c ∷ cs) =
     let here : m + 0 ≡ m = omega arith in
@@ -152,7 +154,8 @@ field_told p class name =
 
 -- ---- methods
 
-methods_from : (class name n : ℕ) (ms : List Method) → lookup (same_key (class, name)) (method_rows n ms) ≡ position_from (λ (m : NumberedMethod). (m.class == class) && (m.name == name)) n (map numbered_method_of ms)
+methods_from : (class name n : ℕ) (ms : List Method) → lookup (same_key (class, name)) (method_rows n ms)
+    ≡ position_from (λ (m : NumberedMethod). (m.class == class) && (m.name == name)) n (map numbered_method_of ms)
 methods_from class name n [] = refl
 methods_from class name n (m ∷ ms) =
     ap (λ b. cond (b && (name == m.name)) (Some n) (lookup (same_key (class, name)) (method_rows (n + 1) ms))) (turned class m.class)
@@ -160,9 +163,11 @@ methods_from class name n (m ∷ ms) =
     ∙ ap (cond ((m.class == class) && (m.name == name)) (Some n)) (methods_from class name (n + 1) ms)
 
 -- the first method of a class and a name is found
-pub method_told : (ms : List Method) (class name : ℕ) → lookup (same_key (class, name)) (with_firsts [] (method_rows 0 ms)) ≡ position (λ (m : NumberedMethod). (m.class == class) && (m.name == name)) (map numbered_method_of ms)
+pub method_told : (ms : List Method) (class name : ℕ) → lookup (same_key (class, name)) (with_firsts [] (method_rows 0 ms))
+    ≡ position (λ (m : NumberedMethod). (m.class == class) && (m.name == name)) (map numbered_method_of ms)
 method_told ms class name =
-    lookup_firsts (class, name) [] (method_rows 0 ms) ∙ methods_from class name 0 ms ∙ sym (position_from-zero (λ (m : NumberedMethod). (m.class == class) && (m.name == name)) (map numbered_method_of ms))
+    lookup_firsts (class, name) [] (method_rows 0 ms) ∙ methods_from class name 0 ms
+    ∙ sym (position_from-zero (λ (m : NumberedMethod). (m.class == class) && (m.name == name)) (map numbered_method_of ms))
 
 -- ---- what stands where it is first
 

@@ -44,4 +44,6 @@ apart b n h = grind (arith, nat_tests)
 pub class_of_is : (b : ℕ) → IsOfClass b (class_of b)
 class_of_is b =
     let P : Class → Type 0 = IsOfClass b in
-    cond_both (is_blank b) c.Blank _ P (λ h. h) (λ _. cond_both (begins_name b) c.Letter _ P (λ h. h) (λ _. cond_both (is_ascii_digit b) c.Digit _ P (λ h. h) (λ digit. cond_both (b == 34) c.Quote _ P (equal b 34) (λ quote. cond_both (b == 47) c.Slash c.Other P (equal b 47) (λ slash. (digit, apart b 34 quote, apart b 47 slash))))))
+    cond_both (is_blank b) c.Blank _ P (λ h. h) (λ _. cond_both (begins_name b) c.Letter _ P (λ h. h)
+    (λ _. cond_both (is_ascii_digit b) c.Digit _ P (λ h. h) (λ digit. cond_both (b == 34) c.Quote _ P (equal b 34)
+    (λ quote. cond_both (b == 47) c.Slash c.Other P (equal b 47) (λ slash. (digit, apart b 34 quote, apart b 47 slash))))))

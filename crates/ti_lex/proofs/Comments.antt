@@ -10,7 +10,8 @@ use Rattle.ti_lex.proofs.Fronts.{Beats, IsSound, IsRefusal, beats_same}
 use Rattle.ti_lex.proofs.Runs.{run_covers, run_passes}
 
 -- the rest of a line is read as far as it goes
-pub line_beats : (at : ℕ) (inner rest : List ℕ) → list_all (λ b. not (b == 10)) inner ≡ true → Beats at (length (codes "//" ++ inner)) Space (Takes Space (at + line_left (codes "//" ++ (inner ++ rest))))
+pub line_beats : (at : ℕ) (inner rest : List ℕ) → list_all (λ b. not (b == 10)) inner ≡ true
+    → Beats at (length (codes "//" ++ inner)) Space (Takes Space (at + line_left (codes "//" ++ (inner ++ rest))))
 line_beats at inner rest h =
     let covers = run_covers (λ b. not (b == 10)) inner rest h in
     beats_same at (length (codes "//" ++ inner)) (at + line_left (codes "//" ++ (inner ++ rest))) Space (omega arith)
@@ -85,12 +86,16 @@ abbrev EndsClosed : List ℕ → Type 0
 EndsClosed l = (inner : List ℕ) × (l ≡ inner ++ codes "*/")
 
 module _ (slash : ℕ) where
-  taken_by : (star : Bool) (b : ℕ) (inner rest : List ℕ) (at : ℕ) → ClosesAtEnd (star_of star ++ (b ∷ (inner ++ codes "*/"))) → comment_from slash (b == 42) (at + 1) ((inner ++ codes "*/") ++ rest) ≡ Takes Space (at + 1 + (length inner + 2)) → (t : Bool) → (star && (b == 47)) ≡ t → cond t (Takes Space (at + 1)) (comment_from slash (b == 42) (at + 1) ((inner ++ codes "*/") ++ rest)) ≡ Takes Space (at + (length (b ∷ inner) + 2))
+  taken_by : (star : Bool) (b : ℕ) (inner rest : List ℕ) (at : ℕ) → ClosesAtEnd (star_of star ++ (b ∷ (inner ++ codes "*/")))
+      → comment_from slash (b == 42) (at + 1) ((inner ++ codes "*/") ++ rest) ≡ Takes Space (at + 1 + (length inner + 2)) → (t : Bool)
+      → (star && (b == 47)) ≡ t → cond t (Takes Space (at + 1)) (comment_from slash (b == 42) (at + 1) ((inner ++ codes "*/") ++ rest))
+      ≡ Takes Space (at + (length (b ∷ inner) + 2))
   taken_by star b inner rest at closes more true h = absurd (closes_early star b inner h closes)
   taken_by star b inner rest at closes more false h = more ∙ ap (Takes Space) (omega arith)
 
   -- a comment that closes at its end is read to its end
-  pub comment_taken : (inner rest : List ℕ) (star : Bool) (at : ℕ) → ClosesAtEnd (star_of star ++ (inner ++ codes "*/")) → comment_from slash star at ((inner ++ codes "*/") ++ rest) ≡ Takes Space (at + (length inner + 2))
+  pub comment_taken : (inner rest : List ℕ) (star : Bool) (at : ℕ) → ClosesAtEnd (star_of star ++ (inner ++ codes "*/"))
+      → comment_from slash star at ((inner ++ codes "*/") ++ rest) ≡ Takes Space (at + (length inner + 2))
   comment_taken [] rest true at closes = ap (Takes Space) (omega arith)
   comment_taken [] rest false at closes = ap (Takes Space) (omega arith)
   comment_taken (b ∷ inner) rest star at closes =
@@ -119,7 +124,8 @@ module _ (slash : ℕ) where
           (star_of star ++ (b ∷ inner), ap (λ t. star_of star ++ (b ∷ t)) ends ∙ sym (append_assoc (star_of star) (b ∷ inner) (codes "*/")))
   goes_on star next at b l (Refuses flaw fault) h still rest = rest
 
-  rest_by : (star : Bool) (at b : ℕ) (l : List ℕ) → IsRest (b == 42) (at + 1) l (comment_from slash (b == 42) (at + 1) l) → (t : Bool) → (star && (b == 47)) ≡ t → IsRest star at (b ∷ l) (cond t (Takes Space (at + 1)) (comment_from slash (b == 42) (at + 1) l))
+  rest_by : (star : Bool) (at b : ℕ) (l : List ℕ) → IsRest (b == 42) (at + 1) l (comment_from slash (b == 42) (at + 1) l) → (t : Bool)
+      → (star && (b == 47)) ≡ t → IsRest star at (b ∷ l) (cond t (Takes Space (at + 1)) (comment_from slash (b == 42) (at + 1) l))
   rest_by star at b l more true h = closed_now star at b l h
   rest_by star at b l more false h =
       goes_on star (b == 42) at b l (comment_from slash (b == 42) (at + 1) l) refl h more

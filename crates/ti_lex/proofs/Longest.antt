@@ -41,7 +41,8 @@ slash_beats at rest no_comment h =
 abbrev IsFront : TokenKind → Option (List ℕ) → Type 0
 IsFront kind None = Unit {0}
 IsFront kind (Some spelling) =
-    (at : ℕ) (rest : List ℕ) → (OpensComment (spelling ++ rest) → ⊥) → Beats at (length spelling) (Lexeme kind) (sign at (spelling ++ rest)) → Beats at (length spelling) (Lexeme kind) (first at (spelling ++ rest))
+    (at : ℕ) (rest : List ℕ) → (OpensComment (spelling ++ rest) → ⊥) → Beats at (length spelling) (Lexeme kind) (sign at (spelling ++ rest))
+    → Beats at (length spelling) (Lexeme kind) (first at (spelling ++ rest))
 
 all_fronts : (kind : TokenKind) → IsFront kind (sign_of kind)
 unfolding first
@@ -111,15 +112,23 @@ first_beats (pieces.line_comment inner {rest = rest} h) at = line_beats at inner
 first_beats (pieces.block_comment inner {rest = rest} closes) at =
     subst (Beats at (length (codes "/*" ++ (inner ++ codes "*/"))) Space) (sym (comment_taken at inner rest false (at + 2) closes)) (inr (omega (arith, length-append inner (codes "*/")), refl))
 first_beats (pieces.name b more {rest = rest} letter all none) at =
-    subst (λ q. Beats at (length (b ∷ more)) (Lexeme (k.Name (b ∷ more))) (first_by q at (b ∷ (more ++ rest)))) (sym (class_of-letter b letter)) (word_beats at (b ∷ more) rest (k.Name (b ∷ more)) (ap (λ t. (t || is_ascii_digit b) && list_all is_name_byte more) letter ∙ all) (name_found (b ∷ more) none))
+    subst (λ q. Beats at (length (b ∷ more)) (Lexeme (k.Name (b ∷ more))) (first_by q at (b ∷ (more ++ rest))))
+    (sym (class_of-letter b letter)) (word_beats at (b ∷ more) rest (k.Name (b ∷ more))
+    (ap (λ t. (t || is_ascii_digit b) && list_all is_name_byte more) letter ∙ all) (name_found (b ∷ more) none))
 first_beats (pieces.reserved kind {word = word} {rest = rest} h) at =
     reserved_beats at kind word rest h
 first_beats (pieces.dimension n {rest = rest} low high stop) at =
     subst (λ q. Beats at 2 (Lexeme (k.Dim n)) (first_by q at ((n + 48) ∷ 100 ∷ rest))) (sym (class_of-digit (n + 48) (digit_of n high))) (dimension_beats at n rest low high stop)
 first_beats (pieces.number digit more {rest = rest} all stop no_zero fits) at =
-    subst (λ q. Beats at (length (digit ∷ more)) (Lexeme (k.Int (pos (digits_value 10 (digit ∷ more))))) (first_by q at (digit ∷ (more ++ rest)))) (sym (class_of-digit digit (and_parts (is_ascii_digit digit) (list_all is_ascii_digit more) all).0)) (number_beats at digit more rest all no_zero stop fits)
+    subst (λ q. Beats at (length (digit ∷ more)) (Lexeme (k.Int (pos (digits_value 10 (digit ∷ more)))))
+    (first_by q at (digit ∷ (more ++ rest)))) (sym (class_of-digit digit
+    (and_parts (is_ascii_digit digit) (list_all is_ascii_digit more) all).0))
+    (number_beats at digit more rest all no_zero stop fits)
 first_beats (pieces.long_number digit more letter {rest = rest} all is no_zero fits) at =
-    subst (λ q. Beats at (length ((digit ∷ more) ++ letter ∷ [])) (Lexeme (k.LongInt (pos (digits_value 10 (digit ∷ more))))) (first_by q at (((digit ∷ more) ++ letter ∷ []) ++ rest))) (sym (class_of-digit digit (and_parts (is_ascii_digit digit) (list_all is_ascii_digit more) all).0)) (long_beats at digit more rest all no_zero letter is fits)
+    subst (λ q. Beats at (length ((digit ∷ more) ++ letter ∷ [])) (Lexeme (k.LongInt (pos (digits_value 10 (digit ∷ more)))))
+    (first_by q at (((digit ∷ more) ++ letter ∷ []) ++ rest))) (sym
+    (class_of-digit digit (and_parts (is_ascii_digit digit) (list_all is_ascii_digit more) all).0))
+    (long_beats at digit more rest all no_zero letter is fits)
 first_beats (pieces.string {items = items} {bytes = bytes} {rest = rest} are) at =
     string_beats at items bytes rest are
 first_beats (pieces.sign kind {sign = spelling} {rest = rest} h no_comment) at =

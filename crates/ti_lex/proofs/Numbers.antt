@@ -1,5 +1,7 @@
 -- Whole numbers and dimensions.
-use Rattle.std.proofs.Common.{◌≡◌, ℕ, zero, suc, ◌+◌, ◌-◌, ◌*◌, ◌≤◌, ◌==◌, nat_le, min, Bool, true, false, not, ◌&&◌, ◌||◌, cond, if◌then◌else◌, Option, Some, None, List, [], ◌∷◌, ◌++◌, length, take, drop, pos, inl, inr, refl, sym, ap, ◌∙◌, subst, arith, take-append-drop, append_assoc, length-append}
+use Rattle.std.proofs.Common.{◌≡◌, ℕ, zero, suc, ◌+◌, ◌-◌, ◌*◌, ◌≤◌, ◌==◌, nat_le, min, Bool, true, false, not, ◌&&◌, ◌||◌, cond}
+use Rattle.std.proofs.Common.{if◌then◌else◌, Option, Some, None, List, [], ◌∷◌, ◌++◌, length, take, drop, pos, inl, inr, refl, sym, ap, ◌∙◌}
+use Rattle.std.proofs.Common.{subst, arith, take-append-drop, append_assoc, length-append}
 use Rattle.std.proofs.Math.Seq.{take-append_seam, drop-append_seam}
 use Rattle.std.proofs.lemmas.Bool.{and_parts, eqb-true}
 use Rattle.std.proofs.lemmas.Bool.Decides.{nat_tests}
@@ -24,10 +26,14 @@ capped_step v d = grind (arith, nat_tests)
 digit : (b : ℕ) → is_ascii_digit b ≡ true → digit_value b ≡ b - 48
 digit b h = grind (arith, nat_tests)
 
-value_by : (b : ℕ) (l : List ℕ) (v n : ℕ) → ((w : ℕ) → value_from (min w too_large) l ≡ min (digits_value_after 10 w (take n l)) too_large) → (t : Bool) → is_ascii_digit b ≡ t → cond t (value_from (min (min v too_large * 10 + (b - 48)) too_large) l) (min v too_large) ≡ min (digits_value_after 10 v (take (cond t (1 + n) 0) (b ∷ l))) too_large
+value_by : (b : ℕ) (l : List ℕ) (v n : ℕ) → ((w : ℕ) → value_from (min w too_large) l ≡ min (digits_value_after 10 w (take n l)) too_large)
+    → (t : Bool) → is_ascii_digit b ≡ t → cond t (value_from (min (min v too_large * 10 + (b - 48)) too_large) l) (min v too_large)
+    ≡ min (digits_value_after 10 v (take (cond t (1 + n) 0) (b ∷ l))) too_large
 value_by b l v n more true h =
     let one : 1 + n ≡ suc n = omega arith in
-    ap (λ m. value_from m l) (capped_step v (b - 48)) ∙ more (v * 10 + (b - 48)) ∙ ap (λ d. min (digits_value_after 10 (v * 10 + d) (take n l)) too_large) (sym (digit b h)) ∙ ap (λ m. min (digits_value_after 10 v (take m (b ∷ l))) too_large) (sym one)
+    ap (λ m. value_from m l) (capped_step v (b - 48)) ∙ more (v * 10 + (b - 48))
+    ∙ ap (λ d. min (digits_value_after 10 (v * 10 + d) (take n l)) too_large) (sym (digit b h))
+    ∙ ap (λ m. min (digits_value_after 10 v (take m (b ∷ l))) too_large) (sym one)
 value_by b l v n more false h = refl
 
 -- the digits of a run are read as the number that they write, up to the bound
@@ -42,7 +48,8 @@ IsDimension b l None = Unit {0}
 IsDimension b l (Some n) =
     (is_in_range 49 51 b ≡ true) × (first_passes (λ d. d == 100) l ≡ true) × (first_passes is_name_byte (drop 1 l) ≡ false) × (n ≡ b - 48)
 
-dimension_by : (b : ℕ) (l : List ℕ) (range d name : Bool) → is_in_range 49 51 b ≡ range → first_passes (λ d. d == 100) l ≡ d → first_passes is_name_byte (drop 1 l) ≡ name → IsDimension b l (if range && d && not name then Some (b - 48) else None)
+dimension_by : (b : ℕ) (l : List ℕ) (range d name : Bool) → is_in_range 49 51 b ≡ range → first_passes (λ d. d == 100) l ≡ d
+    → first_passes is_name_byte (drop 1 l) ≡ name → IsDimension b l (if range && d && not name then Some (b - 48) else None)
 dimension_by b l true true false h i j = (h, i, j, refl)
 dimension_by b l true true true h i j = tt
 dimension_by b l true false name h i j = tt
@@ -97,7 +104,8 @@ module _ (at digit : ℕ) (more rest : List ℕ) (long : Bool) (all : list_all i
 
   whole_value : value_from 0 (digit ∷ (more ++ rest)) ≡ digits_value 10 (digit ∷ more)
   whole_value =
-      let front : take (prefix_len is_ascii_digit (digit ∷ (more ++ rest))) (digit ∷ (more ++ rest)) ≡ digit ∷ more = ap (λ n. take n (digit ∷ (more ++ rest))) size_is ∙ take-append_seam (digit ∷ more) rest in
+      let front : take (prefix_len is_ascii_digit (digit ∷ (more ++ rest))) (digit ∷ (more ++ rest)) ≡ digit ∷ more =
+      ap (λ n. take n (digit ∷ (more ++ rest))) size_is ∙ take-append_seam (digit ∷ more) rest in
       value_is (digit ∷ (more ++ rest)) 0 ∙ ap (λ t. min (digits_value 10 t) too_large) front ∙ kept long (digits_value 10 (digit ∷ more)) fits
 
   digits_read : digits at (digit ∷ (more ++ rest)) ≡ Takes (Lexeme (kind_of_number long (digits_value 10 (digit ∷ more)))) (at + length (digit ∷ more) + letters long)
@@ -119,17 +127,21 @@ module _ (at digit : ℕ) (more rest : List ℕ) (long : Bool) (all : list_all i
 
 module _ (at digit : ℕ) (more rest : List ℕ) (all : list_all is_ascii_digit (digit ∷ more) ≡ true) (no_zero : digit ≡ 48 → more ≡ []) where
   -- where a list begins with a whole number, that number is read, or a dimension that is longer
-  pub number_beats : first_passes goes_on_number rest ≡ false → digits_value 10 (digit ∷ more) ≤ 2147483647 → Beats at (length (digit ∷ more)) (Lexeme (k.Int (pos (digits_value 10 (digit ∷ more))))) (number at (digit ∷ (more ++ rest)))
+  pub number_beats : first_passes goes_on_number rest ≡ false → digits_value 10 (digit ∷ more) ≤ 2147483647
+      → Beats at (length (digit ∷ more)) (Lexeme (k.Int (pos (digits_value 10 (digit ∷ more))))) (number at (digit ∷ (more ++ rest)))
   number_beats stop fits = by (dimension (digit ∷ (more ++ rest))) (dimension_is digit (more ++ rest))
     where
-      by : (found : Option ℕ) → IsDimension digit (more ++ rest) found → Beats at (length (digit ∷ more)) (Lexeme (k.Int (pos (digits_value 10 (digit ∷ more))))) (option_map_or (λ n. Takes (Lexeme (k.Dim n)) (at + 2)) found (digits at (digit ∷ (more ++ rest))))
+      by : (found : Option ℕ) → IsDimension digit (more ++ rest) found
+          → Beats at (length (digit ∷ more)) (Lexeme (k.Int (pos (digits_value 10 (digit ∷ more)))))
+          (option_map_or (λ n. Takes (Lexeme (k.Dim n)) (at + 2)) found (digits at (digit ∷ (more ++ rest))))
       by (Some n) (range, d, name, value) =
           let behind = no_more rest stop in
           let none = d_behind at digit more rest false all behind.0 behind.1 no_zero fits more (and_parts (is_ascii_digit digit) (list_all is_ascii_digit more) all).1 d in
           inl (omega arith)
       by None h =
           let behind = no_more rest stop in
-          subst (Beats at (length (digit ∷ more)) (Lexeme (k.Int (pos (digits_value 10 (digit ∷ more)))))) (sym (digits_read at digit more rest false all behind.0 behind.1 no_zero fits)) (inr (omega arith, refl))
+          subst (Beats at (length (digit ∷ more)) (Lexeme (k.Int (pos (digits_value 10 (digit ∷ more))))))
+          (sym (digits_read at digit more rest false all behind.0 behind.1 no_zero fits)) (inr (omega arith, refl))
 
   -- where a list begins with a long number, that number is read
   pub long_beats : (letter : ℕ) → is_long_letter letter ≡ true → digits_value 10 (digit ∷ more) ≤ 9223372036854775807
@@ -145,11 +157,14 @@ module _ (at digit : ℕ) (more rest : List ℕ) (all : list_all is_ascii_digit 
       none_behind [] h i = letter_no_d letter is i
       none_behind (b ∷ l) h i = d_no_digit b i (and_parts (is_ascii_digit b) (list_all is_ascii_digit l) h).0
 
-      by : (found : Option ℕ) → IsDimension digit (more ++ letter ∷ rest) found → Beats at (length ((digit ∷ more) ++ letter ∷ [])) (Lexeme (k.LongInt (pos (digits_value 10 (digit ∷ more))))) (option_map_or (λ n. Takes (Lexeme (k.Dim n)) (at + 2)) found (digits at (digit ∷ (more ++ letter ∷ rest))))
+      by : (found : Option ℕ) → IsDimension digit (more ++ letter ∷ rest) found
+          → Beats at (length ((digit ∷ more) ++ letter ∷ [])) (Lexeme (k.LongInt (pos (digits_value 10 (digit ∷ more)))))
+          (option_map_or (λ n. Takes (Lexeme (k.Dim n)) (at + 2)) found (digits at (digit ∷ (more ++ letter ∷ rest))))
       by (Some n) (range, d, name, value) = absurd (none_behind more (and_parts (is_ascii_digit digit) (list_all is_ascii_digit more) all).1 d)
       by None h =
           let long : length ((digit ∷ more) ++ letter ∷ []) ≡ length (digit ∷ more) + 1 = omega (arith, length-append (digit ∷ more) (letter ∷ [])) in
-          subst (Beats at (length ((digit ∷ more) ++ letter ∷ [])) (Lexeme (k.LongInt (pos (digits_value 10 (digit ∷ more)))))) (sym (digits_read at digit more (letter ∷ rest) true all stop is no_zero fits)) (inr (omega arith, refl))
+          subst (Beats at (length ((digit ∷ more) ++ letter ∷ [])) (Lexeme (k.LongInt (pos (digits_value 10 (digit ∷ more))))))
+          (sym (digits_read at digit more (letter ∷ rest) true all stop is no_zero fits)) (inr (omega arith, refl))
 
 -- where a list begins with a dimension, that dimension is read
 pub dimension_beats : (at n : ℕ) (rest : List ℕ) → 1 ≤ n → n ≤ 3 → first_passes is_name_byte rest ≡ false → Beats at 2 (Lexeme (k.Dim n)) (number at ((n + 48) ∷ 100 ∷ rest))
@@ -203,7 +218,8 @@ module _ (at b : ℕ) (l : List ℕ) (first : is_ascii_digit b ≡ true) where
       )
 
   -- the run of digits at the front, by its size and by what stands behind it
-  digits_by : (n size value : ℕ) (behind : List ℕ) (long : Bool) → n ≡ prefix_len is_ascii_digit l → size ≡ suc n → value ≡ value_from 0 (b ∷ l) → behind ≡ drop n l → first_passes is_long_letter behind ≡ long
+  digits_by : (n size value : ℕ) (behind : List ℕ) (long : Bool) → n ≡ prefix_len is_ascii_digit l → size ≡ suc n → value
+      ≡ value_from 0 (b ∷ l) → behind ≡ drop n l → first_passes is_long_letter behind ≡ long
       → (t : Bool) → is_number (b == 48) size (most_of long) value ≡ t → IsSound at (b ∷ l) (cond t (Takes (Lexeme (kind_of_number long value)) (at + size + letters long)) (Refuses WrongNumber at))
   digits_by n size value behind long run h is left letter false passes = (0, omega arith, pieces.wrong_number b l first)
   digits_by n size value behind long run h is left letter true passes =
@@ -212,14 +228,16 @@ module _ (at b : ℕ) (l : List ℕ) (first : is_ascii_digit b ≡ true) where
       let below : value ≤ most_of long = below_bound value (most_of long) small in
       let same : digits_value 10 (b ∷ take n l) ≡ value = unbounded long value (digits_value 10 (b ∷ take n l)) below bound in
       let all : list_all is_ascii_digit (take n l) ≡ true = subst (λ m. list_all is_ascii_digit (take m l) ≡ true) (sym run) (run_passes is_ascii_digit l) in
-      let stop : first_passes is_ascii_digit behind ≡ false = subst (λ r. first_passes is_ascii_digit r ≡ false) (sym left) (subst (λ m. first_passes is_ascii_digit (drop m l) ≡ false) (sym run) (run_stops is_ascii_digit l)) in
+      let stop : first_passes is_ascii_digit behind ≡ false = subst (λ r. first_passes is_ascii_digit r ≡ false) (sym left)
+      (subst (λ m. first_passes is_ascii_digit (drop m l) ≡ false) (sym run) (run_stops is_ascii_digit l)) in
       let size_of : length (take n l) ≡ n = subst (λ m. length (take m l) ≡ m) (sym run) (length-prefix_len is_ascii_digit l) in
       let size_is : length (b ∷ take n l) ≡ size = omega arith in
       let split : b ∷ l ≡ (b ∷ take n l) ++ behind = ap (λ t. b ∷ t) (sym (take-append-drop n l) ∙ ap (λ r. take n l ++ r) (sym left)) in
       subst (λ m. IsSound at (b ∷ l) (Takes (Lexeme (kind_of_number long value)) (at + m + letters long))) size_is
       (sound_by n value behind long letter stop split (ap (λ t. t && list_all is_ascii_digit (take n l)) first ∙ all) (leads n size h no_zero) same below)
 
-  dimension_piece : (n : ℕ) (l : List ℕ) → is_in_range 49 51 b ≡ true → first_passes (λ d. d == 100) l ≡ true → first_passes is_name_byte (drop 1 l) ≡ false → n ≡ b - 48 → IsSound at (b ∷ l) (Takes (Lexeme (k.Dim n)) (at + 2))
+  dimension_piece : (n : ℕ) (l : List ℕ) → is_in_range 49 51 b ≡ true → first_passes (λ d. d == 100) l ≡ true
+      → first_passes is_name_byte (drop 1 l) ≡ false → n ≡ b - 48 → IsSound at (b ∷ l) (Takes (Lexeme (k.Dim n)) (at + 2))
   dimension_piece n [] range d name value = cc
   dimension_piece n (e ∷ rest) range d name value =
       let (low, high) = in_range b range in

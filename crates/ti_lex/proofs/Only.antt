@@ -66,7 +66,11 @@ stray_refused : (quote : ℕ) (bytes : List ℕ) (at : ℕ) (l : List ℕ) → b
 stray_refused quote bytes at [] h none = cc
 stray_refused quote bytes at (b ∷ l) h none =
     let P : Reading → Type 0 = λ r. r ≡ Refuses StrayByte at in
-    cond_both (b == 34) _ _ P (λ quoted. let both : true ≡ false = sym quoted ∙ none.0 in cc) (λ _. cond_both (b == 92) _ _ P (λ begins. escape_refused quote bytes at l (subst (λ d. BeginsNoItem (d ∷ l)) (eqb-true b 92 begins) none)) (λ _. cond_both (is_plain b) _ _ P (λ plain. absurd (none.1 (b ∷ []) l b (pieces.plain b plain) refl)) (λ _. cond_both (b == 10 || b == 13) _ _ P (λ breaks. let both : true ≡ false = sym breaks ∙ h in cc) (λ _. refl))))
+    cond_both (b == 34) _ _ P (λ quoted. let both : true ≡ false = sym quoted ∙ none.0 in cc)
+    (λ _. cond_both (b == 92) _ _ P (λ begins. escape_refused quote bytes at l
+    (subst (λ d. BeginsNoItem (d ∷ l)) (eqb-true b 92 begins) none))
+    (λ _. cond_both (is_plain b) _ _ P (λ plain. absurd (none.1 (b ∷ []) l b (pieces.plain b plain) refl))
+    (λ _. cond_both (b == 10 || b == 13) _ _ P (λ breaks. let both : true ≡ false = sym breaks ∙ h in cc) (λ _. refl))))
 
 abbrev head_of : List ℕ → ℕ
 head_of [] = 0
@@ -211,7 +215,8 @@ one_refusal text a b (refusals.flawed {flaw = flaw} {at = at} _ this) (refusals.
 -- from a place on a text has tokens or a flaw
 abbrev GoesOn : List ℕ → ℕ → Type 0
 GoesOn text i =
-    ((tokens : List Token) × Pieces text i tokens (length text)) ⊎ ((tokens : List Token) × (end : ℕ) × (flaw : Flaw) × (before : ℕ) × Pieces text i tokens end × BeginsNoPiece (drop end text) × HasFlaw (drop end text) flaw before)
+    ((tokens : List Token) × Pieces text i tokens (length text)) ⊎ ((tokens : List Token) × (end : ℕ) × (flaw : Flaw) × (before : ℕ)
+    × Pieces text i tokens end × BeginsNoPiece (drop end text) × HasFlaw (drop end text) flaw before)
 
 go_space : (text : List ℕ) (i size : ℕ) → IsLongest (drop i text) size Space → GoesOn text (i + size) → GoesOn text i
 go_space text i size longest (inl (tokens, to_end)) = inl (tokens, pieces.space_and longest to_end)
@@ -229,7 +234,13 @@ goes_on text zero i within near =
     let at_end : i ≡ length text = omega arith in
     inl ([], subst (Pieces text i []) at_end pieces.no_piece)
 goes_on text (suc left) i within near =
-    elim (cases_lt i (length text)) [ inl more ↦ by (first i (drop i text)) (first_tells i (drop i text) (omega (arith, length-drop i text))) (λ size some fits. goes_on text left (i + size) (omega (arith, length-drop i text)) (omega arith)) | inr done ↦ (let at_end : i ≡ length text = omega arith in inl ([], subst (Pieces text i []) at_end pieces.no_piece)) ]
+    elim (cases_lt i (length text)) [
+      | inl more ↦ by (first i (drop i text))
+          (first_tells i (drop i text) (omega (arith, length-drop i text)))
+          (λ size some fits. goes_on text left (i + size) (omega (arith, length-drop i text)) (omega arith))
+      | inr done ↦ (let at_end : i
+          ≡ length text = omega arith in inl ([], subst (Pieces text i []) at_end pieces.no_piece))
+    ]
   where
     by : (r : Reading) → Tells i (drop i text) r → ((size : ℕ) → 0 < size → size ≤ length (drop i text) → GoesOn text (i + size)) → GoesOn text i
     by (Takes Space end) (size, to, some, longest) more =
@@ -242,7 +253,25 @@ goes_on text (suc left) i within near =
 -- a text has tokens or a refusal
 pub some_reading : (text : List ℕ) → ((tokens : List Token) × (length text ≤ most_bytes) × IsTokenized text tokens) ⊎ ((refusal : Refusal) × IsLexicalRefusal text refusal)
 some_reading text =
-    elim (cases_lt most_bytes (length text)) [ inl long ↦ inr (_, refusals.too_long long) | inr short ↦ elim (goes_on text (length text) 0 (omega arith) (omega arith)) [ inl (tokens, to_end) ↦ inl (_, short, record { spelled = tokens; pieces = to_end; ended = refl }) | inr (tokens, end, flaw, before, to, stuck, flawed) ↦ inr (_, refusals.flawed short (record { spelled = tokens; end = end; pieces = to; stuck = stuck; before = before; flawed = flawed; place = refl })) ] ]
+    elim (cases_lt most_bytes (length text)) [
+      | inl long ↦ inr (_, refusals.too_long long)
+      | inr short ↦ elim (goes_on text (length text) 0 (omega arith) (omega arith)) [
+        | inl (tokens, to_end) ↦ inl (_, short, record { spelled = tokens; pieces = to_end; ended = refl })
+        | inr (
+          tokens,
+          end,
+          flaw,
+          before,
+          to,
+          stuck,
+          flawed,
+        ) ↦ inr (
+          _,
+          refusals.flawed short
+              (record { spelled = tokens; end = end; pieces = to; stuck = stuck; before = before; flawed = flawed; place = refl }),
+        )
+      ]
+    ]
 
 -- from the answer: no other is possible
 pub only_tokens : (text : List ℕ) (result : Result (Vec Token Global) LexErr) → Lexes text result → (tokens : List Token) → length text ≤ most_bytes → IsTokenized text tokens → GivesOnly result tokens

@@ -13,7 +13,10 @@ use Rattle.ti_lex.specs.Mirrors.Reading.{Reading, Takes, Refuses, first_signs, f
 use Rattle.ti_lex.proofs.Fronts.{Beats, IsSound, IsRefusal}
 
 -- an operator or a longer one is read behind it
-from_by : (at size : ℕ) (kind : TokenKind) (rest : List ℕ) (b : ℕ) → ((p : ℕ) (longer : TokenKind) → p ≡ at + size + 1 → Beats (at + 1) size (Lexeme longer) (sign_from longer p rest)) → (longer : Option TokenKind) → Beats at size (Lexeme kind) (if is_some longer then sign_from (unwrap_or longer kind) (at + size + 1) rest else Takes (Lexeme kind) (at + size))
+from_by : (at size : ℕ) (kind : TokenKind) (rest : List ℕ) (b : ℕ)
+    → ((p : ℕ) (longer : TokenKind) → p ≡ at + size + 1 → Beats (at + 1) size (Lexeme longer) (sign_from longer p rest))
+    → (longer : Option TokenKind) → Beats at size (Lexeme kind) (if is_some longer then sign_from (unwrap_or longer kind)
+    (at + size + 1) rest else Takes (Lexeme kind) (at + size))
 from_by at size kind rest b more (Some longer) =
     further (sign_from longer (at + size + 1) rest) (more (at + size + 1) longer refl)
   where
@@ -26,7 +29,9 @@ from_by at size kind rest b more None = inr (refl, refl)
 from_beats : (rest : List ℕ) (at size : ℕ) (kind : TokenKind) (p : ℕ) → p ≡ at + size → Beats at size (Lexeme kind) (sign_from kind p rest)
 from_beats [] at size kind p h = inr (h, refl)
 from_beats (b ∷ rest) at size kind p h =
-    subst (λ q. Beats at size (Lexeme kind) (if is_some (longer_sign kind b) then sign_from (unwrap_or (longer_sign kind b) kind) (q + 1) rest else Takes (Lexeme kind) q)) (sym h) (from_by at size kind rest b (λ q longer e. from_beats rest (at + 1) size longer q (e ∙ omega arith)) (longer_sign kind b))
+    subst (λ q. Beats at size (Lexeme kind) (if is_some (longer_sign kind b) then sign_from (unwrap_or (longer_sign kind b) kind)
+    (q + 1) rest else Takes (Lexeme kind) q)) (sym h) (from_by at size kind rest b
+    (λ q longer e. from_beats rest (at + 1) size longer q (e ∙ omega arith)) (longer_sign kind b))
 
 -- a sign is read byte by byte, from `at` on
 abbrev IsRead : TokenKind → Option (List ℕ) → Type 0
@@ -100,18 +105,37 @@ added kind longer before b n this that same spelling is =
     that ∙ ap (λ d. Some (before ++ d ∷ [])) (sym (eqb-true b n same)) ∙ ap (λ t. Some (t ++ b ∷ [])) spelled
 
 all_longer : (kind : TokenKind) (b : ℕ) → IsLonger kind b (longer_sign kind b)
-all_longer k.Plus b = cond_both (b == 61) (Some k.PlusAssign) _ (IsLonger k.Plus b) (λ h. added k.Plus k.PlusAssign (codes "+") b 61 refl refl h) (λ _. (cond_both (b == 43) (Some k.PlusPlus) _ (IsLonger k.Plus b) (λ h. added k.Plus k.PlusPlus (codes "+") b 43 refl refl h) (λ _. tt)))
-all_longer k.Minus b = cond_both (b == 61) (Some k.MinusAssign) _ (IsLonger k.Minus b) (λ h. added k.Minus k.MinusAssign (codes "-") b 61 refl refl h) (λ _. (cond_both (b == 45) (Some k.MinusMinus) _ (IsLonger k.Minus b) (λ h. added k.Minus k.MinusMinus (codes "-") b 45 refl refl h) (λ _. tt)))
+all_longer k.Plus b = cond_both (b == 61) (Some k.PlusAssign) _ (IsLonger k.Plus b)
+    (λ h. added k.Plus k.PlusAssign (codes "+") b 61 refl refl h) (λ _.
+    (cond_both (b == 43) (Some k.PlusPlus) _ (IsLonger k.Plus b) (λ h. added k.Plus k.PlusPlus (codes "+") b 43 refl refl h) (λ _. tt)))
+all_longer k.Minus b = cond_both (b == 61) (Some k.MinusAssign) _ (IsLonger k.Minus b)
+    (λ h. added k.Minus k.MinusAssign (codes "-") b 61 refl refl h)
+    (λ _. (cond_both (b == 45) (Some k.MinusMinus) _ (IsLonger k.Minus b) (λ h. added k.Minus k.MinusMinus (codes "-") b 45 refl refl h)
+    (λ _. tt)))
 all_longer k.Star b = cond_both (b == 61) (Some k.StarAssign) _ (IsLonger k.Star b) (λ h. added k.Star k.StarAssign (codes "*") b 61 refl refl h) (λ _. tt)
 all_longer k.Slash b = cond_both (b == 61) (Some k.SlashAssign) _ (IsLonger k.Slash b) (λ h. added k.Slash k.SlashAssign (codes "/") b 61 refl refl h) (λ _. tt)
 all_longer k.Percent b = cond_both (b == 61) (Some k.PercentAssign) _ (IsLonger k.Percent b) (λ h. added k.Percent k.PercentAssign (codes "%") b 61 refl refl h) (λ _. tt)
 all_longer k.ShiftLeft b = cond_both (b == 61) (Some k.ShiftLeftAssign) _ (IsLonger k.ShiftLeft b) (λ h. added k.ShiftLeft k.ShiftLeftAssign (codes "<<") b 61 refl refl h) (λ _. tt)
-all_longer k.ShiftRight b = cond_both (b == 62) (Some k.UnsignedShiftRight) _ (IsLonger k.ShiftRight b) (λ h. added k.ShiftRight k.UnsignedShiftRight (codes ">>") b 62 refl refl h) (λ _. (cond_both (b == 61) (Some k.ShiftRightAssign) _ (IsLonger k.ShiftRight b) (λ h. added k.ShiftRight k.ShiftRightAssign (codes ">>") b 61 refl refl h) (λ _. tt)))
-all_longer k.UnsignedShiftRight b = cond_both (b == 61) (Some k.UnsignedShiftRightAssign) _ (IsLonger k.UnsignedShiftRight b) (λ h. added k.UnsignedShiftRight k.UnsignedShiftRightAssign (codes ">>>") b 61 refl refl h) (λ _. tt)
-all_longer k.Less b = cond_both (b == 60) (Some k.ShiftLeft) _ (IsLonger k.Less b) (λ h. added k.Less k.ShiftLeft (codes "<") b 60 refl refl h) (λ _. (cond_both (b == 61) (Some k.LessEqual) _ (IsLonger k.Less b) (λ h. added k.Less k.LessEqual (codes "<") b 61 refl refl h) (λ _. tt)))
-all_longer k.Greater b = cond_both (b == 62) (Some k.ShiftRight) _ (IsLonger k.Greater b) (λ h. added k.Greater k.ShiftRight (codes ">") b 62 refl refl h) (λ _. (cond_both (b == 61) (Some k.GreaterEqual) _ (IsLonger k.Greater b) (λ h. added k.Greater k.GreaterEqual (codes ">") b 61 refl refl h) (λ _. tt)))
-all_longer k.Ampersand b = cond_both (b == 38) (Some k.AndAnd) _ (IsLonger k.Ampersand b) (λ h. added k.Ampersand k.AndAnd (codes "&") b 38 refl refl h) (λ _. (cond_both (b == 61) (Some k.AmpersandAssign) _ (IsLonger k.Ampersand b) (λ h. added k.Ampersand k.AmpersandAssign (codes "&") b 61 refl refl h) (λ _. tt)))
-all_longer k.Bar b = cond_both (b == 124) (Some k.OrOr) _ (IsLonger k.Bar b) (λ h. added k.Bar k.OrOr (codes "|") b 124 refl refl h) (λ _. (cond_both (b == 61) (Some k.BarAssign) _ (IsLonger k.Bar b) (λ h. added k.Bar k.BarAssign (codes "|") b 61 refl refl h) (λ _. tt)))
+all_longer k.ShiftRight b = cond_both (b == 62) (Some k.UnsignedShiftRight) _ (IsLonger k.ShiftRight b)
+    (λ h. added k.ShiftRight k.UnsignedShiftRight (codes ">>") b 62 refl refl h)
+    (λ _. (cond_both (b == 61) (Some k.ShiftRightAssign) _ (IsLonger k.ShiftRight b)
+    (λ h. added k.ShiftRight k.ShiftRightAssign (codes ">>") b 61 refl refl h) (λ _. tt)))
+all_longer k.UnsignedShiftRight b = cond_both (b == 61) (Some k.UnsignedShiftRightAssign) _ (IsLonger k.UnsignedShiftRight b)
+    (λ h. added k.UnsignedShiftRight k.UnsignedShiftRightAssign (codes ">>>") b 61 refl refl h) (λ _. tt)
+all_longer k.Less b = cond_both (b == 60) (Some k.ShiftLeft) _ (IsLonger k.Less b)
+    (λ h. added k.Less k.ShiftLeft (codes "<") b 60 refl refl h) (λ _.
+    (cond_both (b == 61) (Some k.LessEqual) _ (IsLonger k.Less b) (λ h. added k.Less k.LessEqual (codes "<") b 61 refl refl h) (λ _. tt)))
+all_longer k.Greater b = cond_both (b == 62) (Some k.ShiftRight) _ (IsLonger k.Greater b)
+    (λ h. added k.Greater k.ShiftRight (codes ">") b 62 refl refl h)
+    (λ _. (cond_both (b == 61) (Some k.GreaterEqual) _ (IsLonger k.Greater b)
+    (λ h. added k.Greater k.GreaterEqual (codes ">") b 61 refl refl h) (λ _. tt)))
+all_longer k.Ampersand b = cond_both (b == 38) (Some k.AndAnd) _ (IsLonger k.Ampersand b)
+    (λ h. added k.Ampersand k.AndAnd (codes "&") b 38 refl refl h)
+    (λ _. (cond_both (b == 61) (Some k.AmpersandAssign) _ (IsLonger k.Ampersand b)
+    (λ h. added k.Ampersand k.AmpersandAssign (codes "&") b 61 refl refl h) (λ _. tt)))
+all_longer k.Bar b = cond_both (b == 124) (Some k.OrOr) _ (IsLonger k.Bar b) (λ h. added k.Bar k.OrOr (codes "|") b 124 refl refl h)
+    (λ _. (cond_both (b == 61) (Some k.BarAssign) _ (IsLonger k.Bar b) (λ h. added k.Bar k.BarAssign (codes "|") b 61 refl refl h)
+    (λ _. tt)))
 all_longer k.Caret b = cond_both (b == 61) (Some k.CaretAssign) _ (IsLonger k.Caret b) (λ h. added k.Caret k.CaretAssign (codes "^") b 61 refl refl h) (λ _. tt)
 all_longer k.Exclamation b = cond_both (b == 61) (Some k.NotEqual) _ (IsLonger k.Exclamation b) (λ h. added k.Exclamation k.NotEqual (codes "!") b 61 refl refl h) (λ _. tt)
 all_longer k.Assign b = cond_both (b == 61) (Some k.Equal) _ (IsLonger k.Assign b) (λ h. added k.Assign k.Equal (codes "=") b 61 refl refl h) (λ _. tt)
@@ -141,10 +165,14 @@ first_of b (row ∷ rows) (this, others) =
 -- what is read behind a sign spells one with it
 abbrev IsRest : ℕ → List ℕ → List ℕ → Reading → Type 0
 IsRest p spelling l (Takes piece end) =
-    (kind : TokenKind) × (whole : List ℕ) × (more : List ℕ) × (rest : List ℕ) × (piece ≡ Lexeme kind) × (sign_of kind ≡ Some whole) × (whole ≡ spelling ++ more) × (l ≡ more ++ rest) × (end ≡ p + length more)
+    (kind : TokenKind) × (whole : List ℕ) × (more : List ℕ) × (rest : List ℕ) × (piece ≡ Lexeme kind) × (sign_of kind ≡ Some whole)
+    × (whole ≡ spelling ++ more) × (l ≡ more ++ rest) × (end ≡ p + length more)
 IsRest p spelling l (Refuses flaw fault) = ⊥
 
-rest_by : (p b : ℕ) (spelling l : List ℕ) (kind : TokenKind) → sign_of kind ≡ Some spelling → ((longer : TokenKind) → sign_of longer ≡ Some (spelling ++ b ∷ []) → IsRest (p + 1) (spelling ++ b ∷ []) l (sign_from longer (p + 1) l)) → (longer : Option TokenKind) → IsLonger kind b longer → IsRest p spelling (b ∷ l) (if is_some longer then sign_from (unwrap_or longer kind) (p + 1) l else Takes (Lexeme kind) p)
+rest_by : (p b : ℕ) (spelling l : List ℕ) (kind : TokenKind) → sign_of kind ≡ Some spelling
+    → ((longer : TokenKind) → sign_of longer ≡ Some (spelling ++ b ∷ [])
+    → IsRest (p + 1) (spelling ++ b ∷ []) l (sign_from longer (p + 1) l)) → (longer : Option TokenKind) → IsLonger kind b longer
+    → IsRest p spelling (b ∷ l) (if is_some longer then sign_from (unwrap_or longer kind) (p + 1) l else Takes (Lexeme kind) p)
 rest_by p b spelling l kind this more (Some longer) is =
     further (sign_from longer (p + 1) l) (more longer (is spelling this))
   where

@@ -24,12 +24,15 @@ module _ (quote : ℕ) (bytes : List ℕ) (at : ℕ) where
   escape_from-item b [] = refl
   escape_from-item b (c ∷ l) = by (escaped c)
     where
-      by : (found : Option ℕ) → (if is_some found then string_from quote (bytes ++ unwrap_or found 0 ∷ []) (at + 2) l else Refuses StrayByte at) ≡ behind quote bytes at (b ∷ c ∷ l) (option_map_or (λ byte. Gives byte 2) found Strays)
+      by : (found : Option ℕ) → (if is_some found then string_from quote (bytes ++ unwrap_or found 0 ∷ [])
+          (at + 2) l else Refuses StrayByte at) ≡ behind quote bytes at (b ∷ c ∷ l) (option_map_or (λ byte. Gives byte 2) found Strays)
       by (Some byte) = refl
       by None = refl
 
   chosen : (l : List ℕ) (b : ℕ) (closes begins plain breaks : Bool) (from : Reading) (e : Item) → from ≡ behind quote bytes at (b ∷ l) e
-      → (if closes then Takes (Lexeme (k.Str bytes)) (at + 1) else (if begins then from else (if plain then string_from quote (bytes ++ b ∷ []) (at + 1) l else (if breaks then Refuses OpenString quote else Refuses StrayByte at))))
+      → (if closes then Takes (Lexeme (k.Str bytes)) (at + 1) else (if begins then from
+      else (if plain then string_from quote (bytes ++ b ∷ []) (at + 1) l
+      else (if breaks then Refuses OpenString quote else Refuses StrayByte at))))
       ≡ behind quote bytes at (b ∷ l) (if closes then Closes else (if begins then e else (if plain then Gives b 1 else (if breaks then Breaks else Strays))))
   chosen l b true begins plain breaks from e h = refl
   chosen l b false true plain breaks from e h = h
@@ -43,23 +46,28 @@ module _ (quote : ℕ) (bytes : List ℕ) (at : ℕ) where
       chosen l b (b == 34) (b == 92) (is_plain b) (b == 10 || b == 13) (escape_from quote bytes at l) (escape l) (escape_from-item b l)
 
 module _ (quote : ℕ) (bytes : List ℕ) (spot after : Spot) where
-  given : (place : Place) (byte : ℕ) (i : Item) → ReadsItem i place spot after (Ok (Some byte)) → (after.text ≡ spot.text) × (string_from quote (bytes ++ byte ∷ []) after.at (rest after) ≡ behind quote bytes spot.at (rest spot) i)
+  given : (place : Place) (byte : ℕ) (i : Item) → ReadsItem i place spot after (Ok (Some byte)) → (after.text ≡ spot.text)
+      × (string_from quote (bytes ++ byte ∷ []) after.at (rest after) ≡ behind quote bytes spot.at (rest spot) i)
   given place byte (Gives b size) (same, to) =
       let x : byte ≡ b = ap (λ o. unwrap_or o byte) same in
       let further = moved size spot in
-      let here : string_from quote (bytes ++ b ∷ []) further.at (rest further) ≡ string_from quote (bytes ++ b ∷ []) (spot.at + size) (drop size (rest spot)) = ap (string_from quote (bytes ++ b ∷ []) (spot.at + size)) (sym (drop-drop size spot.at spot.text)) in
+      let here : string_from quote (bytes ++ b ∷ []) further.at (rest further)
+      ≡ string_from quote (bytes ++ b ∷ []) (spot.at + size) (drop size (rest spot)) =
+      ap (string_from quote (bytes ++ b ∷ []) (spot.at + size)) (sym (drop-drop size spot.at spot.text)) in
       (ap (λ (z : Spot). z.text) to, ap (λ z. string_from quote (bytes ++ z ∷ []) after.at (rest after)) x ∙ ap (λ (z : Spot). string_from quote (bytes ++ b ∷ []) z.at (rest z)) to ∙ here)
   given place byte Closes (same, to) = cc
   given place byte Breaks h = absurd h
   given place byte Strays h = absurd h
 
   -- behind an item the rest of the string is read as before it
-  pub item_given : (place : Place) (byte : ℕ) → ReadsItem (item (rest spot)) place spot after (Ok (Some byte)) → (after.text ≡ spot.text) × (string_from quote (bytes ++ byte ∷ []) after.at (rest after) ≡ string_from quote bytes spot.at (rest spot))
+  pub item_given : (place : Place) (byte : ℕ) → ReadsItem (item (rest spot)) place spot after (Ok (Some byte)) → (after.text ≡ spot.text)
+      × (string_from quote (bytes ++ byte ∷ []) after.at (rest after) ≡ string_from quote bytes spot.at (rest spot))
   item_given place byte h =
       let (same, reads) = given place byte (item (rest spot)) h in
       (same, reads ∙ sym (string_from-item quote bytes spot.at (rest spot)))
 
-  refused : (old new : Spot) (e : LexErr) → old.text ≡ spot.text → (i : Item) → ReadsItem i (place_of old.text quote) spot after (Err e) → Reads (behind quote bytes spot.at (rest spot) i) old new (Err e)
+  refused : (old new : Spot) (e : LexErr) → old.text ≡ spot.text → (i : Item) → ReadsItem i (place_of old.text quote) spot after (Err e)
+      → Reads (behind quote bytes spot.at (rest spot) i) old new (Err e)
   refused old new e same (Gives b size) h = absurd h
   refused old new e same Closes h = absurd h
   refused old new e same Breaks h =
@@ -68,6 +76,8 @@ module _ (quote : ℕ) (bytes : List ℕ) (spot after : Spot) where
       subst (λ z. Reads (Refuses StrayByte spot.at) old new (Err z)) (sym h) (ap (λ t. record { rule = X1; place = place_of t spot.at }) (sym same))
 
   -- where an item is refused, so is the string
-  pub item_refused : (old new : Spot) (e : LexErr) → old.text ≡ spot.text → ReadsItem (item (rest spot)) (place_of old.text quote) spot after (Err e) → Reads (string_from quote bytes spot.at (rest spot)) old new (Err e)
+  pub item_refused : (old new : Spot) (e : LexErr) → old.text ≡ spot.text
+      → ReadsItem (item (rest spot)) (place_of old.text quote) spot after (Err e)
+      → Reads (string_from quote bytes spot.at (rest spot)) old new (Err e)
   item_refused old new e same h =
       subst (λ z. Reads z old new (Err e)) (sym (string_from-item quote bytes spot.at (rest spot))) (refused old new e same (item (rest spot)) h)

@@ -28,7 +28,8 @@ more_space (pieces.space_and first others) size longest =
 more_space (pieces.token_and first others) size longest =
     pieces.token_and first (more_space others size longest)
 
-more_token : {text : List ℕ} {i j : ℕ} {tokens : List Token} → Pieces text i tokens j → (size : ℕ) (kind : TokenKind) → IsLongest (drop j text) size (Lexeme kind) → Pieces text i (tokens ++ record { kind = kind; place = place_of text j } ∷ []) (j + size)
+more_token : {text : List ℕ} {i j : ℕ} {tokens : List Token} → Pieces text i tokens j → (size : ℕ) (kind : TokenKind)
+    → IsLongest (drop j text) size (Lexeme kind) → Pieces text i (tokens ++ record { kind = kind; place = place_of text j } ∷ []) (j + size)
 more_token pieces.no_piece size kind longest = pieces.token_and longest pieces.no_piece
 more_token (pieces.space_and first others) size kind longest =
     pieces.space_and first (more_token others size kind longest)
@@ -48,7 +49,8 @@ pub nothing_read : (spot : Spot) → spot.at ≡ 0 → IsReadTo spot.text [] spo
 nothing_read spot h = record { same = refl; within = omega arith; pieces = subst (Pieces spot.text 0 []) (sym h) pieces.no_piece }
 
 -- where nothing is left, the tokens and the end are those of the text
-pub all_read : (text : List ℕ) (tokens : List Token) (spot : Spot) → IsReadTo text tokens spot → rest spot ≡ [] → IsTokenized text (tokens ++ record { kind = k.End; place = place_of spot.text spot.at } ∷ [])
+pub all_read : (text : List ℕ) (tokens : List Token) (spot : Spot) → IsReadTo text tokens spot → rest spot ≡ []
+    → IsTokenized text (tokens ++ record { kind = k.End; place = place_of spot.text spot.at } ∷ [])
 all_read text tokens spot before none =
     let left : length (drop spot.at spot.text) ≡ 0 = ap length none in
     let long : length spot.text ≡ length text = ap length before.same in
@@ -93,7 +95,13 @@ module _ (text : List ℕ) (tokens : List Token) (spot new : Spot) (before : IsR
       by (Takes piece end) is (found, to_new) =
           let (size, to, positive, longest) = told (Takes piece end) is in
           let (same, within, there) = moves end size to longest.within to_new in
-          record { same = same; within = within; pieces = subst (Pieces text 0 (tokens ++ record { kind = kind; place = place_of text spot.at } ∷ [])) there (more_token before.pieces size kind (subst (IsLongest front size) (sym found) longest)) }
+          record {
+            same = same;
+            within = within;
+            pieces = subst (Pieces text 0 (tokens
+                ++ record { kind = kind; place = place_of text spot.at } ∷ [])) there
+                (more_token before.pieces size kind (subst (IsLongest front size) (sym found) longest));
+          }
       by (Refuses flaw fault) is h = absurd h
 
   -- a refusal is that of the text
@@ -105,7 +113,16 @@ module _ (text : List ℕ) (tokens : List Token) (spot new : Spot) (before : IsR
       by (Refuses flaw fault) is refused =
           let (stuck, (back, to, flawed)) = told (Refuses flaw fault) is in
           let here : refusal ≡ record { rule = rule_of flaw; place = place_of text fault } = refused ∙ ap (λ t. record { rule = rule_of flaw; place = place_of t fault }) before.same in
-          subst (IsLexicalRefusal text) (sym here) (refusals.flawed short (record { spelled = tokens; end = spot.at; pieces = before.pieces; stuck = stuck; before = back; flawed = flawed; place = to }))
+          subst (IsLexicalRefusal text) (sym here) (refusals.flawed short
+          (record {
+            spelled = tokens;
+            end = spot.at;
+            pieces = before.pieces;
+            stuck = stuck;
+            before = back;
+            flawed = flawed;
+            place = to;
+          }))
 
   -- so is any error that isn't want of memory
   pub error_read : length text ≤ most_bytes → (error : LexErr) → Reads (first spot.at (rest spot)) spot new (Err error) → Lexes text (Err error)

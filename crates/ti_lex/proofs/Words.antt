@@ -71,13 +71,80 @@ AreSpelled (row ∷ rows) = (word_of row.1 ≡ Some row.0) × AreSpelled rows
 
 all_spelled : AreSpelled reserved
 unfolding reserved
-all_spelled = (refl, (refl, (refl, (refl, (refl, (refl, (refl, (refl, (refl, (refl, (refl, (refl, (refl, (refl, (refl, (refl, (refl, (refl, (refl, (refl, (refl, (refl, (refl, (refl, (refl, (refl, (refl, (refl, (refl, (refl, (refl, (refl, (refl, (refl, tt))))))))))))))))))))))))))))))))))
+all_spelled = (
+  refl,
+  (
+    refl,
+    (
+      refl,
+      (
+        refl,
+        (
+          refl,
+          (
+            refl,
+            (
+              refl,
+              (
+                refl,
+                (
+                  refl,
+                  (
+                    refl,
+                    (
+                      refl,
+                      (
+                        refl,
+                        (
+                          refl,
+                          (
+                            refl,
+                            (
+                              refl,
+                              (
+                                refl,
+                                (
+                                  refl,
+                                  (
+                                    refl,
+                                    (
+                                      refl,
+                                      (
+                                        refl,
+                                        (
+                                          refl,
+                                          (
+                                            refl,
+                                            (refl, (refl, (refl, (refl, (refl, (refl, (refl, (refl, (refl, (refl, (refl, (refl, tt)))))))))))),
+                                          ),
+                                        ),
+                                      ),
+                                    ),
+                                  ),
+                                ),
+                              ),
+                            ),
+                          ),
+                        ),
+                      ),
+                    ),
+                  ),
+                ),
+              ),
+            ),
+          ),
+        ),
+      ),
+    ),
+  ),
+)
 
 abbrev IsSpelling : List ℕ → Option TokenKind → Type 0
 IsSpelling word None = Unit {0}
 IsSpelling word (Some kind) = word_of kind ≡ Some word
 
-spelled_by : (word : List ℕ) (row : List ℕ × TokenKind) (others : Option TokenKind) → word_of row.1 ≡ Some row.0 → IsSpelling word others → (t : Bool) → bytes_eq word row.0 ≡ t → IsSpelling word (cond t (Some row.1) others)
+spelled_by : (word : List ℕ) (row : List ℕ × TokenKind) (others : Option TokenKind) → word_of row.1 ≡ Some row.0 → IsSpelling word others
+    → (t : Bool) → bytes_eq word row.0 ≡ t → IsSpelling word (cond t (Some row.1) others)
 spelled_by word row others this rest true h =
     this ∙ ap Some (sym ((bytes_eq-Decides word row.0).0 h))
 spelled_by word row others this rest false h = rest
@@ -96,7 +163,8 @@ not_reserved word none kind h =
     cc
 
 -- what a word that looks like a name is
-word_piece : (b : ℕ) (more rest : List ℕ) → begins_name b ≡ true → list_all is_name_byte more ≡ true → (found : Option TokenKind) → lookup (bytes_eq (b ∷ more)) reserved ≡ found → IsPiece (b ∷ more) rest (Lexeme (unwrap_or found (k.Name (b ∷ more))))
+word_piece : (b : ℕ) (more rest : List ℕ) → begins_name b ≡ true → list_all is_name_byte more ≡ true → (found : Option TokenKind)
+    → lookup (bytes_eq (b ∷ more)) reserved ≡ found → IsPiece (b ∷ more) rest (Lexeme (unwrap_or found (k.Name (b ∷ more))))
 word_piece b more rest first others None h =
     pieces.name b more first others (not_reserved (b ∷ more) h)
 word_piece b more rest first others (Some kind) h =
@@ -114,14 +182,30 @@ name_found word none = by (lookup (bytes_eq word) reserved) refl
 pub word_beats : (at : ℕ) (name rest : List ℕ) (kind : TokenKind) → list_all is_name_byte name ≡ true → kind_of_word name ≡ kind → Beats at (length name) (Lexeme kind) (word at (name ++ rest))
 word_beats at name rest kind all found =
     let covers = run_covers is_name_byte name rest all in
-    elim (cases_lt (length name) (prefix_len is_name_byte (name ++ rest))) [ inl longer ↦ inl (omega arith) | inr short ↦ (let same : prefix_len is_name_byte (name ++ rest) ≡ length name = omega arith in inr (ap (λ n. at + n) same, ap (λ n. Lexeme (kind_of_word (take n (name ++ rest)))) same ∙ ap (λ w. Lexeme (kind_of_word w)) (take-append_seam name rest) ∙ ap Lexeme found)) ]
+    elim (cases_lt (length name) (prefix_len is_name_byte (name ++ rest))) [
+      | inl longer ↦ inl (omega arith)
+      | inr short ↦ (let same : prefix_len is_name_byte (name ++ rest) ≡ length name = omega arith in
+          inr (
+            ap (λ n. at + n) same,
+            ap (λ n. Lexeme (kind_of_word (take n (name ++ rest)))) same
+                ∙ ap (λ w. Lexeme (kind_of_word w)) (take-append_seam name rest) ∙ ap Lexeme found,
+          ))
+    ]
 
-sized : (at b : ℕ) (l : List ℕ) (n : ℕ) → begins_name b ≡ true → n ≡ prefix_len is_name_byte l → (size : ℕ) → size ≡ suc n → IsSound at (b ∷ l) (Takes (Lexeme (kind_of_word (take size (b ∷ l)))) (at + size))
+sized : (at b : ℕ) (l : List ℕ) (n : ℕ) → begins_name b ≡ true → n ≡ prefix_len is_name_byte l → (size : ℕ) → size ≡ suc n
+    → IsSound at (b ∷ l) (Takes (Lexeme (kind_of_word (take size (b ∷ l)))) (at + size))
 sized at b l n first is size h =
     let all : list_all is_name_byte (take n l) ≡ true = subst (λ m. list_all is_name_byte (take m l) ≡ true) (sym is) (run_passes is_name_byte l) in
     let long : length (take n l) ≡ n = subst (λ m. length (take m l) ≡ m) (sym is) (length-prefix_len is_name_byte l) in
     let name = b ∷ take n l in
-    subst (λ m. IsSound at (b ∷ l) (Takes (Lexeme (kind_of_word (take m (b ∷ l)))) (at + m))) (sym h) (name, drop n l, ap (λ t. b ∷ t) (sym (take-append-drop n l)), omega arith, omega arith, word_piece b (take n l) (drop n l) first all (lookup (bytes_eq name) reserved) refl)
+    subst (λ m. IsSound at (b ∷ l) (Takes (Lexeme (kind_of_word (take m (b ∷ l)))) (at + m))) (sym h) (
+      name,
+      drop n l,
+      ap (λ t. b ∷ t) (sym (take-append-drop n l)),
+      omega arith,
+      omega arith,
+      word_piece b (take n l) (drop n l) first all (lookup (bytes_eq name) reserved) refl,
+    )
 
 -- a word that is read stands at the front
 pub word_sound : (at b : ℕ) (l : List ℕ) → begins_name b ≡ true → IsSound at (b ∷ l) (word at (b ∷ l))

@@ -81,8 +81,10 @@ pub fn lex(alloc: Global, text: &[u8]) -> Result<Vec<Token>, LexErr>
 
 /// That each text is read in one way: it has one list of tokens or one refusal, and never both.
 pub fn one_reading()
-    ensures some { (text : List ℕ) → ((tokens : List Token) × (length text ≤ most_bytes) × IsTokenized text tokens) ⊎ ((refusal : Refusal) × IsLexicalRefusal text refusal) }
+    ensures some { (text : List ℕ) → ((tokens : List Token) × (length text ≤ most_bytes) × IsTokenized text tokens)
+        ⊎ ((refusal : Refusal) × IsLexicalRefusal text refusal) }
     ensures one_list { (text : List ℕ) (a b : List Token) → IsTokenized text a → IsTokenized text b → a ≡ b }
     ensures one_refusal { (text : List ℕ) (a b : Refusal) → IsLexicalRefusal text a → IsLexicalRefusal text b → a ≡ b }
-    ensures never_both { (text : List ℕ) (tokens : List Token) (refusal : Refusal) → length text ≤ most_bytes → IsTokenized text tokens → IsLexicalRefusal text refusal → ⊥ }
+    ensures never_both { (text : List ℕ) (tokens : List Token) (refusal : Refusal) → length text ≤ most_bytes → IsTokenized text tokens
+        → IsLexicalRefusal text refusal → ⊥ }
 {}

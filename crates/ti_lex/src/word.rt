@@ -67,7 +67,8 @@ fn reserved_at(number: usize) -> (&'static [u8], TokenKind)
 fn reserved_with(first: u8) -> (usize, usize)
     ensures order { result.0 ≤ result.1 }
     ensures within { result.1 ≤ 34 }
-    ensures before { (rest : List ℕ) → lookup (bytes_eq (first ∷ rest)) (drop result.0 reserved) ≡ lookup (bytes_eq (first ∷ rest)) reserved }
+    ensures before { (rest : List ℕ) → lookup (bytes_eq (first ∷ rest)) (drop result.0 reserved)
+        ≡ lookup (bytes_eq (first ∷ rest)) reserved }
     ensures behind { (rest : List ℕ) → lookup (bytes_eq (first ∷ rest)) (drop result.1 reserved) ≡ None }
 {
     match first {

@@ -35,10 +35,9 @@ use Rattle.ti_lower_expr.specs.Coding.{conversion}
 use Rattle.ti_lower_expr.specs.Methods.{params_of, is_instance, receiver_in, receivers_of, this_names, param_names, names_of}
 use Rattle.ti_lower.specs.Calling.{number_behind, number_called, arg_code, args_code, object_code, call_code}
 use Rattle.ti_lower_expr.specs.Doing.{Does}
-use Rattle.ti_lower_expr.proofs.Doing.{front_stands, rest_stands, behind_both, does_then, does_value, does_weaker}
-use Rattle.ti_lower_expr.proofs.Operands.{pushed, under_all, taken_all}
-use Rattle.ti_lower_expr.proofs.Knowing.{converted_known, declared_known, known_is_so}
-use Rattle.ti_lower_expr.proofs.Expressions.{who, code, spot, next, next_known, moved, does, convert_does}
+use Rattle.ti_lower_expr.proofs.Lemmas.{front_stands, rest_stands, behind_both, does_then, does_value, does_weaker, pushed, under_all}
+use Rattle.ti_lower_expr.proofs.Lemmas.{taken_all, converted_known, declared_known, known_is_so, who, code, spot, next, next_known, moved}
+use Rattle.ti_lower_expr.proofs.Lemmas.{does, convert_does}
 
 -- ---- which calls
 
@@ -76,13 +75,15 @@ unfolding instance_method
 instance_same program class name m e =
     only_same (λ (m : NumberedMethod). not (is_static_method m)) (find (λ (m : NumberedMethod). (m.class == class) && (m.name == name)) program.methods) m e
 
-behind_is : (program : NumberedProgram) (type : ValueType) (name : ℕ) (m : NumberedMethod) → method_behind program type name ≡ Some m → slice_get program.methods (number_behind program type name) ≡ Some m
+behind_is : (program : NumberedProgram) (type : ValueType) (name : ℕ) (m : NumberedMethod) → method_behind program type name ≡ Some m
+    → slice_get program.methods (number_behind program type name) ≡ Some m
 behind_is program (t.Class class local) name m e =
     sym (find_at (λ (m : NumberedMethod). (m.class == class) && (m.name == name)) program.methods) ∙ instance_same program class name m e
 behind_is program type name m e = absurd (none_method m e)
 
 -- the method of the number that is called
-number_is : (program : NumberedProgram) (this : Option ℕ) (x : NumberedExp) (m : NumberedMethod) → called_method program this x ≡ Some m → slice_get program.methods (number_called program this x) ≡ Some m
+number_is : (program : NumberedProgram) (this : Option ℕ) (x : NumberedExp) (m : NumberedMethod) → called_method program this x ≡ Some m
+    → slice_get program.methods (number_called program this x) ≡ Some m
 number_is program this (e.Call at k args) m z = z
 number_is program this (e.OwnCall at k args) m z = z
 number_is program this (e.Member at x name args) m z = behind_is program (type_in_text program this x) name m z
@@ -103,7 +104,8 @@ call_method (e.OwnCall at k args) None c z = absurd (no_call c z)
 call_method (e.Member at x name args) None c z = absurd (no_call c z)
 call_method x o c z = absurd (no_call c z)
 
-pub method_is : (program : NumberedProgram) (this : Option ℕ) (x : NumberedExp) (c : Call) → call_by x (called_method program this x) ≡ Some c → slice_get program.methods (number_called program this x) ≡ Some c.method
+pub method_is : (program : NumberedProgram) (this : Option ℕ) (x : NumberedExp) (c : Call) → call_by x (called_method program this x)
+    ≡ Some c → slice_get program.methods (number_called program this x) ≡ Some c.method
 method_is program this x c z = number_is program this x c.method (call_method x (called_method program this x) c z)
 
 pub receiver_at : (program : NumberedProgram) (k : ℕ) (m : NumberedMethod) → slice_get program.methods k ≡ Some m → slice_get (receivers_of program) k ≡ Some (receiver_in m)
@@ -176,9 +178,11 @@ module _ (c : List Instr) (env : Env) (names : List Name) (slots : List Held) (h
       let more = args_of ps xs mid in
       let Q = Bound (p ∷ ps) (behind at (one ++ more)) stack found in
       let stands = front_stands c at one more st in
-      next_known c env names slots holds (IsKnown j) Q (behind at first) stack (here_at at stack) (eval env x) (λ h rs. followed (converted place type h rs) (λ k. bound env ps xs (with_new p k found)))
+      next_known c env names slots holds (IsKnown j) Q (behind at first) stack (here_at at stack) (eval env x)
+      (λ h rs. followed (converted place type h rs) (λ k. bound env ps xs (with_new p k found)))
       (known_is_so env names slots holds x) (does c env names slots holds x at stack (front_stands c at first change stands))
-      (λ h is_known. next_known c env names slots holds (IsKnown (known_of_type type)) Q mid stack (here_at (behind at first) (h ∷ stack)) (converted place type h) (λ k. bound env ps xs (with_new p k found))
+      (λ h is_known. next_known c env names slots holds (IsKnown (known_of_type type)) Q mid stack (here_at (behind at first) (h ∷ stack))
+      (converted place type h) (λ k. bound env ps xs (with_new p k found))
       (converted_known place type h) (moved c env names slots holds (behind (behind at first) change) mid stack _ (converted place type h) (sym (behind_both at first change))
       (convert_does c env names slots holds type j place h (behind at first) stack is_known (rest_stands c at first change stands)))
       (λ k fits. does_weaker w c (Bound ps (behind mid more) (k ∷ stack) (with_new p k found)) Q (here_at mid (k ∷ stack)) (bound env ps xs (with_new p k found))
@@ -227,7 +231,8 @@ module _ (c : List Instr) (env : Env) (names : List Name) (slots : List Held) (h
         → (o : Option Id) → thing_of h ≡ o → Does w c s (tail o vs) (AtCall p m r n stack)
     object_call n h stack class e st vs s b None z =
         let is_under = under_all (params_of m) b.0 (h ∷ stack) b.1 in
-        let is_receiver : slice_get (receivers_of env.program) k ≡ Some (Some (params_of m)) = receiver_at env.program k m is_method ∙ ap (λ t. Some (if is_instance t then Some (params_of m) else None)) e in
+        let is_receiver : slice_get (receivers_of env.program) k ≡ Some (Some (params_of m)) = receiver_at env.program k m is_method
+        ∙ ap (λ t. Some (if is_instance t then Some (params_of m) else None)) e in
         subst (λ s. Does w c s (tail None vs) (AtCall p m r n stack)) (sym b.2)
         (λ rs. (
           here_at n (pushed b.0 (h ∷ stack)),
@@ -277,22 +282,27 @@ module _ (c : List Instr) (env : Env) (names : List Name) (slots : List Held) (h
         (next c env names slots holds P mid stack (here_at at stack) (eval env x) (λ h. gives (Some h)) (does c env names slots holds x at stack (front_stands c at first _ st))
         (λ h. does_value w c P (here_at mid (h ∷ stack)) (Some h) (h, refl, refl)))
         (λ object s k. subst (λ o. Does w c s (go o) (AtCall p m r n stack)) (sym k.1) (subst (λ s. Does w c s (go (Some k.0)) (AtCall p m r n stack)) (sym k.2)
-        (does_then w c (Bound params n (k.0 ∷ stack) []) (AtCall p m r n stack) (here_at mid (k.0 ∷ stack)) (bound env params xs []) (λ vs. (maybe_needed p (Some k.0) >>= λ th. gives (Calls p m th vs r)))
+        (does_then w c (Bound params n (k.0 ∷ stack) []) (AtCall p m r n stack) (here_at mid (k.0 ∷ stack)) (bound env params xs [])
+        (λ vs. (maybe_needed p (Some k.0) >>= λ th. gives (Calls p m th vs r)))
         (args_do params xs y mid (k.0 ∷ stack) [] (front_stands c mid ys _ rest))
         (λ vs s b. object_call n k.0 stack class e (rest_stands c mid ys _ rest).0 vs s b (thing_of k.0) refl))))
     from_object None (Some class) e z xs y at stack st = elim z [ ]
     from_object (Some x) None e z xs y at stack st = elim z [ ]
 
   -- the whole call
-  pub calling_does : (call : Call) (k : ℕ) (r : Receiver) → slice_get env.program.methods k ≡ Some call.method → IsObject call.object (this_of call.method) → AreArgs (parameters_of call.method.params) call.args
+  pub calling_does : (call : Call) (k : ℕ) (r : Receiver) → slice_get env.program.methods k ≡ Some call.method
+      → IsObject call.object (this_of call.method) → AreArgs (parameters_of call.method.params) call.args
       → (at : ℕ) (stack : List Held) → Stands c at (call_code env.program (this_of env.method) names k call at)
       → Does w c (here_at at stack) (calling env r call)
-      (λ move s. (n : ℕ) × (slice_get c n ≡ Some (i.Call k call.place)) × (n + 1 ≡ behind at (call_code env.program (this_of env.method) names k call at)) × AtCall call.place call.method r n stack move s)
+      (λ move s. (n : ℕ) × (slice_get c n ≡ Some (i.Call k call.place))
+      × (n + 1 ≡ behind at (call_code env.program (this_of env.method) names k call at))
+      × AtCall call.place call.method r n stack move s)
   calling_does call k r is_method z y at stack st =
       let xs = object_code env.program (this_of env.method) names call.object at in
       let ys = args_of (parameters_of call.method.params) call.args (behind at xs) in
       let n = behind (behind at xs) ys in
-      let Q = λ (move : Move) (s : Spot). (n : ℕ) × (slice_get c n ≡ Some (i.Call k call.place)) × (n + 1 ≡ behind at (xs ++ (ys ++ i.Call k call.place ∷ []))) × AtCall call.place call.method r n stack move s in
+      let Q = λ (move : Move) (s : Spot). (n : ℕ) × (slice_get c n ≡ Some (i.Call k call.place))
+      × (n + 1 ≡ behind at (xs ++ (ys ++ i.Call k call.place ∷ []))) × AtCall call.place call.method r n stack move s in
       let ends : n + 1 ≡ behind at (xs ++ (ys ++ i.Call k call.place ∷ [])) = sym (behind_both at xs (ys ++ i.Call k call.place ∷ []) ∙ behind_both (behind at xs) ys (i.Call k call.place ∷ [])) in
       does_weaker w c (AtCall call.place call.method r n stack) Q (here_at at stack) (calling env r call)
       (from_object call.place call.method k r is_method call.object (this_of call.method) refl z call.args y at stack st)

@@ -22,7 +22,7 @@ use Rattle.ti_lower_expr.specs.Slots.{Name, Of, Holds}
 use Rattle.ti_lower_expr.specs.Methods.{param_names, this_names, names_of}
 use Rattle.ti_lower.specs.Programs.{in_main, body_code, instrs_in}
 use Rattle.ti_lower.specs.Laying.{names_after, stm_code, stms_code}
-use Rattle.ti_lower_expr.proofs.Doing.{front_stands, rest_stands}
+use Rattle.ti_lower_expr.proofs.Lemmas.{front_stands, rest_stands}
 use Rattle.ti_lang.specs.Meaning.Calls.{parameters_of}
 use Rattle.ti_lower.proofs.Cutting.{Bare}
 use Rattle.ti_lower.proofs.Premises.{IsReturn, EndOf, IsEnded, MethodFine}
@@ -71,13 +71,16 @@ module _ (c : List Instr) (program : NumberedProgram) (this : Option ℕ) (resul
       let one = stm_code program this result x None ns at in
       let others = stms_code program this result xs None (names_after x ns) (behind at one) in
       let stands = subst (λ is. Stands c at is) (append_assoc one others (i.Return ∷ [])) st in
-      some z.0 (unmarked_rest ns xs) (front_stands c at one (others ++ i.Return ∷ []) stands) (void_left e (names_after x ns) xs (behind at one) z.1 (rest_stands c at one (others ++ i.Return ∷ []) stands))
+      some z.0 (unmarked_rest ns xs) (front_stands c at one (others ++ i.Return ∷ []) stands)
+      (void_left e (names_after x ns) xs (behind at one) z.1 (rest_stands c at one (others ++ i.Return ∷ []) stands))
 
-  last_left : (ns : List Name) (x : NumberedStm) (at : ℕ) → IsReturn x → StmFine program this result x ns → Stands c at (stm_code program this result x None ns at) → Left c program this result None ns [] (all_before (Cons x Nil) []) at
+  last_left : (ns : List Name) (x : NumberedStm) (at : ℕ) → IsReturn x → StmFine program this result x ns
+      → Stands c at (stm_code program this result x None ns at) → Left c program this result None ns [] (all_before (Cons x Nil) []) at
   last_left ns (s.Return p (Some x)) at k z st = last z st
   last_left ns x at k z st = elim k [ ]
 
-  valued_left : (ns : List Name) (x : NumberedStm) (xs : NumberedStms) (at : ℕ) → EndOf x xs → StmsFine program this result (Cons x xs) ns → Stands c at (stms_code program this result (Cons x xs) None ns at ++ i.Return ∷ [])
+  valued_left : (ns : List Name) (x : NumberedStm) (xs : NumberedStms) (at : ℕ) → EndOf x xs → StmsFine program this result (Cons x xs) ns
+      → Stands c at (stms_code program this result (Cons x xs) None ns at ++ i.Return ∷ [])
       → Left c program this result None ns [] (all_before (Cons x xs) []) at
   valued_left ns x Nil at k z st =
       let one = stm_code program this result x None ns at in
@@ -86,9 +89,11 @@ module _ (c : List Instr) (program : NumberedProgram) (this : Option ℕ) (resul
       let one = stm_code program this result x None ns at in
       let others = stms_code program this result (Cons y ys) None (names_after x ns) (behind at one) in
       let stands = subst (λ is. Stands c at is) (append_assoc one others (i.Return ∷ [])) st in
-      some z.0 (unmarked_rest ns (Cons y ys)) (front_stands c at one (others ++ i.Return ∷ []) stands) (valued_left (names_after x ns) y ys (behind at one) k z.1 (rest_stands c at one (others ++ i.Return ∷ []) stands))
+      some z.0 (unmarked_rest ns (Cons y ys)) (front_stands c at one (others ++ i.Return ∷ []) stands)
+      (valued_left (names_after x ns) y ys (behind at one) k z.1 (rest_stands c at one (others ++ i.Return ∷ []) stands))
 
-  body_left : (b : Bool) → is_void result ≡ b → (ns : List Name) (xs : NumberedStms) (at : ℕ) → IsEnded b xs → StmsFine program this result xs ns → Stands c at (stms_code program this result xs None ns at ++ i.Return ∷ [])
+  body_left : (b : Bool) → is_void result ≡ b → (ns : List Name) (xs : NumberedStms) (at : ℕ) → IsEnded b xs
+      → StmsFine program this result xs ns → Stands c at (stms_code program this result xs None ns at ++ i.Return ∷ [])
       → Left c program this result None ns [] (all_before xs []) at
   body_left true e ns xs at k z st = void_left e ns xs at z st
   body_left false e ns Nil at k z st = elim k [ ]

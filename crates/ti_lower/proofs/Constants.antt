@@ -33,11 +33,15 @@ use Rattle.ti_lower_expr.specs.declared.kinds.Known.{Known}
 use Rattle.ti_lower_expr.specs.declared.kinds.Known.TheVariants as known
 use Rattle.ti_lower_expr.specs.Knowing.{known_of}
 use Rattle.ti_lower_expr.specs.Coding.{constant, kind_in, code_of}
-use Rattle.ti_lower_expr.proofs.Constants.{is_simple, Comes, AllCome, formed_from_comes, simple_come, both_come, next_comes, then_come, loaded_comes, own_simple, conversion_comes, pops_come, code_comes, all_come}
+use Rattle.ti_lower_expr.proofs.Lemmas.{is_simple, IsLowered, AllCome, formed_from_comes, simple_come, both_come, next_comes, then_come}
+use Rattle.ti_lower_expr.proofs.Lemmas.{loaded_comes, own_simple, conversion_comes, pops_come, code_comes, all_come}
 use Rattle.ti_lower.specs.Calling.{number_called, args_code, call_code}
 use Rattle.ti_lower.specs.Calling as calling
 use Rattle.ti_lower.specs.Receivers.{written_slot, kept, TargetKind, InSlot, InField, InElement, store_code, update_code, kind_of_target, place_code, into_code, waiting_code, late_code}
-use Rattle.ti_lower.specs.Laying.{Labels, names_after, as_element, dropped, break_code, continue_code, first_code, print_code, condition_code, loop_code, walk_code, root_code, broadcast_code, region_code, spread_code, object_code, grid_code, valued_code, init_code, both_code, copy_code, exchange_code, form_code, other_code, alone_code, gives_nothing, stm_code, stms_code, maybe_code}
+use Rattle.ti_lower.specs.Laying.{Labels, names_after, as_element, dropped, break_code, continue_code, first_code, print_code}
+use Rattle.ti_lower.specs.Laying.{condition_code, loop_code, walk_code, root_code, broadcast_code, region_code, spread_code, object_code}
+use Rattle.ti_lower.specs.Laying.{grid_code, valued_code, init_code, both_code, copy_code, exchange_code, form_code, other_code, alone_code}
+use Rattle.ti_lower.specs.Laying.{gives_nothing, stm_code, stms_code, maybe_code}
 use Rattle.ti_lower.specs.Programs.{in_main, body_code, instrs_in, method_code, end_in, methods_code}
 
 -- ---- the way of a value
@@ -95,7 +99,8 @@ module _ (program : NumberedProgram) (this : Option ℕ) where
   -- ---- calls
 
   args_come : (names : List Name) (ps : List VariableUse) (xs : NumberedExps) (at : ℕ) → AllCome (args_code program this names ps xs at)
-  args_come names (p ∷ ps) (e.MoreExp x xs) at = both_come (both_come (code_comes program this names x at) (conversion_comes (place_of_numbered x) (declared_type p.declared) (known_of program this x))) (args_come names ps xs _)
+  args_come names (p ∷ ps) (e.MoreExp x xs) at = both_come (both_come (code_comes program this names x at)
+      (conversion_comes (place_of_numbered x) (declared_type p.declared) (known_of program this x))) (args_come names ps xs _)
   args_come names ps xs at = simple_come refl
 
   receiver_comes : (names : List Name) (x : Option NumberedExp) (at : ℕ) → AllCome (calling.object_code program this names x at)
@@ -274,21 +279,21 @@ main_constant : (end : Place) (h : Held) → in_main end (constant h) ≡ consta
 main_constant end (Plain value) = refl
 main_constant end (Dm dim points) = refl
 
-main_comes : (end : Place) (x : Instr) → Comes x → Comes (in_main end x)
+main_comes : (end : Place) (x : Instr) → IsLowered x → IsLowered (in_main end x)
 main_comes end x (inl e) = inl (main_simple end x e)
 main_comes end x (inr z) = inr (z.0, ap (in_main end) z.1 ∙ main_constant end (zero_declared z.0))
 
 body_comes : (program : NumberedProgram) (m : NumberedMethod) → AllCome (body_code program m)
 body_comes program m = both_come (stms_come program (this_of m) (result_type m) (numbered_stms m.body) None (names_of m) 0) (simple_come refl)
 
-instrs_come : (end : Option Place) (is : List Instr) → All Comes is → All Comes (instrs_in end is)
+instrs_come : (end : Option Place) (is : List Instr) → All IsLowered is → All IsLowered (instrs_in end is)
 instrs_come None is f = f
-instrs_come (Some end) is f = All-map Comes (in_main end) is (All-weaker Comes (λ x. Comes (in_main end x)) (main_comes end) is f)
+instrs_come (Some end) is f = All-map IsLowered (in_main end) is (All-weaker IsLowered (λ x. IsLowered (in_main end x)) (main_comes end) is f)
 
 method_formed : (program : NumberedProgram) (end : Option Place) (m : NumberedMethod) → IsFormedMethod (method_code program end m)
 method_formed program end m =
     let is = body_code program m in
-    All-weaker Comes IsFormedInstr formed_from_comes (instrs_in end is) (instrs_come end is (body_comes program m).each)
+    All-weaker IsLowered IsFormedInstr formed_from_comes (instrs_in end is) (instrs_come end is (body_comes program m).each)
 
 methods_formed : (program : NumberedProgram) (n : ℕ) (ms : List NumberedMethod) → AreFormed (methods_code program n ms)
 methods_formed program n [] = All-nil IsFormedMethod

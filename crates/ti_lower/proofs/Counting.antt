@@ -38,14 +38,16 @@ module _ (region : ℕ) where
   both_more true n m k e = omega (arith, e)
   both_more false n m k e = e
 
-  many_count : (this : Option Id) (ns : List Name) (vs : List Variable) (ts : List Turn) (hs : List Held) → Bare ns → Holds this ns vs ts hs → many held_there hs ≡ many variable_there vs + own_count this
+  many_count : (this : Option Id) (ns : List Name) (vs : List Variable) (ts : List Turn) (hs : List Held) → Bare ns → Holds this ns vs ts hs
+      → many held_there hs ≡ many variable_there vs + own_count this
   many_count this ns vs ts hs z (none e) = none_there this e
   many_count this ns vs ts hs z object = own_one (lies_in region this)
     where
       own_one : (b : Bool) → cond b (1 + 0) 0 ≡ 0 + (if b then 1 else 0)
       own_one true = refl
       own_one false = refl
-  many_count this ns vs ts hs z (variable {ns = ms} {vs = us} {ts = rs} {hs = gs} {h = g} k h) = both_more (held_there g) (many held_there gs) (many variable_there us) (own_count this) (many_count this ms us rs gs z h)
+  many_count this ns vs ts hs z (variable {ns = ms} {vs = us} {ts = rs} {hs = gs} {h = g} k h) =
+      both_more (held_there g) (many held_there gs) (many variable_there us) (own_count this) (many_count this ms us rs gs z h)
   many_count this ns vs ts hs z (turn {ns = ms} {vs = us} {ts = rs} {hs = gs} h) = many_count this ms us rs gs z h
   many_count this ns vs ts hs z (hidden h) = elim z [ ]
 

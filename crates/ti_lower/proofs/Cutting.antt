@@ -13,7 +13,7 @@ use Rattle.ti_lang.specs.Meaning.Turns.{Turn}
 use Rattle.ti_lang.specs.Meaning.Scoping.{same_variable, same_declaration, without}
 use Rattle.ti_code.specs.Effects.{trimmed}
 use Rattle.ti_lower_expr.specs.Slots.{Name, Of, Hidden, Holds, none, object, variable, turn, hidden}
-use Rattle.ti_lower_expr.proofs.Finding.{as_many, same_number}
+use Rattle.ti_lower_expr.proofs.Lemmas.{as_many, same_number}
 
 -- one of these is the variable
 abbrev pub leaves : List VariableUse → VariableUse → Bool

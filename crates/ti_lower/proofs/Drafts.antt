@@ -20,8 +20,7 @@ use Rattle.ti_code.specs.Leading.{behind}
 use Rattle.ti_lower_expr.specs.Slots.{Name, Of, Point}
 use Rattle.ti_lower_expr.specs.Methods.{names_of}
 use Rattle.ti_lower_expr.specs.Coding.{code_of}
-use Rattle.ti_lower_expr.proofs.Doing.{behind_both}
-use Rattle.ti_lower_expr.proofs.Walked.{length_behind}
+use Rattle.ti_lower_expr.proofs.Lemmas.{behind_both, length_behind}
 use Rattle.ti_lower.specs.Laying.{Labels, unknown, names_after, break_code, continue_code, condition_code, loop_code, walk_code, stm_code, stms_code, maybe_code}
 use Rattle.ti_lower.specs.Programs.{body_code}
 use Rattle.ti_lower.specs.Mirrors.Statements.{Written, coded, reserved, cut, trimming, closed, where_in, condition_on, loop_labels, walk_labels, loop_begun, walk_begun, tested, otherwise, branch_on, branches_on, turns_on, walked_on, stm_on, stms_on, maybe_on}

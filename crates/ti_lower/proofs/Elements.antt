@@ -24,8 +24,8 @@ use Rattle.ti_code.specs.Effects.{Spot, Who, effect, put, slot, trimmed, next_po
 use Rattle.ti_code.specs.Leading.{Stands, behind}
 use Rattle.ti_lower.specs.Laying.{copied_code, taken_code}
 use Rattle.ti_lower_expr.specs.Doing.{Does}
-use Rattle.ti_lower_expr.proofs.Doing.{front_stands, rest_stands, Alike, does_then, does_value, does_behind, does_one}
-use Rattle.ti_lower_expr.proofs.Finding.{as_many, newest, older}
+use Rattle.ti_lower_expr.proofs.Lemmas.{front_stands, rest_stands, Alike, does_then, does_value, does_behind, does_one, as_many, newest}
+use Rattle.ti_lower_expr.proofs.Lemmas.{older}
 use Rattle.ti_lower.proofs.Cutting.{trimmed_all, trimmed_more}
 use Rattle.ti_lower.proofs.Writing.{new_put, newest_put}
 use Rattle.ti_lower.proofs.Receiving.{in_turn}
@@ -46,7 +46,8 @@ module _ (w : Who) (c : List Instr) where
   asked_alike q r x y (a ∷ rs) = refl
 
   -- an action through a reference that names this thing is what an instruction does that needs it
-  pub through_does : (P : Held → Spot → Type 0) (s : Spot) (p : Place) (h : Held) (id : Id) (q : Request) (f : Reference → Request) (go : Held → Spot) (j : Instr) → slice_get c s.at ≡ Some j → thing_of h ≡ Some id
+  pub through_does : (P : Held → Spot → Type 0) (s : Spot) (p : Place) (h : Held) (id : Id) (q : Request) (f : Reference → Request)
+      (go : Held → Spot) (j : Instr) → slice_get c s.at ≡ Some j → thing_of h ≡ Some id
       → (f (record { thing = id; type = t.Void })).place ≡ q.place → (f (record { thing = id; type = t.Void })).action ≡ q.action
       → ((rs : List Answer) → effect w j s rs ≡ followed (needed p t.Void h rs) (λ r ms. followed (asked (f r) ms) (λ x. gives (go x))))
       → ((x : Held) → P x (go x)) → Does w c s (asked q) P

@@ -50,16 +50,15 @@ use Rattle.ti_code.specs.Programs.{Code}
 use Rattle.ti_code.specs.Machine.{Given, given, named_in, departed, Frame, Machine, On, who_of, receiver_of, called, entered, done, turn}
 use Rattle.ti_code.specs.Follows.{Runs, here, on, Fit, HasNext, shown as code_shown}
 use Rattle.ti_lower.specs.Programs.{in_main, body_code, instrs_in, method_code}
-use Rattle.ti_lang.proofs.MeaningLaws.Computing.{Computes, none_left, used_up}
+use Rattle.ti_lang.proofs.Lemmas.{Computes, none_left, used_up, work_computes}
 use Rattle.ti_lower_expr.specs.Doing.{Outcome}
 use Rattle.ti_lower.proofs.Lifting.{lift, turn_stops}
 use Rattle.ti_lower.proofs.Longer.{leads_more, asks_last, fails_last, none_first, main_instr}
-use Rattle.ti_lower_expr.proofs.Operands.{pushed}
+use Rattle.ti_lower_expr.proofs.Lemmas.{pushed}
 use Rattle.ti_lower.proofs.Arguments.{Ready, own_slots, IsReceiver, without_object}
 use Rattle.ti_lower.proofs.Bodies.{in_effect, in_leads, in_instr, begins_at}
 use Rattle.ti_lower.proofs.Premises.{MethodFine}
 use Rattle.ti_lower_expr.specs.Methods.{is_instance, receivers_of}
-use Rattle.ti_lang.proofs.MeaningLaws.Performed.{work_computes}
 use Rattle.ti_lower.proofs.Standing as stands
 use Rattle.ti_lower.proofs.Standing.{is_done}
 use Rattle.ti_lower.proofs.Steps.{all_does, end_does}
@@ -94,7 +93,8 @@ abbrev thing_at : Place → Option Id → Asking Reference
 thing_at p o = found_or NullRef p o >>= λ id. gives (record { thing = id; type = t.Void })
 
 -- a call that is ready enters its frame
-enters : (m : Machine) (f : Frame) (fs : List Frame) (at : Place) (callee : MethodCode) (class : Option ℕ) (th : Option Id) (args stack : List Held) → IsReceiver class th (top (under callee.params f.spot.stack))
+enters : (m : Machine) (f : Frame) (fs : List Frame) (at : Place) (callee : MethodCode) (class : Option ℕ) (th : Option Id)
+    (args stack : List Held) → IsReceiver class th (top (under callee.params f.spot.stack))
     → taken callee.params f.spot.stack [] ≡ args → without_object class (under callee.params f.spot.stack) ≡ stack → (rs : List Answer)
     → called m f fs at callee (is_instance class) rs ≡ entered m f fs at callee (own_slots class th) args stack rs
 enters m f fs at callee None th args stack z e k rs = ap₂ (λ xs ys. entered m f fs at callee [] xs ys rs) e k
@@ -240,7 +240,9 @@ module _ (code : Code) (s : Setting) (number : ℕ) (end : Place) (m0 : Machine)
   Meeting all q = (t : Top) × (spent : ℕ) × (vs : List Variable) × (left : List Work) × (wait : Wait) × (q ≡ proc_at t spent vs left wait) × Met t all spent vs left wait
 
   abbrev pub Result : List Answer → Process → Type 0
-  Result all q = ((t : Top) × (spent : ℕ) × (vs : List Variable) × (left : List Work) × (answers : List Answer) × (q ≡ proc t spent vs left answers) × Sim t all spent vs left answers) ⊎ (((spent : ℕ) × (q ≡ gone spent) × Over all spent) ⊎ Meeting all q)
+  Result all q = ((t : Top) × (spent : ℕ) × (vs : List Variable) × (left : List Work) × (answers : List Answer)
+      × (q ≡ proc t spent vs left answers) × Sim t all spent vs left answers)
+      ⊎ (((spent : ℕ) × (q ≡ gone spent) × Over all spent) ⊎ Meeting all q)
 
   -- behind a piece of work
   new_sim : (t : Top) (all : List Answer) (spent : ℕ) (vs : List Variable) (left : List Work) (u : Spot) (q : Process) → q ≡ proc t spent vs left [] → Standing t left vs u → spent ≤ s.fuel
@@ -248,7 +250,8 @@ module _ (code : Code) (s : Setting) (number : ℕ) (end : Place) (m0 : Machine)
   new_sim t all spent vs left u q e at fed runs h =
       inl (t, spent, vs, left, [], e, record { before = spent; spot = u; at = at; paid = omega arith; fed = fed; runs = runs; fresh = inl refl; waiting = h })
 
-  jumped : (b : Bool) (p : Process) (f : tree.Frame) (fs : List tree.Frame) (x y : List Variable) (u v : List Work) → (if b then going p f fs x u else going p f fs y v) ≡ going p f fs (if b then x else y) (if b then u else v)
+  jumped : (b : Bool) (p : Process) (f : tree.Frame) (fs : List tree.Frame) (x y : List Variable) (u v : List Work)
+      → (if b then going p f fs x u else going p f fs y v) ≡ going p f fs (if b then x else y) (if b then u else v)
   jumped true p f fs x y u v = refl
   jumped false p f fs x y u v = refl
 
@@ -259,8 +262,10 @@ module _ (code : Code) (s : Setting) (number : ℕ) (end : Place) (m0 : Machine)
   -- ---- returns
 
   -- without a value
-  void_return : (b : Bool) (r : Receiver) (fs : List tree.Frame) (gs : List Frame) → Below b r fs gs → b ≡ true → (c : List Instr) (u : Spot) → slice_get c u.at ≡ Some i.Return → (all : List Answer) (spent : ℕ) → spent ≤ s.fuel
-      → ((more : List Answer) → Runs code m0 (all ++ more) (machine_of spent (record { instrs = instrs_in (ending fs) c; spot = u } ∷ gs)) more) → (q : Process) → q ≡ process_of spent fs [] → Result all q
+  void_return : (b : Bool) (r : Receiver) (fs : List tree.Frame) (gs : List Frame) → Below b r fs gs → b ≡ true
+      → (c : List Instr) (u : Spot) → slice_get c u.at ≡ Some i.Return → (all : List Answer) (spent : ℕ) → spent ≤ s.fuel
+      → ((more : List Answer) → Runs code m0 (all ++ more) (machine_of spent (record { instrs = instrs_in (ending fs) c; spot = u } ∷ gs))
+      more) → (q : Process) → q ≡ process_of spent fs [] → Result all q
   void_return b r fs gs bottom e c u st all spent fed runs q k =
       inr (inl (spent, k, record { instrs = map (in_main end) c; spot = u; at_end = main_instr end c u.at i.Return st; runs = runs }))
   void_return b r fs gs (waits {t = t} {vs = vs} {left = left} {u = x} back h) e c u st all spent fed runs q k =
@@ -270,9 +275,11 @@ module _ (code : Code) (s : Setting) (number : ℕ) (end : Place) (m0 : Machine)
       (λ more. runs_then code m0 here_now (machine t spent x) (all ++ more) more more (runs more) (on (turned more) here)) h
 
   -- with a value
-  value_return : (b : Bool) (r : Receiver) (fs : List tree.Frame) (gs : List Frame) → Below b r fs gs → b ≡ false → (c : List Instr) (u : Spot) (value : Held) → slice_get c u.at ≡ Some i.ReturnValue → top u.stack ≡ value
+  value_return : (b : Bool) (r : Receiver) (fs : List tree.Frame) (gs : List Frame) → Below b r fs gs → b ≡ false
+      → (c : List Instr) (u : Spot) (value : Held) → slice_get c u.at ≡ Some i.ReturnValue → top u.stack ≡ value
       → (all : List Answer) (spent : ℕ) → spent ≤ s.fuel
-      → ((more : List Answer) → Runs code m0 (all ++ more) (machine_of spent (record { instrs = instrs_in (ending fs) c; spot = u } ∷ gs)) more) → (q : Process) → q ≡ process_of spent (handed r (Some value) fs) [] → Result all q
+      → ((more : List Answer) → Runs code m0 (all ++ more) (machine_of spent (record { instrs = instrs_in (ending fs) c; spot = u } ∷ gs))
+      more) → (q : Process) → q ≡ process_of spent (handed r (Some value) fs) [] → Result all q
   value_return b r fs gs bottom e c u value st is all spent fed runs q k = true_false true refl e
   value_return b r fs gs (waits {t = t} {vs = vs} {left = left} {u = x} back h) e c u value st is all spent fed runs q k =
       let here_now = machine_of spent (record { instrs = c; spot = u } ∷ placed t x ∷ t.under) in
@@ -327,7 +334,9 @@ module _ (code : Code) (s : Setting) (number : ℕ) (end : Place) (m0 : Machine)
           ap (λ o. done code (machine t spent u) (placed t u) t.under o rs) (in_instr (ending t.below) (code_in t) u.at (i.Call z.0 at) (λ end. refl) z.2)
           ∙ (ap (λ o. option_map_or (λ (callee : MethodCode). called (machine t spent u) (placed t u) t.under at callee callee.instance) o (gives (On (machine t spent u))) rs) (bodies z.0 m z.3 z.4)
           ∙ (enters (machine t spent u) (placed t u) t.under at callee (this_of m) th ready.args z.1 ready.receiver ready.are ready.rest rs
-          ∙ (ap (λ hs. (if nat_lt spent s.fuel then guarded (nat_lt (length (placed t u ∷ t.under)) most_frames) Depth at (On (machine inner (spent + 1) (record { at = 0; slots = hs; stack = [] }))) else fails Fuel at) rs) (sym (pushed_is ready.args (own_slots (this_of m) th)))
+          ∙ (ap (λ hs. (if nat_lt spent s.fuel then guarded (nat_lt (length (placed t u ∷ t.under)) most_frames) Depth at
+          (On (machine inner (spent + 1) (record { at = 0; slots = hs; stack = [] }))) else fails Fuel at) rs)
+          (sym (pushed_is ready.args (own_slots (this_of m) th)))
           ∙ ap (λ b. (if nat_lt spent s.fuel then guarded b Depth at (On (machine inner (spent + 1) start)) else fails Fuel at) rs) many)))
 
       calls_to : (q : Process) (b d : Bool) → nat_lt spent s.fuel ≡ b → nat_lt (length (f ∷ t.below)) most_frames ≡ d
@@ -357,7 +366,8 @@ module _ (code : Code) (s : Setting) (number : ℕ) (end : Place) (m0 : Machine)
 
   -- ---- steps
 
-  at_same : (spent : ℕ) (request : Request) (go : Answer → Process) (b : Bool) → nat_lt spent s.fuel ≡ b → (q : Request) (found : Answer → Process) → (if b then At q found else Faults Fuel q.place) ≡ At request go
+  at_same : (spent : ℕ) (request : Request) (go : Answer → Process) (b : Bool) → nat_lt spent s.fuel ≡ b
+      → (q : Request) (found : Answer → Process) → (if b then At q found else Faults Fuel q.place) ≡ At request go
       → (found ≡ go) × (spent + 1 ≤ s.fuel) × (q ≡ request)
   at_same spent request go true e q found k =
       let less = ltb-true spent s.fuel e in
@@ -389,12 +399,14 @@ module _ (code : Code) (s : Setting) (number : ℕ) (end : Place) (m0 : Machine)
       ∙ in_effect (ending t.below) who (code_in t) u rs
 
   -- the machine goes on to where the code stands behind the work
-  ahead : (t : Top) (all answers : List Answer) (before spent : ℕ) (spot u : Spot) (rest : List Answer) → before + length answers ≡ spent → ((more : List Answer) → Runs code m0 (all ++ more) (machine t before spot) (answers ++ more))
+  ahead : (t : Top) (all answers : List Answer) (before spent : ℕ) (spot u : Spot) (rest : List Answer) → before + length answers ≡ spent
+      → ((more : List Answer) → Runs code m0 (all ++ more) (machine t before spot) (answers ++ more))
       → Leads who (code_in t) spot answers u rest → rest ≡ [] → (more : List Answer) → Runs code m0 (all ++ more) (machine t spent u) more
   ahead t all answers before spent spot u rest paid runs k none more =
       let path = leads_more who (code_in t) spot u answers rest k more in
       let lifted = lift code base (first_frame t) t.under before spot u (answers ++ more) (rest ++ more) (in_frame t spot u (answers ++ more) (rest ++ more) path) in
-      let ticks : before + (length (answers ++ more) - length (rest ++ more)) ≡ spent = omega (arith, paid, length-append answers more, length-append rest more, ap (λ (l : List Answer). length l) none) in
+      let ticks : before + (length (answers ++ more) - length (rest ++ more)) ≡ spent =
+      omega (arith, paid, length-append answers more, length-append rest more, ap (λ (l : List Answer). length l) none) in
       let to_end = subst (λ n. Runs code (machine t before spot) (answers ++ more) (machine t n u) (rest ++ more)) ticks lifted.1 in
       runs_then code m0 (machine t before spot) (machine t spent u) (all ++ more) (answers ++ more) more (runs more)
       (subst (λ l. Runs code (machine t before spot) (answers ++ more) (machine t spent u) (l ++ more)) none to_end)
@@ -462,7 +474,8 @@ module _ (code : Code) (s : Setting) (number : ℕ) (end : Place) (m0 : Machine)
     calls_no at q request go false d e = cc
 
     -- an arrival is answered
-    arrived : (new : List Work) (wait : Wait) (deposit : Deposit) (u : Spot) (stack : List Held) → slice_get c u.at ≡ Some (i.Arrive wait.kind wait.place) → slice_get c (u.at + 1) ≡ Some (i.Depart wait.place)
+    arrived : (new : List Work) (wait : Wait) (deposit : Deposit) (u : Spot) (stack : List Held) → slice_get c u.at
+        ≡ Some (i.Arrive wait.kind wait.place) → slice_get c (u.at + 1) ≡ Some (i.Depart wait.place)
         → given wait.kind (machine t spent u) (placed t u) ≡ record { arg = wait.arg; deposit = deposit; stack = stack }
         → Departed t (is_done wait.wanted) new vs wait.receiver (record { at = u.at + 1 + 1; slots = u.slots; stack = stack }) → Ahead u → (request : Request) (go : Answer → Process)
         → arrives process (frame t vs new ∷ t.below) wait deposit ≡ At request go → (r : Answer) → Result (all ++ r ∷ []) (go r)
@@ -522,7 +535,8 @@ module _ (code : Code) (s : Setting) (number : ℕ) (end : Place) (m0 : Machine)
     no_move (Meets wait given behind) u request go z y e = elim y [ ]
     no_move (Deletes at region) u request go z y e = elim y [ ]
 
-    move_answered : (move : Move) (u : Spot) → Moved t left vs move u → Ahead u → (request : Request) (go : Answer → Process) → moves process here_frame t.below left move ≡ At request go → (r : Answer) → Result (all ++ r ∷ []) (go r)
+    move_answered : (move : Move) (u : Spot) → Moved t left vs move u → Ahead u → (request : Request) (go : Answer → Process)
+        → moves process here_frame t.below left move ≡ At request go → (r : Answer) → Result (all ++ r ∷ []) (go r)
     move_answered (Meets wait deposit more) u z runs request go e r =
         arrived (more ++ left) wait deposit u z.2 z.0 z.1 (z.3 (machine t spent u) (placed t u) refl refl) z.4 runs request go e r
     move_answered (Goes new works) u z runs request go e r = absurd (no_move (Goes new works) u request go z tt e)
@@ -534,7 +548,8 @@ module _ (code : Code) (s : Setting) (number : ℕ) (end : Place) (m0 : Machine)
     move_answered (Deletes at region) u z runs request go e r =
         arrived left (deleting at region) (deposit.Count (tree_named region (here_frame ∷ t.below))) u z.3 z.0 z.1 (delete_hands at region u z) (inl z.6) runs request go e r
 
-    answered_by : (request : Request) (go : Answer → Process) (g : Got Move) → work answers ≡ g → valued process g (moves process here_frame t.below left) ≡ At request go → (r : Answer) → Result (all ++ r ∷ []) (go r)
+    answered_by : (request : Request) (go : Answer → Process) (g : Got Move) → work answers ≡ g
+        → valued process g (moves process here_frame t.below left) ≡ At request go → (r : Answer) → Result (all ++ r ∷ []) (go r)
     answered_by request go (Gives move rest) z e r =
         let o = came move rest z in
         move_answered move o.0 o.1 o.2 request go e r
@@ -571,8 +586,12 @@ module _ (code : Code) (s : Setting) (number : ℕ) (end : Place) (m0 : Machine)
 
     asks_next : (n : Next) (q r : Request) (go : Answer → Process) (u : Spot) (b : Bool) → nat_lt spent s.fuel ≡ b → r.place ≡ q.place → r.action ≡ q.action → Runs code m0 all (machine t spent u) []
         → turn code (machine t spent u) [] ≡ (if nat_lt spent s.fuel then Asks r else Fails Fuel r.place) → tree_shown (if b then At q go else Faults Fuel q.place) ≡ Some n → HasNext code m0 all n
-    asks_next n q r go u true e x y runs z k =
-        (machine t spent u, runs, ap code_shown z ∙ (ap (λ b. code_shown (if b then Asks r else Fails Fuel r.place)) e ∙ (ap (λ p. Some (next.Act p r.action)) x ∙ ap (λ a. Some (next.Act q.place a)) y ∙ k)))
+    asks_next n q r go u true e x y runs z k = (
+      machine t spent u,
+      runs,
+      ap code_shown z ∙ (ap (λ b. code_shown (if b then Asks r else Fails Fuel r.place)) e
+          ∙ (ap (λ p. Some (next.Act p r.action)) x ∙ ap (λ a. Some (next.Act q.place a)) y ∙ k)),
+    )
     asks_next n q r go u false e x y runs z k =
         (machine t spent u, runs, ap code_shown z ∙ (ap (λ b. code_shown (if b then Asks r else Fails Fuel r.place)) e ∙ (ap (λ p. Some (next.Fault Fuel p)) x ∙ k)))
 
@@ -614,7 +633,8 @@ module _ (code : Code) (s : Setting) (number : ℕ) (end : Place) (m0 : Machine)
     moved_next n (Returns None) u z runs k = absurd (none_some n k)
     moved_next n (Returns (Some h)) u z runs k = absurd (none_some n k)
     moved_next n (Calls at m th ps r) u z runs k =
-        call_next n at u _ _ (nat_lt spent s.fuel) (nat_lt (length (here_frame ∷ t.below)) most_frames) (reached u runs) (call_turns t all spent vs w left answers u sim.fed runs sim.waiting at m th ps r z []) k
+        call_next n at u _ _ (nat_lt spent s.fuel) (nat_lt (length (here_frame ∷ t.below)) most_frames) (reached u runs)
+        (call_turns t all spent vs w left answers u sim.fed runs sim.waiting at m th ps r z []) k
     moved_next n (Meets wait deposit more) u z runs k = arrives_next n wait deposit u z.2 _ z.0 (z.3 (machine t spent u) (placed t u) refl refl) runs k
     moved_next n (Deletes at region) u z runs k =
         arrives_next n (deleting at region) (deposit.Count (tree_named region (here_frame ∷ t.below))) u z.3 _ z.0 (delete_hands at region u z) runs k
@@ -628,7 +648,8 @@ module _ (code : Code) (s : Setting) (number : ℕ) (end : Place) (m0 : Machine)
         let last = asks_last who c o.0 o.1 o.3.request o.3.is in
         let runs = reached o.0 (ahead t all answers sim.before spent sim.spot o.0 o.1 sim.paid sim.runs o.2 last) in
         let there = frame_effect t o.0 [] ∙ (sym (ap (next_effect who c o.0) last) ∙ o.3.is) in
-        asks_next n q o.3.request (λ a. spends (answered process a)) o.0 (nat_lt spent s.fuel) refl o.3.place o.3.action runs (turn_stops code base (first_frame t) t.under spent o.0 [] (Asks o.3.request) there tt) k
+        asks_next n q o.3.request (λ a. spends (answered process a)) o.0 (nat_lt spent s.fuel) refl o.3.place o.3.action runs
+        (turn_stops code base (first_frame t) t.under spent o.0 [] (Asks o.3.request) there tt) k
     next_by n (Fails kind at) z k =
         let o = subst (λ g. Outcome who c (Moved t left vs) sim.spot answers g) z (outcome answers) in
         let last = nothing_left kind at o.0 o.1 o.2 o.3 in
@@ -642,11 +663,13 @@ module _ (code : Code) (s : Setting) (number : ℕ) (end : Place) (m0 : Machine)
   -- ---- whole runs
 
   -- the work is done
-  stepped_out : (t : Top) (all : List Answer) (spent : ℕ) (vs : List Variable) (answers : List Answer) → Sim t all spent vs [] answers → (q : Process) → step (proc t spent vs [] answers) ≡ To q → Result all q
+  stepped_out : (t : Top) (all : List Answer) (spent : ℕ) (vs : List Variable) (answers : List Answer) → Sim t all spent vs [] answers
+      → (q : Process) → step (proc t spent vs [] answers) ≡ To q → Result all q
   stepped_out t all spent vs answers sim q e =
       let none = nothing_asked sim.fresh in
       let o = end_does (code_in t) s.program t.method t.this_id number s.procs team_is vs sim.spot sim.at answers in
-      void_return (is_void_in t) t.receiver t.below t.under sim.waiting o.2.0 (code_in t) o.0 o.2.1 all spent sim.fed (ahead t all answers sim.before spent sim.spot o.0 answers sim.paid sim.runs o.1 none) q
+      void_return (is_void_in t) t.receiver t.below t.under sim.waiting o.2.0 (code_in t) o.0 o.2.1 all spent sim.fed
+      (ahead t all answers sim.before spent sim.spot o.0 answers sim.paid sim.runs o.1 none) q
       (sym (to_same (process_of spent t.below []) q e))
     where
       nothing_asked : Fresh (gives (Returns None)) answers → answers ≡ []
@@ -691,7 +714,8 @@ module _ (code : Code) (s : Setting) (number : ℕ) (end : Place) (m0 : Machine)
     left_so : (ws : List Work) → Standing t ws vs (after_it (departed met.spot.stack r)) → q ≡ proc t (spent + 1) vs ws [] → Result (all ++ r ∷ []) q
     left_so ws at e =
         let x = after_it (departed met.spot.stack r) in
-        let turned = λ (rest : List Answer). ap (λ o. done code (machine t spent met.spot) (placed t met.spot) t.under o (r ∷ rest)) (in_instr (ending t.below) (code_in t) met.spot.at (i.Depart wait.place) (λ end. refl) met.there) in
+        let turned = λ (rest : List Answer). ap (λ o. done code (machine t spent met.spot) (placed t met.spot) t.under o (r ∷ rest))
+        (in_instr (ending t.below) (code_in t) met.spot.at (i.Depart wait.place) (λ end. refl) met.there) in
         new_sim t (all ++ r ∷ []) (spent + 1) vs ws x q e at fed
         (λ rest. subst (λ l. Runs code m0 l (machine t (spent + 1) x) rest) (sym (append_assoc all (r ∷ []) rest))
         (runs_then code m0 (machine t spent met.spot) (machine t (spent + 1) x) (all ++ r ∷ rest) (r ∷ rest) rest (met.runs (r ∷ rest)) (on (turned rest) here)))
@@ -700,8 +724,12 @@ module _ (code : Code) (s : Setting) (number : ℕ) (end : Place) (m0 : Machine)
     leaves : (wanted : Wanted) → FitsWanted wanted r → Departed t (is_done wanted) left vs wait.receiver (after_it met.spot.stack)
         → q ≡ process_of (spent + 1) (handed wait.receiver (value_asked wanted r) (frame t vs left ∷ t.below)) [] → Result (all ++ r ∷ []) q
     leaves ToBeDone f back e = left_so left (subst (λ a. Standing t left vs (after_it (departed met.spot.stack a))) (sym f) back) e
-    leaves (ValueOf type) f back e = left_so (Receive wait.receiver (value_of r) ∷ left) (subst (λ a. Standing t (Receive wait.receiver (value_of a) ∷ left) vs (after_it (departed met.spot.stack a))) (sym f.1) (inl (back (Plain f.0)))) e
-    leaves (NewThing type) f back e = left_so (Receive wait.receiver (value_of r) ∷ left) (subst (λ a. Standing t (Receive wait.receiver (value_of a) ∷ left) vs (after_it (departed met.spot.stack a))) (sym f.1) (inl (back (Plain f.0)))) e
+    leaves (ValueOf type) f back e = left_so (Receive wait.receiver (value_of r) ∷ left)
+        (subst (λ a. Standing t (Receive wait.receiver (value_of a) ∷ left) vs (after_it (departed met.spot.stack a))) (sym f.1)
+        (inl (back (Plain f.0)))) e
+    leaves (NewThing type) f back e = left_so (Receive wait.receiver (value_of r) ∷ left)
+        (subst (λ a. Standing t (Receive wait.receiver (value_of a) ∷ left) vs (after_it (departed met.spot.stack a))) (sym f.1)
+        (inl (back (Plain f.0)))) e
 
   -- a silent step
   silent : (all : List Answer) (p q : Process) → Result all p → step p ≡ To q → Result all q
@@ -714,7 +742,8 @@ module _ (code : Code) (s : Setting) (number : ℕ) (end : Place) (m0 : Machine)
       by (w ∷ left) sim k = stepped x.0 all x.1 x.2 w left x.4 sim q k
 
   -- an answer
-  told_so : (all : List Answer) (p : Process) (request : Request) (go : Answer → Process) → Result all p → step p ≡ At request go → (r : Answer) → FitsWanted request.wanted r → Result (all ++ r ∷ []) (go r)
+  told_so : (all : List Answer) (p : Process) (request : Request) (go : Answer → Process) → Result all p → step p ≡ At request go
+      → (r : Answer) → FitsWanted request.wanted r → Result (all ++ r ∷ []) (go r)
   told_so all p request go (inr (inl x)) e r fits = absurd (ends_at _ request go (sym (ap step x.1) ∙ e))
   told_so all p request go (inr (inr x)) e r fits =
       let wait = x.4 in
@@ -736,11 +765,13 @@ module _ (code : Code) (s : Setting) (number : ℕ) (end : Place) (m0 : Machine)
   after all rs p q x fit told.none = subst (λ l. Result l q) (sym (append-nil all)) x
   after all rs p q x fit (told.more {q = t} {request = request} {go = go} {answer = r} {rest = rest} k e h) =
       let fits = fits_there p t request go r (fit [] rest r p refl told.none) k e in
-      let more = λ (before last : List Answer) (a : Answer) (y : Process) (z : rest ≡ before ++ a ∷ last) (l : After (go r) before y). fit (r ∷ before) last a y (ap (λ l. r ∷ l) z) (told.more k e l) in
+      let more = λ (before last : List Answer) (a : Answer) (y : Process) (z : rest ≡ before ++ a ∷ last) (l : After (go r) before y). fit
+      (r ∷ before) last a y (ap (λ l. r ∷ l) z) (told.more k e l) in
       subst (λ l. Result l q) (append_assoc all (r ∷ []) rest) (after (all ++ r ∷ []) rest (go r) q (told_so all t request go (reaches all p t x k) e r fits) more h)
 
   -- a departure is next, or no tick is left for it
-  depart_next : (all : List Answer) (spent : ℕ) (n : Next) (wait : Wait) (m : Machine) (b : Bool) → Runs code m0 all m [] → turn code m [] ≡ (if b then Asks (request_of wait.place act.Depart ToBeDone) else Fails Fuel wait.place)
+  depart_next : (all : List Answer) (spent : ℕ) (n : Next) (wait : Wait) (m : Machine) (b : Bool) → Runs code m0 all m [] → turn code m []
+      ≡ (if b then Asks (request_of wait.place act.Depart ToBeDone) else Fails Fuel wait.place)
       → (go : Answer → Process) → tree_shown (if b then At (request_of wait.place act.Depart wait.wanted) go else Faults Fuel wait.place) ≡ Some n → HasNext code m0 all n
   depart_next all spent n wait m true runs z go k = (m, runs, ap code_shown z ∙ k)
   depart_next all spent n wait m false runs z go k = (m, runs, ap code_shown z ∙ k)
@@ -754,7 +785,9 @@ module _ (code : Code) (s : Setting) (number : ℕ) (end : Place) (m0 : Machine)
         let met = x.6 in
         let turned : turn code (machine t x.1 met.spot) [] ≡ (if nat_lt x.1 s.fuel then Asks (request_of wait.place act.Depart ToBeDone) else Fails Fuel wait.place) =
         ap (λ o. done code (machine t x.1 met.spot) (placed t met.spot) t.under o []) (in_instr (ending t.below) (code_in t) met.spot.at (i.Depart wait.place) (λ end. refl) met.there) in
-        depart_next all x.1 n wait (machine t x.1 met.spot) (nat_lt x.1 s.fuel) (subst (λ l. Runs code m0 l (machine t x.1 met.spot) []) (append-nil all) (met.runs [])) turned _ (sym (ap (λ z. tree_shown (step z)) x.5) ∙ k)
+        depart_next all x.1 n wait (machine t x.1 met.spot) (nat_lt x.1 s.fuel)
+        (subst (λ l. Runs code m0 l (machine t x.1 met.spot) []) (append-nil all) (met.runs [])) turned _
+        (sym (ap (λ z. tree_shown (step z)) x.5) ∙ k)
     shown_so all p n (inr (inl x)) k =
         let o = x.2 in
         let m = machine_of x.0 (record { instrs = o.instrs; spot = o.spot } ∷ []) in (

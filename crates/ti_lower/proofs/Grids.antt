@@ -40,10 +40,8 @@ use Rattle.ti_lower_expr.specs.Slots.{Name, Holds}
 use Rattle.ti_lower_expr.specs.Coding.{code_of, code_of_all, pops}
 use Rattle.ti_lower.specs.Laying.{Labels, as_element, first_code, both_code, grids_code, team_code, elements_code, copied_code, taken_code, copy_code, exchange_code}
 use Rattle.ti_lower_expr.specs.Doing.{Outcome, Does}
-use Rattle.ti_lower_expr.proofs.Doing.{front_stands, rest_stands, behind_both, does_then, does_value, does_behind}
-use Rattle.ti_lower_expr.proofs.Expressions.{spot, next, does, all_do, PushesAll, pops_do, from_spot}
-use Rattle.ti_lower_expr.proofs.Finding.{as_many, newest, older}
-use Rattle.ti_lower_expr.proofs.Operands.{pushed, under_all}
+use Rattle.ti_lower_expr.proofs.Lemmas.{front_stands, rest_stands, behind_both, does_then, does_value, does_behind, spot, next, does}
+use Rattle.ti_lower_expr.proofs.Lemmas.{all_do, PushesAll, pops_do, from_spot, as_many, newest, older, pushed, under_all}
 use Rattle.ti_lower.proofs.Cutting.{Bare}
 use Rattle.ti_lower.proofs.Writing.{new_put}
 use Rattle.ti_lower.proofs.Receiving.{in_turn}
@@ -123,7 +121,8 @@ module _ (c : List Instr) (program : NumberedProgram) (method : NumberedMethod) 
       let mid = behind a ys in
       let zs = first_code (how_many args) in
       let end : behind at (xs ++ (ys ++ zs)) ≡ behind mid zs = behind_both at xs (ys ++ zs) ∙ behind_both a ys zs in
-      next c env names slots holds Q a stack (at_spot at stack) (eval env x) (λ h ms. followed (eval_all env args ms) (λ hs. m h hs)) (does c env names slots holds x at stack (front_stands c at xs (ys ++ zs) st))
+      next c env names slots holds Q a stack (at_spot at stack) (eval env x) (λ h ms. followed (eval_all env args ms) (λ hs. m h hs))
+      (does c env names slots holds x at stack (front_stands c at xs (ys ++ zs) st))
       (λ h. does_then me c (PushesAll c env names slots holds mid (h ∷ stack) (how_many args)) Q (at_spot a (h ∷ stack)) (eval_all env args) (λ hs. m h hs)
       (all_do c env names slots holds args a (h ∷ stack) (front_stands c a ys zs (rest_stands c at xs (ys ++ zs) st)))
       (λ hs s k. from_spot c env names slots holds Q s (at_spot mid (pushed hs (h ∷ stack))) (m h hs) k.1
@@ -287,7 +286,8 @@ module _ (c : List Instr) (program : NumberedProgram) (method : NumberedMethod) 
       let start = behind at both in
       let grids = grids_code p n start in
       let rest = elements_code p n (copied_code p n) (behind start grids) in
-      let done = subst (λ e. Left c program this (standing.result c program method this_id number procs) l names stack left e) (behind_both at both (grids ++ rest) ∙ behind_both start grids rest) after in
+      let done = subst (λ e. Left c program this (standing.result c program method this_id number procs) l names stack left e)
+      (behind_both at both (grids ++ rest) ∙ behind_both start grids rest) after in
       both_do Moved x args (λ h hs. copied_from p (type_of env x) (first_type env args) (thing_of h) (thing_of (slice_index_or hs 0 nothing))) at (front_stands c at both (grids ++ rest) st)
       (λ h hs. grids_do p start (rest_stands c at both (grids ++ rest) st) done h (slice_index_or hs 0 nothing) (type_of env x) (first_type env args))
 
@@ -405,7 +405,8 @@ module _ (c : List Instr) (program : NumberedProgram) (method : NumberedMethod) 
         (by_grid type (thing_of a) refl))
 
   -- the whole exchange, up to its arrival and from its departure on
-  pub exchanges_do : (p : Place) (x : NumberedExp) (args : NumberedExps) (at : ℕ) → points_of (team procs) ≡ map element_at (counted 0 procs) → Stands c at (exchange_code program this p names x args at)
+  pub exchanges_do : (p : Place) (x : NumberedExp) (args : NumberedExps) (at : ℕ) → points_of (team procs)
+      ≡ map element_at (counted 0 procs) → Stands c at (exchange_code program this p names x args at)
       → Left c program this (standing.result c program method this_id number procs) l names stack left (behind at (exchange_code program this p names x args at))
       → Does me c (at_spot at stack) (exchanges env p x args) Moved
   exchanges_do p x args at team_is st after =
@@ -418,7 +419,8 @@ module _ (c : List Instr) (program : NumberedProgram) (method : NumberedMethod) 
       let rest = elements_code p n (taken_code p n) (behind start meets) in
       let there : start ≡ behind first change = behind_both at both change in
       let stands = front_stands c at (both ++ change) (meets ++ rest) st in
-      let done = subst (λ e. Left c program this (standing.result c program method this_id number procs) l names stack left e) (behind_both at (both ++ change) (meets ++ rest) ∙ behind_both start meets rest) after in
+      let done = subst (λ e. Left c program this (standing.result c program method this_id number procs) l names stack left e)
+      (behind_both at (both ++ change) (meets ++ rest) ∙ behind_both start meets rest) after in
       let given = λ (hs : List Held). as_type (element_of type) (slice_index_or hs 0 nothing) in
       both_do Moved x args (λ h hs. exchanged_from p type (given hs) (thing_of h)) at (front_stands c at both change stands)
       (λ h hs. as_does Moved (exchanged_from p type (given hs) (thing_of h)) (element_of type) (slice_index_or hs 0 nothing) first (h ∷ stack) (rest_stands c at both change stands)

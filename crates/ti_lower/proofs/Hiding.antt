@@ -73,7 +73,8 @@ foreach_absent : (number : ℕ) (xs : List SlotName) → find_by (Typed false t.
 foreach_absent number [] = refl
 foreach_absent number (slot.This ∷ xs) = foreach_absent number xs
 foreach_absent number (slot.Of k single ty ∷ xs) =
-    ap (λ c. if c then Some (length (map name_of xs)) else find_by (Typed false t.Void) (record { number = number; declared = Foreach }) (map name_of xs)) (and_false (number == k)) ∙ foreach_absent number xs
+    ap (λ c. if c then Some (length (map name_of xs)) else find_by (Typed false t.Void) (record { number = number; declared = Foreach })
+    (map name_of xs)) (and_false (number == k)) ∙ foreach_absent number xs
 foreach_absent number (slot.Point k ∷ xs) = foreach_absent number xs
 foreach_absent number (slot.Hidden ∷ xs) = foreach_absent number xs
 

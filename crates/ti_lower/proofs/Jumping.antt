@@ -33,12 +33,17 @@ use Rattle.ti_lower_expr.specs.declared.kinds.Known.{Known}
 use Rattle.ti_lower_expr.specs.declared.kinds.Known.TheVariants as known
 use Rattle.ti_lower_expr.specs.Knowing.{known_of}
 use Rattle.ti_lower_expr.specs.Coding.{kind_in, code_of}
-use Rattle.ti_lower_expr.proofs.Doing.{front_stands, behind_both}
-use Rattle.ti_lower_expr.proofs.Jumping.{behind_more, Fits, fits_jumpless, fits_both, fits_next, fits_forward, fits_back, fits_standing, jumpless, ticks, tick_follows, loaded_stays, own_stays, conversion_fits, pops_fit, code_fits, all_fit}
+use Rattle.ti_lower_expr.proofs.Lemmas.{front_stands, behind_both, behind_more, Fits, fits_jumpless, fits_both, fits_next, fits_forward}
+use Rattle.ti_lower_expr.proofs.Lemmas.{fits_back, fits_standing, jumpless, ticks, tick_follows, loaded_stays, own_stays, conversion_fits}
+use Rattle.ti_lower_expr.proofs.Lemmas.{pops_fit, code_fits, all_fit}
 use Rattle.ti_lower.specs.Calling.{number_called, args_code, call_code}
 use Rattle.ti_lower.specs.Calling as calling
 use Rattle.ti_lower.specs.Receivers.{written_slot, kept, TargetKind, InSlot, InField, InElement, store_code, update_code, kind_of_target, place_code, into_code, waiting_code, late_code}
-use Rattle.ti_lower.specs.Laying.{Labels, unknown, names_after, as_element, dropped, break_code, continue_code, first_code, elements_code, copied_code, taken_code, grids_code, team_code, print_code, condition_code, loop_code, walk_code, root_code, broadcast_code, region_code, spread_code, object_code, grid_code, valued_code, init_code, both_code, copy_code, exchange_code, form_code, other_code, alone_code, gives_nothing, stm_code, stms_code, maybe_code}
+use Rattle.ti_lower.specs.Laying.{Labels, unknown, names_after, as_element, dropped, break_code, continue_code, first_code, elements_code}
+use Rattle.ti_lower.specs.Laying.{copied_code, taken_code, grids_code, team_code, print_code, condition_code, loop_code, walk_code}
+use Rattle.ti_lower.specs.Laying.{root_code, broadcast_code, region_code, spread_code, object_code, grid_code, valued_code, init_code}
+use Rattle.ti_lower.specs.Laying.{both_code, copy_code, exchange_code, form_code, other_code, alone_code, gives_nothing, stm_code}
+use Rattle.ti_lower.specs.Laying.{stms_code, maybe_code}
 use Rattle.ti_lower.specs.Programs.{in_main, body_code, method_code, end_in, methods_code}
 use Rattle.ti_lower.proofs.Bodies.{stands_behind}
 use Rattle.ti_lower.proofs.Lengths.{again_at, test_at, exit_at, IsSteady, loop_length, body_steady}
@@ -99,7 +104,8 @@ module _ {all : List Instr} (program : NumberedProgram) (this : Option ℕ) wher
   -- ---- calls
 
   args_fit : (names : List Name) (ps : List VariableUse) (xs : NumberedExps) (at : ℕ) → Fits all at (args_code program this names ps xs at)
-  args_fit names (p ∷ ps) (e.MoreExp x xs) at = fits_both (fits_both (code_fits program this names x at) (conversion_fits (place_of_numbered x) (declared_type p.declared) (known_of program this x))) (args_fit names ps xs _)
+  args_fit names (p ∷ ps) (e.MoreExp x xs) at = fits_both (fits_both (code_fits program this names x at)
+      (conversion_fits (place_of_numbered x) (declared_type p.declared) (known_of program this x))) (args_fit names ps xs _)
   args_fit names ps xs at = fits_jumpless refl
 
   receiver_fits : (names : List Name) (x : Option NumberedExp) (at : ℕ) → Fits all at (calling.object_code program this names x at)
@@ -191,7 +197,8 @@ module _ {all : List Instr} (program : NumberedProgram) (this : Option ℕ) (nam
 
 module _ {all : List Instr} (program : NumberedProgram) (this : Option ℕ) where
   -- an expression whose value goes to a receiver
-  value_fits : (r : Receiver) (kind : Kind) (k : Known) (x : NumberedExp) (names : List Name) (at : ℕ) → Fits all at (into_code program this r kind k (λ ns from. code_of program this ns x from) names at)
+  value_fits : (r : Receiver) (kind : Kind) (k : Known) (x : NumberedExp) (names : List Name) (at : ℕ)
+      → Fits all at (into_code program this r kind k (λ ns from. code_of program this ns x from) names at)
   value_fits r kind k x names at = into_fits program this r kind k _ names at (λ ns from. code_fits program this ns x from)
 
   valued_fits : (r : Receiver) (x : NumberedExp) (o : Option Call) (names : List Name) (at : ℕ) → Fits all at (valued_code program this r x o names at)

@@ -31,12 +31,14 @@ use Rattle.ti_lower_expr.specs.declared.kinds.Known.{Known}
 use Rattle.ti_lower_expr.specs.declared.kinds.Known.TheVariants as known
 use Rattle.ti_lower_expr.specs.Knowing.{known_of, operated_known}
 use Rattle.ti_lower_expr.specs.Coding.{kind_in, code_of, code_of_all, conversion, loaded, own}
-use Rattle.ti_lower_expr.proofs.Walked.{behind_counts, two}
+use Rattle.ti_lower_expr.proofs.Lemmas.{behind_counts, two}
 use Rattle.ti_lower.specs.Calling.{number_called, args_code, object_code, call_code}
 use Rattle.ti_lower.specs.Receivers.{TargetKind, InSlot, InField, InElement, written_slot, kept, store_code, update_code, held_known, updating, kind_of_target, place_code, into_code, waiting_code, late_code}
 use Rattle.ti_lower.specs.Laying.{Labels, first_code, as_element, elements_code, copied_code, taken_code, grids_code, team_code, print_code, root_code, region_code, spread_code, valued_code, init_code, both_code, copy_code, exchange_code, form_code, other_code, alone_code, gives_nothing, stm_code}
 use Rattle.ti_lower.specs.Mirrors.Positions.{Where, Source, Computed, Kept, one_waits}
-use Rattle.ti_lower.specs.Mirrors.Values.{value_on, values_on, source_on, place_on, update_on, into_on, waiting_on, late_on, args_on, object_on, call_on, valued_on, region_on, spread_on, root_on, init_on, both_on, elements_on, grids_on, copy_on, exchange_on, form_on, other_on, alone_on, stands_on, print_on, returned_on}
+use Rattle.ti_lower.specs.Mirrors.Values.{value_on, values_on, source_on, place_on, update_on, into_on, waiting_on, late_on, args_on}
+use Rattle.ti_lower.specs.Mirrors.Values.{object_on, call_on, valued_on, region_on, spread_on, root_on, init_on, both_on, elements_on}
+use Rattle.ti_lower.specs.Mirrors.Values.{grids_on, copy_on, exchange_on, form_on, other_on, alone_on, stands_on, print_on, returned_on}
 
 -- ---- what is written behind code
 

@@ -11,7 +11,7 @@ use Rattle.ti_code.specs.declared.instr.Instr.TheVariants as i
 use Rattle.ti_code.specs.Leading.{behind}
 use Rattle.ti_lower_expr.specs.Slots.{Name}
 use Rattle.ti_lower_expr.specs.Coding.{code_of}
-use Rattle.ti_lower_expr.proofs.Doing.{behind_both}
+use Rattle.ti_lower_expr.proofs.Lemmas.{behind_both}
 use Rattle.ti_lower.specs.Laying.{Labels, unknown, dropped, names_after, break_code, continue_code, condition_code, loop_code, walk_code, stm_code, stms_code, maybe_code}
 
 -- the innermost loop walks over a domain
@@ -106,16 +106,20 @@ module _ (program : NumberedProgram) (this : Option ℕ) (result : ValueType) wh
     same_length (s.For p NoStm c update body) l m names at e =
         let loop = λ (k : Option Labels). loop_code program this p names c (λ q from. stm body q names from) (λ from. maybe_code program this result update k names from) at in
         behind_both at (loop l) (i.Trim (length names) ∷ [])
-        ∙ (ap (λ n. n + 1) (updates_length p names c (λ q from. stm body q names from) (λ from. maybe_code program this result update l names from) (λ from. maybe_code program this result update m names from) at
+        ∙ (ap (λ n. n + 1) (updates_length p names c (λ q from. stm body q names from)
+        (λ from. maybe_code program this result update l names from) (λ from. maybe_code program this result update m names from) at
         (λ k from z. same_length body (Some k) (unknown false) names from z) (λ n. maybe_length update l m names n e)) ∙ sym (behind_both at (loop m) (i.Trim (length names) ∷ [])))
     same_length (s.For p (SomeStm first) c update body) l m names at e =
         let inner = names_after first names in
         let before = λ (k : Option Labels). stm first k names at in
         let loop = λ (k : Option Labels) (from : ℕ). loop_code program this p inner c (λ q from. stm body q inner from) (λ from. maybe_code program this result update k inner from) from in
         let whole : (k : Option Labels) → behind at (stm (s.For p (SomeStm first) c update body) k names at) ≡ behind (behind at (before k)) (loop k (behind at (before k))) + 1 =
-        λ k. behind_both at (before k) (loop k (behind at (before k)) ++ i.Trim (length names) ∷ []) ∙ behind_both (behind at (before k)) (loop k (behind at (before k))) (i.Trim (length names) ∷ []) in
+        λ k. behind_both at (before k) (loop k (behind at (before k)) ++ i.Trim (length names) ∷ [])
+        ∙ behind_both (behind at (before k)) (loop k (behind at (before k))) (i.Trim (length names) ∷ []) in
         whole l ∙ (ap (λ n. behind n (loop l n) + 1) (same_length first l m names at e)
-        ∙ (ap (λ n. n + 1) (updates_length p inner c (λ q from. stm body q inner from) (λ from. maybe_code program this result update l inner from) (λ from. maybe_code program this result update m inner from) (behind at (before m))
+        ∙ (ap (λ n. n + 1) (updates_length p inner c (λ q from. stm body q inner from)
+        (λ from. maybe_code program this result update l inner from) (λ from. maybe_code program this result update m inner from)
+        (behind at (before m))
         (λ k from z. same_length body (Some k) (unknown false) inner from z) (λ n. maybe_length update l m inner n e)) ∙ sym (whole m)))
     same_length (s.Break p) l m names at e = break_length l m names at e
     same_length (s.Continue p) l m names at e = continue_length l m names at

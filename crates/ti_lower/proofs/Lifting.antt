@@ -19,8 +19,8 @@ use Rattle.ti_code.specs.Programs.{Code}
 use Rattle.ti_code.specs.Machine.{Frame, Machine, On, receiver_of, called, entered, who_of, after_effect, within, done, turn}
 use Rattle.ti_code.specs.Follows.{Runs}
 use Rattle.ti_code.specs.Follows as runs
-use Rattle.ti_lang.proofs.MeaningLaws.Short.{short_less}
-use Rattle.ti_code.proofs.Short.{effect_short}
+use Rattle.ti_lang.proofs.Lemmas.{short_less}
+use Rattle.ti_code.proofs.Lemmas.{effect_short}
 
 -- an instruction stays in its frame, or does nothing there
 abbrev Local : Code → Machine → Frame → List Frame → Instr → Type 0
@@ -99,7 +99,8 @@ module _ (c : Code) (m : Machine) (f : Frame) (fs : List Frame) where
       ap (λ o. done c (standing n s) (record f { spot = s }) fs o rs) z ∙ (k rs ∙ ap (after_effect (standing n s) (record f { spot = s }) fs rs) e) in
       (omega (arith, less, l.0), subst (λ j. Runs c (standing n s) rs (standing j t) rest) all (runs.on turned l.1))
 
-  steps : (n : ℕ) (s u t : Spot) (rs ms rest : List Answer) (o : Option Instr) → slice_get f.instrs s.at ≡ o → effect_of (who_of c m) o s rs ≡ Gives u ms → ((j : ℕ) → Lifts j u ms t rest) → Lifts n s rs t rest
+  steps : (n : ℕ) (s u t : Spot) (rs ms rest : List Answer) (o : Option Instr) → slice_get f.instrs s.at ≡ o → effect_of (who_of c m) o s rs
+      ≡ Gives u ms → ((j : ℕ) → Lifts j u ms t rest) → Lifts n s rs t rest
   steps n s u t rs ms rest None z e l = idle n s u t rs ms rest e (l n)
   steps n s u t rs ms rest (Some x) z e l =
       elim (local c (standing n s) (record f { spot = s }) fs x)
@@ -128,5 +129,6 @@ module _ (c : Code) (m : Machine) (f : Frame) (fs : List Frame) where
       ]
 
   -- the process stands where its frame stands at an action or a fault
-  pub turn_stops : (n : ℕ) (s : Spot) (rs : List Answer) (g : Got Spot) → next_effect (who_of c m) f.instrs s rs ≡ g → Goes_nowhere g → turn c (standing n s) rs ≡ after_effect (standing n s) (record f { spot = s }) fs rs g
+  pub turn_stops : (n : ℕ) (s : Spot) (rs : List Answer) (g : Got Spot) → next_effect (who_of c m) f.instrs s rs ≡ g → Goes_nowhere g
+      → turn c (standing n s) rs ≡ after_effect (standing n s) (record f { spot = s }) fs rs g
   turn_stops n s rs g e h = stops n s rs (slice_get f.instrs s.at) g refl e h

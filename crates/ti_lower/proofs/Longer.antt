@@ -9,9 +9,8 @@ use Rattle.ti_code.specs.declared.instr.Instr.{Instr}
 use Rattle.ti_code.specs.declared.instr.Instr.TheVariants as i
 use Rattle.ti_code.specs.Effects.{Spot, Who}
 use Rattle.ti_code.specs.Leading.{effect_of, next_effect, Leads, here, on}
-use Rattle.ti_lang.proofs.MeaningLaws.Silent.{gives_same, rest_same, fails_gives, asks_gives, asks_fails, silent_value}
-use Rattle.ti_lang.proofs.MeaningLaws.Short.{Short}
-use Rattle.ti_code.proofs.Short.{effect_short}
+use Rattle.ti_lang.proofs.Lemmas.{gives_same, rest_same, fails_gives, asks_gives, asks_fails, silent_value, Short}
+use Rattle.ti_code.proofs.Lemmas.{effect_short}
 use Rattle.ti_lower.specs.Programs.{in_main}
 
 short_more : {A : Type 0} (m : Asking A) (rs : List Answer) (a : A) (rest : List Answer) → Short m → m rs ≡ Gives a rest → (more : List Answer) → m (rs ++ more) ≡ Gives a (rest ++ more)
@@ -88,17 +87,20 @@ none_before w c s t rs xs (on {t = u} {rest = ms} e k) z =
     none_before w c u t ms xs k (none_there (next_effect w c s) u ms (maybe_short w (slice_get c s.at) s) (sym (ap (next_effect w c s) z) ∙ e))
 
 -- from an instruction that uses up the answers to a fault
-used_before : (w : Who) (c : List Instr) (t u a : Spot) (xs left : List Answer) (kind : FaultKind) (at : Place) → Leads w c t xs u left → next_effect w c t xs ≡ Gives a [] → next_effect w c u left ≡ Fails kind at → left ≡ []
+used_before : (w : Who) (c : List Instr) (t u a : Spot) (xs left : List Answer) (kind : FaultKind) (at : Place) → Leads w c t xs u left
+    → next_effect w c t xs ≡ Gives a [] → next_effect w c u left ≡ Fails kind at → left ≡ []
 used_before w c t u a xs left kind at here e f = absurd (fails_gives a [] kind at (sym f ∙ e))
 used_before w c t u a xs left kind at (on {t = x} {rest = ms} g l) e f = none_before w c x u ms left l (rest_same x a ms [] (sym g ∙ e))
 
 -- a fault leads nowhere
-stays_there : (w : Who) (c : List Instr) (u t a : Spot) (left xs : List Answer) (kind : FaultKind) (at : Place) → Leads w c u left t xs → next_effect w c u left ≡ Fails kind at → next_effect w c t xs ≡ Gives a [] → left ≡ []
+stays_there : (w : Who) (c : List Instr) (u t a : Spot) (left xs : List Answer) (kind : FaultKind) (at : Place) → Leads w c u left t xs
+    → next_effect w c u left ≡ Fails kind at → next_effect w c t xs ≡ Gives a [] → left ≡ []
 stays_there w c u t a left xs kind at here f e = absurd (fails_gives a [] kind at (sym f ∙ e))
 stays_there w c u t a left xs kind at (on {t = x} {rest = ms} g l) f e = absurd (fails_gives x ms kind at (sym f ∙ g))
 
 -- where what is asked first was answered, a fault comes behind the answer
-pub fails_last : (w : Who) (c : List Instr) (s t u : Spot) (front left : List Answer) (q : Request) (r : Answer) (kind : FaultKind) (at : Place) → Leads w c s front t [] → next_effect w c t [] ≡ Asks q
+pub fails_last : (w : Who) (c : List Instr) (s t u : Spot) (front left : List Answer) (q : Request) (r : Answer) (kind : FaultKind)
+    (at : Place) → Leads w c s front t [] → next_effect w c t [] ≡ Asks q
     → Leads w c s (front ++ r ∷ []) u left → next_effect w c u left ≡ Fails kind at → left ≡ []
 fails_last w c s t u front left q r kind at h e k f =
     let heard = hears (next_effect w c t) q r (maybe_short w (slice_get c t.at) t) e in

@@ -23,8 +23,8 @@ use Rattle.ti_code.specs.Leading.{Stands, behind}
 use Rattle.ti_lower_expr.specs.Slots.{Name, Holds}
 use Rattle.ti_lower.specs.Laying.{region_code, spread_code, object_code, grid_code}
 use Rattle.ti_lower_expr.specs.Doing.{Does}
-use Rattle.ti_lower_expr.proofs.Doing.{front_stands, rest_stands, behind_both, does_then, does_value, does_behind, does_one}
-use Rattle.ti_lower_expr.proofs.Expressions.{who, spot, next, does, Pushes, asked_alike}
+use Rattle.ti_lower_expr.proofs.Lemmas.{front_stands, rest_stands, behind_both, does_then, does_value, does_behind, does_one, who, spot}
+use Rattle.ti_lower_expr.proofs.Lemmas.{next, does, Pushes, asked_alike}
 
 module _ (c : List Instr) (env : Env) (names : List Name) (slots : List Held) (holds : Holds env.this names env.variables env.turns slots) where
   abbrev w : Who
@@ -84,5 +84,7 @@ module _ (c : List Instr) (env : Env) (names : List Name) (slots : List Held) (h
       (subst (λ z. Does w c (here a (k.0 ∷ stack)) (more z) Q) k.1
       (next c env names slots holds Q n (k.0 ∷ stack) (here a (k.0 ∷ stack)) (spread env q dims) (λ h. made (region_of k.0) h)
       (spread_does q dims a (k.0 ∷ stack) (front_stands c a second last (rest_stands c at first (second ++ last) st)))
-      (λ h. does_one w c Q (here n (h ∷ k.0 ∷ stack)) (made (region_of k.0) h) (asked (request p (act.NewGrid (zero_of_type element) (rect_of h) (region_of k.0)) ToBeDone)) (λ x. here (n + 1) (x ∷ stack))
-      (i.NewGrid (zero_of_type element) p) (rest_stands c a second last (rest_stands c at first (second ++ last) st)).0 (asked_alike c env names slots holds _ _ refl refl) (λ rs. refl) (λ x. refl))))))
+      (λ h. does_one w c Q (here n (h ∷ k.0 ∷ stack)) (made (region_of k.0) h)
+      (asked (request p (act.NewGrid (zero_of_type element) (rect_of h) (region_of k.0)) ToBeDone)) (λ x. here (n + 1) (x ∷ stack))
+      (i.NewGrid (zero_of_type element) p) (rest_stands c a second last (rest_stands c at first (second ++ last) st)).0
+      (asked_alike c env names slots holds _ _ refl refl) (λ rs. refl) (λ x. refl))))))

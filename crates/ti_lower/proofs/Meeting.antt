@@ -27,9 +27,8 @@ use Rattle.ti_code.specs.Machine.{Machine, Frame, given}
 use Rattle.ti_lower_expr.specs.Slots.{Name, Holds}
 use Rattle.ti_lower.specs.Laying.{root_code, broadcast_code}
 use Rattle.ti_lower_expr.specs.Doing.{Does}
-use Rattle.ti_lower_expr.proofs.Doing.{front_stands, rest_stands, behind_both, does_then, does_weaker, does_value, does_behind}
-use Rattle.ti_lower_expr.proofs.Expressions.{who, code, spot, next, does}
-use Rattle.ti_lower_expr.proofs.Lazily.{jumps, jumps_not}
+use Rattle.ti_lower_expr.proofs.Lemmas.{front_stands, rest_stands, behind_both, does_then, does_weaker, does_value, does_behind, who, code}
+use Rattle.ti_lower_expr.proofs.Lemmas.{spot, next, does, jumps, jumps_not}
 
 -- what the instruction of an arrival hands in, with these operands left
 abbrev pub Hands : ℕ → Wait → Deposit → Spot → List Held → Type 0
@@ -53,7 +52,8 @@ module _ (c : List Instr) (env : Env) (names : List Name) (slots : List Held) (h
 
   -- the arrival is next
   abbrev pub Arrives : Place → Receiver → NumberedExp → ℕ → List Held → Move → Spot → Type 0
-  Arrives p r x n stack move s = (root : ℕ) × (d : Deposit) × (operands : List Held) × (move ≡ Meets (wait_of p r x root) d []) × (s ≡ at_spot n operands) × Hands env.number (wait_of p r x root) d s stack
+  Arrives p r x n stack move s = (root : ℕ) × (d : Deposit) × (operands : List Held) × (move ≡ Meets (wait_of p r x root) d [])
+      × (s ≡ at_spot n operands) × Hands env.number (wait_of p r x root) d s stack
 
   module _ (p : Place) (r : Receiver) (x : NumberedExp) (a : ℕ) (stack : List Held) (st : Stands c a (root_code env.program (this_of env.method) p names x a)) where
     abbrev inner : ℕ
@@ -102,9 +102,16 @@ module _ (c : List Instr) (env : Env) (names : List Name) (slots : List Held) (h
         (does c env names slots holds x inner (Plain (v.Int n) ∷ stack) (front_stands c inner xs tail_code st.1.1.1.1.1))
         (λ h. does_value w c P (at_spot (behind inner xs) (h ∷ Plain (v.Int n) ∷ stack)) (deposit.One (plain_of h)) (h, refl, refl)))
         (λ d s k. subst (λ d. Does w c s (go d) Q) (sym k.1) (subst (λ s. Does w c s (go (deposit.One (plain_of k.0))) Q) (sym k.2)
-        (does_behind w c Q (at_spot (behind inner xs) (k.0 ∷ Plain (v.Int n) ∷ stack)) (at_spot (other + 1) (k.0 ∷ Plain (v.Int n) ∷ stack)) (go (deposit.One (plain_of k.0))) (i.Jump (other + 1)) tail_stands.0 (λ rs. refl)
-        (does_value w c Q (at_spot (other + 1) (k.0 ∷ Plain (v.Int n) ∷ stack)) _
-        (natural n, deposit.One (plain_of k.0), k.0 ∷ Plain (v.Int n) ∷ stack, refl, refl, hands n k.0 (deposit.One (plain_of k.0)) (ap (λ b. if b then deposit.One (plain_of k.0) else deposit.Nothing) e))))))
+        (does_behind w c Q (at_spot (behind inner xs) (k.0 ∷ Plain (v.Int n) ∷ stack)) (at_spot (other + 1) (k.0 ∷ Plain (v.Int n) ∷ stack))
+        (go (deposit.One (plain_of k.0))) (i.Jump (other + 1)) tail_stands.0 (λ rs. refl)
+        (does_value w c Q (at_spot (other + 1) (k.0 ∷ Plain (v.Int n) ∷ stack)) _ (
+          natural n,
+          deposit.One (plain_of k.0),
+          k.0 ∷ Plain (v.Int n) ∷ stack,
+          refl,
+          refl,
+          hands n k.0 (deposit.One (plain_of k.0)) (ap (λ b. if b then deposit.One (plain_of k.0) else deposit.Nothing) e),
+        )))))
 
     by_root : (n : ℤ) (b : Bool) → (env.number == natural n) ≡ b
         → Does w c (at_spot (a + 1 + 1 + 1 + 1) (truth b ∷ Plain (v.Int n) ∷ stack))
@@ -116,9 +123,16 @@ module _ (c : List Instr) (env : Env) (names : List Name) (slots : List Held) (h
     by_root n false e =
         does_behind w c Q (at_spot (a + 1 + 1 + 1 + 1) (truth false ∷ Plain (v.Int n) ∷ stack)) (at_spot other (Plain (v.Int n) ∷ stack)) (no_value n) (i.JumpIfNot other) st.1.1.1.1.0
         (λ rs. jumps w false other (at_spot (a + 1 + 1 + 1 + 1) (truth false ∷ Plain (v.Int n) ∷ stack)) rs refl)
-        (does_behind w c Q (at_spot other (Plain (v.Int n) ∷ stack)) (at_spot (other + 1) (Plain (v.Bool false) ∷ Plain (v.Int n) ∷ stack)) (no_value n) (i.Const (v.Bool false)) tail_stands.1.0 (λ rs. refl)
-        (does_value w c Q (at_spot (other + 1) (Plain (v.Bool false) ∷ Plain (v.Int n) ∷ stack)) _
-        (natural n, deposit.Nothing, Plain (v.Bool false) ∷ Plain (v.Int n) ∷ stack, refl, refl, hands n (Plain (v.Bool false)) deposit.Nothing (ap (λ b. if b then deposit.One (v.Bool false) else deposit.Nothing) e))))
+        (does_behind w c Q (at_spot other (Plain (v.Int n) ∷ stack)) (at_spot (other + 1) (Plain (v.Bool false) ∷ Plain (v.Int n) ∷ stack))
+        (no_value n) (i.Const (v.Bool false)) tail_stands.1.0 (λ rs. refl)
+        (does_value w c Q (at_spot (other + 1) (Plain (v.Bool false) ∷ Plain (v.Int n) ∷ stack)) _ (
+          natural n,
+          deposit.Nothing,
+          Plain (v.Bool false) ∷ Plain (v.Int n) ∷ stack,
+          refl,
+          refl,
+          hands n (Plain (v.Bool false)) deposit.Nothing (ap (λ b. if b then deposit.One (v.Bool false) else deposit.Nothing) e),
+        )))
 
     abbrev go : ℕ → Asking Move
     go root = root_deposit env root x >>= λ d. gives (Meets (wait_of p r x root) d [])
@@ -128,8 +142,11 @@ module _ (c : List Instr) (env : Env) (names : List Name) (slots : List Held) (h
     tested n same =
         let b = env.number == natural n in
         does_behind w c Q (at_spot (a + 1) (Plain (v.Int n) ∷ stack)) (at_spot (a + 1 + 1) (Plain (v.Int n) ∷ Plain (v.Int n) ∷ stack)) (go (natural n)) i.Dup st.1.0 (λ rs. refl)
-        (does_behind w c Q (at_spot (a + 1 + 1) (Plain (v.Int n) ∷ Plain (v.Int n) ∷ stack)) (at_spot (a + 1 + 1 + 1) (Plain (v.Int (pos env.number)) ∷ Plain (v.Int n) ∷ Plain (v.Int n) ∷ stack)) (go (natural n)) i.ThisProc st.1.1.0 (λ rs. refl)
-        (does_behind w c Q (at_spot (a + 1 + 1 + 1) (Plain (v.Int (pos env.number)) ∷ Plain (v.Int n) ∷ Plain (v.Int n) ∷ stack)) (at_spot (a + 1 + 1 + 1 + 1) (truth b ∷ Plain (v.Int n) ∷ stack)) (go (natural n)) (i.Operate o.Eq p) st.1.1.1.0
+        (does_behind w c Q (at_spot (a + 1 + 1) (Plain (v.Int n) ∷ Plain (v.Int n) ∷ stack))
+        (at_spot (a + 1 + 1 + 1) (Plain (v.Int (pos env.number)) ∷ Plain (v.Int n) ∷ Plain (v.Int n) ∷ stack))
+        (go (natural n)) i.ThisProc st.1.1.0 (λ rs. refl)
+        (does_behind w c Q (at_spot (a + 1 + 1 + 1) (Plain (v.Int (pos env.number)) ∷ Plain (v.Int n) ∷ Plain (v.Int n) ∷ stack))
+        (at_spot (a + 1 + 1 + 1 + 1) (truth b ∷ Plain (v.Int n) ∷ stack)) (go (natural n)) (i.Operate o.Eq p) st.1.1.1.0
         (λ rs. ap (λ b. gives (at_spot (a + 1 + 1 + 1 + 1) (truth b ∷ Plain (v.Int n) ∷ stack)) rs) same)
         (by_root n b refl)))
 
@@ -156,7 +173,8 @@ module _ (c : List Instr) (env : Env) (names : List Name) (slots : List Held) (h
   -- the whole broadcast, up to its arrival
   pub broadcast_does : (p : Place) (r : Receiver) (x root : NumberedExp) (at : ℕ) (stack : List Held) → Stands c at (broadcast_code env.program (this_of env.method) p names x root at)
       → Does w c (at_spot at stack) (broadcasts env r p x root)
-      (λ move s. (n : ℕ) × (slice_get c n ≡ Some (i.Arrive coll.Broadcast p)) × (slice_get c (n + 1) ≡ Some (i.Depart p)) × (n + 1 + 1 ≡ behind at (broadcast_code env.program (this_of env.method) p names x root at)) × Arrives p r x n stack move s)
+      (λ move s. (n : ℕ) × (slice_get c n ≡ Some (i.Arrive coll.Broadcast p)) × (slice_get c (n + 1) ≡ Some (i.Depart p))
+      × (n + 1 + 1 ≡ behind at (broadcast_code env.program (this_of env.method) p names x root at)) × Arrives p r x n stack move s)
   broadcast_does p r x root at stack st =
       let rs = code c env names slots holds root at in
       let a = behind at rs in
@@ -169,7 +187,8 @@ module _ (c : List Instr) (env : Env) (names : List Name) (slots : List Held) (h
       let last = rest_stands c inner xs tail stands.1.1.1.1.1 in
       let ends : n + 1 + 1 ≡ behind at (rs ++ rest) = sym (behind_both at rs rest ∙ behind_both inner xs tail) in
       does_weaker w c (Arrives p r x n stack) _ (at_spot at stack) (broadcasts env r p x root)
-      (next c env names slots holds (Arrives p r x n stack) a stack (at_spot at stack) (eval env root) (λ h. root_among env.procs p h >>= λ k. (root_deposit env k x >>= λ d. gives (Meets (wait_of p r x k) d [])))
+      (next c env names slots holds (Arrives p r x n stack) a stack (at_spot at stack) (eval env root)
+      (λ h. root_among env.procs p h >>= λ k. (root_deposit env k x >>= λ d. gives (Meets (wait_of p r x k) d [])))
       (does c env names slots holds root at stack (front_stands c at rs rest st))
       (λ h. guards p r x a stack stands h (in_team env.procs (whole_of h)) refl))
       (λ move s q. (n, last.1.1.0, last.1.1.1.0, ends, q))

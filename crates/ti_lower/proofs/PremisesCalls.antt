@@ -19,16 +19,14 @@ use Rattle.ti_lang.specs.Typing.Called.{called_method, method_behind}
 use Rattle.ti_lang.specs.Typing.TextTypes.{how_many, type_in_text}
 use Rattle.ti_lang.specs.Typing.Expressions.{operand, all_fit, takes, called, member, member_given, known, operands, typed, operand_type}
 use Rattle.ti_lang.specs.Meaning.Calls.{call_of, call_by, parameters_from, parameters_of}
-use Rattle.ti_lang.proofs.MeaningLaws.TextAgrees.{agrees, how_many_is}
-use Rattle.ti_lang.proofs.MeaningLaws.Forms.{class_told}
+use Rattle.ti_lang.proofs.Lemmas.{agrees, how_many_is, class_told}
 use Rattle.ti_rules.specs.Known.{IsThere}
 use Rattle.ti_rules.specs.Refusals.{refused_if}
 use Rattle.ti_rules.specs.declared.rule.Rule.TheVariants.{Y6}
 use Rattle.ti_rules.specs.Broken.Misplaced.{gives_nothing, misplaced}
 use Rattle.ti_rules.specs.Broken.Expressions.{exp_refusals}
 use Rattle.ti_rules.specs.Broken.RightSides.{inner_refusals, value_refusals}
-use Rattle.ti_rules.proofs.Sound.Refused.{nil_left, nil_right, not_refused, operand_there, and_right}
-use Rattle.ti_rules.proofs.Sound.Expressions.{has_type}
+use Rattle.ti_rules.proofs.Lemmas.{nil_left, nil_right, not_refused, operand_there, and_right, has_type}
 use Rattle.ti_lower.specs.Calling.{number_called}
 use Rattle.ti_lower.proofs.Arguments.{AreArgs, IsObject, method_is}
 use Rattle.ti_lower.proofs.Working.{IsCalled, IsNoCall, IsRight}
@@ -95,7 +93,8 @@ not_is false h = refl
 
 instance_is : (p : NumberedProgram) (class name : ℕ) (m : NumberedMethod) → instance_method p class name ≡ Some m → is_static_method m ≡ false
 unfolding instance_method
-instance_is p class name m h = not_is (is_static_method m) (only_if_passes (λ (m : NumberedMethod). not (is_static_method m)) (find (λ (m : NumberedMethod). (m.class == class) && (m.name == name)) p.methods) m h)
+instance_is p class name m h = not_is (is_static_method m) (only_if_passes (λ (m : NumberedMethod). not (is_static_method m))
+    (find (λ (m : NumberedMethod). (m.class == class) && (m.name == name)) p.methods) m h)
 
 -- ---- calls
 
@@ -123,7 +122,8 @@ module _ (p : NumberedProgram) (words : MainWords p) (s : ScopeContents) (result
   abbrev CallOrNot : NumberedExp → ValueType → Type 0
   CallOrNot y type = IsNoCall p s.this_class result y ⊎ Gives y type
 
-  gives_call : (y : NumberedExp) (at : Place) (object : Option NumberedExp) (xs : NumberedExps) (m : NumberedMethod) (type : ValueType) → call_by y (called_method p s.this_class y) ≡ Some (call_of at object xs m)
+  gives_call : (y : NumberedExp) (at : Place) (object : Option NumberedExp) (xs : NumberedExps) (m : NumberedMethod) (type : ValueType)
+      → call_by y (called_method p s.this_class y) ≡ Some (call_of at object xs m)
       → IsObject object (this_of m) → Taken m xs type → Gives y type
   gives_call y at object xs m type is o taken =
       let c = call_of at object xs m in (
@@ -138,14 +138,16 @@ module _ (p : NumberedProgram) (words : MainWords p) (s : ScopeContents) (result
       (call_taken (slice_get p.methods method) (operands p s xs) m xs type (how_many_is p s xs) i h))
 
   -- behind an object of a class
-  object_call : (at : Place) (a : NumberedExp) (name : ℕ) (xs : NumberedExps) (class : ℕ) (q : Option (List ValueType)) (type : ValueType) → ((ts : List ValueType) → q ≡ Some ts → length ts ≡ how_many xs)
+  object_call : (at : Place) (a : NumberedExp) (name : ℕ) (xs : NumberedExps) (class : ℕ) (q : Option (List ValueType)) (type : ValueType)
+      → ((ts : List ValueType) → q ≡ Some ts → length ts ≡ how_many xs)
       → method_behind p (type_in_text p s.this_class a) name ≡ instance_method p class name → (called (instance_method p class name) q).type ≡ Some type → CallOrNot (e.Member at a name xs) type
   object_call at a name xs class q type n behind h = by (instance_method p class name) refl h
     where
       by : (o : Option NumberedMethod) → instance_method p class name ≡ o → (called o q).type ≡ Some type → CallOrNot (e.Member at a name xs) type
       by None i h = inl (ap (option_map (call_of at (Some a) xs)) (behind ∙ i))
       by (Some m) i h =
-          inr (gives_call (e.Member at a name xs) at (Some a) xs m type (ap (option_map (call_of at (Some a) xs)) (behind ∙ i)) (instance_object a m (instance_is p class name m i)) (call_taken (Some m) q m xs type n refl h))
+          inr (gives_call (e.Member at a name xs) at (Some a) xs m type (ap (option_map (call_of at (Some a) xs)) (behind ∙ i))
+          (instance_object a m (instance_is p class name m i)) (call_taken (Some m) q m xs type n refl h))
 
   behind_class : (w : ValueType) (class name : ℕ) → class_of_type w ≡ Some class → method_behind p w name ≡ instance_method p class name
   behind_class (t.Class d l) class name h = ap (λ c. instance_method p c name) (some_same d class h)
@@ -165,7 +167,8 @@ module _ (p : NumberedProgram) (words : MainWords p) (s : ScopeContents) (result
   class_in_text x a number u h =
       class_told p s.this_class (λ i. 1) (dims_in s) a ∙ ap class_of_type (agrees p s (dims_in s) a (exp_dims p s site k x a number) u (operand_typed (known p s a).type (known p s a).is_call u h))
 
-  member_call : (at : Place) (x : Exp) (a : NumberedExp) (name : ℕ) (xs : NumberedExps) (type : ValueType) → NumbersExp site x a → typed p s (e.Member at a name xs) ≡ Some type → CallOrNot (e.Member at a name xs) type
+  member_call : (at : Place) (x : Exp) (a : NumberedExp) (name : ℕ) (xs : NumberedExps) (type : ValueType) → NumbersExp site x a
+      → typed p s (e.Member at a name xs) ≡ Some type → CallOrNot (e.Member at a name xs) type
   member_call at x a name xs type number h = by (operand_type p s a) (operands p s xs) refl refl h
     where
       of : (u : ValueType) (ts : List ValueType) → operand_type p s a ≡ Some u → operands p s xs ≡ Some ts → (member_given p u name ts).type ≡ Some type → CallOrNot (e.Member at a name xs) type

@@ -16,7 +16,7 @@ use Rattle.ti_lang.specs.Typing.Kinds.{is_void}
 use Rattle.ti_lang.specs.Meaning.Calls.{Call, call_by, parameters_of}
 use Rattle.ti_lang.specs.Meaning.Performing.{declared_alone, declared_among}
 use Rattle.ti_rules.specs.ProgramRefusals.{IsChecked}
-use Rattle.ti_rules.proofs.Sound.Refused.{and_left, and_right}
+use Rattle.ti_rules.proofs.Lemmas.{and_left, and_right}
 use Rattle.ti_lower_expr.specs.Slots.{Name, This, Of, Hidden}
 use Rattle.ti_lower_expr.specs.Slots as slot_of
 use Rattle.ti_lower_expr.specs.Methods.{names_of}

@@ -22,7 +22,7 @@ use Rattle.ti_rules.specs.Standing.{standing_in_method}
 use Rattle.ti_rules.specs.Broken.Statements.{standing_refusals}
 use Rattle.ti_rules.specs.TypeRules.{class_refusals, head_refusals, is_return, ends_with_return, end_refusals, method_refusals}
 use Rattle.ti_rules.specs.ProgramRefusals.{BreaksNothing}
-use Rattle.ti_rules.proofs.Sound.Refused.{nil_left, nil_right, not_refused, and_left, and_right}
+use Rattle.ti_rules.proofs.Lemmas.{nil_left, nil_right, not_refused, and_left, and_right}
 use Rattle.ti_lower_expr.specs.Slots.{Name, Of}
 use Rattle.ti_lower_expr.specs.Methods.{this_names, param_names, names_of}
 use Rattle.ti_lower.proofs.Working.{StmFine, StmsFine}
@@ -53,7 +53,8 @@ record Behind (s : ScopeContents) (a b : Site) (n : ℕ) : Type 0 where
   scope : AllVariables s b.scope
   variables : b.variables ≡ a.variables + n
 
-params_behind : (s : ScopeContents) (site : Site) (ps : List ParamTree) (ys : List NumberedParam) → NumbersParamList site ps ys → AllVariables s site.scope → Behind s site (behind_params site ps) (length ys)
+params_behind : (s : ScopeContents) (site : Site) (ps : List ParamTree) (ys : List NumberedParam) → NumbersParamList site ps ys
+    → AllVariables s site.scope → Behind s site (behind_params site ps) (length ys)
 params_behind s site ps ys number.none a = record { text = refl; class = refl; static = refl; scope = a; variables = omega arith }
 params_behind s site ps ys (number.more {param = param} {params = params} {ys = rest} type fresh room h) a =
     let inside = declares site param.name (typed_as site.text param.ty) in
@@ -81,7 +82,8 @@ scope_with this params = record { this_class = this; variables = parameters para
 abbrev names_with : Option ℕ → NumberedParams → List Name
 names_with this params = param_names (parameters_of params) (this_names this)
 
-body_fits : (p : NumberedProgram) (this : Option ℕ) (site : Site) (ps : ParamsTree) (params : NumberedParams) → NumbersParams site ps params → TextFits p site.text → (site.static ≡ false → this ≡ Some site.class)
+body_fits : (p : NumberedProgram) (this : Option ℕ) (site : Site) (ps : ParamsTree) (params : NumberedParams) → NumbersParams site ps params
+    → TextFits p site.text → (site.static ≡ false → this ≡ Some site.class)
     → AllVariables (scope_with this params) site.scope → site.variables ≡ 0
     → SiteFits p (scope_with this params) (body_site site ps) × Below (body_site site ps).variables (names_with this params)
 body_fits p this site ps params number.words k h a z = (record { text = k; this = h; scope = a; fresh = λ i l. refl }, this_below site.variables this)
@@ -106,11 +108,13 @@ module _ (p : NumberedProgram) (this : Option ℕ) (result : t.ValueType) where
   last_return (s.Return at None) ns v e f = absurd (true≢false (sym f ∙ v))
   last_return x ns v e f = absurd (true≢false (sym e))
 
-  end_fine : (x : NumberedStm) (xs : List NumberedStm) (ns : List Name) → is_void result ≡ false → ends_with_return (x ∷ xs) ≡ true → StmsFine p this result (numbered_stms (x ∷ xs)) ns → EndOf x (numbered_stms xs)
+  end_fine : (x : NumberedStm) (xs : List NumberedStm) (ns : List Name) → is_void result ≡ false → ends_with_return (x ∷ xs) ≡ true
+      → StmsFine p this result (numbered_stms (x ∷ xs)) ns → EndOf x (numbered_stms xs)
   end_fine x [] ns v e f = last_return x ns v e f.0
   end_fine x (y ∷ ys) ns v e f = end_fine y ys _ v e f.1
 
-  ended_fine : (xs : List NumberedStm) (ns : List Name) → (not (is_void result) && not (ends_with_return xs)) ≡ false → StmsFine p this result (numbered_stms xs) ns → IsEnded (is_void result) (numbered_stms xs)
+  ended_fine : (xs : List NumberedStm) (ns : List Name) → (not (is_void result) && not (ends_with_return xs)) ≡ false
+      → StmsFine p this result (numbered_stms xs) ns → IsEnded (is_void result) (numbered_stms xs)
   ended_fine xs ns e f = by (is_void result) refl
     where
       ends : (v r : Bool) → v ≡ false → (not v && not r) ≡ false → r ≡ true
@@ -145,7 +149,8 @@ method_fine p words text before own m k (number.method {result = result} {params
     let fits = body_fits p (this_of m) (method_site text own before) own.method.params params ps k (λ z. ap (λ c. if c then None else Some own.class) z) tt refl in
     let heads = head_refusals m ++ end_refusals m in
     let inner = flat_map (standing_refusals p) (standing_in_method p m) in
-    let fine = stms_fine p words m (parameters params) None (body_site (method_site text own before) own.method.params) (names_of m) fits.0 fits.1 (stms own.method.body) (numbered_stms body) h b (nil_right heads inner e) in
+    let fine = stms_fine p words m (parameters params) None (body_site (method_site text own before) own.method.params)
+    (names_of m) fits.0 fits.1 (stms own.method.body) (numbered_stms body) h b (nil_right heads inner e) in
     let ends = not_refused (not (is_void (result_type m)) && not (ends_with_return body)) Y6 m.place (nil_right (head_refusals m) (end_refusals m) (nil_left heads inner e)) in
     record { stms = fine; ended = ended_fine p (this_of m) (result_type m) body (names_of m) ends fine }
 

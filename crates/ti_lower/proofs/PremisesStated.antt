@@ -30,7 +30,7 @@ use Rattle.ti_rules.specs.Broken.Expressions.{exp_refusals}
 use Rattle.ti_rules.specs.Broken.RightSides.{inner_refusals, value_refusals, initial_refusals}
 use Rattle.ti_rules.specs.Broken.Targets.{write_refusals}
 use Rattle.ti_rules.specs.Broken.Statements.{given_back, update_refusals, standing_refusals}
-use Rattle.ti_rules.proofs.Sound.Refused.{nil_left, nil_right, each_left, each_right, not_refused, not_mistaken}
+use Rattle.ti_rules.proofs.Lemmas.{nil_left, nil_right, each_left, each_right, not_refused, not_mistaken}
 use Rattle.ti_lower_expr.specs.Slots.{Name, This, Of, Hidden}
 use Rattle.ti_lower_expr.specs.Slots as slot_of
 use Rattle.ti_lower.specs.Laying.{names_after}
@@ -109,7 +109,8 @@ closed p this result site x y _ z = tt
 
 -- ---- in the body of a foreach
 
-find_more : {B : Type 0} (f : ScopeVariable → B) (test : ScopeVariable → Bool) (vs ws : List ScopeVariable) (b : B) → option_map f (find test vs) ≡ Some b → option_map f (find test (vs ++ ws)) ≡ Some b
+find_more : {B : Type 0} (f : ScopeVariable → B) (test : ScopeVariable → Bool) (vs ws : List ScopeVariable) (b : B)
+    → option_map f (find test vs) ≡ Some b → option_map f (find test (vs ++ ws)) ≡ Some b
 find_more f test [] ws b h = absurd (none_some b h)
 find_more {B} f test (v ∷ vs) ws b h = by (test v) h (find_more f test vs ws b)
   where
@@ -122,7 +123,8 @@ find_last : (test : ScopeVariable → Bool) (vs : List ScopeVariable) (w : Scope
 find_last test [] w h = refl
 find_last test (v ∷ vs) w h = by (test v) h (find_last test vs w)
   where
-    by : (c : Bool) → cond c (Some v) (find test vs) ≡ None → (find test vs ≡ None → find test (vs ++ w ∷ []) ≡ cond (test w) (Some w) None) → cond c (Some v) (find test (vs ++ w ∷ [])) ≡ cond (test w) (Some w) None
+    by : (c : Bool) → cond c (Some v) (find test vs) ≡ None → (find test vs ≡ None → find test (vs ++ w ∷ []) ≡ cond (test w) (Some w) None)
+        → cond c (Some v) (find test (vs ++ w ∷ [])) ≡ cond (test w) (Some w) None
     by true h ih = absurd (none_some v (sym h))
     by false h ih = ih h
 
@@ -131,7 +133,9 @@ more_known : (this : Option ℕ) (vs ws : List ScopeVariable) (number : ℕ) (d 
 more_known this vs ws number (t.Typed is_single type) k = tt
 more_known this vs ws number t.Foreach k = (k.0, find_more (λ (v : ScopeVariable). v.type) (λ (v : ScopeVariable). v.number == number) vs ws (t.Pt k.0) k.1)
 
-all_more : (this : Option ℕ) (vs ws : List ScopeVariable) (scope : List Known) → AllVariables (record { this_class = this; variables = vs }) scope → AllVariables (record { this_class = this; variables = vs ++ ws }) scope
+all_more : (this : Option ℕ) (vs ws : List ScopeVariable) (scope : List Known)
+    → AllVariables (record { this_class = this; variables = vs }) scope
+    → AllVariables (record { this_class = this; variables = vs ++ ws }) scope
 all_more this vs ws [] a = tt
 all_more this vs ws (known ∷ rest) a = (more_known this vs ws known.1.number known.1.declared a.0, all_more this vs ws rest a.1)
 
@@ -147,14 +151,16 @@ point_fits : (p : NumberedProgram) (this : Option ℕ) (vs : List ScopeVariable)
 point_fits p this vs site name n b k = record {
   text = k.text;
   this = k.this;
-  scope = with_known (with_last this vs (point_in site n b)) site.scope name (record { number = site.variables; declared = t.Foreach }) (all_more this vs (point_in site n b ∷ []) site.scope k.scope) (n, there);
+  scope = with_known (with_last this vs (point_in site n b)) site.scope name (record { number = site.variables; declared = t.Foreach })
+      (all_more this vs (point_in site n b ∷ []) site.scope k.scope) (n, there);
   fresh = free;
 }
   where
     there : declared_type (with_last this vs (point_in site n b)) site.variables t.Foreach ≡ Some (t.Pt n)
     there =
         let low : site.variables ≤ site.variables = omega arith in
-        ap (λ (o : Option ScopeVariable). option_map (λ (v : ScopeVariable). v.type) o) (find_last (λ (v : ScopeVariable). v.number == site.variables) vs (point_in site n b) (k.fresh site.variables low)
+        ap (λ (o : Option ScopeVariable). option_map (λ (v : ScopeVariable). v.type) o)
+        (find_last (λ (v : ScopeVariable). v.number == site.variables) vs (point_in site n b) (k.fresh site.variables low)
         ∙ ap (λ c. cond c (Some (point_in site n b)) None) (eq-eqb site.variables site.variables refl))
 
     free : (i : ℕ) → site.variables + 1 ≤ i → in_scope (with_last this vs (point_in site n b)) i ≡ None
@@ -195,7 +201,8 @@ module _ (p : NumberedProgram) (words : MainWords p) (m : NumberedMethod) where
   abbrev result : ValueType
   result = result_type m
 
-  init_fine : (vs : List ScopeVariable) (site : Site) → SiteFits p (scope vs) site → (x : InitTree) (v : NumberedInit) → NumbersInit site x v → initial_refusals p (scope vs) v ≡ [] → InitFine p (this_of m) result v
+  init_fine : (vs : List ScopeVariable) (site : Site) → SiteFits p (scope vs) site → (x : InitTree) (v : NumberedInit)
+      → NumbersInit site x v → initial_refusals p (scope vs) v ≡ [] → InitFine p (this_of m) result v
   init_fine vs site k x v (number.value h) r = right_fine p words (scope vs) result site k _ _ h r
   init_fine vs site k x v _ r = tt
 
@@ -217,7 +224,8 @@ module _ (p : NumberedProgram) (words : MainWords p) (m : NumberedMethod) where
   dim_there (Some n) h = (n, refl)
 
   mutual
-    stm_fine : (vs : List ScopeVariable) (j : Option Bool) (site : Site) (ns : List Name) → SiteFits p (scope vs) site → Below site.variables ns → (x : Stm) (y : NumberedStm) → NumbersStm site x y → Branched x
+    stm_fine : (vs : List ScopeVariable) (j : Option Bool) (site : Site) (ns : List Name) → SiteFits p (scope vs) site
+        → Below site.variables ns → (x : Stm) (y : NumberedStm) → NumbersStm site x y → Branched x
         → refusals_in (inside p (here vs j) y) ≡ [] → StmFine p (this_of m) result y ns
     stm_fine vs j site ns k b x y number.empty z r = tt
     stm_fine vs j site ns k b x y (number.declare {at = at} {type = type} {value = value} {v = v} type_known fresh room h) z r =
@@ -253,15 +261,19 @@ module _ (p : NumberedProgram) (words : MainWords p) (m : NumberedMethod) where
               (each_right (standing_refusals p) (inside p (here vs j) c) (inside p (here vs j) f) inner),
         )
     stm_fine vs j site ns k b x y (number.while {at = at} {d = d} {x = a} {y = c} g h) z r =
-        let l = Some (loop_acts p m s.NoStm c) in
-        (closed p (this_of m) result site a c h z.0, stm_fine vs l site ns k b a c h z.1 (nil_right (standing_refusals p (stands (here vs j) (s.While at d c))) (refusals_in (inside p (here vs l) c)) r))
+        let l = Some (loop_acts p m s.NoStm c) in (
+          closed p (this_of m) result site a c h z.0,
+          stm_fine vs l site ns k b a c h z.1
+              (nil_right (standing_refusals p (stands (here vs j) (s.While at d c))) (refusals_in (inside p (here vs l) c)) r),
+        )
     stm_fine vs j site ns k b x y (number.for {at = at} {update = update} {u = u} {d = d} {x = a} {y = c} number.no_stm g h i) z r =
         let l = Some (loop_acts p m u c) in
         let before = inside_maybe p (here vs j) u in
         let inner = nil_right (standing_refusals p (stands (here vs j) (s.For at s.NoStm d u c))) (refusals_in (before ++ inside p (here vs l) c)) r in (
           maybe_fine vs j site ns k b update u h z.1.0 z.1.1 (each_left (standing_refusals p) before (inside p (here vs l) c) inner),
           closed p (this_of m) result (past_maybe site update) a c i z.2.0,
-          stm_fine vs l (past_maybe site update) ns (past_maybe_fits p (scope vs) site update k) (below_more site.variables (past_maybe site update).variables ns (past_maybe_keeps site update).variables b) a c i z.2.1
+          stm_fine vs l (past_maybe site update) ns (past_maybe_fits p (scope vs) site update k)
+              (below_more site.variables (past_maybe site update).variables ns (past_maybe_keeps site update).variables b) a c i z.2.1
               (each_right (standing_refusals p) before (inside p (here vs l) c) inner),
         )
     stm_fine vs j site ns k b x y (number.for {at = at} {update = update} {u = u} {d = d} {x = a} {y = c} (number.some_stm {x = e} {y = f} w) g h i) z r =
@@ -278,7 +290,8 @@ module _ (p : NumberedProgram) (words : MainWords p) (m : NumberedMethod) where
           stm_fine vs j site ns k b e f w z.0 (each_left (standing_refusals p) first (before ++ inside p (here vs l) c) inner),
           maybe_fine vs j next names fits low update u h z.1.0 z.1.1 (each_left (standing_refusals p) before (inside p (here vs l) c) others),
           closed p (this_of m) result (past_maybe next update) a c i z.2.0,
-          stm_fine vs l (past_maybe next update) names (past_maybe_fits p (scope vs) next update fits) (below_more next.variables (past_maybe next update).variables names (past_maybe_keeps next update).variables low) a c i z.2.1
+          stm_fine vs l (past_maybe next update) names (past_maybe_fits p (scope vs) next update fits)
+              (below_more next.variables (past_maybe next update).variables names (past_maybe_keeps next update).variables low) a c i z.2.1
               (each_right (standing_refusals p) before (inside p (here vs l) c) others),
         )
     stm_fine vs j site ns k b x y (number.foreach {at = at} {name = name} {c = a} {d = d} {x = e} {y = c} fresh room g h) z r =
@@ -297,12 +310,14 @@ module _ (p : NumberedProgram) (words : MainWords p) (m : NumberedMethod) where
               (below_more site.variables (site.variables + 1) ns (omega arith) b) e c h z.1 (nil_right own (refusals_in (inside p (here vars l) c)) r),
         )
 
-    maybe_fine : (vs : List ScopeVariable) (j : Option Bool) (site : Site) (ns : List Name) → SiteFits p (scope vs) site → Below site.variables ns → (x : MaybeStm) (y : MaybeNumbered) → NumbersMaybeStm site x y
+    maybe_fine : (vs : List ScopeVariable) (j : Option Bool) (site : Site) (ns : List Name) → SiteFits p (scope vs) site
+        → Below site.variables ns → (x : MaybeStm) (y : MaybeNumbered) → NumbersMaybeStm site x y
         → IsPlainMaybe x → MaybeBranched x → refusals_in (inside_maybe p (here vs j) y) ≡ [] → MaybeFine p (this_of m) result y ns
     maybe_fine vs j site ns k b x y number.no_stm q z r = tt
     maybe_fine vs j site ns k b x y (number.some_stm {x = a} {y = c} h) q z r = (closed p (this_of m) result site a c h q, stm_fine vs j site ns k b a c h z r)
 
-    pub stms_fine : (vs : List ScopeVariable) (j : Option Bool) (site : Site) (ns : List Name) → SiteFits p (scope vs) site → Below site.variables ns → (xs : Stms) (ys : NumberedStms) → NumbersStms site xs ys
+    pub stms_fine : (vs : List ScopeVariable) (j : Option Bool) (site : Site) (ns : List Name) → SiteFits p (scope vs) site
+        → Below site.variables ns → (xs : Stms) (ys : NumberedStms) → NumbersStms site xs ys
         → AllBranched xs → refusals_in (inside_all p (here vs j) ys) ≡ [] → StmsFine p (this_of m) result ys ns
     stms_fine vs j site ns k b xs ys number.nil z r = tt
     stms_fine vs j site ns k b xs ys (number.cons {x = x} {y = y} {ys = rest} h more) z r = (

@@ -22,7 +22,7 @@ use Rattle.ti_code.specs.Follows.{Runs, here, Fit, HasNext, Follows}
 use Rattle.ti_lower_expr.specs.Slots.{Holds, none}
 use Rattle.ti_lower_expr.specs.Methods.{receiver_in, receivers_of, this_names, param_names, names_of}
 use Rattle.ti_lower.specs.Programs.{method_code, end_in, methods_code, program_code}
-use Rattle.ti_lower_expr.proofs.Finding.{same_number}
+use Rattle.ti_lower_expr.proofs.Lemmas.{same_number}
 use Rattle.ti_lower.proofs.Bodies.{begins_at}
 use Rattle.ti_lower.proofs.Premises.{MethodFine, MainFine}
 use Rattle.ti_lower.proofs.PremisesChecked.{checked_fine}
@@ -86,7 +86,9 @@ module _ (program : NumberedProgram) (z : IsProgramFine program) (procs fuel num
   main_code : slice_get code.methods program.main ≡ Some (method_code program (Some end) z.main_fine.main)
   main_code =
       let number : 0 + program.main ≡ program.main = omega arith in
-      method_there program 0 program.main program.methods z.main_fine.main z.main_fine.is_there ∙ ap (λ j. Some (method_code program (end_in (j == program.main) z.main_fine.main) z.main_fine.main)) number ∙ ap (λ b. Some (method_code program (end_in b z.main_fine.main) z.main_fine.main)) (same_number program.main program.main refl)
+      method_there program 0 program.main program.methods z.main_fine.main z.main_fine.is_there
+      ∙ ap (λ j. Some (method_code program (end_in (j == program.main) z.main_fine.main) z.main_fine.main)) number
+      ∙ ap (λ b. Some (method_code program (end_in b z.main_fine.main) z.main_fine.main)) (same_number program.main program.main refl)
 
   abbrev origin : Spot
   origin = record { at = 0; slots = []; stack = [] }
@@ -98,13 +100,22 @@ module _ (program : NumberedProgram) (z : IsProgramFine program) (procs fuel num
   p0 = proc code s number end m0 receivers_same bodies z.methods team_is outermost 0 [] (all_before (numbered_stms z.main_fine.main.body) []) []
 
   begins : begin s number ≡ p0
-  begins = ap (λ o. record { setting = s; number = number; spent = 0; frames = option_map_or (λ (main : NumberedMethod). frame_of main None [] Nowhere ∷ []) o []; wait = None; answers = [] }) z.main_fine.is_there
+  begins = ap (λ o. record {
+    setting = s;
+    number = number;
+    spent = 0;
+    frames = option_map_or (λ (main : NumberedMethod). frame_of main None [] Nowhere ∷ []) o [];
+    wait = None;
+    answers = [];
+  })
+      z.main_fine.is_there
 
   starts : m0 ≡ machine code s number end m0 receivers_same bodies z.methods team_is outermost 0 origin
   starts = ap (λ o. record { procs = procs; fuel = fuel; number = number; spent = 0; frames = option_map_or (λ (m : MethodCode). record { instrs = m.instrs; spot = origin } ∷ []) o [] }) main_code
 
   no_names : Holds None (names_of z.main_fine.main) [] [] []
-  no_names = subst (λ ps. Holds None (param_names ps (this_names (this_of z.main_fine.main))) [] [] []) (sym z.main_fine.is_bare) (subst (λ t. Holds None (this_names t) [] [] []) (sym z.main_fine.is_static) (none refl))
+  no_names = subst (λ ps. Holds None (param_names ps (this_names (this_of z.main_fine.main))) [] [] []) (sym z.main_fine.is_bare)
+      (subst (λ t. Holds None (this_names t) [] [] []) (sym z.main_fine.is_static) (none refl))
 
   alike : Result code s number end m0 receivers_same bodies z.methods team_is [] p0
   alike = inl (

@@ -36,17 +36,18 @@ use Rattle.ti_lower_expr.specs.Knowing.{IsKnown, known_of_type, known_declared, 
 use Rattle.ti_lower_expr.specs.Coding.{conversion, code_of, code_of_all}
 use Rattle.ti_lower.specs.Receivers.{written_slot, kept, names_behind, TargetKind, InSlot, InField, InElement, held_known, store_code, update_code, kind_of_target, place_code, updating, into_code, waiting_code, late_code}
 use Rattle.ti_lower_expr.specs.Doing.{Outcome, Does}
-use Rattle.ti_lower_expr.proofs.Doing.{front_stands, rest_stands, behind_both, does_then, does_after, does_value, does_behind, does_one}
-use Rattle.ti_lower_expr.proofs.Finding.{as_many, found, newest, older, own_held}
-use Rattle.ti_lower_expr.proofs.Operands.{pushed, taken_all, under_all}
+use Rattle.ti_lower_expr.proofs.Lemmas.{front_stands, rest_stands, behind_both, does_then, does_after, does_value, does_behind, does_one}
+use Rattle.ti_lower_expr.proofs.Lemmas.{as_many, found, newest, older, own_held, pushed, taken_all, under_all, Comes, converted_known}
+use Rattle.ti_lower_expr.proofs.Lemmas.{declared_known, used_known, found_known, operated_is_known, who, spot, next, next_known, does}
+use Rattle.ti_lower_expr.proofs.Lemmas.{numbers_do, PushesNumbers, convert_does, load_does, own_does, field_does, element_does, instr}
+use Rattle.ti_lower_expr.proofs.Lemmas.{from_spot, operation_means, needed_alike, asked_alike}
 use Rattle.ti_lower.proofs.Cutting.{hide, all_dropped}
 use Rattle.ti_lower.proofs.Writing.{any, new_put, IsWritten, written}
-use Rattle.ti_lower_expr.proofs.Knowing.{Comes, converted_known, declared_known, used_known, found_known, operated_is_known}
-use Rattle.ti_lower_expr.proofs.Expressions.{who, spot, next, next_known, does, numbers_do, PushesNumbers, convert_does, load_does, own_does, field_does, element_does, instr, from_spot, operation_means, needed_alike, asked_alike}
 
 -- ---- slots that no name means
 
-pub hide_holds : (this : Option Id) (more : List Held) (ns : List Name) (env : Env) (hs : List Held) → Holds this ns env.variables env.turns hs → Holds this (hide more ns) env.variables env.turns (more ++ hs)
+pub hide_holds : (this : Option Id) (more : List Held) (ns : List Name) (env : Env) (hs : List Held)
+    → Holds this ns env.variables env.turns hs → Holds this (hide more ns) env.variables env.turns (more ++ hs)
 hide_holds this [] ns env hs h = h
 hide_holds this (x ∷ more) ns env hs h = hidden (hide_holds this more ns env hs h)
 
@@ -189,7 +190,8 @@ module _ (c : List Instr) (env : Env) (names : List Name) (slots : List Held) (h
       λ rs. subst (λ got. Outcome w c Q s rs got) (in_turn (needed p through h rs) (λ r. asked (f r)) (λ done. gives env.variables)) (whole rs)
 
   -- a value goes from above the reference and the index into the target
-  pub store_does : (k : TargetKind) (p : Place) (target : Target) (x : Held) (operands stack : List Held) (at : ℕ) → IsPlaced k target operands stack → IsKnown (held_known k) x → Stands c at (store_code names p k)
+  pub store_does : (k : TargetKind) (p : Place) (target : Target) (x : Held) (operands stack : List Held) (at : ℕ)
+      → IsPlaced k target operands stack → IsKnown (held_known k) x → Stands c at (store_code names p k)
       → Does w c (here at (x ∷ operands)) (stored env p target x) (Stored (behind at (store_code names p k)) names stack)
   store_does (InSlot y) p target x operands stack at z is_known st =
       subst (λ r. Does w c (here at (x ∷ operands)) (stored env p r x) (Stored (at + 1) names stack)) (sym z.0)
@@ -220,7 +222,8 @@ module _ (c : List Instr) (env : Env) (names : List Name) (slots : List Held) (h
   -- ---- compound assignments
 
   -- what comes behind the old value: the right side, the operator, the conversion
-  changed_does : (more : List Held) (Q : List Variable → Spot → Type 0) (p : Place) (op : BinaryOperator) (name : Operation) (j k : Known) (type : ValueType) (right : List Name → ℕ → List Instr) (m : Asking Held) (o : Held) (at : ℕ)
+  changed_does : (more : List Held) (Q : List Variable → Spot → Type 0) (p : Place) (op : BinaryOperator) (name : Operation) (j k : Known)
+      (type : ValueType) (right : List Name → ℕ → List Instr) (m : Asking Held) (o : Held) (at : ℕ)
       (under : List Held) (rest : List Instr) (go : Held → Asking (List Variable)) → operator_of name ≡ op → IsKnown j o → Comes (IsKnown k) m → RightDoes right m
       → Stands c at (right (hide more names) at ++ i.Operate name p ∷ (conversion p type (operated_known op j k) ++ rest))
       → ((x : Held) → IsKnown (known_of_type type) x
@@ -235,9 +238,11 @@ module _ (c : List Instr) (env : Env) (names : List Name) (slots : List Held) (h
       let new_known = operated_known op j k in
       let change = conversion p type new_known in
       let tail = rest_stands c at xs (i.Operate name p ∷ (change ++ rest)) st in
-      next_known c env ns hs inner (IsKnown k) Q mid (o ∷ under) (record { at = at; slots = hs; stack = o ∷ under }) m (λ h ms. followed (operated p op o h ms) (λ new ls. followed (converted p type new ls) go)) right_known
+      next_known c env ns hs inner (IsKnown k) Q mid (o ∷ under) (record { at = at; slots = hs; stack = o ∷ under }) m
+      (λ h ms. followed (operated p op o h ms) (λ new ls. followed (converted p type new ls) go)) right_known
       (d more at (o ∷ under) (front_stands c at xs (i.Operate name p ∷ (change ++ rest)) st))
-      (λ h z. next_known c env ns hs inner (IsKnown new_known) Q (mid + 1) under (record { at = mid; slots = hs; stack = h ∷ o ∷ under }) (operated p op o h) (λ new ls. followed (converted p type new ls) go)
+      (λ h z. next_known c env ns hs inner (IsKnown new_known) Q (mid + 1) under (record { at = mid; slots = hs; stack = h ∷ o ∷ under })
+      (operated p op o h) (λ new ls. followed (converted p type new ls) go)
       (operated_is_known p op j k o h old_known z)
       (instr c env ns hs inner (i.Operate name p) (operated p op o h) (record { at = mid; slots = hs; stack = h ∷ o ∷ under }) (mid + 1) under tail.0
       (λ rs. ap (λ b. followed (operated p b o h rs) (λ r. gives (record { at = mid + 1; slots = hs; stack = r ∷ under }))) means))
@@ -254,10 +259,13 @@ module _ (c : List Instr) (env : Env) (names : List Name) (slots : List Held) (h
   updated p q op type target m rs =
       followed (held_in env q type target rs) (λ o ms. followed (m ms) (λ h ls. followed (operated p op o h ls) (λ new ks. followed (converted p type new ks) (stored env p target))))
 
-  slot_update : (y : VariableUse) (p q : Place) (op : BinaryOperator) (name : Operation) (k : Known) (type : ValueType) (right : List Name → ℕ → List Instr) (m : Asking Held) (at : ℕ) (stack : List Held)
+  slot_update : (y : VariableUse) (p q : Place) (op : BinaryOperator) (name : Operation) (k : Known) (type : ValueType) (right : List Name
+      → ℕ → List Instr) (m : Asking Held) (at : ℕ) (stack : List Held)
       → operator_of name ≡ op → ((x : Held) → IsKnown (known_of_type type) x → IsKnown (held_known (InSlot y)) x) → Comes (IsKnown k) m → RightDoes right m
       → Stands c at (update_code names p q name (operated_known op (held_known (InSlot y)) k) type (InSlot y) right at)
-      → Does w c (here at stack) (updated p q op type (InVariable y) m) (Stored (behind at (update_code names p q name (operated_known op (held_known (InSlot y)) k) type (InSlot y) right at)) names stack)
+      → Does w c (here at stack) (updated p q op type (InVariable y) m)
+      (Stored (behind at (update_code names p q name (operated_known op (held_known (InSlot y)) k) type (InSlot y) right at)) names
+      stack)
   slot_update y p q op name k type right m at stack means fits is_known d st =
       let j = held_known (InSlot y) in
       let xs = right names (at + 1) in
@@ -269,12 +277,15 @@ module _ (c : List Instr) (env : Env) (names : List Name) (slots : List Held) (h
       subst (λ n. Does w c (here at stack) (updated p q op type (InVariable y) m) (Stored n names stack)) (sym (behind_changed xs (i.Operate name p) change rest (at + 1)))
       (next_known c env names slots holds (IsKnown j) Q (at + 1) stack (here at stack) (gives old)
       (λ o rs. followed (m rs) (λ h ms. followed (operated p op o h ms) (λ new ls. followed (converted p type new ls) (stored env p (InVariable y)))))
-      (λ rs. found_known env.this names env.variables env.turns slots holds y) (load_does c env names slots holds (written_slot y names) y old at stack (found env.this names env.variables env.turns slots holds any y) (st.0, tt))
+      (λ rs. found_known env.this names env.variables env.turns slots holds y)
+      (load_does c env names slots holds (written_slot y names) y old at stack
+      (found env.this names env.variables env.turns slots holds any y) (st.0, tt))
       (λ o z. changed_does [] Q p op name j k type right m o (at + 1) stack rest (stored env p (InVariable y)) means z is_known d st.1
       (λ x is_new. store_does (InSlot y) p (InVariable y) x stack stack (behind (behind (at + 1) xs + 1) change) (refl, refl) (fits x is_new)
       (rest_stands c (behind (at + 1) xs + 1) change rest (rest_stands c (at + 1) xs (i.Operate name p ∷ (change ++ rest)) st.1).1))))
 
-  field_update : (field : ℕ) (object : Held) (through : ValueType) (p q : Place) (op : BinaryOperator) (name : Operation) (k : Known) (type : ValueType) (right : List Name → ℕ → List Instr) (m : Asking Held) (at : ℕ) (stack : List Held)
+  field_update : (field : ℕ) (object : Held) (through : ValueType) (p q : Place) (op : BinaryOperator) (name : Operation) (k : Known)
+      (type : ValueType) (right : List Name → ℕ → List Instr) (m : Asking Held) (at : ℕ) (stack : List Held)
       → operator_of name ≡ op → Comes (IsKnown k) m → RightDoes right m → Stands c at (update_code names p q name (operated_known op known.Other k) type (InField field) right at)
       → Does w c (here at (object ∷ stack)) (updated p q op type (InPart (Field object through field)) m)
       (Stored (behind at (update_code names p q name (operated_known op known.Other k) type (InField field) right at)) names stack)
@@ -340,7 +351,8 @@ module _ (c : List Instr) (env : Env) (names : List Name) (slots : List Held) (h
       (store_does c env (hide both names) (both ++ slots) (hide_holds env.this both names env slots holds) InElement p (InPart (Element h through index)) k (pt ∷ h ∷ stack) stack (at + 1 + 1 + 1)
       (h, through, index, refl, refl) tt (st.1.1.1.0, tt)))))
 
-  element_update : (h : Held) (through : ValueType) (index : Point) (p q : Place) (op : BinaryOperator) (name : Operation) (known_right : Known) (type : ValueType) (right : List Name → ℕ → List Instr) (m : Asking Held) (at : ℕ) (stack : List Held)
+  element_update : (h : Held) (through : ValueType) (index : Point) (p q : Place) (op : BinaryOperator) (name : Operation)
+      (known_right : Known) (type : ValueType) (right : List Name → ℕ → List Instr) (m : Asking Held) (at : ℕ) (stack : List Held)
       → operator_of name ≡ op → Comes (IsKnown known_right) m → RightDoes c env names slots holds right m
       → Stands c at (update_code names p q name (operated_known op known.Other known_right) type InElement right at)
       → Does me c (spot c env names slots holds at (Plain (v.Pt index) ∷ h ∷ stack)) (updated c env names slots holds p q op type (InPart (Element h through index)) m)
@@ -357,7 +369,8 @@ module _ (c : List Instr) (env : Env) (names : List Name) (slots : List Held) (h
       let before = behind (behind start xs + 1) change in
       let Q = Stored c env names slots holds (before + 1 + 1 + 1 + 1 + 1) names stack in
       let inner = hide_holds env.this one names env slots holds in
-      subst (λ e. Does me c (spot c env names slots holds at (pt ∷ h ∷ stack)) all (Stored c env names slots holds e names stack)) (sym (behind_changed c env names slots holds xs (i.Operate name p) change rest start))
+      subst (λ e. Does me c (spot c env names slots holds at (pt ∷ h ∷ stack)) all (Stored c env names slots holds e names stack))
+      (sym (behind_changed c env names slots holds xs (i.Operate name p) change rest start))
       (does_behind me c Q (spot c env names slots holds at (pt ∷ h ∷ stack)) (with_more one (at + 1) (h ∷ stack)) all (i.Keep n) st.0
       (λ rs. ap (λ hs. Gives (record { at = at + 1; slots = hs; stack = h ∷ stack }) rs) (new_put n pt slots n_is))
       (does_behind me c Q (with_more one (at + 1) (h ∷ stack)) (with_more one (at + 1 + 1) (h ∷ h ∷ stack)) all i.Dup st.1.0 (λ rs. refl)
@@ -369,7 +382,8 @@ module _ (c : List Instr) (env : Env) (names : List Name) (slots : List Held) (h
       (λ o. changed_does c env names slots holds one Q p op name known.Other known_right type right m o start (h ∷ stack) rest (stored env p target) means tt is_known d st.1.1.1.1
       (λ k is_new. element_kept p k h through index before stack (rest_stands c (behind start xs + 1) change rest (rest_stands c start xs (i.Operate name p ∷ (change ++ rest)) st.1.1.1.1).1)))))))
 
-  update_does : (k : TargetKind) (target : Target) (operands : List Held) (p q : Place) (op : BinaryOperator) (name : Operation) (j : Known) (type : ValueType) (right : List Name → ℕ → List Instr) (m : Asking Held) (at : ℕ) (stack : List Held)
+  update_does : (k : TargetKind) (target : Target) (operands : List Held) (p q : Place) (op : BinaryOperator) (name : Operation) (j : Known)
+      (type : ValueType) (right : List Name → ℕ → List Instr) (m : Asking Held) (at : ℕ) (stack : List Held)
       → IsPlaced c env names slots holds k target operands stack → operator_of name ≡ op → ((x : Held) → IsKnown (known_of_type type) x → IsKnown (held_known k) x) → Comes (IsKnown j) m
       → RightDoes c env names slots holds right m → Stands c at (update_code names p q name (operated_known op (held_known k) j) type k right at)
       → Does me c (spot c env names slots holds at operands) (updated c env names slots holds p q op type target m)
@@ -400,7 +414,8 @@ module _ (c : List Instr) (env : Env) (names : List Name) (slots : List Held) (h
   target_fits (e.Variable q y) x z = subst (λ j. IsKnown j x) (used_known y.declared y.number) z
   target_fits target x z = tt
 
-  pub into_does : (r : Receiver) (kind : Kind) (j : Known) (right : List Name → ℕ → List Instr) (m : Asking Held) (at : ℕ) (stack : List Held) → Comes (IsKnown j) m → RightDoes c env names slots holds right m
+  pub into_does : (r : Receiver) (kind : Kind) (j : Known) (right : List Name → ℕ → List Instr) (m : Asking Held) (at : ℕ)
+      (stack : List Held) → Comes (IsKnown j) m → RightDoes c env names slots holds right m
       → Stands c at (into_here r kind j right at)
       → Does me c (spot c env names slots holds at stack) (into env r m) (Stored c env names slots holds (behind at (into_here r kind j right at)) (names_behind r names) stack)
   into_does Nowhere kind j right m at stack is_known d st =
@@ -408,7 +423,9 @@ module _ (c : List Instr) (env : Env) (names : List Name) (slots : List Held) (h
       let Q = Stored c env names slots holds (behind at xs + 1) names stack in
       subst (λ e. Does me c (spot c env names slots holds at stack) (into env Nowhere m) (Stored c env names slots holds e names stack)) (sym (behind_both at xs (i.Pop ∷ [])))
       (next c env names slots holds Q (behind at xs) stack (spot c env names slots holds at stack) m (λ h. gives env.variables) (d [] at stack (front_stands c at xs (i.Pop ∷ []) st))
-      (λ h. does_behind me c Q (spot c env names slots holds (behind at xs) (h ∷ stack)) (spot c env names slots holds (behind at xs + 1) stack) (gives env.variables) i.Pop (rest_stands c at xs (i.Pop ∷ []) st).0 (λ rs. refl)
+      (λ h. does_behind me c Q (spot c env names slots holds (behind at xs) (h ∷ stack))
+      (spot c env names slots holds (behind at xs + 1) stack) (gives env.variables) i.Pop (rest_stands c at xs (i.Pop ∷ []) st).0
+      (λ rs. refl)
       (does_value me c Q _ env.variables (slots, holds, refl))))
   into_does (Declared p x) kind j right m at stack is_known d st =
       let xs = right names at in
@@ -418,9 +435,14 @@ module _ (c : List Instr) (env : Env) (names : List Name) (slots : List Held) (h
       let mid = behind at xs in
       let Q = Stored c env names slots holds (behind mid change + 1) (Of x ∷ names) stack in
       let tail = rest_stands c at xs (change ++ keep) st in
-      subst (λ e. Does me c (spot c env names slots holds at stack) (into env (Declared p x) m) (Stored c env names slots holds e (Of x ∷ names) stack)) (sym (behind_both at xs (change ++ keep) ∙ behind_both mid change keep))
-      (next_known c env names slots holds (IsKnown j) Q mid stack (spot c env names slots holds at stack) m (λ h rs. followed (converted p type h rs) (λ k. gives (with_new x k env.variables))) is_known (d [] at stack (front_stands c at xs (change ++ keep) st))
-      (λ h z. next_known c env names slots holds (IsKnown (known_of_type type)) Q (behind mid change) stack (spot c env names slots holds mid (h ∷ stack)) (converted p type h) (λ k. gives (with_new x k env.variables))
+      subst (λ e. Does me c (spot c env names slots holds at stack) (into env (Declared p x) m)
+      (Stored c env names slots holds e (Of x ∷ names) stack)) (sym (behind_both at xs (change ++ keep)
+      ∙ behind_both mid change keep))
+      (next_known c env names slots holds (IsKnown j) Q mid stack (spot c env names slots holds at stack) m
+      (λ h rs. followed (converted p type h rs) (λ k. gives (with_new x k env.variables))) is_known
+      (d [] at stack (front_stands c at xs (change ++ keep) st))
+      (λ h z. next_known c env names slots holds (IsKnown (known_of_type type)) Q (behind mid change) stack
+      (spot c env names slots holds mid (h ∷ stack)) (converted p type h) (λ k. gives (with_new x k env.variables))
       (converted_known p type h) (convert_does c env names slots holds type j p h mid stack z (front_stands c mid change keep tail))
       (λ k fits. new_does c env names slots holds x k (behind mid change) stack (subst (λ i. IsKnown i k) (declared_known x.declared) fits) (rest_stands c mid change keep tail))))
   into_does (Assigned p target) kind j right m at stack is_known d st =
@@ -440,10 +462,14 @@ module _ (c : List Instr) (env : Env) (names : List Name) (slots : List Held) (h
       (λ r rs. followed (m rs) (λ h ms. followed (converted p type h ms) (λ x. stored env p r x)))
       (place_does c env names slots holds target at stack (front_stands c at ps (xs ++ (change ++ store)) st))
       (λ r s z. subst (λ y. Does me c y (λ rs. followed (m rs) (λ h ms. followed (converted p type h ms) (λ x. stored env p r x))) Q) (sym z.2)
-      (next_known c env names slots holds (IsKnown j) Q mid z.0 (spot c env names slots holds from z.0) m (λ h ms. followed (converted p type h ms) (λ x. stored env p r x)) is_known (d [] from z.0 (front_stands c from xs (change ++ store) tail))
-      (λ h is_right. next_known c env names slots holds (IsKnown (known_of_type type)) Q (behind mid change) z.0 (spot c env names slots holds mid (h ∷ z.0)) (converted p type h) (λ x. stored env p r x)
+      (next_known c env names slots holds (IsKnown j) Q mid z.0 (spot c env names slots holds from z.0) m
+      (λ h ms. followed (converted p type h ms) (λ x. stored env p r x)) is_known
+      (d [] from z.0 (front_stands c from xs (change ++ store) tail))
+      (λ h is_right. next_known c env names slots holds (IsKnown (known_of_type type)) Q (behind mid change) z.0
+      (spot c env names slots holds mid (h ∷ z.0)) (converted p type h) (λ x. stored env p r x)
       (converted_known p type h) (convert_does c env names slots holds type j p h mid z.0 is_right (front_stands c mid change store (rest_stands c from xs (change ++ store) tail)))
-      (λ x fits. store_does c env names slots holds k p r x z.0 stack (behind mid change) z.1 (target_fits target x fits) (rest_stands c mid change store (rest_stands c from xs (change ++ store) tail)))))))
+      (λ x fits. store_does c env names slots holds k p r x z.0 stack (behind mid change) z.1 (target_fits target x fits)
+      (rest_stands c mid change store (rest_stands c from xs (change ++ store) tail)))))))
   into_does (Updated p op target) kind j right m at stack is_known d st =
       let ps = place c env names slots holds target at in
       let from = behind at ps in
@@ -487,14 +513,16 @@ module _ (c : List Instr) (env : Env) (names : List Name) (slots : List Held) (h
       let m = into env r (gives h) in
       let end = behind (at + 1) code in
       subst (λ e. Does (who c env names slots holds) c (spot c env names slots holds at (h ∷ stack)) m (Stored c env names slots holds e names stack)) (sym (behind_both (at + 1) code (i.Trim k ∷ [])))
-      (does_behind (who c env names slots holds) c (Stored c env names slots holds (end + 1) names stack) (spot c env names slots holds at (h ∷ stack)) (record { at = at + 1; slots = hs; stack = stack }) m (i.Keep k) st.0
+      (does_behind (who c env names slots holds) c (Stored c env names slots holds (end + 1) names stack)
+      (spot c env names slots holds at (h ∷ stack)) (record { at = at + 1; slots = hs; stack = stack }) m (i.Keep k) st.0
       (λ rs. ap (λ gs. Gives (record { at = at + 1; slots = gs; stack = stack }) rs) (new_put k h slots k_is))
       (dropping_does c env names slots holds (h ∷ []) m (record { at = at + 1; slots = hs; stack = stack }) end stack (rest_stands c (at + 1) code (i.Trim k ∷ []) st.1).0
       (subst (λ ms. Does (who c env names slots holds) c (record { at = at + 1; slots = hs; stack = stack }) m (Stored c env ns hs inner end ms stack)) same
       (into_does c env ns hs inner r kind j right (gives h) (at + 1) stack (λ rs. is_known) (load_right c env names slots h inner k k_is) (front_stands c (at + 1) code (i.Trim k ∷ []) st.1)))))
 
   pub late_does : (r : Receiver) (kind : Kind) (j : Known) (h : Held) (at : ℕ) (stack : List Held) → IsKnown j h → Stands c at (late r kind j at)
-      → Does (who c env names slots holds) c (spot c env names slots holds at (h ∷ stack)) (into env r (gives h)) (Stored c env names slots holds (behind at (late r kind j at)) (names_behind r names) stack)
+      → Does (who c env names slots holds) c (spot c env names slots holds at (h ∷ stack)) (into env r (gives h))
+      (Stored c env names slots holds (behind at (late r kind j at)) (names_behind r names) stack)
   late_does Nowhere kind j h at stack is_known st =
       does_behind (who c env names slots holds) c (Stored c env names slots holds (at + 1) names stack) (spot c env names slots holds at (h ∷ stack)) (spot c env names slots holds (at + 1) stack)
       (gives env.variables) i.Pop st.0 (λ rs. refl)
@@ -505,7 +533,8 @@ module _ (c : List Instr) (env : Env) (names : List Name) (slots : List Held) (h
       let Q = Stored c env names slots holds (behind at change + 1) (Of x ∷ names) stack in
       subst (λ e. Does (who c env names slots holds) c (spot c env names slots holds at (h ∷ stack)) (into env (Declared p x) (gives h)) (Stored c env names slots holds e (Of x ∷ names) stack))
       (sym (behind_both at change (i.Keep (length names) ∷ [])))
-      (next_known c env names slots holds (IsKnown (known_of_type type)) Q (behind at change) stack (spot c env names slots holds at (h ∷ stack)) (converted p type h) (λ k. gives (with_new x k env.variables))
+      (next_known c env names slots holds (IsKnown (known_of_type type)) Q (behind at change) stack
+      (spot c env names slots holds at (h ∷ stack)) (converted p type h) (λ k. gives (with_new x k env.variables))
       (converted_known p type h) (convert_does c env names slots holds type j p h at stack is_known (front_stands c at change _ st))
       (λ k fits. new_does c env names slots holds x k (behind at change) stack (subst (λ i. IsKnown i k) (declared_known x.declared) fits) (rest_stands c at change _ st)))
   late_does (Assigned p (e.Variable q x)) kind j h at stack is_known st =
@@ -514,9 +543,12 @@ module _ (c : List Instr) (env : Env) (names : List Name) (slots : List Held) (h
       let Q = Stored c env names slots holds (behind at change + 1) names stack in
       subst (λ m. Does (who c env names slots holds) c (spot c env names slots holds at (h ∷ stack)) (into env (Assigned p (e.Variable q x)) (gives h)) (Stored c env names slots holds m names stack))
       (sym (behind_both at change (kept (written_slot x names) ∷ [])))
-      (next_known c env names slots holds (IsKnown (known_of_type type)) Q (behind at change) stack (spot c env names slots holds at (h ∷ stack)) (converted p type h) (λ k. gives (with_changed x k env.variables))
+      (next_known c env names slots holds (IsKnown (known_of_type type)) Q (behind at change) stack
+      (spot c env names slots holds at (h ∷ stack)) (converted p type h) (λ k. gives (with_changed x k env.variables))
       (converted_known p type h) (convert_does c env names slots holds type j p h at stack is_known (front_stands c at change _ st))
-      (λ k fits. written_does c env names slots holds (written_slot x names) (with_changed x k env.variables) k (behind at change) stack (written env.this names env.variables env.turns slots x k (subst (λ i. IsKnown i k) (used_known x.declared x.number) fits) holds)
+      (λ k fits. written_does c env names slots holds (written_slot x names) (with_changed x k env.variables) k (behind at change) stack
+      (written env.this names env.variables env.turns slots x k (subst (λ i. IsKnown i k) (used_known x.declared x.number) fits)
+      holds)
       (rest_stands c at change _ st)))
   late_does (Assigned p target) kind j h at stack is_known st = waiting_does (Assigned p target) kind j h at stack refl is_known st
   late_does (Updated p op target) kind j h at stack is_known st = waiting_does (Updated p op target) kind j h at stack refl is_known st

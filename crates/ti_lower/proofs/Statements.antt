@@ -22,9 +22,8 @@ use Rattle.ti_code.specs.Leading.{Stands, behind}
 use Rattle.ti_lower_expr.specs.Slots.{Name, Holds}
 use Rattle.ti_lower.specs.Laying.{print_code}
 use Rattle.ti_lower_expr.specs.Doing.{Does}
-use Rattle.ti_lower_expr.proofs.Doing.{front_stands, rest_stands, behind_both, does_then, does_value, does_it}
+use Rattle.ti_lower_expr.proofs.Lemmas.{front_stands, rest_stands, behind_both, does_then, does_value, does_it, who, code, spot, next, does}
 use Rattle.ti_lower.proofs.Receiving.{Stored}
-use Rattle.ti_lower_expr.proofs.Expressions.{who, code, spot, next, does}
 
 module _ (c : List Instr) (env : Env) (names : List Name) (slots : List Held) (holds : Holds env.this names env.variables env.turns slots) where
   -- the statement is done, and the frame goes on there
@@ -38,7 +37,8 @@ module _ (c : List Instr) (env : Env) (names : List Name) (slots : List Held) (h
   w = who c env names slots holds
 
   -- the variables that are there are those of the move
-  pub received : (r : Receiver) (right : Asking Held) (at n : ℕ) (ns : List Name) (stack : List Held) (s : Spot) → Does w c s (into env r right) (Stored c env names slots holds n ns stack) → Does w c s (receives env r right) (Goes_on n ns stack)
+  pub received : (r : Receiver) (right : Asking Held) (at n : ℕ) (ns : List Name) (stack : List Held) (s : Spot)
+      → Does w c s (into env r right) (Stored c env names slots holds n ns stack) → Does w c s (receives env r right) (Goes_on n ns stack)
   received r right at n ns stack s d =
       does_then w c (Stored c env names slots holds n ns stack) (Goes_on n ns stack) s (into env r right) (λ vs. gives (Goes vs [])) d
       (λ vs t k. does_value w c (Goes_on n ns stack) t (Goes vs []) (vs, refl, k))

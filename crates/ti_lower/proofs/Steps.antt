@@ -51,11 +51,8 @@ use Rattle.ti_lower.specs.Calling.{number_called, call_code}
 use Rattle.ti_lower.specs.Receivers.{names_behind, into_code, late_code}
 use Rattle.ti_lower.specs.Laying.{Labels, unknown, dropped, broadcast_code, object_code, grid_code, valued_code, init_code, form_code, other_code, alone_code, gives_nothing, break_code, continue_code, names_after, condition_code, stm_code, stms_code, maybe_code}
 use Rattle.ti_lower_expr.specs.Doing.{Does}
-use Rattle.ti_lower_expr.proofs.Doing.{front_stands, rest_stands, behind_both, does_then, does_value, does_weaker, does_behind}
-use Rattle.ti_lower_expr.proofs.Knowing.{Comes, known_is_so, untold}
-use Rattle.ti_lower_expr.proofs.Expressions.{does, convert_does, instr, next, next_known}
-use Rattle.ti_lower_expr.proofs.Finding.{as_many}
-use Rattle.ti_lower_expr.proofs.Lazily.{jumps, jumps_not}
+use Rattle.ti_lower_expr.proofs.Lemmas.{front_stands, rest_stands, behind_both, does_then, does_value, does_weaker, does_behind, Comes}
+use Rattle.ti_lower_expr.proofs.Lemmas.{known_is_so, untold, does, convert_does, instr, next, next_known, as_many, jumps, jumps_not}
 use Rattle.ti_lower.proofs.Meeting.{Hands, wait_of, broadcast_does}
 use Rattle.ti_lower.proofs.Arguments.{method_is, calling_does}
 use Rattle.ti_lower.proofs.Cutting.{Bare, cut_bare, Cut, Inside, Stay, inside_front, inside_itself, inside_rest, newest, trimmed_all, trimmed_newest, trimmed_holds, whole}
@@ -67,7 +64,10 @@ use Rattle.ti_lower.proofs.Making as making
 use Rattle.ti_lower.proofs.Grids as grids
 use Rattle.ti_lower.proofs.Elements.{copied_does, taken_does}
 use Rattle.ti_lower.proofs.Working as left
-use Rattle.ti_lower.proofs.Working.{IsCalled, IsNoCall, IsRight, InitFine, IsClosed, StmFine, StmsFine, MaybeFine, closed_names, LoopAt, loop_of, again_of, test_of, exit_of, labels_of, WalkAt, walk_of, lap_of, walk_labels, Left, last, receives as receives_left, over, some, closes, tests, marks, steps, laps, Mark, do_one, end_one, before_one, here_one, here_walk, IsDropped, jump_out, unmarked, unturned}
+use Rattle.ti_lower.proofs.Working.{IsCalled, IsNoCall, IsRight, InitFine, IsClosed, StmFine, StmsFine, MaybeFine, closed_names, LoopAt}
+use Rattle.ti_lower.proofs.Working.{loop_of, again_of, test_of, exit_of, labels_of, WalkAt, walk_of, lap_of, walk_labels, Left, last}
+use Rattle.ti_lower.proofs.Working.{receives as receives_left, over, some, closes, tests, marks, steps, laps, Mark, do_one, end_one}
+use Rattle.ti_lower.proofs.Working.{before_one, here_one, here_walk, IsDropped, jump_out, unmarked, unturned}
 use Rattle.ti_lower.proofs.Standing as standing
 use Rattle.ti_lower.proofs.Standing.{is_done}
 
@@ -106,12 +106,14 @@ module _ (c : List Instr) (program : NumberedProgram) (method : NumberedMethod) 
   IsMark = Mark c program this result
 
   -- a simple statement is done
-  done : (left : List Work) (vs : List Variable) (l : Option Labels) (n : ℕ) (names ns : List Name) (stack slots : List Held) (holds : Holds this_id names vs (turns_at left) slots) (move : Move) (s : Spot)
+  done : (left : List Work) (vs : List Variable) (l : Option Labels) (n : ℕ) (names ns : List Name) (stack slots : List Held)
+      (holds : Holds this_id names vs (turns_at left) slots) (move : Move) (s : Spot)
       → IsLeft l ns stack left n → Bare ns → simple.Goes_on c (env vs left) names slots holds n ns stack move s → Moved left vs move s
   done left vs l n names ns stack slots holds move s w bare k =
       subst (λ m. Moved left vs m s) (sym k.1) (subst (λ z. At left k.0 z) (sym k.2.2) (inl (l, ns, k.2.1, w, bare)))
 
-  done_by : (left : List Work) (vs : List Variable) (l : Option Labels) (n : ℕ) (names ns : List Name) (stack slots : List Held) (holds : Holds this_id names vs (turns_at left) slots) (s : Spot) (m : Asking Move)
+  done_by : (left : List Work) (vs : List Variable) (l : Option Labels) (n : ℕ) (names ns : List Name) (stack slots : List Held)
+      (holds : Holds this_id names vs (turns_at left) slots) (s : Spot) (m : Asking Move)
       → IsLeft l ns stack left n → Bare ns → Does who c s m (simple.Goes_on c (env vs left) names slots holds n ns stack) → Does who c s m (Moved left vs)
   done_by left vs l n names ns stack slots holds s m w bare d =
       does_weaker who c (simple.Goes_on c (env vs left) names slots holds n ns stack) (Moved left vs) s m d (λ move t k. done left vs l n names ns stack slots holds move t w bare k)
@@ -132,7 +134,8 @@ module _ (c : List Instr) (program : NumberedProgram) (method : NumberedMethod) 
   cut_one xs y ns before i k = k
 
   -- the statements of a block, and then its end
-  block_left : (l : Option Labels) (ns before : List Name) (stack : List Held) (left : List Work) (x : NumberedStm) (xs : NumberedStms) (at : ℕ) → Inside (declared_in x) (declared_among xs) → StmsFine program this result xs ns
+  block_left : (l : Option Labels) (ns before : List Name) (stack : List Held) (left : List Work) (x : NumberedStm) (xs : NumberedStms)
+      (at : ℕ) → Inside (declared_in x) (declared_among xs) → StmsFine program this result xs ns
       → Cut (declared_in x) ns before → IsMark l before stack left → Stands c at (stms_code program this result xs l ns at ++ i.Trim (length before) ∷ [])
       → IsLeft l before stack left (behind at (stms_code program this result xs l ns at) + 1) → IsLeft l ns stack (all_before xs (End x ∷ left)) at
   block_left l ns before stack left x Nil at ins z k m st w = closes k st.0 w
@@ -142,7 +145,9 @@ module _ (c : List Instr) (program : NumberedProgram) (method : NumberedMethod) 
       let cut = cut_one (declared_in x) y ns before (inside_front (declared_in x) (declared_alone y) (declared_among ys) ins) k in
       let stands = subst (λ is. Stands c at is) (append_assoc first more (i.Trim (length before) ∷ [])) st in
       some z.0 (mark_through l ns before stack left x ys k m) (front_stands c at first (more ++ i.Trim (length before) ∷ []) stands)
-      (block_left l (names_after y ns) before stack left x ys (behind at first) (inside_rest (declared_in x) (declared_alone y) (declared_among ys) ins) z.1 cut m (rest_stands c at first (more ++ i.Trim (length before) ∷ []) stands)
+      (block_left l (names_after y ns) before stack left x ys (behind at first)
+      (inside_rest (declared_in x) (declared_alone y) (declared_among ys) ins) z.1 cut m
+      (rest_stands c at first (more ++ i.Trim (length before) ∷ []) stands)
       (subst (λ n. IsLeft l before stack left (n + 1)) (behind_both at first more) w))
 
   before_both : (xs : NumberedStms) (ws left : List Work) → all_before xs ws ++ left ≡ all_before xs (ws ++ left)
@@ -161,7 +166,8 @@ module _ (c : List Instr) (program : NumberedProgram) (method : NumberedMethod) 
   stay_none (Hidden ∷ ns) = stay_none ns
 
   -- a statement that is closed, and what comes behind it
-  closed_left : (l : Option Labels) (names : List Name) (stack : List Held) (left : List Work) (x : NumberedStm) (at n : ℕ) → IsClosed program this result x → StmFine program this result x names → IsMark l names stack left
+  closed_left : (l : Option Labels) (names : List Name) (stack : List Held) (left : List Work) (x : NumberedStm) (at n : ℕ)
+      → IsClosed program this result x → StmFine program this result x names → IsMark l names stack left
       → Stands c at (stm x l names at) → behind at (stm x l names at) ≡ n → IsLeft l names stack left n → IsLeft l names stack (Do x ∷ left) at
   closed_left l names stack left x at n closed z m st e w =
       some z m st (subst (λ ns. IsLeft l ns stack left (behind at (stm x l names at))) (sym (closed_names program this result x names closed)) (subst (λ k. IsLeft l names stack left k) (sym e) w))
@@ -174,11 +180,13 @@ module _ (c : List Instr) (program : NumberedProgram) (method : NumberedMethod) 
 
   -- ---- statements
 
-  by_truth : (left : List Work) (vs : List Variable) (h : Held) (f : Bool → Move) (s : Spot) → ((b : Bool) → truth_of h ≡ b → Does who c s (gives (f b)) (Moved left vs)) → Does who c s (gives (f (truth_of h))) (Moved left vs)
+  by_truth : (left : List Work) (vs : List Variable) (h : Held) (f : Bool → Move) (s : Spot)
+      → ((b : Bool) → truth_of h ≡ b → Does who c s (gives (f b)) (Moved left vs)) → Does who c s (gives (f (truth_of h))) (Moved left vs)
   by_truth left vs h f s g = g (truth_of h) refl
 
   -- a value that is given back
-  return_does : (left : List Work) (vs : List Variable) (names : List Name) (slots stack : List Held) (at : ℕ) (holds : Holds this_id names vs (turns_at left) slots) (p : Place) (x : NumberedExp) → is_void result ≡ false
+  return_does : (left : List Work) (vs : List Variable) (names : List Name) (slots stack : List Held) (at : ℕ)
+      (holds : Holds this_id names vs (turns_at left) slots) (p : Place) (x : NumberedExp) → is_void result ≡ false
       → Stands c at (code_of program this names x at ++ (conversion p result (known_of program this x) ++ i.ReturnValue ∷ []))
       → Does who c (record { at = at; slots = slots; stack = stack }) (returns (env vs left) p (Some x)) (Moved left vs)
   return_does left vs names slots stack at holds p x void st =
@@ -188,7 +196,8 @@ module _ (c : List Instr) (program : NumberedProgram) (method : NumberedMethod) 
       let change = conversion p result j in
       let n = behind mid change in
       let rest = rest_stands c at xs (change ++ i.ReturnValue ∷ []) st in
-      next_known c (env vs left) names slots holds (IsKnown j) (Moved left vs) mid stack (record { at = at; slots = slots; stack = stack }) (eval (env vs left) x) (λ h rs. followed (converted p result h rs) (λ k. gives (Returns (Some k))))
+      next_known c (env vs left) names slots holds (IsKnown j) (Moved left vs) mid stack (record { at = at; slots = slots; stack = stack })
+      (eval (env vs left) x) (λ h rs. followed (converted p result h rs) (λ k. gives (Returns (Some k))))
       (known_is_so (env vs left) names slots holds x) (does c (env vs left) names slots holds x at stack (front_stands c at xs (change ++ i.ReturnValue ∷ []) st))
       (λ h z. next c (env vs left) names slots holds (Moved left vs) n stack (record { at = mid; slots = slots; stack = h ∷ stack }) (converted p result h) (λ k. gives (Returns (Some k)))
       (convert_does c (env vs left) names slots holds result j p h mid stack z (front_stands c mid change (i.ReturnValue ∷ []) rest))
@@ -201,8 +210,10 @@ module _ (c : List Instr) (program : NumberedProgram) (method : NumberedMethod) 
     abbrev here : Env
     here = env vs left
 
-    if_does : (h : Held) (x : NumberedStm) (mid : ℕ) → IsClosed program this result x → StmFine program this result x names → Stands c mid (i.JumpIfNot (behind (mid + 1) (stm x l names (mid + 1))) ∷ stm x l names (mid + 1))
-        → IsLeft l names stack left (behind (mid + 1) (stm x l names (mid + 1))) → (b : Bool) → truth_of h ≡ b → Does who c (spot mid (h ∷ stack)) (gives (Goes vs (if b then Do x ∷ [] else []))) (Moved left vs)
+    if_does : (h : Held) (x : NumberedStm) (mid : ℕ) → IsClosed program this result x → StmFine program this result x names
+        → Stands c mid (i.JumpIfNot (behind (mid + 1) (stm x l names (mid + 1))) ∷ stm x l names (mid + 1))
+        → IsLeft l names stack left (behind (mid + 1) (stm x l names (mid + 1))) → (b : Bool) → truth_of h ≡ b
+        → Does who c (spot mid (h ∷ stack)) (gives (Goes vs (if b then Do x ∷ [] else []))) (Moved left vs)
     if_does h x mid closed z st w true e =
         does_behind who c (Moved left vs) (spot mid (h ∷ stack)) (spot (mid + 1) stack) (gives (Goes vs (Do x ∷ []))) (i.JumpIfNot (behind (mid + 1) (stm x l names (mid + 1)))) st.0
         (λ rs. jumps_not who false _ (spot mid (h ∷ stack)) rs e)
@@ -215,7 +226,8 @@ module _ (c : List Instr) (program : NumberedProgram) (method : NumberedMethod) 
     either_does : (h : Held) (x y : NumberedStm) (mid else_at : ℕ) → slice_get c mid ≡ Some (i.JumpIfNot else_at) → IsLeft l names stack (Do x ∷ left) (mid + 1)
         → IsLeft l names stack (Do y ∷ left) else_at → (b : Bool) → truth_of h ≡ b → Does who c (spot mid (h ∷ stack)) (gives (Goes vs (Do (if b then x else y) ∷ []))) (Moved left vs)
     either_does h x y mid else_at st wx wy true e =
-        does_behind who c (Moved left vs) (spot mid (h ∷ stack)) (spot (mid + 1) stack) (gives (Goes vs (Do x ∷ []))) (i.JumpIfNot else_at) st (λ rs. jumps_not who false else_at (spot mid (h ∷ stack)) rs e)
+        does_behind who c (Moved left vs) (spot mid (h ∷ stack)) (spot (mid + 1) stack) (gives (Goes vs (Do x ∷ [])))
+        (i.JumpIfNot else_at) st (λ rs. jumps_not who false else_at (spot mid (h ∷ stack)) rs e)
         (does_value who c (Moved left vs) (spot (mid + 1) stack) (Goes vs (Do x ∷ [])) (inl (l, names, holds, wx, bare)))
     either_does h x y mid else_at st wx wy false e =
         does_behind who c (Moved left vs) (spot mid (h ∷ stack)) (spot else_at stack) (gives (Goes vs (Do y ∷ []))) (i.JumpIfNot else_at) st (λ rs. jumps who false else_at (spot mid (h ∷ stack)) rs e)
@@ -245,7 +257,14 @@ module _ (c : List Instr) (program : NumberedProgram) (method : NumberedMethod) 
 
     -- in no loop
     stays_at : IsLeft None names stack left (at + 1 + 1) → At left vs (record { at = at + 1 + 1; slots = trimmed (length names) slots; stack = stack })
-    stays_at w = inl (None, names, subst (λ hs. Holds this_id names vs (turns_at left) hs) (sym (trimmed_all (length names) slots (as_many this_id names vs (turns_at left) slots holds))) holds, w, bare)
+    stays_at w = inl (
+      None,
+      names,
+      subst (λ hs. Holds this_id names vs (turns_at left) hs)
+          (sym (trimmed_all (length names) slots (as_many this_id names vs (turns_at left) slots holds))) holds,
+      w,
+      bare,
+    )
 
     break_does : (l : Option Labels) → IsMark l names stack left → Stands c at (break_code l names at) → IsLeft l names stack left (behind at (break_code l names at))
         → Does who c (spot at stack) (gives Breaks) (Moved left vs)
@@ -287,7 +306,14 @@ module _ (c : List Instr) (program : NumberedProgram) (method : NumberedMethod) 
     alone_does : (x : NumberedExp) (z : IsCalled program this result x) (b : Bool) → is_void (result_type z.call.method) ≡ b → Stands c at (alone_code program this b x (Some z.call) names at)
         → IsLeft l names stack left (behind at (alone_code program this b x (Some z.call) names at)) → Does who c (spot at stack) (calling here Nowhere z.call) (Moved left vs)
     alone_does x z true e st w =
-        call_does Nowhere x z st (subst (λ b. Back b left vs Nowhere (spot (behind at (call_code program this names (number_called program this x) z.call at)) stack)) (sym e) (l, names, holds, w, bare))
+        call_does Nowhere x z st (subst (λ b. Back b left vs Nowhere
+        (spot (behind at (call_code program this names (number_called program this x) z.call at)) stack)) (sym e) (
+          l,
+          names,
+          holds,
+          w,
+          bare,
+        ))
     alone_does x z false e st w =
         let code = call_code program this names (number_called program this x) z.call at in
         call_does Nowhere x z (front_stands c at code (i.Pop ∷ []) st)
@@ -297,7 +323,8 @@ module _ (c : List Instr) (program : NumberedProgram) (method : NumberedMethod) 
     -- ---- right sides
 
     -- a value goes to its receiver
-    value_does : (r : Receiver) (kind : Kind) (j : Known) (x : NumberedExp) → Comes (IsKnown j) (eval here x) → Stands c at (into_code program this r kind j (λ ns from. code_of program this ns x from) names at)
+    value_does : (r : Receiver) (kind : Kind) (j : Known) (x : NumberedExp) → Comes (IsKnown j) (eval here x)
+        → Stands c at (into_code program this r kind j (λ ns from. code_of program this ns x from) names at)
         → IsLeft l (names_behind r names) stack left (behind at (into_code program this r kind j (λ ns from. code_of program this ns x from) names at))
         → Does who c (spot at stack) (receives here r (eval here x)) (Moved left vs)
     value_does r kind j x z st w =
@@ -380,7 +407,9 @@ module _ (c : List Instr) (program : NumberedProgram) (method : NumberedMethod) 
 
     form_does : (form : Option BuiltIn) (p : Place) (x : NumberedExp) (name : ℕ) (args : NumberedExps)
         → Stands c at (form_code program this form p names x args at (into_code program this Nowhere Numbers known.Other (λ ns from. code_of program this ns (e.Member p x name args) from) names at))
-        → IsLeft l names stack left (behind at (form_code program this form p names x args at (into_code program this Nowhere Numbers known.Other (λ ns from. code_of program this ns (e.Member p x name args) from) names at)))
+        → IsLeft l names stack left (behind at (form_code program this form p names x args at
+        (into_code program this Nowhere Numbers known.Other (λ ns from. code_of program this ns (e.Member p x name args) from) names
+        at)))
         → Does who c (spot at stack) (member_alone here p x args (receives here Nowhere (eval here (e.Member p x name args))) form) (Moved left vs)
     form_does (Some Copy) p x name args st w = grids.copies_do c program method this_id number procs left vs l names slots stack holds bare p x args at st w
     form_does (Some Exchange) p x name args st w = grids.exchanges_do c program method this_id number procs left vs l names slots stack holds bare p x args at team_is st w
@@ -390,11 +419,14 @@ module _ (c : List Instr) (program : NumberedProgram) (method : NumberedMethod) 
         let tail = i.Arrive coll.DeleteRegion p ∷ i.Depart p ∷ [] in
         let last = rest_stands c at code tail st in
         let after = subst (λ n. IsLeft l names stack left n) (behind_both at code tail) w in
-        next c here names slots holds (Moved left vs) mid stack (spot at stack) (eval here x) (λ h. gives (Deletes p (region_of h))) (does c here names slots holds x at stack (front_stands c at code tail st))
+        next c here names slots holds (Moved left vs) mid stack (spot at stack) (eval here x) (λ h. gives (Deletes p (region_of h)))
+        (does c here names slots holds x at stack (front_stands c at code tail st))
         (λ h. does_value who c (Moved left vs) (spot mid (h ∷ stack)) (Deletes p (region_of h)) (last.0, last.1.0, h, stack, refl, refl, (l, names, holds, after, bare)))
     form_does form p x name args st w = value_does Nowhere Numbers known.Other (e.Member p x name args) (untold (eval here (e.Member p x name args))) st w
 
-    other_does : (x : NumberedExp) → Stands c at (other_code program this names x at) → IsLeft l names stack left (behind at (other_code program this names x at)) → Does who c (spot at stack) (alone here x None) (Moved left vs)
+    other_does : (x : NumberedExp) → Stands c at (other_code program this names x at)
+        → IsLeft l names stack left (behind at (other_code program this names x at))
+        → Does who c (spot at stack) (alone here x None) (Moved left vs)
     other_does (e.Member p x name args) st w = form_does (member_called program this x name) p x name args st w
     other_does x st w = value_does Nowhere Numbers known.Other x (untold (eval here x)) st w
 
@@ -523,8 +555,10 @@ module _ (c : List Instr) (program : NumberedProgram) (method : NumberedMethod) 
   -- the condition of a loop
   condition_does : (left : List Work) (vs : List Variable) (names : List Name) (slots stack : List Held) (holds : Holds this_id names vs (turns_at left) slots) (cond : Option NumberedExp) (at : ℕ)
       → Stands c at (condition_code program this names cond at)
-      → Does who c (record { at = at; slots = slots; stack = stack }) (condition (env vs left) cond) (λ h s. s ≡ record { at = behind at (condition_code program this names cond at); slots = slots; stack = h ∷ stack })
-  condition_does left vs names slots stack holds None at st = instr c (env vs left) names slots holds (i.Const (val.Bool true)) (gives (truth true)) (record { at = at; slots = slots; stack = stack }) (at + 1) stack st.0 (λ rs. refl)
+      → Does who c (record { at = at; slots = slots; stack = stack }) (condition (env vs left) cond) (λ h s. s
+      ≡ record { at = behind at (condition_code program this names cond at); slots = slots; stack = h ∷ stack })
+  condition_does left vs names slots stack holds None at st = instr c (env vs left) names slots holds (i.Const (val.Bool true))
+      (gives (truth true)) (record { at = at; slots = slots; stack = stack }) (at + 1) stack st.0 (λ rs. refl)
   condition_does left vs names slots stack holds (Some x) at st = does c (env vs left) names slots holds x at stack st
 
   module _ (left : List Work) (vs : List Variable) (l : Option Labels) (names : List Name) (slots stack : List Held) (at : ℕ) (holds : Holds this_id names vs (turns_at left) slots)
@@ -585,7 +619,9 @@ module _ (c : List Instr) (program : NumberedProgram) (method : NumberedMethod) 
         does_then who c (λ h s. s ≡ place (behind test asks) (h ∷ stack)) (Moved left vs) (place test stack) (condition (env vs left) cond)
         (λ h. gives (if truth_of h then Turns p vs (Do body ∷ Behind (While p cond update body) ∷ []) else Goes vs []))
         (condition_does left vs names slots stack holds cond test (front_stands c test asks jump_back at_test))
-        (λ h s k. subst (λ z. Does who c z (gives (if truth_of h then Turns p vs (Do body ∷ Behind (While p cond update body) ∷ []) else Goes vs [])) (Moved left vs)) (sym k) (turn_does h (truth_of h) refl))
+        (λ h s k. subst (λ z. Does who c z (gives (if truth_of h then Turns p vs
+        (Do body ∷ Behind (While p cond update body) ∷ []) else Goes vs [])) (Moved left vs)) (sym k)
+        (turn_does h (truth_of h) refl))
 
     -- the update, and the condition behind it
     update_left : (u : MaybeNumbered) → update ≡ u → IsLeft l names stack (maybe_do u ++ Before (While p cond update body) ∷ left) labels.again
@@ -644,18 +680,22 @@ module _ (c : List Instr) (program : NumberedProgram) (method : NumberedMethod) 
     pub step_does : (slots : List Held) → Holds this_id names vs (turns_at left) slots → (points : List Point) (h : Held) → points_in h ≡ points
         → Does who c (record { at = lap + 1; slots = slots; stack = h ∷ stack }) (before_turn (env vs left) (Foreach p x domain points body)) (Moved left vs)
     step_does slots holds [] h e =
-        does_behind who c (Moved left vs) (record { at = lap + 1; slots = slots; stack = h ∷ stack }) (record { at = lap + 1 + 1 + 1; slots = slots; stack = h ∷ stack }) (gives (Goes vs [])) (i.Next n (lap + 1 + 1 + 1)) at_lap.1.0
+        does_behind who c (Moved left vs) (record { at = lap + 1; slots = slots; stack = h ∷ stack })
+        (record { at = lap + 1 + 1 + 1; slots = slots; stack = h ∷ stack }) (gives (Goes vs [])) (i.Next n (lap + 1 + 1 + 1)) at_lap.1.0
         (λ rs. ap (λ ps. next_point n (lap + 1 + 1 + 1) (record { at = lap + 1; slots = slots; stack = h ∷ stack }) ps rs) e)
-        (does_behind who c (Moved left vs) (record { at = lap + 1 + 1 + 1; slots = slots; stack = h ∷ stack }) (record { at = lap + 1 + 1 + 1 + 1; slots = slots; stack = stack }) (gives (Goes vs [])) i.Pop at_lap.1.1.1.0 (λ rs. refl)
+        (does_behind who c (Moved left vs) (record { at = lap + 1 + 1 + 1; slots = slots; stack = h ∷ stack })
+        (record { at = lap + 1 + 1 + 1 + 1; slots = slots; stack = stack }) (gives (Goes vs [])) i.Pop at_lap.1.1.1.0 (λ rs. refl)
         (does_value who c (Moved left vs) (record { at = lap + 1 + 1 + 1 + 1; slots = slots; stack = stack }) (Goes vs []) (inl (l, names, holds, after, bare))))
     step_does slots holds (q ∷ qs) h e =
         let pt = Plain (val.Pt q) in
         let rest = Dm (dim_of h) qs in
         let move = Turns p vs (Do body ∷ Behind (Foreach p x domain (q ∷ qs) body) ∷ []) in
-        does_behind who c (Moved left vs) (record { at = lap + 1; slots = slots; stack = h ∷ stack }) (record { at = lap + 1 + 1; slots = pt ∷ slots; stack = rest ∷ stack }) (gives move) (i.Next n (lap + 1 + 1 + 1)) at_lap.1.0
+        does_behind who c (Moved left vs) (record { at = lap + 1; slots = slots; stack = h ∷ stack })
+        (record { at = lap + 1 + 1; slots = pt ∷ slots; stack = rest ∷ stack }) (gives move) (i.Next n (lap + 1 + 1 + 1)) at_lap.1.0
         (λ rs. ap (λ ps. next_point n (lap + 1 + 1 + 1) (record { at = lap + 1; slots = slots; stack = h ∷ stack }) ps rs) e
         ∙ ap (λ hs. Gives (record { at = lap + 1 + 1; slots = hs; stack = rest ∷ stack }) rs) (new_put n pt slots (as_many this_id names vs (turns_at left) slots holds)))
-        (does_behind who c (Moved left vs) (record { at = lap + 1 + 1; slots = pt ∷ slots; stack = rest ∷ stack }) (record { at = at + 1; slots = pt ∷ slots; stack = rest ∷ stack }) (gives move) (i.Jump (at + 1)) at_lap.1.1.0 (λ rs. refl)
+        (does_behind who c (Moved left vs) (record { at = lap + 1 + 1; slots = pt ∷ slots; stack = rest ∷ stack })
+        (record { at = at + 1; slots = pt ∷ slots; stack = rest ∷ stack }) (gives move) (i.Jump (at + 1)) at_lap.1.1.0 (λ rs. refl)
         (does_value who c (Moved left vs) (record { at = at + 1; slots = pt ∷ slots; stack = rest ∷ stack }) move
         (walk.stands.1.0, inl (Some lap_labels, ns, turn holds, turn_left q qs rest refl, bare))))
 
@@ -667,7 +707,9 @@ module _ (c : List Instr) (program : NumberedProgram) (method : NumberedMethod) 
         let t : Turn = record { variable = x; point = q } in
         let un = unturned c program this result this_id ns names vs (t ∷ turns_at left) (turns_at left) t slots x holds refl refl in
         let fewer : trimmed n slots ≡ un.1 = ap (λ hs. trimmed n hs) un.2 ∙ trimmed_newest n un.0 un.1 (as_many this_id names vs (turns_at left) un.1 un.3) in
-        does_behind who c (Moved left vs) (record { at = lap; slots = slots; stack = h ∷ stack }) (record { at = lap + 1; slots = un.1; stack = h ∷ stack }) (gives (Goes vs (Before (Foreach p x domain points body) ∷ []))) (i.Trim n) at_lap.0
+        does_behind who c (Moved left vs) (record { at = lap; slots = slots; stack = h ∷ stack })
+        (record { at = lap + 1; slots = un.1; stack = h ∷ stack }) (gives (Goes vs (Before (Foreach p x domain points body) ∷ [])))
+        (i.Trim n) at_lap.0
         (λ rs. ap (λ hs. Gives (record { at = lap + 1; slots = hs; stack = h ∷ stack }) rs) fewer)
         (does_value who c (Moved left vs) (record { at = lap + 1; slots = un.1; stack = h ∷ stack }) (Goes vs (Before (Foreach p x domain points body) ∷ []))
         (inl (l, names, un.3, steps walk refl m after e, bare)))
@@ -678,12 +720,15 @@ module _ (c : List Instr) (program : NumberedProgram) (method : NumberedMethod) 
   work_does : (w : Work) (left : List Work) (vs : List Variable) (l : Option Labels) (names : List Name) (slots stack : List Held) (at : ℕ) → IsLeft l names stack (w ∷ left) at
       → Holds this_id names vs (turns_at (w ∷ left)) slots → Bare names → Does who c (record { at = at; slots = slots; stack = stack }) (performed (env vs left) w) (Moved left vs)
   work_does w left vs l names slots stack at (over {target = target} jump k) h bare =
-      does_behind who c (Moved left vs) (record { at = at; slots = slots; stack = stack }) (record { at = target; slots = slots; stack = stack }) (performed (env vs left) w) (i.Jump target) jump (λ rs. refl)
+      does_behind who c (Moved left vs) (record { at = at; slots = slots; stack = stack })
+      (record { at = target; slots = slots; stack = stack }) (performed (env vs left) w) (i.Jump target) jump (λ rs. refl)
       (work_does w left vs l names slots stack target k h bare)
   work_does w left vs l names slots stack at (some {x = x} z m st k) h bare = statement_does left vs l names slots stack at h m bare x z st k
   work_does w left vs l names slots stack at (closes {before = before} {x = x} cut st k) h bare =
       let xs = declared_in x in
-      does_behind who c (Moved left vs) (record { at = at; slots = slots; stack = stack }) (record { at = at + 1; slots = trimmed (length before) slots; stack = stack }) (gives (Goes (without xs vs) [])) (i.Trim (length before)) st (λ rs. refl)
+      does_behind who c (Moved left vs) (record { at = at; slots = slots; stack = stack })
+      (record { at = at + 1; slots = trimmed (length before) slots; stack = stack }) (gives (Goes (without xs vs) []))
+      (i.Trim (length before)) st (λ rs. refl)
       (does_value who c (Moved left vs) (record { at = at + 1; slots = trimmed (length before) slots; stack = stack }) (Goes (without xs vs) [])
       (inl (l, before, trimmed_holds this_id xs names before vs (turns_at left) slots cut h, k, cut_bare xs names before cut bare)))
   work_does w left vs l names slots stack at (tests {at = from} {p = p} {cond = cond} {update = update} {body = body} loop e m k) h bare =
@@ -694,7 +739,8 @@ module _ (c : List Instr) (program : NumberedProgram) (method : NumberedMethod) 
   work_does w left vs l names slots stack at (steps {stack = below} {at = from} {p = p} {x = x} {domain = domain} {points = points} {body = body} {h = top} walk e m k z) h bare =
       subst (λ n. Does who c (record { at = n; slots = slots; stack = top ∷ below }) (before_turn (env vs left) (Foreach p x domain points body)) (Moved left vs)) (sym e)
       (step_does left vs l names below from p x domain body walk m k bare slots h points top z)
-  work_does w left vs l names slots stack at (laps {l = outer} {names = before} {stack = below} {at = from} {p = p} {x = x} {domain = domain} {q = q} {points = points} {body = body} {h = top} walk m k z) h bare =
+  work_does w left vs l names slots stack at (laps {l = outer} {names = before} {stack = below} {at = from} {p = p} {x = x}
+      {domain = domain} {q = q} {points = points} {body = body} {h = top} walk m k z) h bare =
       lap_does left vs outer before below from p x domain body walk m k bare q points top slots z h
   work_does w left vs l names slots stack at (last {p = p} {x = x} void st) h bare = return_does [] vs names slots stack at h p x void st
   work_does w left vs l names slots stack at (receives_left {stack = below} {r = r} {h = value} kind st k) h bare =
@@ -703,7 +749,8 @@ module _ (c : List Instr) (program : NumberedProgram) (method : NumberedMethod) 
       (simple.received c (env vs left) names slots h r (gives value) at n (names_behind r names) below (record { at = at; slots = slots; stack = value ∷ below })
       (way.late_does c (env vs left) names slots h r kind known.Other value at below tt st))
 
-  walking_does : (w : Work) (left : List Work) (vs : List Variable) (s : Spot) → standing.Walking c program method this_id number procs (w ∷ left) vs s → Does who c s (performed (env vs left) w) (Moved left vs)
+  walking_does : (w : Work) (left : List Work) (vs : List Variable) (s : Spot)
+      → standing.Walking c program method this_id number procs (w ∷ left) vs s → Does who c s (performed (env vs left) w) (Moved left vs)
   walking_does (CopyAll p to from points) left vs s z = copied_does c program method this_id number procs p to from points left vs s z
   walking_does (TakeAll p grid senders) left vs s z = taken_does c program method this_id number procs p grid senders left vs s z
   walking_does w left vs s z = elim z [ ]

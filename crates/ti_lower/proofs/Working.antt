@@ -30,7 +30,7 @@ use Rattle.ti_lower_expr.specs.Slots as slot_of
 use Rattle.ti_lower.specs.Calling.{number_called}
 use Rattle.ti_lower.specs.Receivers.{names_behind, late_code}
 use Rattle.ti_lower.specs.Laying.{Labels, names_after, loop_code, walk_code, stm_code, maybe_code}
-use Rattle.ti_lower_expr.proofs.Finding.{as_many}
+use Rattle.ti_lower_expr.proofs.Lemmas.{as_many}
 use Rattle.ti_lower.proofs.Arguments.{AreArgs, IsObject}
 use Rattle.ti_lower.proofs.Cutting.{Bare, cut_bare, Stay, Cut, cut_less, trimmed_holds, trimmed_twice, trimmed_all, trimmed_newest}
 use Rattle.ti_lower.proofs.Lengths.{again_at, test_at, exit_at}
@@ -161,7 +161,8 @@ module _ (c : List Instr) (program : NumberedProgram) (this : Option ℕ) (resul
       over : {l : Option Labels} {names : List Name} {stack : List Held} {left : List Work} {at target : ℕ} → slice_get c at ≡ Some (i.Jump target)
           → Left l names stack left target → Left l names stack left at
       some : {l : Option Labels} {names : List Name} {stack : List Held} {left : List Work} {at : ℕ} {x : NumberedStm} → StmFine program this result x names → Mark l names stack left
-          → Stands c at (stm_code program this result x l names at) → Left l (names_after x names) stack left (behind at (stm_code program this result x l names at)) → Left l names stack (Do x ∷ left) at
+          → Stands c at (stm_code program this result x l names at) → Left l (names_after x names) stack left
+          (behind at (stm_code program this result x l names at)) → Left l names stack (Do x ∷ left) at
       closes : {l : Option Labels} {names before : List Name} {stack : List Held} {left : List Work} {at : ℕ} {x : NumberedStm} → Cut (declared_in x) names before
           → slice_get c at ≡ Some (i.Trim (length before)) → Left l before stack left (at + 1) → Left l names stack (End x ∷ left) at
       -- a loop before its condition, and at the end of a turn
@@ -172,10 +173,12 @@ module _ (c : List Instr) (program : NumberedProgram) (this : Option ℕ) (resul
           → LoopAt p l names cond update body at → Mark l names stack left → Left l names stack left (exit_of l names cond update body at)
           → Left (Some (labels_of l names cond update body at)) names stack (Behind (While p cond update body) ∷ left) (again_of names body at)
       -- a loop over points before its next point, the domain of those that are left on top; and at the end of a turn
-      steps : {l : Option Labels} {names : List Name} {stack : List Held} {left : List Work} {at next : ℕ} {p : Place} {x : ℕ} {domain : NumberedExp} {points : List Point} {body : NumberedStm} {h : Held}
+      steps : {l : Option Labels} {names : List Name} {stack : List Held} {left : List Work} {at next : ℕ} {p : Place} {x : ℕ}
+          {domain : NumberedExp} {points : List Point} {body : NumberedStm} {h : Held}
           → WalkAt p names x body at → next ≡ lap_of names x body at + 1 → Mark l names stack left → Left l names stack left (lap_of names x body at + 1 + 1 + 1 + 1) → points_in h ≡ points
           → Left l names (h ∷ stack) (Before (Foreach p x domain points body) ∷ left) next
-      laps : {l : Option Labels} {names : List Name} {stack : List Held} {left : List Work} {at : ℕ} {p : Place} {x : ℕ} {domain : NumberedExp} {q : Point} {points : List Point} {body : NumberedStm} {h : Held}
+      laps : {l : Option Labels} {names : List Name} {stack : List Held} {left : List Work} {at : ℕ} {p : Place} {x : ℕ}
+          {domain : NumberedExp} {q : Point} {points : List Point} {body : NumberedStm} {h : Held}
           → WalkAt p names x body at → Mark l names stack left → Left l names stack left (lap_of names x body at + 1 + 1 + 1 + 1) → points_in h ≡ points
           → Left (Some (walk_labels names x body at)) (slot_of.Point x ∷ names) (h ∷ stack) (Behind (Foreach p x domain (q ∷ points) body) ∷ left) (lap_of names x body at)
 
@@ -183,12 +186,15 @@ module _ (c : List Instr) (program : NumberedProgram) (this : Option ℕ) (resul
     pub data Mark : Option Labels → List Name → List Held → List Work → Type 0 where
       nowhere : {names : List Name} {stack : List Held} → Mark None names stack []
       do_one : {l : Option Labels} {names : List Name} {stack : List Held} {left : List Work} {x : NumberedStm} → Mark l names stack left → Mark l names stack (Do x ∷ left)
-      end_one : {l : Option Labels} {names before : List Name} {stack : List Held} {left : List Work} {x : NumberedStm} → Cut (declared_in x) names before → Mark l before stack left → Mark l names stack (End x ∷ left)
+      end_one : {l : Option Labels} {names before : List Name} {stack : List Held} {left : List Work} {x : NumberedStm}
+          → Cut (declared_in x) names before → Mark l before stack left → Mark l names stack (End x ∷ left)
       before_one : {l : Option Labels} {names : List Name} {stack : List Held} {left : List Work} {loop : Loop} → Mark l names stack left → Mark l names stack (Before loop ∷ left)
       here_one : {l : Option Labels} {labels : Labels} {names : List Name} {stack : List Held} {left : List Work} {p : Place} {cond : Option NumberedExp} {update : MaybeNumbered} {body : NumberedStm}
           → labels.kept ≡ length names → labels.left ≡ length names → labels.walks ≡ false
-          → Left (Some labels) names stack (Behind (While p cond update body) ∷ left) labels.again → Left l names stack left labels.exit → Mark (Some labels) names stack (Behind (While p cond update body) ∷ left)
-      here_walk : {l : Option Labels} {labels : Labels} {names : List Name} {stack : List Held} {left : List Work} {p : Place} {x : ℕ} {domain : NumberedExp} {q : Point} {points : List Point} {body : NumberedStm} {h : Held}
+          → Left (Some labels) names stack (Behind (While p cond update body) ∷ left) labels.again → Left l names stack left labels.exit
+          → Mark (Some labels) names stack (Behind (While p cond update body) ∷ left)
+      here_walk : {l : Option Labels} {labels : Labels} {names : List Name} {stack : List Held} {left : List Work} {p : Place} {x : ℕ}
+          {domain : NumberedExp} {q : Point} {points : List Point} {body : NumberedStm} {h : Held}
           → labels.kept ≡ length names + 1 → labels.left ≡ length names → labels.walks ≡ true
           → Left (Some labels) (slot_of.Point x ∷ names) (h ∷ stack) (Behind (Foreach p x domain (q ∷ points) body) ∷ left) labels.again → Left l names stack left labels.exit
           → Mark (Some labels) (slot_of.Point x ∷ names) (h ∷ stack) (Behind (Foreach p x domain (q ∷ points) body) ∷ left)
@@ -226,7 +232,8 @@ module _ (c : List Instr) (program : NumberedProgram) (this : Option ℕ) (resul
   few_kept labels all stack ws (here_walk k n w again exit) = (omega (arith, k), omega (arith, n))
 
   -- a slot of a loop's point is the newest
-  pub unturned : (this_id : Option Id) (all ns : List Name) (vs : List Variable) (ts rest : List Turn) (t : Turn) (hs : List Held) (x : ℕ) → Holds this_id all vs ts hs → all ≡ slot_of.Point x ∷ ns → ts ≡ t ∷ rest
+  pub unturned : (this_id : Option Id) (all ns : List Name) (vs : List Variable) (ts rest : List Turn) (t : Turn) (hs : List Held) (x : ℕ)
+      → Holds this_id all vs ts hs → all ≡ slot_of.Point x ∷ ns → ts ≡ t ∷ rest
       → (g : Held) × (gs : List Held) × (hs ≡ g ∷ gs) × Holds this_id ns vs rest gs
   unturned this_id all ns vs ts rest t hs x (none z) e f = absurd (never e)
     where
@@ -289,13 +296,15 @@ module _ (c : List Instr) (program : NumberedProgram) (this : Option ℕ) (resul
       }
   jump_out labels this_id names vs slots stack ws (end_one {before = before} {left = left} {x = x} k m) h bare =
       let xs = declared_in x in
-      let out = jump_out labels this_id before (without xs vs) (trimmed (length before) slots) stack left m (trimmed_holds this_id xs names before vs (turns_at left) slots k h) (cut_bare xs names before k bare) in
+      let out = jump_out labels this_id before (without xs vs) (trimmed (length before) slots) stack left m
+      (trimmed_holds this_id xs names before vs (turns_at left) slots k h) (cut_bare xs names before k bare) in
       let few = few_kept labels before stack left m in
       record {
         marked = out.marked;
         names_again = out.names_again;
         bare_again = out.bare_again;
-        holds_again = subst (λ hs. Holds this_id out.names_again (variables_at_mark left (without xs vs)) (turns_at (from_mark left)) hs) (trimmed_twice labels.kept (length before) slots few.0) out.holds_again;
+        holds_again = subst (λ hs. Holds this_id out.names_again (variables_at_mark left (without xs vs)) (turns_at (from_mark left)) hs)
+            (trimmed_twice labels.kept (length before) slots few.0) out.holds_again;
         repeats = out.repeats;
         outer = out.outer;
         names = out.names;
@@ -321,7 +330,8 @@ module _ (c : List Instr) (program : NumberedProgram) (this : Option ℕ) (resul
         holds = subst (λ hs. Holds this_id names vs (turns_at left) hs) (sym (trimmed_all labels.left slots (n ∙ many))) h;
         exits = exit;
       }
-  jump_out labels this_id all vs slots stack ws (here_walk {l = l} {names = names} {stack = below} {left = left} {p = p} {x = x} {domain = domain} {q = q} {points = points} {body = body} {h = top} k n w again exit) h bare =
+  jump_out labels this_id all vs slots stack ws (here_walk {l = l} {names = names} {stack = below} {left = left} {p = p} {x = x}
+      {domain = domain} {q = q} {points = points} {body = body} {h = top} k n w again exit) h bare =
       let ts = turns_at left in
       let t : Turn = record { variable = x; point = q } in
       let un = unturned this_id (slot_of.Point x ∷ names) names vs (t ∷ ts) ts t slots x h refl refl in
@@ -330,7 +340,8 @@ module _ (c : List Instr) (program : NumberedProgram) (this : Option ℕ) (resul
         marked = refl;
         names_again = slot_of.Point x ∷ names;
         bare_again = bare;
-        holds_again = subst (λ hs. Holds this_id (slot_of.Point x ∷ names) vs (t ∷ ts) hs) (sym (trimmed_all labels.kept slots (omega (arith, k, as_many this_id (slot_of.Point x ∷ names) vs (t ∷ ts) slots h)))) h;
+        holds_again = subst (λ hs. Holds this_id (slot_of.Point x ∷ names) vs (t ∷ ts) hs)
+            (sym (trimmed_all labels.kept slots (omega (arith, k, as_many this_id (slot_of.Point x ∷ names) vs (t ∷ ts) slots h)))) h;
         repeats = again;
         outer = l;
         names = names;

@@ -11,8 +11,7 @@ use Rattle.ti_lang.specs.Meaning.Scoping.{same_variable, with_changed}
 use Rattle.ti_code.specs.Effects.{put}
 use Rattle.ti_lower_expr.specs.Knowing.{IsKnown, known_declared}
 use Rattle.ti_lower_expr.specs.Slots.{Name, Of, Point, Hidden, Holds, none, object, variable, turn, hidden, find_by}
-use Rattle.ti_lower_expr.proofs.Knowing.{same_known}
-use Rattle.ti_lower_expr.proofs.Finding.{as_many, same_number, other_number}
+use Rattle.ti_lower_expr.proofs.Lemmas.{same_known, as_many, same_number, other_number}
 
 is_less : (m k : ℕ) → m < k → nat_lt m k ≡ true
 is_less m k l = grind (arith, l)
@@ -44,13 +43,19 @@ any = Typed false t.Void
 
 older_variable : (this : Option Id) (o : Option ℕ) (ns : List Name) (vs new : List Variable) (ts : List Turn) (hs : List Held) (x h : Held) (y : VariableUse) → IsKnown (known_declared y.declared) h
     → IsWritten this o ns vs new ts hs x → IsWritten this o (Of y ∷ ns) (record { named = y; held = h } ∷ vs) (record { named = y; held = h } ∷ new) ts (h ∷ hs) x
-older_variable this (Some k) ns vs new ts hs x h y z w = (omega (arith, w.0), subst (λ gs. Holds this (Of y ∷ ns) (record { named = y; held = h } ∷ new) ts gs) (sym (older_put k x h hs w.0)) (variable z w.1))
+older_variable this (Some k) ns vs new ts hs x h y z w = (
+  omega (arith, w.0),
+  subst (λ gs. Holds this (Of y ∷ ns) (record { named = y; held = h } ∷ new) ts gs) (sym (older_put k x h hs w.0)) (variable z w.1),
+)
 older_variable this None ns vs new ts hs x h y z w = ap (λ us. record { named = y; held = h } ∷ us) w
 
 by_test : (b : Bool) (this : Option Id) (o : Option ℕ) (n : ℕ) (ns : List Name) (vs new : List Variable) (ts : List Turn) (hs : List Held) (x h : Held) (y : VariableUse)
     → n ≡ length hs → Holds this ns vs ts hs → IsKnown (known_declared y.declared) h → (b ≡ true → IsKnown (known_declared y.declared) x) → IsWritten this o ns vs new ts hs x
     → IsWritten this (if b then Some n else o) (Of y ∷ ns) (record { named = y; held = h } ∷ vs) (if b then record { named = y; held = x } ∷ vs else record { named = y; held = h } ∷ new) ts (h ∷ hs) x
-by_test true this o n ns vs new ts hs x h y e k z f w = (omega (arith, e), subst (λ gs. Holds this (Of y ∷ ns) (record { named = y; held = x } ∷ vs) ts gs) (sym (newest_put n x h hs e)) (variable (f refl) k))
+by_test true this o n ns vs new ts hs x h y e k z f w = (
+  omega (arith, e),
+  subst (λ gs. Holds this (Of y ∷ ns) (record { named = y; held = x } ∷ vs) ts gs) (sym (newest_put n x h hs e)) (variable (f refl) k),
+)
 by_test false this o n ns vs new ts hs x h y e k z f w = older_variable this o ns vs new ts hs x h y z w
 
 older_turn : (this : Option Id) (o : Option ℕ) (ns : List Name) (vs new : List Variable) (ts : List Turn) (hs : List Held) (x : Held) (r : Turn)
@@ -68,6 +73,9 @@ pub written : (this : Option Id) (ns : List Name) (vs : List Variable) (ts : Lis
 written this ns vs ts hs x h known (none z) = refl
 written this ns vs ts hs x h known object = refl
 written this ns vs ts hs x h known (variable {ns = ms} {vs = us} {ts = rs} {hs = gs} {x = y} {h = g} z k) =
-    by_test (same_variable x y) this (find_by any x ms) (length ms) ms us (with_changed x h us) rs gs h g y (as_many this ms us rs gs k) k z (λ e. subst (λ j. IsKnown j h) (same_known x y e) known) (written this ms us rs gs x h known k)
-written this ns vs ts hs x h known (turn {ns = ms} {vs = us} {ts = rs} {hs = gs} {t = r} k) = older_turn this (find_by any x ms) ms us (with_changed x h us) rs gs h r (written this ms us rs gs x h known k)
-written this ns vs ts hs x h known (hidden {ns = ms} {vs = us} {ts = rs} {hs = gs} {h = g} k) = older_hidden this (find_by any x ms) ms us (with_changed x h us) rs gs h g (written this ms us rs gs x h known k)
+    by_test (same_variable x y) this (find_by any x ms) (length ms) ms us (with_changed x h us) rs gs h g y (as_many this ms us rs gs k) k z
+    (λ e. subst (λ j. IsKnown j h) (same_known x y e) known) (written this ms us rs gs x h known k)
+written this ns vs ts hs x h known (turn {ns = ms} {vs = us} {ts = rs} {hs = gs} {t = r} k) =
+    older_turn this (find_by any x ms) ms us (with_changed x h us) rs gs h r (written this ms us rs gs x h known k)
+written this ns vs ts hs x h known (hidden {ns = ms} {vs = us} {ts = rs} {hs = gs} {h = g} k) =
+    older_hidden this (find_by any x ms) ms us (with_changed x h us) rs gs h g (written this ms us rs gs x h known k)

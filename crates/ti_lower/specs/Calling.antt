@@ -20,7 +20,8 @@ use Rattle.ti_lower_expr.specs.Coding.{code_of, conversion}
 
 -- the number of the instance method behind an object
 abbrev pub number_behind : NumberedProgram → ValueType → ℕ → ℕ
-number_behind program (t.Class class is_local) name = position_or_len (λ (m : NumberedMethod). (m.class == class) && (m.name == name)) program.methods
+number_behind program (t.Class class is_local) name =
+    position_or_len (λ (m : NumberedMethod). (m.class == class) && (m.name == name)) program.methods
 number_behind program type name = 0
 
 -- the number of the method that an expression calls, where it is a call
@@ -47,4 +48,5 @@ module _ (program : NumberedProgram) (this : Option ℕ) (names : List Name) whe
   -- the object, the arguments, and the call of the method of a number
   abbrev pub call_code : ℕ → Call → ℕ → List Instr
   call_code k c at =
-      object_code c.object at ++ (args_code (parameters_of c.method.params) c.args (behind at (object_code c.object at)) ++ i.Call k c.place ∷ [])
+      object_code c.object at ++ (args_code (parameters_of c.method.params) c.args (behind at (object_code c.object at))
+      ++ i.Call k c.place ∷ [])

@@ -84,7 +84,8 @@ first_code (suc n) = pops n
 abbrev pub elements_code : Place → ℕ → List Instr → ℕ → List Instr
 elements_code p n read at =
     let test = behind (at + 1 + 1 + 1) read + 1 in
-    i.Jump test ∷ i.Load (n + 1) ∷ i.Load (n + 1 + 1) ∷ read ++ i.PutElem p ∷ i.Next (n + 1 + 1) (test + 1 + 1) ∷ i.Jump (at + 1) ∷ i.Trim n ∷ i.Pop ∷ []
+    i.Jump test ∷ i.Load (n + 1) ∷ i.Load (n + 1 + 1) ∷ read ++ i.PutElem p ∷ i.Next (n + 1 + 1) (test + 1 + 1) ∷ i.Jump (at + 1) ∷ i.Trim n
+    ∷ i.Pop ∷ []
 
 -- what is read at a point of a copy, and at one of an exchange
 abbrev pub copied_code : Place → ℕ → List Instr
@@ -97,13 +98,15 @@ taken_code p n = i.Load (n + 1 + 1) ∷ i.Take p ∷ []
 abbrev pub grids_code : Place → ℕ → ℕ → List Instr
 grids_code p n at =
     i.AsGrid ∷ i.Keep n ∷ i.AsGrid ∷ i.Keep (n + 1)
-    ∷ i.Load n ∷ i.Const (v.Grid None) ∷ i.Operate o.Eq p ∷ i.JumpIfNot (at + 1 + 1 + 1 + 1 + 1 + 1 + 1 + 1 + 1 + 1) ∷ i.Load n ∷ i.Member kind.DomainOf 0 p
+    ∷ i.Load n ∷ i.Const (v.Grid None) ∷ i.Operate o.Eq p ∷ i.JumpIfNot (at + 1 + 1 + 1 + 1 + 1 + 1 + 1 + 1 + 1 + 1) ∷ i.Load n
+    ∷ i.Member kind.DomainOf 0 p
     ∷ i.Load (n + 1) ∷ i.Member kind.DomainOf 0 p ∷ i.Load n ∷ i.Member kind.DomainOf 0 p ∷ i.Common ∷ []
 
 -- `a.exchange(e)`: the value and the grid wait in slots; the domain of the grid is that of the team, and is walked over
 abbrev pub team_code : Place → ℕ → List Instr
 team_code p n =
-    i.Keep n ∷ i.Keep (n + 1) ∷ i.Load (n + 1) ∷ i.Member kind.DomainOf 0 p ∷ i.GridTest p ∷ i.Load n ∷ i.Arrive coll.Exchange p ∷ i.Depart p ∷ []
+    i.Keep n ∷ i.Keep (n + 1) ∷ i.Load (n + 1) ∷ i.Member kind.DomainOf 0 p ∷ i.GridTest p ∷ i.Load n ∷ i.Arrive coll.Exchange p
+    ∷ i.Depart p ∷ []
 
 module _ (program : NumberedProgram) (this : Option ℕ) where
   -- a print
@@ -126,7 +129,8 @@ module _ (program : NumberedProgram) (this : Option ℕ) where
       let test = behind again (update again) in
       let exit = behind test (condition_code names c test) + 1 in
       i.Jump test ∷ i.Tick p
-      ∷ body (Some (record { again = again; kept = length names; exit = exit; left = length names; walks = false })) (at + 1 + 1) ++ (update again ++ (condition_code names c test ++ i.JumpIf (at + 1) ∷ []))
+      ∷ body (Some (record { again = again; kept = length names; exit = exit; left = length names; walks = false })) (at + 1 + 1)
+      ++ (update again ++ (condition_code names c test ++ i.JumpIf (at + 1) ∷ []))
 
   -- A loop over the points of the domain on top, which is dropped behind the last one. The point of a turn has a slot, behind these names.
   abbrev pub walk_code : Place → List Name → (Option Labels → ℕ → List Instr) → ℕ → List Instr
@@ -146,7 +150,8 @@ module _ (program : NumberedProgram) (this : Option ℕ) where
       ∷ code_of program this names x inner ++ i.Jump (other + 1) ∷ i.Const (v.Bool false) ∷ i.Arrive coll.Broadcast p ∷ i.Depart p ∷ []
 
   abbrev pub broadcast_code : Place → List Name → NumberedExp → NumberedExp → ℕ → List Instr
-  broadcast_code p names x root at = code_of program this names root at ++ root_code p names x (behind at (code_of program this names root at))
+  broadcast_code p names x root at =
+      code_of program this names root at ++ root_code p names x (behind at (code_of program this names root at))
 
   -- ---- new things
 
@@ -165,7 +170,8 @@ module _ (program : NumberedProgram) (this : Option ℕ) where
 
   abbrev pub grid_code : List Name → Place → Option NumberedExp → ValueType → Place → NumberedDims → ℕ → List Instr
   grid_code names p region element q dims at =
-      region_code names region at ++ (spread_code names q dims (behind at (region_code names region at)) ++ i.NewGrid (zero_of_type element) p ∷ [])
+      region_code names region at ++ (spread_code names q dims (behind at (region_code names region at))
+      ++ i.NewGrid (zero_of_type element) p ∷ [])
 
   -- ---- right sides
 
@@ -197,7 +203,8 @@ module _ (program : NumberedProgram) (this : Option ℕ) where
   -- the receiver of a member form, and the first of its arguments on it
   abbrev pub both_code : List Name → NumberedExp → NumberedExps → ℕ → List Instr
   both_code names x args at =
-      code_of program this names x at ++ (code_of_all program this names args (behind at (code_of program this names x at)) ++ first_code (how_many args))
+      code_of program this names x at ++ (code_of_all program this names args (behind at (code_of program this names x at))
+      ++ first_code (how_many args))
 
   -- `a.copy(b)`
   abbrev pub copy_code : Place → List Name → NumberedExp → NumberedExps → ℕ → List Instr
@@ -265,11 +272,13 @@ module _ (program : NumberedProgram) (this : Option ℕ) (result : ValueType) wh
         first ++ i.JumpIfNot else_at ∷ (inner ++ i.Jump (behind else_at other) ∷ other)
     stm_code (s.While p c body) l names at = loop_code program this p names (Some c) (λ m from. stm_code body m names from) (λ from. []) at
     stm_code (s.For p NoStm c update body) l names at =
-        loop_code program this p names c (λ m from. stm_code body m names from) (λ from. maybe_code update l names from) at ++ i.Trim (length names) ∷ []
+        loop_code program this p names c (λ m from. stm_code body m names from) (λ from. maybe_code update l names from) at
+        ++ i.Trim (length names) ∷ []
     stm_code (s.For p (SomeStm first) c update body) l names at =
         let before = stm_code first l names at in
         let inner = names_after first names in
-        before ++ (loop_code program this p inner c (λ m from. stm_code body m inner from) (λ from. maybe_code update l inner from) (behind at before)
+        before ++ (loop_code program this p inner c (λ m from. stm_code body m inner from) (λ from. maybe_code update l inner from)
+        (behind at before)
         ++ i.Trim (length names) ∷ [])
     stm_code (s.Foreach p x domain body) l names at =
         let first = code_of program this names domain at in
@@ -280,7 +289,8 @@ module _ (program : NumberedProgram) (this : Option ℕ) (result : ValueType) wh
     stm_code (s.Return p (Some x)) l names at =
         code_of program this names x at ++ (conversion p result (known_of program this x) ++ i.ReturnValue ∷ [])
     stm_code (s.Call x) l names at =
-        alone_code program this (gives_nothing program this (call_by x (called_method program this x))) x (call_by x (called_method program this x)) names at
+        alone_code program this (gives_nothing program this (call_by x (called_method program this x))) x
+        (call_by x (called_method program this x)) names at
 
     pub stms_code : NumberedStms → Option Labels → List Name → ℕ → List Instr
     stms_code Nil l names at = []

@@ -27,7 +27,8 @@ instrs_in None is = is
 instrs_in (Some end) is = map (in_main end) is
 
 abbrev pub method_code : NumberedProgram → Option Place → NumberedMethod → MethodCode
-method_code program end m = record { instance = is_instance (this_of m); params = params_of m; instrs = instrs_in end (body_code program m) }
+method_code program end m =
+    record { instance = is_instance (this_of m); params = params_of m; instrs = instrs_in end (body_code program m) }
 
 -- the place where the run ends, in `main`
 abbrev pub end_in : Bool → NumberedMethod → Option Place

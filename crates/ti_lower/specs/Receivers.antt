@@ -93,7 +93,8 @@ module _ (program : NumberedProgram) (this : Option ℕ) where
   place_code names (e.OwnField q field) at = own (has_this names) ∷ []
   place_code names (e.Select q x name) at = code_of program this names x at
   place_code names (e.Index q x parts) at =
-      code_of program this names x at ++ (code_of_all program this names parts (behind at (code_of program this names x at)) ++ i.MakePt (how_many parts) ∷ [])
+      code_of program this names x at ++ (code_of_all program this names parts (behind at (code_of program this names x at))
+      ++ i.MakePt (how_many parts) ∷ [])
   place_code names other at = i.Const (v.Bool false) ∷ []
 
   -- the name of a compound assignment's operator, whose right operand is such a one

@@ -40,7 +40,7 @@ pub struct CallSite<'a> {
 // ---- which call
 
 /// The call that an expression is, given the method that it calls.
-#[tactic(auto, using(ti_lang::proofs::ProgramBridges::program_bridges))]
+#[tactic(auto, using(ti_lang::proofs::Lemmas::program_bridges))]
 fn call_in<'a>(x: &'a Expr, method: &'a Method) -> Option<CallSite<'a>>
     ensures { option_map call_of result ≡ call_by (expression_of x.now) (Some (numbered_method_of method.now)) }
 {
@@ -82,7 +82,8 @@ fn call_in<'a>(x: &'a Expr, method: &'a Method) -> Option<CallSite<'a>>
 
 /// The call that an expression is, if it is one.
 pub fn call_at<'a>(program: &'a Parts, this: Option<u32>, x: &'a Expr) -> Option<CallSite<'a>>
-    ensures { option_map call_of result ≡ call_by (expression_of x.now) (called_method_spec (program_of program.now) this (expression_of x.now)) }
+    ensures { option_map call_of result ≡ call_by (expression_of x.now)
+        (called_method_spec (program_of program.now) this (expression_of x.now)) }
 {
     match called_method(program, this, x) {
         Some(method) => call_in(x, method),
@@ -138,7 +139,8 @@ pub fn number_called(program: &Parts, this: Option<u32>, x: &Expr) -> Result<u32
 
 // An argument, made one of its parameter's type.
 fn arg(p: &Position, param: &Param, x: &Expr, out: &mut Vec<Instr>) -> Result<(), Memory>
-    ensures { OnOk result (out.new.items ≡ arg_on (where_of p.now) (numbered_param_of param.now).ty.type (expression_of x.now) out.old.items) }
+    ensures { OnOk result (out.new.items ≡ arg_on (where_of p.now) (numbered_param_of param.now).ty.type
+        (expression_of x.now) out.old.items) }
 {
     value(p, x, out)?;
     let known = known_of(p.site.program, p.site.this, x);
@@ -147,7 +149,8 @@ fn arg(p: &Position, param: &Param, x: &Expr, out: &mut Vec<Instr>) -> Result<()
 
 // Arguments for parameters, in order.
 fn args_for(p: &Position, params: &[Param], xs: &[Expr], out: &mut Vec<Instr>) -> Result<(), Memory>
-    ensures { OnOk result (out.new.items ≡ args_on (where_of p.now) (parameters_from 0 (map numbered_param_of params.now)) (numbered_exps (map expression_of xs.now)) out.old.items) }
+    ensures { OnOk result (out.new.items ≡ args_on (where_of p.now) (parameters_from 0 (map numbered_param_of params.now))
+        (numbered_exps (map expression_of xs.now)) out.old.items) }
 {
     let mut i = 0;
     while i < params.len() && i < xs.len() {
@@ -159,7 +162,8 @@ fn args_for(p: &Position, params: &[Param], xs: &[Expr], out: &mut Vec<Instr>) -
 
 // The arguments of a call.
 fn args(p: &Position, c: &CallSite, out: &mut Vec<Instr>) -> Result<(), Memory>
-    ensures { OnOk result (out.new.items ≡ args_on (where_of p.now) (parameters_of (call_of c.now).method.params) (call_of c.now).args out.old.items) }
+    ensures { OnOk result (out.new.items ≡ args_on (where_of p.now) (parameters_of (call_of c.now).method.params)
+        (call_of c.now).args out.old.items) }
 {
     match &c.method.params {
         Params::Words => Ok(()),

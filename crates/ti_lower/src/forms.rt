@@ -36,9 +36,10 @@ fn add_first(n: usize, out: &mut Vec<Instr>) -> Result<(), Memory>
 }
 
 // The receiver of a member form, and the first of its arguments on it.
-#[tactic(auto, using(ti_lang::proofs::RangeDims::many_arguments))]
+#[tactic(auto, using(ti_lang::proofs::Lemmas::many_arguments))]
 fn both(p: &Position, x: &Expr, args: &[Expr], out: &mut Vec<Instr>) -> Result<(), Memory>
-    ensures { OnOk result (out.new.items ≡ on.both_on (where_of p.now) (expression_of x.now) (numbered_exps (map expression_of args.now)) out.old.items) }
+    ensures { OnOk result (out.new.items ≡ on.both_on (where_of p.now) (expression_of x.now)
+        (numbered_exps (map expression_of args.now)) out.old.items) }
 {
     value(p, x, out)?;
     values(p, args, out)?;
@@ -127,7 +128,8 @@ fn copy(
     args: &[Expr],
     out: &mut Vec<Instr>,
 ) -> Result<(), Memory>
-    ensures { OnOk result (out.new.items ≡ on.copy_on (where_of p.now) place (expression_of x.now) (numbered_exps (map expression_of args.now)) out.old.items) }
+    ensures { OnOk result (out.new.items ≡ on.copy_on (where_of p.now) place (expression_of x.now)
+        (numbered_exps (map expression_of args.now)) out.old.items) }
 {
     let n = slot_count(p)?;
     both(p, x, args, out)?;
@@ -194,7 +196,8 @@ fn exchange(
     args: &[Expr],
     out: &mut Vec<Instr>,
 ) -> Result<(), Memory>
-    ensures { OnOk result (out.new.items ≡ on.exchange_on (where_of p.now) place (expression_of x.now) (numbered_exps (map expression_of args.now)) out.old.items) }
+    ensures { OnOk result (out.new.items ≡ on.exchange_on (where_of p.now) place (expression_of x.now)
+        (numbered_exps (map expression_of args.now)) out.old.items) }
 {
     let n = slot_count(p)?;
     both(p, x, args, out)?;
@@ -207,7 +210,8 @@ fn exchange(
 
 // `r.delete()`
 fn delete(p: &Position, place: Place, x: &Expr, out: &mut Vec<Instr>) -> Result<(), Memory>
-    ensures { OnOk result (out.new.items ≡ on.value_on (where_of p.now) (expression_of x.now) out.old.items ++ i.Arrive coll.DeleteRegion place ∷ i.Depart place ∷ []) }
+    ensures { OnOk result (out.new.items ≡ on.value_on (where_of p.now) (expression_of x.now) out.old.items
+        ++ i.Arrive coll.DeleteRegion place ∷ i.Depart place ∷ []) }
 {
     value(p, x, out)?;
     out.extend_from_slice(&[
@@ -235,7 +239,8 @@ fn form(
     whole: &Expr,
     out: &mut Vec<Instr>,
 ) -> Result<(), Memory>
-    ensures { OnOk result (out.new.items ≡ on.form_on (where_of p.now) (option_map built_in_of member) place (expression_of receiver.now) (numbered_exps (map expression_of args.now)) (expression_of whole.now) out.old.items) }
+    ensures { OnOk result (out.new.items ≡ on.form_on (where_of p.now) (option_map built_in_of member) place (expression_of receiver.now)
+        (numbered_exps (map expression_of args.now)) (expression_of whole.now) out.old.items) }
 {
     match member {
         Some(BuiltIn::Copy) => copy(p, place, receiver, args, out),
@@ -246,7 +251,7 @@ fn form(
 }
 
 // An expression that is no call of a declared method.
-#[tactic(auto, using(ti_lang::proofs::ProgramBridges::program_bridges))]
+#[tactic(auto, using(ti_lang::proofs::Lemmas::program_bridges))]
 fn other(p: &Position, x: &Expr, out: &mut Vec<Instr>) -> Result<(), Memory>
     ensures { OnOk result (out.new.items ≡ on.other_on (where_of p.now) (expression_of x.now) out.old.items) }
 {

@@ -25,7 +25,9 @@ pub fn valued(
     x: &Expr,
     out: &mut Vec<Instr>,
 ) -> Result<(), Memory>
-    ensures { OnOk result (out.new.items ≡ valued_on (where_of p.now) (receiver_of receiver.entry) (expression_of x.now) (call_by (expression_of x.now) (called_method (where_of p.now).program (where_of p.now).this (expression_of x.now))) out.old.items) }
+    ensures { OnOk result (out.new.items ≡ valued_on (where_of p.now) (receiver_of receiver.entry) (expression_of x.now)
+        (call_by (expression_of x.now) (called_method (where_of p.now).program (where_of p.now).this (expression_of x.now)))
+        out.old.items) }
 {
     let kind = kind_in(p.site.program, p.site.this, x);
     match call_at(p.site.program, p.site.this, x) {

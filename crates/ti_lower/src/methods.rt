@@ -50,7 +50,8 @@ fn result_of(m: &Method) -> Seen
 
 // Slots for parameters.
 fn push_params<'p>(params: &'p [Param], slots: &mut Slots<'p>) -> Result<(), Memory>
-    ensures { OnOk result (names_in slots.new ≡ frame.param_names (parameters_from 0 (map numbered_param_of params.now)) (names_in slots.old)) }
+    ensures { OnOk result (names_in slots.new ≡ frame.param_names (parameters_from 0 (map numbered_param_of params.now))
+        (names_in slots.old)) }
 {
     for (i, param) in params.iter().enumerate() {
         let number = counted(i)?;
@@ -115,7 +116,8 @@ fn write<'p>(
 
 // The same with all targets known. What has no forward jumps is the same whatever is known.
 fn write_known(alloc: Global, program: &Parts, m: &Method) -> Result<Vec<Instr>, Memory>
-    ensures { IfOk result (λ code. code.items ≡ (body_on (program_of program.now) (numbered_method_of m.now) (body_on (program_of program.now) (numbered_method_of m.now) []).targets).code) }
+    ensures { IfOk result (λ code. code.items ≡ (body_on (program_of program.now) (numbered_method_of m.now)
+        (body_on (program_of program.now) (numbered_method_of m.now) []).targets).code) }
 {
     let first = write(alloc, program, m, &[])?;
     if first.targets.is_empty() {

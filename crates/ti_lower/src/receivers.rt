@@ -67,7 +67,8 @@ fn update_slot(
     right: Right,
     out: &mut Vec<Instr>,
 ) -> Result<(), Memory>
-    ensures { OnOk result (out.new.items ≡ update_on (where_of p.now) u.now.place u.now.read u.now.operation u.now.known (seen u.now.ty) (InSlot (variable_of v.now)) (source_of right.entry) out.old.items) }
+    ensures { OnOk result (out.new.items ≡ update_on (where_of p.now) u.now.place u.now.read u.now.operation u.now.known (seen u.now.ty)
+        (InSlot (variable_of v.now)) (source_of right.entry) out.old.items) }
 {
     add(loaded(p, v)?, out)?;
     operated(p, u, right, out)?;
@@ -82,7 +83,8 @@ fn update_field(
     right: Right,
     out: &mut Vec<Instr>,
 ) -> Result<(), Memory>
-    ensures { OnOk result (out.new.items ≡ update_on (where_of p.now) u.now.place u.now.read u.now.operation u.now.known (seen u.now.ty) (InField field) (source_of right.entry) out.old.items) }
+    ensures { OnOk result (out.new.items ≡ update_on (where_of p.now) u.now.place u.now.read u.now.operation u.now.known (seen u.now.ty)
+        (InField field) (source_of right.entry) out.old.items) }
 {
     out.extend_from_slice(&[Instr::Dup, Instr::GetField(field, u.read)])?;
     operated(p, u, right, out)?;
@@ -96,7 +98,8 @@ fn update_element(
     right: Right,
     out: &mut Vec<Instr>,
 ) -> Result<(), Memory>
-    ensures { OnOk result (out.new.items ≡ update_on (where_of p.now) u.now.place u.now.read u.now.operation u.now.known (seen u.now.ty) InElement (source_of right.entry) out.old.items) }
+    ensures { OnOk result (out.new.items ≡ update_on (where_of p.now) u.now.place u.now.read u.now.operation u.now.known
+        (seen u.now.ty) InElement (source_of right.entry) out.old.items) }
 {
     let n = slot_behind(p, 0)?;
     let m = slot_behind(p, 1)?;
@@ -126,7 +129,8 @@ fn update(
     right: Right,
     out: &mut Vec<Instr>,
 ) -> Result<(), Memory>
-    ensures { OnOk result (out.new.items ≡ update_on (where_of p.now) u.now.place u.now.read u.now.operation u.now.known (seen u.now.ty) (target_kind target.entry) (source_of right.entry) out.old.items) }
+    ensures { OnOk result (out.new.items ≡ update_on (where_of p.now) u.now.place u.now.read u.now.operation u.now.known (seen u.now.ty)
+        (target_kind target.entry) (source_of right.entry) out.old.items) }
 {
     match target {
         Target::Slot(v) => update_slot(p, u, v, right, out),
@@ -146,7 +150,8 @@ fn updated(
     right: Right,
     out: &mut Vec<Instr>,
 ) -> Result<(), Memory>
-    ensures { OnOk result (out.new.items ≡ into_on (where_of p.now) (Updated place_of operator (expression_of target.now)) kind known (source_of right.entry) out.old.items) }
+    ensures { OnOk result (out.new.items ≡ into_on (where_of p.now) (Updated place_of operator (expression_of target.now)) kind known
+        (source_of right.entry) out.old.items) }
 {
     let ty = type_in_text(p.site.program, p.site.this, target);
     let written = target_of(p, target)?;
@@ -186,7 +191,8 @@ fn assigned(
     right: Right,
     out: &mut Vec<Instr>,
 ) -> Result<(), Memory>
-    ensures { OnOk result (out.new.items ≡ assigned_on (where_of p.now) place_of (expression_of target.now) known (source_of right.entry) out.old.items) }
+    ensures { OnOk result (out.new.items ≡ assigned_on (where_of p.now) place_of (expression_of target.now) known
+        (source_of right.entry) out.old.items) }
 {
     place(p, target, out)?;
     source(p, right, out)?;
@@ -203,7 +209,8 @@ pub fn into(
     right: Right,
     out: &mut Vec<Instr>,
 ) -> Result<(), Memory>
-    ensures { OnOk result (out.new.items ≡ into_on (where_of p.now) (receiver_of receiver.entry) kind known (source_of right.entry) out.old.items) }
+    ensures { OnOk result (out.new.items ≡ into_on (where_of p.now) (receiver_of receiver.entry) kind known
+        (source_of right.entry) out.old.items) }
 {
     match receiver {
         Receiver::Nowhere => {
@@ -259,7 +266,8 @@ fn late_assigned(
     known: Known,
     out: &mut Vec<Instr>,
 ) -> Result<(), Memory>
-    ensures { OnOk result (out.new.items ≡ late_on (where_of p.now) (Assigned place_of (expression_of target.now)) kind known out.old.items) }
+    ensures { OnOk result (out.new.items ≡ late_on (where_of p.now)
+        (Assigned place_of (expression_of target.now)) kind known out.old.items) }
 {
     match target {
         Expr::Variable(_, v) => {

@@ -98,7 +98,7 @@ pub fn target_of<'a>(p: &Position, target: &'a Expr) -> Result<Target<'a>, Memor
 }
 
 /// The reference and the index of a target.
-#[tactic(auto, using(crate::proofs::Hiding::hidden_slots, ti_lang::proofs::ProgramBridges::program_bridges))]
+#[tactic(auto, using(crate::proofs::Hiding::hidden_slots, ti_lang::proofs::Lemmas::program_bridges))]
 pub fn place(p: &Position, target: &Expr, out: &mut Vec<Instr>) -> Result<(), Memory>
     ensures { OnOk result (out.new.items ≡ place_on (where_of p.now) (expression_of target.now) out.old.items) }
 {
@@ -143,7 +143,8 @@ pub fn store(
     target: Target,
     out: &mut Vec<Instr>,
 ) -> Result<(), Memory>
-    ensures { OnOk result (out.new.items ≡ stored_on (where_of p.now) place (seen ty.entry) known (target_kind target.entry) out.old.items) }
+    ensures { OnOk result (out.new.items ≡ stored_on (where_of p.now) place (seen ty.entry) known
+        (target_kind target.entry) out.old.items) }
 {
     add_conversion(place, ty, known, out)?;
     add_store(p, place, target, out)

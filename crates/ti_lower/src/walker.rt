@@ -54,7 +54,8 @@ fn step(
     target: &Expr,
     out: &mut Vec<Instr>,
 ) -> Result<(), Memory>
-    ensures { OnOk result (out.new.items ≡ init_on (where_of p.now) (Updated place (one_more_spec operator) (expression_of target.now)) (s.Value (e.Int place (pos 1))) out.old.items) }
+    ensures { OnOk result (out.new.items ≡ init_on (where_of p.now) (Updated place (one_more_spec operator) (expression_of target.now))
+        (s.Value (e.Int place (pos 1))) out.old.items) }
 {
     let receiver = Receiver::Updated {
         place,
@@ -92,7 +93,8 @@ fn barrier(place: Place, out: &mut Vec<Instr>) -> Result<(), Memory>
 
 // In no loop a jump leads to the next instruction.
 fn leave(slots: &Slots, out: &mut Vec<Instr>) -> Result<(), Memory>
-    ensures { OnOk result (out.new.items ≡ out.old.items ++ i.Trim (length (names_in slots.now)) ∷ i.Jump (length out.old.items + 1 + 1) ∷ []) }
+    ensures { OnOk result (out.new.items ≡ out.old.items ++ i.Trim (length (names_in slots.now)) ∷ i.Jump (length out.old.items + 1 + 1)
+        ∷ []) }
 {
     let next = number_behind(out.len(), 2)?;
     add(Instr::Trim(counted(slots.len())?), out)?;
@@ -101,7 +103,8 @@ fn leave(slots: &Slots, out: &mut Vec<Instr>) -> Result<(), Memory>
 
 // Out of the innermost loop.
 fn break_out(l: Option<Labels>, slots: &Slots, out: &mut Vec<Instr>) -> Result<(), Memory>
-    ensures { OnOk result (out.new.items ≡ out.old.items ++ break_code (option_map labels_of l) (names_in slots.now) (length out.old.items)) }
+    ensures { OnOk result (out.new.items ≡ out.old.items ++ break_code (option_map labels_of l) (names_in slots.now)
+        (length out.old.items)) }
 {
     match l {
         None => leave(slots, out),
@@ -117,7 +120,8 @@ fn break_out(l: Option<Labels>, slots: &Slots, out: &mut Vec<Instr>) -> Result<(
 
 // On to the next turn of the innermost loop.
 fn go_on(l: Option<Labels>, slots: &Slots, out: &mut Vec<Instr>) -> Result<(), Memory>
-    ensures { OnOk result (out.new.items ≡ out.old.items ++ continue_code (option_map labels_of l) (names_in slots.now) (length out.old.items)) }
+    ensures { OnOk result (out.new.items ≡ out.old.items ++ continue_code (option_map labels_of l) (names_in slots.now)
+        (length out.old.items)) }
 {
     match l {
         None => leave(slots, out),
@@ -136,7 +140,8 @@ fn returns(
     x: &Option<Expr>,
     out: &mut Vec<Instr>,
 ) -> Result<(), Memory>
-    ensures { OnOk result (out.new.items ≡ returned_on (where_of p.now) place (seen result_type.entry) (maybe_of expression_of x.now) out.old.items) }
+    ensures { OnOk result (out.new.items ≡ returned_on (where_of p.now) place (seen result_type.entry)
+        (maybe_of expression_of x.now) out.old.items) }
 {
     match x {
         None => add(Instr::Return, out),
@@ -237,7 +242,8 @@ fn begin_walk(b: &Body, place: Place, variable: u32, w: &mut Written) -> Result<
 
 // The condition of a loop; a missing one holds.
 fn condition<'p>(b: &Body<'p>, c: Option<&'p Expr>, w: &mut Written<'p>) -> Result<(), Memory>
-    ensures { OnOk result (written_of w.new ≡ coded (written_of w.old) (on.condition_in b.now (option_map (λ x. expression_of x.now) c.entry) (written_of w.old))) }
+    ensures { OnOk result (written_of w.new ≡ coded (written_of w.old)
+        (on.condition_in b.now (option_map (λ x. expression_of x.now) c.entry) (written_of w.old))) }
 {
     match c {
         None => add(Instr::Const(Value::Bool(true)), &mut w.code),
@@ -326,7 +332,8 @@ fn close_loop<'p>(
     c: Option<&'p Expr>,
     w: &mut Written<'p>,
 ) -> Result<(), Memory>
-    ensures { OnOk result (written_of w.new ≡ on.loop_ended b.now t.now.target t.now.at (option_map (λ x. expression_of x.now) c.entry) (closed (t.now.target + 1) t.now.slots (written_of w.old))) }
+    ensures { OnOk result (written_of w.new ≡ on.loop_ended b.now t.now.target t.now.at (option_map (λ x. expression_of x.now) c.entry)
+        (closed (t.now.target + 1) t.now.slots (written_of w.old))) }
 {
     w.close(later(t.target, 1)?, t.slots)?;
     end_loop(b, t.target, t.at, c, w)
@@ -340,7 +347,8 @@ fn close_for<'p>(
     slots: usize,
     w: &mut Written<'p>,
 ) -> Result<(), Memory>
-    ensures { OnOk result (written_of w.new ≡ trimming slots (on.loop_ended b.now t.now.target t.now.at (maybe_of expression_of c.now) (closed (t.now.target + 1) t.now.slots (written_of w.old)))) }
+    ensures { OnOk result (written_of w.new ≡ trimming slots (on.loop_ended b.now t.now.target t.now.at (maybe_of expression_of c.now)
+        (closed (t.now.target + 1) t.now.slots (written_of w.old)))) }
 {
     close_loop(b, t, there(c), w)?;
     w.trim(slots)
@@ -355,7 +363,8 @@ fn walk<'p>(
     body: &'p Stmt,
     w: &mut Written<'p>,
 ) -> Result<(), Memory>
-    ensures { OnOk result (written_of w.new ≡ on.walked_in b.now place variable (on.stm_in b.now (statement_of body.now)) (written_of w.old)) }
+    ensures { OnOk result (written_of w.new ≡ on.walked_in b.now place variable (on.stm_in b.now (statement_of body.now))
+        (written_of w.old)) }
 {
     let k = w.targets.len();
     let n = w.slots.len();
@@ -377,7 +386,8 @@ pub fn statements<'p>(
     l: Option<Labels>,
     w: &mut Written<'p>,
 ) -> Result<(), Memory>
-    ensures { OnOk result (written_of w.new ≡ on.stms_in b.now (numbered_stms (map statement_of xs.now)) (option_map labels_of l) (written_of w.old)) }
+    ensures { OnOk result (written_of w.new ≡ on.stms_in b.now (numbered_stms (map statement_of xs.now)) (option_map labels_of l)
+        (written_of w.old)) }
 {
     for x in xs {
         statement(b, x, l, w)?;
@@ -393,7 +403,8 @@ fn block<'p>(
     l: Option<Labels>,
     w: &mut Written<'p>,
 ) -> Result<(), Memory>
-    ensures { OnOk result (written_of w.new ≡ trimming (length (written_of w.old).names) (on.stms_in b.now (numbered_stms (map statement_of xs.now)) (option_map labels_of l) (written_of w.old))) }
+    ensures { OnOk result (written_of w.new ≡ trimming (length (written_of w.old).names)
+        (on.stms_in b.now (numbered_stms (map statement_of xs.now)) (option_map labels_of l) (written_of w.old))) }
 {
     let n = w.slots.len();
     statements(b, xs, l, w)?;
@@ -402,7 +413,7 @@ fn block<'p>(
 
 // A statement.
 #[cycle(statement)]
-#[tactic(auto, using(ti_lang::proofs::ProgramBridges::program_bridges))]
+#[tactic(auto, using(ti_lang::proofs::Lemmas::program_bridges))]
 fn statement<'p>(
     b: &Body<'p>,
     x: &'p Stmt,

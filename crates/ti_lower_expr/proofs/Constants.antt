@@ -47,12 +47,12 @@ is_simple (i.EmptyDom dim) = false
 is_simple other = true
 
 -- an instruction that code may have: a point or a domain in it is the zero of a type
-abbrev pub Comes : Instr → Type 0
-Comes x = (is_simple x ≡ true) ⊎ ((d : Declaration) × (x ≡ constant (zero_declared d)))
+abbrev pub IsLowered : Instr → Type 0
+IsLowered x = (is_simple x ≡ true) ⊎ ((d : Declaration) × (x ≡ constant (zero_declared d)))
 
 -- each of these instructions is one
 pub record AllCome (is : List Instr) : Type 0 where
-  pub each : All Comes is
+  pub each : All IsLowered is
 
 -- ---- they are in their form
 
@@ -84,33 +84,33 @@ declared_formed (Typed is_single type) = zero_formed type
 declared_formed Foreach = tt
 
 -- what code may have is in its form
-pub formed_from_comes : (x : Instr) → Comes x → IsFormedInstr x
+pub formed_from_comes : (x : Instr) → IsLowered x → IsFormedInstr x
 formed_from_comes x (inl e) = simple_formed x e
 formed_from_comes x (inr z) = subst IsFormedInstr (sym z.1) (declared_formed z.0)
 
 -- ---- pieces of code
 
-all_simple : (is : List Instr) → IsTrue (list_all is_simple is) → All Comes is
-all_simple [] e = All-nil Comes
-all_simple (x ∷ xs) e = let parts = and_parts (is_simple x) (list_all is_simple xs) e in All-cons Comes x xs (inl parts.0) (all_simple xs parts.1)
+all_simple : (is : List Instr) → IsTrue (list_all is_simple is) → All IsLowered is
+all_simple [] e = All-nil IsLowered
+all_simple (x ∷ xs) e = let parts = and_parts (is_simple x) (list_all is_simple xs) e in All-cons IsLowered x xs (inl parts.0) (all_simple xs parts.1)
 
 pub simple_come : {is : List Instr} → IsTrue (list_all is_simple is) → AllCome is
 simple_come {is} e = record { each = all_simple is e }
 
 pub both_come : {xs ys : List Instr} → AllCome xs → AllCome ys → AllCome (xs ++ ys)
-both_come {xs} {ys} f g = record { each = All-append Comes xs ys f.each g.each }
+both_come {xs} {ys} f g = record { each = All-append IsLowered xs ys f.each g.each }
 
 -- an instruction comes first
-pub next_comes : {x : Instr} {xs : List Instr} → Comes x → AllCome xs → AllCome (x ∷ xs)
-next_comes {x} {xs} c f = record { each = All-cons Comes x xs c f.each }
+pub next_comes : {x : Instr} {xs : List Instr} → IsLowered x → AllCome xs → AllCome (x ∷ xs)
+next_comes {x} {xs} c f = record { each = All-cons IsLowered x xs c f.each }
 
 -- a simple one
 pub then_come : {x : Instr} {xs : List Instr} → is_simple x ≡ true → AllCome xs → AllCome (x ∷ xs)
-then_come {x} {xs} e f = record { each = All-cons Comes x xs (inl e) f.each }
+then_come {x} {xs} e f = record { each = All-cons IsLowered x xs (inl e) f.each }
 
 -- ---- instructions of expressions
 
-pub loaded_comes : (o : Option ℕ) (x : VariableUse) → Comes (loaded o x)
+pub loaded_comes : (o : Option ℕ) (x : VariableUse) → IsLowered (loaded o x)
 loaded_comes (Some k) x = inl refl
 loaded_comes None x = inr (x.declared, refl)
 

@@ -44,7 +44,10 @@ use Rattle.ti_lower_expr.specs.declared.kinds.Known.{Known}
 use Rattle.ti_lower_expr.specs.declared.kinds.Known.TheVariants as known
 use Rattle.ti_lower_expr.specs.declared.kinds.Laziness.{Laziness}
 use Rattle.ti_lower_expr.specs.declared.kinds.Laziness.TheVariants.{Never, Where}
-use Rattle.ti_lower_expr.specs.Coding.{operation, operation_in, kind_of_ranges, how_many_ranges, rect_instr, local_test, alone_code, code_of, code_of_all, code_of_range, code_of_ranges, laziness, operator_code, jump_where, constant, loaded, own, into_int, into_long, into_object, into_grid, conversion, kind_code, pops, member_code, index_code}
+use Rattle.ti_lower_expr.specs.Coding.{operation, operation_in, kind_of_ranges, how_many_ranges, rect_instr, local_test, alone_code}
+use Rattle.ti_lower_expr.specs.Coding.{code_of, code_of_all, code_of_range, code_of_ranges, laziness, operator_code, jump_where, constant}
+use Rattle.ti_lower_expr.specs.Coding.{loaded, own, into_int, into_long, into_object, into_grid, conversion, kind_code, pops, member_code}
+use Rattle.ti_lower_expr.specs.Coding.{index_code}
 use Rattle.ti_lower_expr.specs.Knowing.{IsKnown, known_of}
 use Rattle.ti_lower_expr.specs.Doing as doing
 use Rattle.ti_lower_expr.specs.Doing.{Outcome, Does, who_in}
@@ -232,7 +235,8 @@ module _ (c : List Instr) (env : Env) (names : List Name) (slots : List Held) (h
       → (rs : List Answer) → Alike who c ((needed p a object >>= f) rs) ((needed p b object >>= g) rs)
   needed_alike p a b object f g h rs = by (thing_of object)
     where
-      by : (o : Option Id) → Alike who c (followed ((found_or NullRef p o >>= λ id. gives (record { thing = id; type = a })) rs) f) (followed ((found_or NullRef p o >>= λ id. gives (record { thing = id; type = b })) rs) g)
+      by : (o : Option Id) → Alike who c (followed ((found_or NullRef p o >>= λ id. gives (record { thing = id; type = a })) rs) f)
+          (followed ((found_or NullRef p o >>= λ id. gives (record { thing = id; type = b })) rs) g)
       by None = refl
       by (Some id) = h id rs
 
@@ -328,7 +332,8 @@ module _ (c : List Instr) (env : Env) (names : List Name) (slots : List Held) (h
   kind_does k p type through n h hs at stack z st =
       does_one who c (Pushes (at + 1) stack) (spot at (pushed hs (h ∷ stack))) (member p type (Some (member_of k)) through h hs) (member p t.Void (Some (member_of k)) t.Void h hs)
       (λ x. spot (at + 1) (x ∷ stack)) (i.Member k n p) st.0 (member_alike p type through t.Void (member_of k) h hs)
-      (λ rs. ap₂ (λ xs ys. followed (member p t.Void (Some (member_of k)) t.Void (top ys) xs rs) (λ x. gives (spot (at + 1) (x ∷ below ys)))) (taken_all n hs (h ∷ stack) z) (under_all n hs (h ∷ stack) z))
+      (λ rs. ap₂ (λ xs ys. followed (member p t.Void (Some (member_of k)) t.Void (top ys) xs rs)
+      (λ x. gives (spot (at + 1) (x ∷ below ys)))) (taken_all n hs (h ∷ stack) z) (under_all n hs (h ∷ stack) z))
       (λ x. refl)
 
   member_does : (o : Option b.BuiltIn) (p : Place) (type through : ValueType) (n : ℕ) (h : Held) (hs : List Held) (at : ℕ) (stack : List Held) → length hs ≡ n → Stands c at (member_code o n p)
@@ -349,7 +354,8 @@ module _ (c : List Instr) (env : Env) (names : List Name) (slots : List Held) (h
   -- ---- operators
 
   -- an operator behind its left operand, where this decides
-  settles : (left : Bool) (o : BinaryOperator) (name : Operation) (p : Place) (h : Held) (y : Asking Held) (right : ℕ → List Instr) (at : ℕ) (stack : List Held) → laziness o ≡ Where left → truth_of h ≡ left
+  settles : (left : Bool) (o : BinaryOperator) (name : Operation) (p : Place) (h : Held) (y : Asking Held) (right : ℕ → List Instr) (at : ℕ)
+      (stack : List Held) → laziness o ≡ Where left → truth_of h ≡ left
       → Stands c at (operator_code (Where left) name p at right) → Does who c (spot at (h ∷ stack)) (with_right p o h y) (Pushes (behind at (operator_code (Where left) name p at right)) stack)
   settles left o name p h y right at stack z x st =
       let code = right (at + 1) in
@@ -358,11 +364,13 @@ module _ (c : List Instr) (env : Env) (names : List Name) (slots : List Held) (h
       let all = behind at (operator_code (Where left) name p at right) in
       subst (λ s. Does who c (spot at (h ∷ stack)) (unless_settled s (y >>= λ k. operated p o h k)) (Pushes all stack)) (sym (lazily_settled o left h z x))
       (moved (end + 1 + 1) all stack (spot at (h ∷ stack)) (gives (truth left)) (sym (behind_both (at + 1) code tail))
-      (does_behind who c (Pushes (end + 1 + 1) stack) (spot at (h ∷ stack)) (spot (end + 1) stack) (gives (truth left)) (jump_where left (end + 1)) st.0 (λ rs. jumps who left (end + 1) (spot at (h ∷ stack)) rs x)
+      (does_behind who c (Pushes (end + 1 + 1) stack) (spot at (h ∷ stack)) (spot (end + 1) stack) (gives (truth left))
+      (jump_where left (end + 1)) st.0 (λ rs. jumps who left (end + 1) (spot at (h ∷ stack)) rs x)
       (instr (i.Const (v.Bool left)) (gives (truth left)) (spot (end + 1) stack) (end + 1 + 1) stack (rest_stands c (at + 1) code tail st.1).1.0 (λ rs. refl))))
 
   -- where it doesn't
-  goes_on : (left : Bool) (o : BinaryOperator) (name : Operation) (p : Place) (h : Held) (y : Asking Held) (right : ℕ → List Instr) (at : ℕ) (stack : List Held) → laziness o ≡ Where left → truth_of h ≡ not left
+  goes_on : (left : Bool) (o : BinaryOperator) (name : Operation) (p : Place) (h : Held) (y : Asking Held) (right : ℕ → List Instr) (at : ℕ)
+      (stack : List Held) → laziness o ≡ Where left → truth_of h ≡ not left
       → ((from : ℕ) (under : List Held) → Stands c from (right from) → Does who c (spot from under) y (Pushes (behind from (right from)) under))
       → Stands c at (operator_code (Where left) name p at right) → Does who c (spot at (h ∷ stack)) (with_right p o h y) (Pushes (behind at (operator_code (Where left) name p at right)) stack)
   goes_on left o name p h y right at stack z x d st =
@@ -375,7 +383,8 @@ module _ (c : List Instr) (env : Env) (names : List Name) (slots : List Held) (h
       (moved (end + 1 + 1) all stack (spot at (h ∷ stack)) more (sym (behind_both (at + 1) code tail))
       (does_behind who c (Pushes (end + 1 + 1) stack) (spot at (h ∷ stack)) (spot (at + 1) stack) more (jump_where left (end + 1)) st.0 (λ rs. jumps_not who left (end + 1) (spot at (h ∷ stack)) rs x)
       (next (Pushes (end + 1 + 1) stack) end stack (spot (at + 1) stack) y (λ k. operated p o h k) (d (at + 1) stack (front_stands c (at + 1) code tail st.1))
-      (λ k. does_behind who c (Pushes (end + 1 + 1) stack) (spot end (k ∷ stack)) (spot (end + 1 + 1) (k ∷ stack)) (operated p o h k) (i.Jump (end + 1 + 1)) (rest_stands c (at + 1) code tail st.1).0 (λ rs. refl)
+      (λ k. does_behind who c (Pushes (end + 1 + 1) stack) (spot end (k ∷ stack)) (spot (end + 1 + 1) (k ∷ stack)) (operated p o h k)
+      (i.Jump (end + 1 + 1)) (rest_stands c (at + 1) code tail st.1).0 (λ rs. refl)
       (λ rs. subst (λ g. Outcome who c (Pushes (end + 1 + 1) stack) (spot (end + 1 + 1) (k ∷ stack)) rs g) (sym (lazily_right o left p h k rs z)) (value k (end + 1 + 1) stack rs))))))
 
   decide : (a b : Bool) → (a ≡ b) ⊎ (a ≡ not b)
@@ -385,7 +394,8 @@ module _ (c : List Instr) (env : Env) (names : List Name) (slots : List Held) (h
   decide false false = inl refl
 
   -- an operator behind its left operand, given what its right operand's code does wherever it stands
-  operator_does : (l : Laziness) (o : BinaryOperator) (name : Operation) (p : Place) (h : Held) (y : Asking Held) (right : ℕ → List Instr) (at : ℕ) (stack : List Held) → laziness o ≡ l → operator_of name ≡ o
+  operator_does : (l : Laziness) (o : BinaryOperator) (name : Operation) (p : Place) (h : Held) (y : Asking Held) (right : ℕ → List Instr)
+      (at : ℕ) (stack : List Held) → laziness o ≡ l → operator_of name ≡ o
       → ((from : ℕ) (under : List Held) → Stands c from (right from) → Does who c (spot from under) y (Pushes (behind from (right from)) under))
       → Stands c at (operator_code l name p at right) → Does who c (spot at (h ∷ stack)) (with_right p o h y) (Pushes (behind at (operator_code l name p at right)) stack)
   operator_does Never o name p h y right at stack z w d st =
@@ -450,7 +460,9 @@ module _ (c : List Instr) (env : Env) (names : List Name) (slots : List Held) (h
     does (e.This p) at stack st = own_does (has_this names) at stack (own_held env.this names env.variables env.turns slots holds) st
     does (e.Variable p x) at stack st =
         subst (λ h. Does who c (spot at stack) (gives h) (Pushes (at + 1) stack)) (sym (value_is x.declared env x))
-        (load_does (find_slot x names) x _ at stack (subst (λ o. IsFound (find_slot x names) slots o (value_in x.declared x env.variables env.turns)) (zero_is x.declared x refl) (found env.this names env.variables env.turns slots holds x.declared x)) st)
+        (load_does (find_slot x names) x _ at stack (subst (λ o. IsFound (find_slot x names) slots o
+        (value_in x.declared x env.variables env.turns)) (zero_is x.declared x refl)
+        (found env.this names env.variables env.turns slots holds x.declared x)) st)
     does (e.OwnField p field) at stack st =
         next (Pushes (at + 1 + 1) stack) (at + 1) stack (spot at stack) (gives (Plain (v.Obj env.this))) (λ h. fetched p (type_of env (e.OwnField p field)) (Field h (type_of env (e.This p)) field))
         (own_does (has_this names) at stack (own_held env.this names env.variables env.turns slots holds) (st.0, tt))
@@ -568,10 +580,17 @@ module _ (c : List Instr) (env : Env) (names : List Name) (slots : List Held) (h
         let first = code x at in
         let more = code_all xs (behind at first) in
         let Q = PushesNumbers (behind at (first ++ more)) stack (how_many xs + 1) in
-        next Q (behind at first) stack (spot at stack) (eval env x) (λ h rs. followed (eval_numbers env xs rs) (λ ns. gives (literal.numbers_in h ++ ns))) (does x at stack (front_stands c at first more st))
-        (λ h. does_then who c (PushesNumbers (behind (behind at first) more) (h ∷ stack) (how_many xs)) Q (spot (behind at first) (h ∷ stack)) (eval_numbers env xs) (λ ns. gives (literal.numbers_in h ++ ns))
+        next Q (behind at first) stack (spot at stack) (eval env x) (λ h rs. followed (eval_numbers env xs rs)
+        (λ ns. gives (literal.numbers_in h ++ ns))) (does x at stack (front_stands c at first more st))
+        (λ h. does_then who c (PushesNumbers (behind (behind at first) more) (h ∷ stack) (how_many xs)) Q
+        (spot (behind at first) (h ∷ stack)) (eval_numbers env xs) (λ ns. gives (literal.numbers_in h ++ ns))
         (numbers_do xs (behind at first) (h ∷ stack) (rest_stands c at first more st))
-        (λ ns s k. does_value who c Q s (literal.numbers_in h ++ ns) (h ∷ k.0, ap (λ r. literal.numbers_in h ++ r) k.1, omega (arith, k.2), k.3 ∙ ap (λ n. spot n (pushed k.0 (h ∷ stack))) (sym (behind_both at first more)))))
+        (λ ns s k. does_value who c Q s (literal.numbers_in h ++ ns) (
+          h ∷ k.0,
+          ap (λ r. literal.numbers_in h ++ r) k.1,
+          omega (arith, k.2),
+          k.3 ∙ ap (λ n. spot n (pushed k.0 (h ∷ stack))) (sym (behind_both at first more)),
+        )))
 
     pub range_does : (r : NumberedRange) (at : ℕ) (stack : List Held) → Stands c at (range_code r at)
         → Does who c (spot at stack) (eval_range env r) (PushesRange (behind at (range_code r at)) stack)

@@ -358,7 +358,8 @@ same_declared_known Foreach (Typed s x) e = absurd (not_true e)
 pub same_known : (x y : VariableUse) → same_variable x y ≡ true → known_declared x.declared ≡ known_declared y.declared
 same_known x y e = same_declared_known x.declared y.declared (right_holds (x.number == y.number) (same_declaration x.declared y.declared) e)
 
-pub found_known : (this : Option Id) (ns : List Name) (vs : List Variable) (ts : List Turn) (hs : List Held) → Holds this ns vs ts hs → (x : VariableUse) → IsKnown (known_declared x.declared) (find_variable x vs)
+pub found_known : (this : Option Id) (ns : List Name) (vs : List Variable) (ts : List Turn) (hs : List Held) → Holds this ns vs ts hs
+    → (x : VariableUse) → IsKnown (known_declared x.declared) (find_variable x vs)
 found_known this ns vs ts hs (none z) x = declared_zero x.declared
 found_known this ns vs ts hs object x = declared_zero x.declared
 found_known this ns vs ts hs (variable {ns = ms} {vs = us} {ts = rs} {hs = gs} {x = y} {h = g} k h) x = by (same_variable x y) (found_known this ms us rs gs h x) refl

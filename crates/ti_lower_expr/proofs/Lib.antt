@@ -1,12 +1,13 @@
-pub mod Doing
-pub mod Finding
-pub mod Lazily
-pub mod Stepping
-pub mod Knowing
-pub mod Operands
-pub mod Expressions
-pub mod Naming
-pub mod Growing
-pub mod Walked
-pub mod Jumping
-pub mod Constants
+mod Doing
+mod Finding
+mod Lazily
+mod Stepping
+mod Knowing
+mod Operands
+mod Expressions
+mod Naming
+mod Growing
+mod Walked
+mod Jumping
+mod Constants
+pub mod Lemmas

@@ -80,7 +80,8 @@ pub search_from : (x : VariableUse) (xs : List SlotName) (s : ℕ) → ((k : ℕ
     → s ≤ length xs → find_slot x (names_of xs) ≡ find_slot x (names_of (take s xs))
 search_from x xs s none h =
     let all : s + (length xs - s) ≡ length xs = omega (arith, h) in
-    ap (λ ys. find_slot x (names_of ys)) (sym (take_all (length xs) xs (omega arith))) ∙ ap (λ k. find_slot x (names_of (take k xs))) (sym all) ∙ search_begins x xs s (length xs - s) none (omega (arith, h))
+    ap (λ ys. find_slot x (names_of ys)) (sym (take_all (length xs) xs (omega arith)))
+    ∙ ap (λ k. find_slot x (names_of (take k xs))) (sym all) ∙ search_begins x xs s (length xs - s) none (omega (arith, h))
 
 -- ---- `this`
 

@@ -78,7 +78,8 @@ module _ (program : NumberedProgram) (this : Option ℕ) (names : List Name) whe
     walked_is (e.OwnField p field) code = append_assoc code (own (has_this names) ∷ []) (i.GetField field p ∷ [])
     walked_is (e.ThisProc p) code = refl
     walked_is (e.NumProcs p) code = refl
-    walked_is (e.Point p parts) code = two code (walked_all program this names parts code) (code_of_all program this names parts (length code)) (λ j. i.MakePt (how_many parts) ∷ []) (all_is parts code)
+    walked_is (e.Point p parts) code = two code (walked_all program this names parts code)
+        (code_of_all program this names parts (length code)) (λ j. i.MakePt (how_many parts) ∷ []) (all_is parts code)
     walked_is (e.Rect p ranges) code = two code (walked_ranges program this names ranges code) (code_of_ranges program this names ranges (length code))
         (λ j. rect_instr (kind_of_ranges program this ranges) (how_many_ranges ranges) p ∷ []) (ranges_is ranges code)
     walked_is (e.Unary p op x) code = two code (on x code) (of x (length code)) (λ j. alone_code op) (walked_is x code)
@@ -92,11 +93,13 @@ module _ (program : NumberedProgram) (this : Option ℕ) (names : List Name) whe
         two code (on x code) (of x (length code))
         (λ j. i.GetField (unwrap_or (option_and_then (field_numbered program name) (class_of_type (type_in_text program this x))) 0) p ∷ []) (walked_is x code)
     walked_is (e.Member p x name args) code =
-        further code (on x code) (on (e.Member p x name args) code) (of x (length code)) (λ j. code_of_all program this names args j ++ member_code (member_called program this x name) (how_many args) p) (walked_is x code)
+        further code (on x code) (on (e.Member p x name args) code) (of x (length code)) (λ j. code_of_all program this names args j
+        ++ member_code (member_called program this x name) (how_many args) p) (walked_is x code)
         (two (on x code) (walked_all program this names args (on x code)) (code_of_all program this names args (length (on x code)))
         (λ j. member_code (member_called program this x name) (how_many args) p) (all_is args (on x code)))
     walked_is (e.Index p x parts) code =
-        further code (on x code) (on (e.Index p x parts) code) (of x (length code)) (λ j. code_of_all program this names parts j ++ index_code (is_point (type_in_text program this x)) (how_many parts) p) (walked_is x code)
+        further code (on x code) (on (e.Index p x parts) code) (of x (length code)) (λ j. code_of_all program this names parts j
+        ++ index_code (is_point (type_in_text program this x)) (how_many parts) p) (walked_is x code)
         (two (on x code) (walked_all program this names parts (on x code)) (code_of_all program this names parts (length (on x code)))
         (λ j. index_code (is_point (type_in_text program this x)) (how_many parts) p) (all_is parts (on x code)))
     walked_is (e.Call p method args) code = refl
@@ -113,7 +116,8 @@ module _ (program : NumberedProgram) (this : Option ℕ) (names : List Name) whe
         (two (on low code) (on high (on low code)) (of high (length (on low code))) (λ j. i.Step ∷ []) (walked_is high (on low code)))
     range_is (e.Stepped low high step) code =
         further code (on low code) (walked_range program this names (e.Stepped low high step) code) (of low (length code)) (λ j. of high j ++ of step (behind j (of high j))) (walked_is low code)
-        (further (on low code) (on high (on low code)) (on step (on high (on low code))) (of high (length (on low code))) (of step) (walked_is high (on low code)) (walked_is step (on high (on low code))))
+        (further (on low code) (on high (on low code)) (on step (on high (on low code))) (of high (length (on low code))) (of step)
+        (walked_is high (on low code)) (walked_is step (on high (on low code))))
 
     pub ranges_is : (rs : NumberedRanges) (code : List Instr) → walked_ranges program this names rs code ≡ code ++ code_of_ranges program this names rs (length code)
     ranges_is e.NoRange code = sym (append-nil code)

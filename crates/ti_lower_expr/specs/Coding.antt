@@ -144,7 +144,8 @@ jump_where false target = i.JumpIfNot target
 -- is pushed behind it.
 abbrev pub lazy_code : Bool → ℕ → (ℕ → List Instr) → List Instr
 lazy_code left at right =
-    jump_where left (behind (at + 1) (right (at + 1)) + 1) ∷ right (at + 1) ++ i.Jump (behind (at + 1) (right (at + 1)) + 1 + 1) ∷ i.Const (v.Bool left) ∷ []
+    jump_where left (behind (at + 1) (right (at + 1)) + 1) ∷ right (at + 1)
+    ++ i.Jump (behind (at + 1) (right (at + 1)) + 1 + 1) ∷ i.Const (v.Bool left) ∷ []
 
 abbrev pub operator_code : Laziness → Operation → Place → ℕ → (ℕ → List Instr) → List Instr
 operator_code Never name p at right = right at ++ i.Operate name p ∷ []
@@ -229,17 +230,20 @@ module _ (program : NumberedProgram) (this : Option ℕ) (names : List Name) whe
     code_of (e.ThisProc p) at = i.ThisProc ∷ []
     code_of (e.NumProcs p) at = i.NumProcs ∷ []
     code_of (e.Point p parts) at = code_of_all parts at ++ i.MakePt (how_many parts) ∷ []
-    code_of (e.Rect p ranges) at = code_of_ranges ranges at ++ rect_instr (kind_of_ranges program this ranges) (how_many_ranges ranges) p ∷ []
+    code_of (e.Rect p ranges) at =
+        code_of_ranges ranges at ++ rect_instr (kind_of_ranges program this ranges) (how_many_ranges ranges) p ∷ []
     code_of (e.Unary p op x) at = code_of x at ++ alone_code op
     code_of (e.Binary p op x y) at =
         code_of x at ++ operator_code (laziness op) (operation_in program this op x y) p (behind at (code_of x at)) (code_of y)
     code_of (e.Cast p type x) at = code_of x at ++ (conversion p type.type (known_of program this x) ++ local_test p (is_local type.type))
     code_of (e.Select p x name) at =
-        code_of x at ++ i.GetField (unwrap_or (option_and_then (field_numbered program name) (class_of_type (type_in_text program this x))) 0) p ∷ []
+        code_of x at ++ i.GetField (unwrap_or (option_and_then (field_numbered program name) (class_of_type (type_in_text program this x)))
+        0) p ∷ []
     code_of (e.Member p x name args) at =
         code_of x at ++ (code_of_all args (behind at (code_of x at)) ++ member_code (member_called program this x name) (how_many args) p)
     code_of (e.Index p x parts) at =
-        code_of x at ++ (code_of_all parts (behind at (code_of x at)) ++ index_code (is_point (type_in_text program this x)) (how_many parts) p)
+        code_of x at ++ (code_of_all parts (behind at (code_of x at))
+        ++ index_code (is_point (type_in_text program this x)) (how_many parts) p)
     code_of (e.Call p method args) at = i.Const (v.Bool false) ∷ []
     code_of (e.OwnCall p method args) at = i.Const (v.Bool false) ∷ []
 
@@ -252,7 +256,8 @@ module _ (program : NumberedProgram) (this : Option ℕ) (names : List Name) whe
     pub code_of_range : NumberedRange → ℕ → List Instr
     code_of_range (e.Plain low high) at = code_of low at ++ (code_of high (behind at (code_of low at)) ++ i.Step ∷ [])
     code_of_range (e.Stepped low high step) at =
-        code_of low at ++ (code_of high (behind at (code_of low at)) ++ code_of step (behind (behind at (code_of low at)) (code_of high (behind at (code_of low at)))))
+        code_of low at ++ (code_of high (behind at (code_of low at))
+        ++ code_of step (behind (behind at (code_of low at)) (code_of high (behind at (code_of low at)))))
 
     -- of ranges, in order
     pub code_of_ranges : NumberedRanges → ℕ → List Instr

@@ -22,7 +22,8 @@ use ti_lang::program::{Expr, Range};
 
 /// Appends the code of an expression to that of its method. On want of memory some of its instructions may stand there.
 pub fn lower_expr(site: &Site, e: &Expr, out: &mut Vec<Instr>) -> Result<(), Memory>
-    ensures { OnOk result (out.new.items ≡ out.old.items ++ code_of (program_of site.now.program.now) site.now.this (names_in site.now.slots.now) (expression_of e.now) (length out.old.items)) }
+    ensures { OnOk result (out.new.items ≡ out.old.items ++ code_of (program_of site.now.program.now) site.now.this
+        (names_in site.now.slots.now) (expression_of e.now) (length out.old.items)) }
 {
     walk(site, e, out)?;
     Ok(())
@@ -35,7 +36,8 @@ pub fn lower_rect(
     ranges: &[Range],
     out: &mut Vec<Instr>,
 ) -> Result<(), Memory>
-    ensures { OnOk result (out.new.items ≡ out.old.items ++ code_of (program_of site.now.program.now) site.now.this (names_in site.now.slots.now) (rect place (map bound_of ranges.now)) (length out.old.items)) }
+    ensures { OnOk result (out.new.items ≡ out.old.items ++ code_of (program_of site.now.program.now) site.now.this
+        (names_in site.now.slots.now) (rect place (map bound_of ranges.now)) (length out.old.items)) }
 {
     walk_rect(site, place, ranges, out)
 }
@@ -44,5 +46,8 @@ pub fn lower_rect(
 /// scope and the points of the turns, it asks for the actions and has the faults of the meaning, in order and at their places. Where no
 /// fault comes, it pushes the value, leaves the slots as they were, and ends behind its last instruction.
 pub fn expressions_are_done()
-    ensures { (c : List OneInstr) (env : Env) (names : List Name) (slots : List Held) → Holds env.this names env.variables env.turns slots → (x : NumberedExp) (at : ℕ) (stack : List Held) → Stands c at (code_of env.program (this_of env.method) names x at) → Does (who_in env) c (record { at = at; slots = slots; stack = stack }) (eval env x) (Pushes slots (behind at (code_of env.program (this_of env.method) names x at)) stack) }
+    ensures { (c : List OneInstr) (env : Env) (names : List Name) (slots : List Held) → Holds env.this names env.variables env.turns slots
+        → (x : NumberedExp) (at : ℕ) (stack : List Held) → Stands c at (code_of env.program (this_of env.method) names x at)
+        → Does (who_in env) c (record { at = at; slots = slots; stack = stack }) (eval env x)
+        (Pushes slots (behind at (code_of env.program (this_of env.method) names x at)) stack) }
 {}

@@ -15,7 +15,8 @@ use ti_lang::typing::{Seen, field_number};
 /// The number of the field that a name means behind a value of the type; 0 where it means none. A class with more fields than a number of
 /// 32 bits counts is want of memory.
 pub fn field_behind(program: &Parts, t: Seen, name: u32) -> Result<u32, Memory>
-    ensures { IfOk result (λ n. n ≡ unwrap_or (option_and_then (field_numbered_spec (program_of program.now) name) (class_of_type (seen t.entry))) 0) }
+    ensures { IfOk result (λ n. n ≡ unwrap_or (option_and_then (field_numbered_spec (program_of program.now) name)
+        (class_of_type (seen t.entry))) 0) }
 {
     match field_number(program, t, name) {
         Some(n) => counted(n),

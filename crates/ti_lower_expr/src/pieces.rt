@@ -152,7 +152,8 @@ pub fn declared_zero(declared: &Declared) -> Instr
 
 /// Adds the push of what a variable holds.
 pub fn add_variable(slots: &Slots, v: &Variable, out: &mut Vec<Instr>) -> Result<(), Memory>
-    ensures { OnOk result (out.new.items ≡ out.old.items ++ coding.loaded (find_slot (variable_of v.now) (names_in slots.now)) (variable_of v.now) ∷ []) }
+    ensures { OnOk result (out.new.items ≡ out.old.items ++ coding.loaded (find_slot (variable_of v.now) (names_in slots.now))
+        (variable_of v.now) ∷ []) }
 {
     match slots.find(v) {
         Some(k) => {
@@ -314,7 +315,8 @@ fn add_local_test(place: Place, is_local: bool, out: &mut Vec<Instr>) -> Result<
 
 /// A cast of a value, of which so much is known, to a type.
 pub fn add_cast(place: Place, ty: &Ty, known: Known, out: &mut Vec<Instr>) -> Result<(), Memory>
-    ensures { OnOk result (out.new.items ≡ out.old.items ++ coding.conversion place (value_type_of ty.now) known ++ coding.local_test place (is_local (value_type_of ty.now))) }
+    ensures { OnOk result (out.new.items ≡ out.old.items ++ coding.conversion place (value_type_of ty.now) known
+        ++ coding.local_test place (is_local (value_type_of ty.now))) }
 {
     add_conversion(place, Seen::of(ty, false), known, out)?;
     add_local_test(place, is_local(ty), out)

@@ -140,7 +140,8 @@ impl<'p> Slots<'p> {
     // Behind which slot none is for a variable of this number.
     fn end(&self, number: u32) -> usize
         ensures within { result ≤ length self.now.names.items }
-        ensures none_behind { (k : ℕ) → result ≤ k → k < length self.now.names.items → number_of (get_or self.now.names.items k slot.Hidden) ≡ Some number → ⊥ }
+        ensures none_behind { (k : ℕ) → result ≤ k → k < length self.now.names.items → number_of (get_or self.now.names.items k slot.Hidden)
+            ≡ Some number → ⊥ }
     {
         let number = number as usize;
         if number < self.latest.len() {

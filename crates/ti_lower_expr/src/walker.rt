@@ -108,7 +108,9 @@ fn leaf<'s, 'a>(
 // The rectangular domain of its ranges.
 #[tactic(auto, using(crate::proofs::Growing::counts))]
 fn add_rect(s: &Site, place: Place, ranges: &[Range], out: &mut Vec<Instr>) -> Result<(), Memory>
-    ensures { OnOk result (out.new.items ≡ out.old.items ++ coding.rect_instr (coding.kind_of_ranges (program_of s.now.program.now) s.now.this (numbered_ranges (map bound_of ranges.now))) (coding.how_many_ranges (numbered_ranges (map bound_of ranges.now))) place ∷ []) }
+    ensures { OnOk result (out.new.items ≡ out.old.items ++ coding.rect_instr
+        (coding.kind_of_ranges (program_of s.now.program.now) s.now.this (numbered_ranges (map bound_of ranges.now)))
+        (coding.how_many_ranges (numbered_ranges (map bound_of ranges.now))) place ∷ []) }
 {
     let kind = kind_of_ranges(s, ranges);
     add(rect_instr(kind, ranges.len(), place)?, out)
@@ -137,7 +139,10 @@ fn operated<'s, 'a>(
     right: &'a Expr,
     out: &mut Vec<Instr>,
 ) -> Result<Told<'a>, Memory>
-    ensures code { OnOk result (out.new.items ≡ operated (coding.laziness operator) (coding.operation operator (coding.kind_of_type (seen left.entry)) (coding.kind_of_type (type_in s.now (expression_of right.now)))) place (walked_in s.now (expression_of right.now)) out.old.items) }
+    ensures code { OnOk result (out.new.items ≡ operated (coding.laziness operator)
+        (coding.operation operator (coding.kind_of_type (seen left.entry))
+        (coding.kind_of_type (type_in s.now (expression_of right.now)))) place
+        (walked_in s.now (expression_of right.now)) out.old.items) }
     ensures ty { IfOk result (λ t. seen t.ty ≡ type_in s.now (expression_of right.now)) }
     ensures known { IfOk result (λ t. t.known ≡ known_in s.now (expression_of right.now)) }
 {
@@ -224,7 +229,9 @@ fn field<'s, 'a>(
     name: u32,
     out: &mut Vec<Instr>,
 ) -> Result<Told<'a>, Memory>
-    ensures code { OnOk result (out.new.items ≡ out.old.items ++ i.GetField (unwrap_or (option_and_then (field_numbered (program_of s.now.program.now) name) (class_of_type (seen receiver.entry))) 0) place ∷ []) }
+    ensures code { OnOk result (out.new.items ≡ out.old.items ++ i.GetField
+        (unwrap_or (option_and_then (field_numbered (program_of s.now.program.now) name) (class_of_type (seen receiver.entry))) 0) place
+        ∷ []) }
     ensures ty { IfOk result (λ t. seen t.ty ≡ field_spec (program_of s.now.program.now) name (seen receiver.entry)) }
     ensures known { IfOk result (λ t. t.known ≡ known.Other) }
 {
@@ -239,7 +246,7 @@ fn field<'s, 'a>(
 }
 
 // A member form behind its receiver and its arguments.
-#[tactic(auto, using(ti_lang::proofs::RangeDims::many_arguments))]
+#[tactic(auto, using(ti_lang::proofs::Lemmas::many_arguments))]
 fn member<'s, 'a>(
     s: &Site<'s, 'a>,
     place: Place,
@@ -248,7 +255,8 @@ fn member<'s, 'a>(
     args: &[Expr],
     out: &mut Vec<Instr>,
 ) -> Result<Told<'a>, Memory>
-    ensures code { OnOk result (out.new.items ≡ out.old.items ++ coding.member_code (called_behind s.now (seen receiver.entry) name) (how_many (numbered_exps (map expression_of args.now))) place) }
+    ensures code { OnOk result (out.new.items ≡ out.old.items ++ coding.member_code (called_behind s.now (seen receiver.entry) name)
+        (how_many (numbered_exps (map expression_of args.now))) place) }
     ensures ty { IfOk result (λ t. seen t.ty ≡ member_spec (program_of s.now.program.now) name (seen receiver.entry)) }
     ensures known { IfOk result (λ t. t.known ≡ knowing.member_known (called_behind s.now (seen receiver.entry) name)) }
 {
@@ -261,14 +269,15 @@ fn member<'s, 'a>(
 }
 
 // An index of a point or a grid behind it and its indices.
-#[tactic(auto, using(ti_lang::proofs::RangeDims::many_arguments))]
+#[tactic(auto, using(ti_lang::proofs::Lemmas::many_arguments))]
 fn index<'a>(
     place: Place,
     receiver: Seen<'a>,
     indices: &[Expr],
     out: &mut Vec<Instr>,
 ) -> Result<Told<'a>, Memory>
-    ensures code { OnOk result (out.new.items ≡ out.old.items ++ coding.index_code (is_point_spec (seen receiver.entry)) (how_many (numbered_exps (map expression_of indices.now))) place) }
+    ensures code { OnOk result (out.new.items ≡ out.old.items ++ coding.index_code (is_point_spec (seen receiver.entry))
+        (how_many (numbered_exps (map expression_of indices.now))) place) }
     ensures ty { IfOk result (λ t. seen t.ty ≡ element_spec (seen receiver.entry)) }
     ensures known { IfOk result (λ t. t.known ≡ knowing.index_known (is_point_spec (seen receiver.entry))) }
 {
@@ -295,7 +304,8 @@ fn number<'a>(n: i32, out: &mut Vec<Instr>) -> Result<Told<'a>, Memory>
 
 // A variable.
 fn load<'s, 'a>(s: &Site<'s, 'a>, v: &'a Variable, out: &mut Vec<Instr>) -> Result<Told<'a>, Memory>
-    ensures code { OnOk result (out.new.items ≡ out.old.items ++ coding.loaded (find_slot (variable_of v.now) (names_in s.now.slots.now)) (variable_of v.now) ∷ []) }
+    ensures code { OnOk result (out.new.items ≡ out.old.items ++ coding.loaded (find_slot (variable_of v.now) (names_in s.now.slots.now))
+        (variable_of v.now) ∷ []) }
     ensures ty { IfOk result (λ t. seen t.ty ≡ used_spec (λ _. 1) (variable_of v.now).number (variable_of v.now).declared) }
     ensures known { IfOk result (λ t. t.known ≡ knowing.known_declared (variable_of v.now).declared) }
 {
@@ -308,7 +318,7 @@ fn load<'s, 'a>(s: &Site<'s, 'a>, v: &'a Variable, out: &mut Vec<Instr>) -> Resu
 
 /// An expression. What the text tells of its value comes out. The commonest need not pay for what the others want.
 #[cycle(walk)]
-#[tactic(auto, using(ti_lang::proofs::ProgramBridges::program_bridges))]
+#[tactic(auto, using(ti_lang::proofs::Lemmas::program_bridges))]
 pub fn walk<'s, 'a>(s: &Site<'s, 'a>, e: &'a Expr, out: &mut Vec<Instr>) -> Result<Told<'a>, Memory>
     ensures code { OnOk result (out.new.items ≡ walked_in s.now (expression_of e.now) out.old.items) }
     ensures ty { IfOk result (λ t. seen t.ty ≡ type_in s.now (expression_of e.now)) }
@@ -337,7 +347,7 @@ pub fn walk<'s, 'a>(s: &Site<'s, 'a>, e: &'a Expr, out: &mut Vec<Instr>) -> Resu
 // An expression of any form.
 #[cycle(walk)]
 #[inline(never)]
-#[tactic(auto, using(ti_lang::proofs::ProgramBridges::program_bridges))]
+#[tactic(auto, using(ti_lang::proofs::Lemmas::program_bridges))]
 fn form<'s, 'a>(s: &Site<'s, 'a>, e: &'a Expr, out: &mut Vec<Instr>) -> Result<Told<'a>, Memory>
     ensures code { OnOk result (out.new.items ≡ walked_in s.now (expression_of e.now) out.old.items) }
     ensures ty { IfOk result (λ t. seen t.ty ≡ type_in s.now (expression_of e.now)) }

@@ -1,15 +1,16 @@
-pub mod Falling
-pub mod Fieldless
-pub mod Going
-pub mod Numbers
-pub mod Paths
-pub mod PointsAbove
-pub mod Reversed
-pub mod SameRects
-pub mod Sending
-pub mod Striding
-pub mod Teams
-pub mod Tellings
-pub mod Weights
-pub mod Withins
-pub mod Formed
+mod Falling
+mod Fieldless
+mod Going
+mod Numbers
+mod Paths
+mod PointsAbove
+mod Reversed
+mod SameRects
+mod Sending
+mod Striding
+mod Teams
+mod Tellings
+mod Weights
+mod Withins
+mod Formed
+pub mod Lemmas

@@ -8,9 +8,8 @@ use Rattle.std.proofs.lemmas.Int.{ints}
 use Rattle.ti_base.specs.declared.point.Point.{Point}
 use Rattle.ti_base.specs.Points.{pt_lex_lt}
 use Rattle.ti_base.specs.PointSets.{same_number, is_lex_lt, IsAmong, Rises, IsAbove, IsDomain, IsNextAfter, NoneAfter}
-use Rattle.ti_base.proofs.DomainLaws.{filter_in, below_from, from_below, below_trans}
-use Rattle.ti_base.proofs.PointLaws.{one_list}
-use Rattle.ti_domain.proofs.PieceLaws.{dim_of as dim_among}
+use Rattle.ti_base.proofs.Lemmas.{filter_in, below_from, from_below, below_trans, one_list}
+use Rattle.ti_domain.proofs.Lemmas.{dim_of as dim_among}
 use Rattle.ti_lang.specs.Meaning.Held.{Held, points_in, dim_of}
 use Rattle.ti_eval.specs.Frames.{points_above}
 use Rattle.ti_machine.specs.Points.{from_point}

@@ -5,13 +5,11 @@ use Rattle.ti_base.specs.declared.point.Point.{Point}
 use Rattle.ti_base.specs.declared.point.Rect.{Rect}
 use Rattle.ti_base.specs.PointSets.{IsAmong}
 use Rattle.ti_base.specs.Rects.{IsRect, HasPoints, IsIn, IsSpanned, points_of, empty_rect}
-use Rattle.ti_rect.proofs.OneRect.{one_rect}
-use Rattle.ti_rect.proofs.PointLists.{points_listed}
-use Rattle.ti_rect.proofs.RectLaws.{none_in, low_in}
+use Rattle.ti_rect.proofs.Lemmas.{one_rect, points_listed, none_in, low_in}
 use Rattle.ti_lang.specs.Meaning.Operands.{same_points}
 use Rattle.ti_lang.specs.Meaning.Copies.{element_at}
 use Rattle.ti_lang.specs.Meaning.Collectives.{team}
-use Rattle.ti_eval.proofs.Points.{tells_same}
+use Rattle.ti_eval.proofs.Lemmas.{tells_same}
 use Rattle.ti_machine.specs.Mirrors.Domains.{last_of}
 
 none_among : (ps : List Point) → ((p : Point) → IsAmong ps p → ⊥) → ps ≡ []

@@ -15,8 +15,7 @@ use Rattle.ti_lang.specs.Meaning.Evaluation.{eval}
 use Rattle.ti_lang.specs.Meaning.Calls.{bound, parameters_from}
 use Rattle.ti_eval.specs.declared.stop.Stop.{Stop}
 use Rattle.ti_eval.specs.Comes.{Stops}
-use Rattle.ti_eval.proofs.Steps.{then_stops}
-use Rattle.ti_eval.proofs.Evaluating.{exps_at, no_exps}
+use Rattle.ti_eval.proofs.Lemmas.{then_stops, exps_at, no_exps}
 use Rattle.ti_moves.specs.Arguments.{given}
 
 -- ---- one parameter and its argument
@@ -67,7 +66,8 @@ pub bound_stops : (s : Stop) (E : Env) (params : List Param) (args : List Expr) 
     → i < length params → i < length args → bound E (from_params i (drop i params)) (exps (drop i args)) found left ≡ whole
     → Stops s (given E (variable_at i (get_or params i d)) (expression_of (get_or args i e)) left) → Stops s whole
 bound_stops s E params args i d e found left whole h k inv st =
-    subst (λ (g : Got (List Variable)). Stops s g) (sym (both_at E params args i d e found left h k) ∙ inv) (then_stops s (given E (variable_at i (get_or params i d)) (expression_of (get_or args i e)) left) _ st)
+    subst (λ (g : Got (List Variable)). Stops s g) (sym (both_at E params args i d e found left h k) ∙ inv)
+    (then_stops s (given E (variable_at i (get_or params i d)) (expression_of (get_or args i e)) left) _ st)
 
 pub bound_next : (E : Env) (params : List Param) (args : List Expr) (i : ℕ) (d : Param) (e : Expr) (found : List Variable) (w : Variable) (left rest : List Answer) (whole : Got (List Variable))
     → i < length params → i < length args → bound E (from_params i (drop i params)) (exps (drop i args)) found left ≡ whole

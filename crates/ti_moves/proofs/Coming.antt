@@ -54,7 +54,8 @@ called_alone E e answers r h = subst (λ (o : Option Call). ComesAs (move_of E (
 -- ---- expressions alone that are no call
 
 -- a member form
-pub member_comes : (E : Env) (e : NumberedExp) (at : Place) (x : NumberedExp) (name : ℕ) (args : NumberedExps) (k : Option member.BuiltIn) (answers : List Answer) (r : Result (Move × Bor (List Answer)) Stop)
+pub member_comes : (E : Env) (e : NumberedExp) (at : Place) (x : NumberedExp) (name : ℕ) (args : NumberedExps) (k : Option member.BuiltIn)
+    (answers : List Answer) (r : Result (Move × Bor (List Answer)) Stop)
     → e ≡ exp.Member at x name args → k ≡ member_called E.program (this_of E.method) x name
     → ComesAs (move_of E (stm.Call (exp.Member at x name args))) r (member_alone E at x args (receives E Nowhere (eval E e)) k answers) → ComesAs (move_of E (stm.Call e)) r (alone E e None answers)
 member_comes E e at x name args k answers r is seen h =

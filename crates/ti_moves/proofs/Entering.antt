@@ -8,7 +8,7 @@ use Rattle.ti_lang.specs.declared.program.stmts.Stmt.{Stmt, Block}
 use Rattle.ti_lang.specs.Program.Statements.{NumberedStm, numbered_stms}
 use Rattle.ti_lang.specs.Program.Statements as s
 use Rattle.ti_lang.specs.Program.Views.{statement_of, statements_of}
-use Rattle.ti_lang.proofs.ProgramBridges.{seen_numbered_block}
+use Rattle.ti_lang.proofs.Lemmas.{seen_numbered_block}
 use Rattle.ti_eval.specs.declared.frame.Level.{Level}
 use Rattle.ti_eval.specs.declared.frame.Part.TheVariants as part
 use Rattle.ti_eval.specs.Frames.{list_in}

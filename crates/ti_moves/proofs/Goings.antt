@@ -14,7 +14,8 @@ goes_on {A = A} {B = B} {C = C} view r got m go a rest is comes next =
     subst (λ (n : Got A). ComesAs view r (followed n go)) (sym e) next
 
 -- the same, where clauses see what was given by a view
-pub goes_on_as : {A B C D : Type 0} (seen : D → A) (view : C → B) (r : Result (C × Bor (List Answer)) Stop) (got : Result (D × Bor (List Answer)) Stop) (m : Got A) (go : A → Asking B) (d : D) (rest : Bor (List Answer))
+pub goes_on_as : {A B C D : Type 0} (seen : D → A) (view : C → B) (r : Result (C × Bor (List Answer)) Stop)
+    (got : Result (D × Bor (List Answer)) Stop) (m : Got A) (go : A → Asking B) (d : D) (rest : Bor (List Answer))
     → got ≡ Ok (d, rest) → ComesAs seen got m → ComesAs view r (go (seen d) rest.now) → ComesAs view r (followed m go)
 goes_on_as {A = A} {B = B} {C = C} {D = D} seen view r got m go d rest is comes next =
     let e : m ≡ Gives (seen d) rest.now = subst (λ (g : Result (D × Bor (List Answer)) Stop). ComesAs seen g m) is comes in

@@ -1,11 +1,12 @@
-pub mod Calling
-pub mod Coming
-pub mod CopyLaws
-pub mod Entering
-pub mod Goings
-pub mod Leaving
-pub mod MethodLaws
-pub mod PointsAbove
-pub mod SameRects
-pub mod Silent
-pub mod Teams
+mod Calling
+mod Coming
+mod CopyLaws
+mod Entering
+mod Goings
+mod Leaving
+mod MethodLaws
+mod PointsAbove
+mod SameRects
+mod Silent
+mod Teams
+pub mod Lemmas

@@ -47,8 +47,11 @@ new_there E at x h k rest e = ap (λ (g : Got Held). followed g (λ i. gives (wi
 pub updated_there : (E : Env) (at p : Place) (x : VariableUse) (op : BinaryOperator) (old h new : Held) (o : Option Way) → old ≡ find_variable x E.variables
     → ((at : Place) (rest : List Answer) → operated at op old h rest ≡ Gives new rest) → PutsBy E (Assigned at (exp.Variable p x)) new o → PutsBy E (Updated at op (exp.Variable p x)) h o
 updated_there E at p x op old h new None is f q = tt
-updated_there E at p x op old h new (Some w) is f q =
-    (λ rest. ap (λ (g : Got Held). followed g (λ n. converted at (type_of E (exp.Variable p x)) n >>= λ k. stored E at (InVariable x) k)) (ap (λ (z : Held). operated at op z h rest) (sym is) ∙ f at rest) ∙ q.0 rest, q.1)
+updated_there E at p x op old h new (Some w) is f q = (
+  λ rest. ap (λ (g : Got Held). followed g (λ n. converted at (type_of E (exp.Variable p x)) n >>= λ k. stored E at (InVariable x) k))
+      (ap (λ (z : Held). operated at op z h rest) (sym is) ∙ f at rest) ∙ q.0 rest,
+  q.1,
+)
 
 -- a right side that is no call, and whose value is known
 pub known_right : (E : Env) (e : NumberedExp) (h : Held) → ((m : Option NumberedMethod) → call_by e m ≡ None) → ((rest : List Answer) → eval E e rest ≡ Gives h rest)

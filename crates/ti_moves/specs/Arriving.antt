@@ -42,13 +42,15 @@ last_of procs = point_of_numbers ((pos procs -ℤ pos 1) ∷ [])
 -- the move of an exchange by so many processes into a grid that has this type in the text
 abbrev pub move_of_exchange : Place → ValueType → ℕ → Exchange → Move
 move_of_exchange at t procs x =
-    Meets (wait_of x.arrival.meeting ToBeDone Nowhere) x.arrival.deposit (TakeAll at (record { thing = x.grid; type = t }) (counted 0 procs) ∷ [])
+    Meets (wait_of x.arrival.meeting ToBeDone Nowhere) x.arrival.deposit
+    (TakeAll at (record { thing = x.grid; type = t }) (counted 0 procs) ∷ [])
 
 -- the arrival with a value, if the grid has the domain of the team
 abbrev pub exchange_over : Place → Reference → ℕ → Value → Held → Asking Move
 exchange_over at grid procs value d =
     guarded (same_points (points_of (rect_of d)) (points_of (team procs))) ExchangeDomain at
-    (Meets (record { place = at; kind = coll.Exchange; arg = None; wanted = ToBeDone; receiver = Nowhere }) (deposit.One value) (TakeAll at grid (counted 0 procs) ∷ []))
+    (Meets (record { place = at; kind = coll.Exchange; arg = None; wanted = ToBeDone; receiver = Nowhere }) (deposit.One value)
+    (TakeAll at grid (counted 0 procs) ∷ []))
 
 -- the same, behind the domain of the grid, unless this isn't there
 abbrev pub exchange_named : Place → ValueType → Option Id → ℕ → Value → Asking Move

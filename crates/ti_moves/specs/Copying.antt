@@ -30,7 +30,8 @@ written at grid p end h = do
 
 -- the move of a copy of grids that have these types in the text
 abbrev pub move_of_copy : List Variable → Place → ValueType → ValueType → Copy → Move
-move_of_copy ws at t u c = Goes ws (CopyAll at (record { thing = c.to; type = t }) (record { thing = c.from; type = u }) (points_in c.domain) ∷ [])
+move_of_copy ws at t u c =
+    Goes ws (CopyAll at (record { thing = c.to; type = t }) (record { thing = c.from; type = u }) (points_in c.domain) ∷ [])
 
 -- the domains of both grids are asked, and the points of both are left
 abbrev pub copy_left : List Variable → Place → Reference → Reference → Asking Move

@@ -66,7 +66,8 @@ abbrev pub move_of : Env → NumberedStm → Move → move.Move
 move_of env x (m.Goes change left) = move.Goes (changed change env.variables) (works_of (site_in env) x left)
 move_of env x m.Breaks = move.Breaks
 move_of env x m.Continues = move.Continues
-move_of env x (m.Calls at method this parameters) = move.Calls at (method_at env.program method) this (slots_of parameters.items) (receiver_of x)
+move_of env x (m.Calls at method this parameters) =
+    move.Calls at (method_at env.program method) this (slots_of parameters.items) (receiver_of x)
 move_of env x (m.Returns value) = move.Returns value
 move_of env x (m.Meets meeting deposit todo) = move.Meets (wait_of meeting ToBeDone Nowhere) deposit (work_of (site_in env) x todo)
 move_of env x (m.Expects meeting deposit) = move.Meets (expected env x meeting) deposit []

@@ -46,4 +46,5 @@ GoesBy env x (Some w) = (answers : List Answer) → statement env x answers ≡ 
 -- a value goes to its receiver so, and nothing is left, if a way is told
 abbrev pub PutsBy : Env → Receiver → Held → Option Way → Type 0
 PutsBy env r h None = Unit {0}
-PutsBy env r h (Some w) = ((answers : List Answer) → into env r (gives h) answers ≡ Gives (changed_by w env.variables) answers) × ((site : Site) (x : NumberedStm) → works_by site x w ≡ [])
+PutsBy env r h (Some w) = ((answers : List Answer) → into env r (gives h) answers ≡ Gives (changed_by w env.variables) answers)
+    × ((site : Site) (x : NumberedStm) → works_by site x w ≡ [])

@@ -33,7 +33,7 @@ use ti_lang::typing::{Seen as Kind, type_in_text};
 // ---- which method
 
 /// The method of a number; none stands for one that isn't there.
-#[tactic(auto, using(ti_lang::proofs::Elements::method_lookups))]
+#[tactic(auto, using(ti_lang::proofs::Lemmas::method_lookups))]
 pub fn method<'p>(program: &'p Parts, number: usize) -> Option<&'p Method>
     ensures { method_seen result ≡ method_at (program_of program.now) number }
 {
@@ -69,7 +69,8 @@ fn declared(program: &Parts, number: u32) -> Option<usize>
 
 // The number of the first method of a class and a name.
 fn method_named(program: &Parts, class: u32, name: u32) -> Option<usize>
-    ensures { find (λ (m : NumberedMethod). (m.class == class) && (m.name == name)) (program_of program.now).methods ≡ option_map (method_at (program_of program.now)) result }
+    ensures { find (λ (m : NumberedMethod). (m.class == class) && (m.name == name)) (program_of program.now).methods
+        ≡ option_map (method_at (program_of program.now)) result }
 {
     program.first_method(class, name)
 }
@@ -109,7 +110,7 @@ fn named_behind<'p>(program: &'p Parts, t: Kind<'p>, name: u32) -> Option<usize>
 }
 
 /// The number of the declared method that an expression calls, if it is such a call.
-#[tactic(auto, using(ti_lang::proofs::ProgramBridges::program_bridges))]
+#[tactic(auto, using(ti_lang::proofs::Lemmas::program_bridges))]
 pub fn number_called(program: &Parts, this: Option<u32>, e: &Expr) -> Option<usize>
     ensures { called_method (program_of program.now) this (expression_of e.now) ≡ option_map (method_at (program_of program.now)) result }
 {
@@ -126,14 +127,21 @@ pub fn number_called(program: &Parts, this: Option<u32>, e: &Expr) -> Option<usi
 // ---- arguments
 
 // The parameter of a number, behind its argument. A number that 32 bits don't hold is want of memory.
-#[tactic(auto, using(ti_eval::proofs::Steps::steps))]
+#[tactic(auto, using(ti_eval::proofs::Lemmas::steps))]
 fn slot_from<'a>(
     alloc: Global,
     number: usize,
     param: &Param,
     got: Result<(Held, &'a [Told]), Stop>,
 ) -> Result<(Slot, &'a [Told]), Stop>
-    ensures { (m : Got Seen) → Comes got.entry m → ComesAs slot_of result (followed m (λ h. gives (record { named = record { number = number; declared = Typed param.now.ty.single (value_type_of param.now.ty.ty) }; held = h }))) }
+    ensures { (m : Got Seen) → Comes got.entry m → ComesAs slot_of result
+        (followed m (λ h. gives (record {
+          named = record {
+            number = number;
+            declared = Typed param.now.ty.single (value_type_of param.now.ty.ty);
+          };
+          held = h;
+        }))) }
 {
     match got {
         Ok((h, answers)) => match u32::try_from(number) {
@@ -145,7 +153,7 @@ fn slot_from<'a>(
 }
 
 /// The parameter of a number, with the value of its argument, made one of its type at once.
-#[tactic(auto, using(ti_eval::proofs::Steps::steps))]
+#[tactic(auto, using(ti_eval::proofs::Lemmas::steps))]
 pub fn argument<'a>(
     alloc: Global,
     env: &Env,
@@ -154,7 +162,10 @@ pub fn argument<'a>(
     x: &Expr,
     answers: &'a [Told],
 ) -> Result<(Slot, &'a [Told]), Stop>
-    ensures { ComesAs slot_of result (given (env_of env.now) (record { number = number; declared = Typed param.now.ty.single (value_type_of param.now.ty.ty) }) (expression_of x.now) answers.now) }
+    ensures { ComesAs slot_of result (given (env_of env.now) (record {
+      number = number;
+      declared = Typed param.now.ty.single (value_type_of param.now.ty.ty);
+    }) (expression_of x.now) answers.now) }
 {
     match evaluate(alloc, env, x, answers) {
         Ok((h, answers)) => {
@@ -173,7 +184,9 @@ fn bind<'a>(
     args: &[Expr],
     answers: &'a [Told],
 ) -> Result<(Vec<Slot>, &'a [Told]), Stop>
-    ensures { ComesAs (λ (v : Row Kept Heap). slots_of v.items) result (bound (env_of env.now) (parameters_from 0 (map numbered_param_of params.now)) (numbered_exps (map expression_of args.now)) [] answers.now) }
+    ensures { ComesAs (λ (v : Row Kept Heap). slots_of v.items) result
+        (bound (env_of env.now) (parameters_from 0 (map numbered_param_of params.now))
+        (numbered_exps (map expression_of args.now)) [] answers.now) }
 {
     let mut found = Vec::new(alloc);
     let mut left = answers;
@@ -199,7 +212,8 @@ fn parameters<'a>(
     args: &[Expr],
     answers: &'a [Told],
 ) -> Result<(Vec<Slot>, &'a [Told]), Stop>
-    ensures { ComesAs (λ (v : Row Kept Heap). slots_of v.items) result (bound (env_of env.now) (parameters_of (method_seen m.entry).params) (numbered_exps (map expression_of args.now)) [] answers.now) }
+    ensures { ComesAs (λ (v : Row Kept Heap). slots_of v.items) result
+        (bound (env_of env.now) (parameters_of (method_seen m.entry).params) (numbered_exps (map expression_of args.now)) [] answers.now) }
 {
     match m {
         Some(m) => match &m.params {
@@ -230,7 +244,7 @@ fn needed<'a>(
 }
 
 // The call of the method of a number, with the value of its object, if it has one.
-#[tactic(auto, using(ti_eval::proofs::Steps::steps))]
+#[tactic(auto, using(ti_eval::proofs::Lemmas::steps))]
 fn calls_with<'a, 'c>(
     alloc: Global,
     env: &Env,
@@ -240,7 +254,8 @@ fn calls_with<'a, 'c>(
     object: Option<Held>,
     answers: &'a [Told],
 ) -> Result<(Move<'c>, &'a [Told]), Stop>
-    ensures { (x : NumberedStm) → ComesAs (move_of (env_of env.now) x) result (calls_on (env_of env.now) x at number (numbered_exps (map expression_of args.now)) object answers.now) }
+    ensures { (x : NumberedStm) → ComesAs (move_of (env_of env.now) x) result
+        (calls_on (env_of env.now) x at number (numbered_exps (map expression_of args.now)) object answers.now) }
 {
     match parameters(alloc, env, method(env.program, number), args, answers) {
         Ok((parameters, answers)) => match needed(at, &object, answers) {
@@ -267,7 +282,8 @@ fn call_of<'a, 'c>(
     e: &Expr,
     answers: &'a [Told],
 ) -> Option<Result<(Move<'c>, &'a [Told]), Stop>>
-    ensures { (x : NumberedStm) → CallComes (env_of env.now) x answers.now result (call_by (expression_of e.now) (Some (method_at (program_of env.now.program.now) number))) }
+    ensures { (x : NumberedStm) → CallComes (env_of env.now) x answers.now result
+        (call_by (expression_of e.now) (Some (method_at (program_of env.now.program.now) number))) }
 {
     match e {
         Expr::Call {

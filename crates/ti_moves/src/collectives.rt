@@ -69,7 +69,7 @@ pub fn root_among<'a>(
 }
 
 // The root gives its value, and no other process does.
-#[tactic(auto, using(ti_eval::proofs::Steps::steps))]
+#[tactic(auto, using(ti_eval::proofs::Lemmas::steps))]
 fn root_gives<'a>(
     alloc: Global,
     env: &Env,
@@ -90,7 +90,7 @@ fn root_gives<'a>(
 }
 
 // A broadcast, behind the value that tells its root.
-#[tactic(auto, using(ti_eval::proofs::Steps::steps))]
+#[tactic(auto, using(ti_eval::proofs::Lemmas::steps))]
 fn broadcast_behind<'a>(
     alloc: Global,
     env: &Env,
@@ -99,7 +99,9 @@ fn broadcast_behind<'a>(
     h: &Held,
     answers: &'a [Told],
 ) -> Result<(Arrival, &'a [Told]), Stop>
-    ensures { (wanted : Wanted) (receiver : Receiver) → ComesAs (λ (a : Arriving). move.Meets (wait_of a.meeting wanted receiver) a.deposit []) result (broadcast_left (env_of env.now) wanted receiver at (expression_of value.now) h.now answers.now) }
+    ensures { (wanted : Wanted) (receiver : Receiver) → ComesAs (λ (a : Arriving). move.Meets
+        (wait_of a.meeting wanted receiver) a.deposit []) result (broadcast_left (env_of env.now) wanted receiver at
+        (expression_of value.now) h.now answers.now) }
 {
     match root_among(env.team.procs, at, h, answers) {
         Ok((root, answers)) => {
@@ -126,7 +128,9 @@ pub fn broadcasts<'a>(
     root: &Expr,
     answers: &'a [Told],
 ) -> Result<(Arrival, &'a [Told]), Stop>
-    ensures { (receiver : Receiver) → ComesAs (λ (a : Arriving). move.Meets (wait_of a.meeting (ValueOf (type_here (env_of env.now) (expression_of value.now))) receiver) a.deposit []) result (collectives.broadcasts (env_of env.now) receiver at (expression_of value.now) (expression_of root.now) answers.now) }
+    ensures { (receiver : Receiver) → ComesAs (λ (a : Arriving). move.Meets
+        (wait_of a.meeting (ValueOf (type_here (env_of env.now) (expression_of value.now))) receiver) a.deposit []) result
+        (collectives.broadcasts (env_of env.now) receiver at (expression_of value.now) (expression_of root.now) answers.now) }
 {
     match evaluate(alloc, env, root, answers) {
         Ok((h, answers)) => broadcast_behind(alloc, env, at, value, &h, answers),
@@ -206,7 +210,7 @@ fn given<'p>(t: Kind<'p>, hs: Vec<Held>) -> Value
 }
 
 // An exchange into a grid, if this is there and has the domain of the team.
-#[tactic(auto, using(ti_eval::proofs::Steps::steps))]
+#[tactic(auto, using(ti_eval::proofs::Lemmas::steps))]
 fn exchange_of<'a>(
     team: Team,
     at: Place,
@@ -237,7 +241,7 @@ fn exchange_of<'a>(
 }
 
 /// `a.exchange(e)`, at its place.
-#[tactic(auto, using(ti_eval::proofs::Steps::steps))]
+#[tactic(auto, using(ti_eval::proofs::Lemmas::steps))]
 pub fn exchanges<'a>(
     alloc: Global,
     env: &Env,
@@ -246,7 +250,9 @@ pub fn exchanges<'a>(
     args: &[Expr],
     answers: &'a [Told],
 ) -> Result<(Exchange, &'a [Told]), Stop>
-    ensures { ComesAs (λ (x : Exchanging). move.Meets (wait_of x.arrival.meeting ToBeDone Nowhere) x.arrival.deposit (TakeAll at (reference (site_of env.now) (expression_of receiver.now) x.grid) (counted 0 env.now.team.procs) ∷ [])) result (collectives.exchanges (env_of env.now) at (expression_of receiver.now) (numbered_exps (map expression_of args.now)) answers.now) }
+    ensures { ComesAs (λ (x : Exchanging). move.Meets (wait_of x.arrival.meeting ToBeDone Nowhere) x.arrival.deposit
+        (TakeAll at (reference (site_of env.now) (expression_of receiver.now) x.grid) (counted 0 env.now.team.procs) ∷ [])) result
+        (collectives.exchanges (env_of env.now) at (expression_of receiver.now) (numbered_exps (map expression_of args.now)) answers.now) }
 {
     match evaluate(alloc, env, receiver, answers) {
         Ok((h, answers)) => {

@@ -41,14 +41,15 @@ fn common(r: &Rect, s: &Rect) -> Held
 }
 
 // A copy between grids that are there.
-#[tactic(auto, using(ti_eval::proofs::Steps::steps))]
+#[tactic(auto, using(ti_eval::proofs::Lemmas::steps))]
 fn copy_between<'a>(
     at: Place,
     to: Id,
     from: Id,
     answers: &'a [Told],
 ) -> Result<(Copy, &'a [Told]), Stop>
-    ensures { (ws : List Variable) (t u : ValueType) → ComesAs (move_of_copy ws at t u) result (copy_left ws at (record { thing = to; type = t }) (record { thing = from; type = u }) answers.now) }
+    ensures { (ws : List Variable) (t u : ValueType) → ComesAs (move_of_copy ws at t u) result
+        (copy_left ws at (record { thing = to; type = t }) (record { thing = from; type = u }) answers.now) }
 {
     match asked(at, Action::DomainOf { grid: to }, answers) {
         Ok((d, answers)) => match asked(at, Action::DomainOf { grid: from }, answers) {
@@ -88,7 +89,7 @@ fn first_thing(hs: &[Held]) -> Option<Id>
 }
 
 /// `a.copy(b)`, at its place: both grids and the points of both.
-#[tactic(auto, using(ti_eval::proofs::Steps::steps))]
+#[tactic(auto, using(ti_eval::proofs::Lemmas::steps))]
 pub fn copies<'a>(
     alloc: Global,
     env: &Env,
@@ -97,7 +98,10 @@ pub fn copies<'a>(
     args: &[Expr],
     answers: &'a [Told],
 ) -> Result<(Copy, &'a [Told]), Stop>
-    ensures { ComesAs (λ (c : Copying). move.Goes (env_of env.now).variables (CopyAll at (reference (site_of env.now) (expression_of receiver.now) c.to) (first_reference (site_of env.now) (numbered_exps (map expression_of args.now)) c.from) (points_in c.domain) ∷ [])) result (copying.copies (env_of env.now) at (expression_of receiver.now) (numbered_exps (map expression_of args.now)) answers.now) }
+    ensures { ComesAs (λ (c : Copying). move.Goes (env_of env.now).variables
+        (CopyAll at (reference (site_of env.now) (expression_of receiver.now) c.to)
+        (first_reference (site_of env.now) (numbered_exps (map expression_of args.now)) c.from) (points_in c.domain) ∷ [])) result
+        (copying.copies (env_of env.now) at (expression_of receiver.now) (numbered_exps (map expression_of args.now)) answers.now) }
 {
     match evaluate(alloc, env, receiver, answers) {
         Ok((h, answers)) => match evaluate_all(alloc, env, args, answers) {
@@ -111,14 +115,15 @@ pub fn copies<'a>(
 // ---- elements
 
 // A value goes into an element.
-#[tactic(auto, using(ti_eval::proofs::Steps::steps))]
+#[tactic(auto, using(ti_eval::proofs::Lemmas::steps))]
 fn write_from<'a>(
     at: Place,
     grid: Id,
     index: Point,
     got: Result<(Held, &'a [Told]), Stop>,
 ) -> Result<((), &'a [Told]), Stop>
-    ensures { (t : ValueType) (end : move.Move) (m : Got Seen) → Comes got.entry m → ComesAs (λ done. end) result (followed m (written at (record { thing = grid; type = t }) index end)) }
+    ensures { (t : ValueType) (end : move.Move) (m : Got Seen) → Comes got.entry m
+        → ComesAs (λ done. end) result (followed m (written at (record { thing = grid; type = t }) index end)) }
 {
     match got {
         Ok((h, answers)) => {
@@ -145,7 +150,9 @@ pub fn copy_element<'a>(
     p: Point,
     answers: &'a [Told],
 ) -> Result<((), &'a [Told]), Stop>
-    ensures { (env : Where) (t u : ValueType) (ps : List At) → ComesAs (λ done. move.Goes env.variables (CopyAll at (record { thing = to; type = t }) (record { thing = from; type = u }) ps ∷ [])) result (copying.copied env at (record { thing = to; type = t }) (record { thing = from; type = u }) (p ∷ ps) answers.now) }
+    ensures { (env : Where) (t u : ValueType) (ps : List At) → ComesAs
+        (λ done. move.Goes env.variables (CopyAll at (record { thing = to; type = t }) (record { thing = from; type = u }) ps ∷ [])) result
+        (copying.copied env at (record { thing = to; type = t }) (record { thing = from; type = u }) (p ∷ ps) answers.now) }
 {
     let got = asked(at, Action::GetElem { grid: from, at: p }, answers);
     write_from(at, to, p, got)
@@ -173,7 +180,9 @@ pub fn take_element<'a>(
     answers: &'a [Told],
 ) -> Result<((), &'a [Told]), Stop>
     requires { number < 2 ^ 31 }
-    ensures { (env : Where) (t : ValueType) (is : List ℕ) → ComesAs (λ done. move.Goes env.variables (TakeAll at (record { thing = grid; type = t }) is ∷ [])) result (copying.taken env at (record { thing = grid; type = t }) (number ∷ is) answers.now) }
+    ensures { (env : Where) (t : ValueType) (is : List ℕ) → ComesAs
+        (λ done. move.Goes env.variables (TakeAll at (record { thing = grid; type = t }) is ∷ [])) result
+        (copying.taken env at (record { thing = grid; type = t }) (number ∷ is) answers.now) }
 {
     let got = asked(at, Action::Take { who: number }, answers);
     write_from(at, grid, element_at(number), got)

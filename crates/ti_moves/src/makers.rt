@@ -16,7 +16,7 @@ use ti_lang::typing::zero_of_type;
 // ---- the region
 
 // The region in which a new thing is placed; 0 is none.
-#[tactic(auto, using(ti_eval::proofs::Steps::steps))]
+#[tactic(auto, using(ti_eval::proofs::Lemmas::steps))]
 fn region_for<'a>(
     alloc: Global,
     env: &Env,
@@ -37,7 +37,7 @@ fn region_for<'a>(
 // ---- objects
 
 /// `new C()`, in a region or in none.
-#[tactic(auto, using(ti_eval::proofs::Steps::steps))]
+#[tactic(auto, using(ti_eval::proofs::Lemmas::steps))]
 pub fn new_object<'a>(
     alloc: Global,
     env: &Env,
@@ -73,7 +73,7 @@ fn spread<'a>(
 }
 
 /// `new T [D]`, in a region or in none.
-#[tactic(auto, using(ti_eval::proofs::Steps::steps))]
+#[tactic(auto, using(ti_eval::proofs::Lemmas::steps))]
 pub fn new_grid<'a>(
     alloc: Global,
     env: &Env,
@@ -84,7 +84,8 @@ pub fn new_grid<'a>(
     dims: &Dims,
     answers: &'a [Told],
 ) -> Result<(Held, &'a [Told]), Stop>
-    ensures { Comes result (makers.new_grid (env_of env.now) at (maybe_of expression_of region.now) (value_type_of element.now) bracket (extent_of dims.now) answers.now) }
+    ensures { Comes result (makers.new_grid (env_of env.now) at (maybe_of expression_of region.now) (value_type_of element.now) bracket
+        (extent_of dims.now) answers.now) }
 {
     match region_for(alloc, env, region, answers) {
         Ok((region, answers)) => match spread(alloc, env, bracket, dims, answers) {

@@ -19,7 +19,7 @@ use ti_eval::{Env, Held, Stop, Todo, Told, asked, evaluate};
 use ti_lang::program::Printed;
 
 // A line, behind which nothing is left of the statement.
-#[tactic(auto, using(ti_eval::proofs::Steps::steps))]
+#[tactic(auto, using(ti_eval::proofs::Lemmas::steps))]
 fn prints<'a, 'c>(
     at: Place,
     literal: Option<u32>,
@@ -35,13 +35,14 @@ fn prints<'a, 'c>(
 }
 
 // A line that ends with a value.
-#[tactic(auto, using(ti_eval::proofs::Steps::steps))]
+#[tactic(auto, using(ti_eval::proofs::Lemmas::steps))]
 fn line_from<'a, 'c>(
     at: Place,
     literal: Option<u32>,
     got: Result<(Held, &'a [Told]), Stop>,
 ) -> Result<(Move<'c>, &'a [Told]), Stop>
-    ensures { (env : Where) (x : NumberedStm) (m : Got Seen) → Comes got.entry m → ComesAs (move_of env x) result (followed m (λ h. statements.prints env at literal (Some (plain_of h)))) }
+    ensures { (env : Where) (x : NumberedStm) (m : Got Seen) → Comes got.entry m
+        → ComesAs (move_of env x) result (followed m (λ h. statements.prints env at literal (Some (plain_of h)))) }
 {
     match got {
         Ok((h, answers)) => prints(at, literal, Some(h.value()), answers),
@@ -57,7 +58,8 @@ pub fn printed<'a, 'c>(
     what: &Printed,
     answers: &'a [Told],
 ) -> Result<(Move<'c>, &'a [Told]), Stop>
-    ensures { (x : NumberedStm) → ComesAs (move_of (env_of env.now) x) result (statements.printed (env_of env.now) at (printed_of what.now) answers.now) }
+    ensures { (x : NumberedStm) → ComesAs (move_of (env_of env.now) x) result
+        (statements.printed (env_of env.now) at (printed_of what.now) answers.now) }
 {
     match what {
         Printed::Nothing => prints(at, None, None, answers),

@@ -148,7 +148,7 @@ pub fn new_slot(alloc: Global, ty: &TypeUse, number: u32, held: Held) -> Result<
 }
 
 // A new variable that holds the value as one of its type.
-#[tactic(auto, using(ti_eval::proofs::Steps::steps))]
+#[tactic(auto, using(ti_eval::proofs::Lemmas::steps))]
 fn declared_from<'a, 'c>(
     alloc: Global,
     at: Place,
@@ -156,7 +156,10 @@ fn declared_from<'a, 'c>(
     variable: u32,
     got: Result<(Held, &'a [Told]), Stop>,
 ) -> Result<(Change<'c>, &'a [Told]), Stop>
-    ensures { (ws : List process.Variable) (m : Got Holding) → Comes got.entry m → ComesAs (λ (c : Changing). changed c ws) result (followed m (λ h rest. followed (conversions.converted at (value_type_of ty.now.ty) h rest) (λ k. gives (with_new (declared_as (type_use_of ty.now) variable) k ws)))) }
+    ensures { (ws : List process.Variable) (m : Got Holding) → Comes got.entry m
+        → ComesAs (λ (c : Changing). changed c ws) result (followed m
+        (λ h rest. followed (conversions.converted at (value_type_of ty.now.ty) h rest)
+        (λ k. gives (with_new (declared_as (type_use_of ty.now) variable) k ws)))) }
 {
     match got {
         Ok((h, answers)) => match converted(alloc, at, &ty.ty, h, answers) {
@@ -173,7 +176,7 @@ fn declared_from<'a, 'c>(
 // ---- into a target
 
 // The value goes into the target as one of its type.
-#[tactic(auto, using(ti_eval::proofs::Steps::steps))]
+#[tactic(auto, using(ti_eval::proofs::Lemmas::steps))]
 fn assigned_from<'a, 'c, 'p>(
     alloc: Global,
     at: Place,
@@ -181,7 +184,9 @@ fn assigned_from<'a, 'c, 'p>(
     place: &Target<'c>,
     got: Result<(Held, &'a [Told]), Stop>,
 ) -> Result<(Change<'c>, &'a [Told]), Stop>
-    ensures { (env : Where) (through : ValueType) (m : Got Holding) → Comes got.entry m → ComesAs (λ (c : Changing). changed c env.variables) result (followed m (λ h. converted_into env at (seen t.entry) (target_of through place.now) h)) }
+    ensures { (env : Where) (through : ValueType) (m : Got Holding) → Comes got.entry m
+        → ComesAs (λ (c : Changing). changed c env.variables) result
+        (followed m (λ h. converted_into env at (seen t.entry) (target_of through place.now) h)) }
 {
     match got {
         Ok((h, answers)) => match as_typed(alloc, at, t, h, answers) {
@@ -193,7 +198,7 @@ fn assigned_from<'a, 'c, 'p>(
 }
 
 // What a right side comes to goes into the target.
-#[tactic(auto, using(ti_eval::proofs::Steps::steps))]
+#[tactic(auto, using(ti_eval::proofs::Lemmas::steps))]
 fn assigned_at<'a, 'c>(
     alloc: Global,
     env: &Env,
@@ -202,7 +207,10 @@ fn assigned_at<'a, 'c>(
     right: Right,
     got: Result<(Target<'c>, &'a [Told]), Stop>,
 ) -> Result<(Change<'c>, &'a [Told]), Stop>
-    ensures { (through : ValueType) (m : Got targets.Target) → ComesAs (target_of through) got.entry m → ComesAs (λ (c : Changing). changed c (env_of env.now).variables) result (followed m (λ place rest. followed (right_seen (env_of env.now) right.entry rest) (λ h. converted_into (env_of env.now) at (type_of_spec (env_of env.now) (expression_of target.now)) place h))) }
+    ensures { (through : ValueType) (m : Got targets.Target) → ComesAs (target_of through) got.entry m
+        → ComesAs (λ (c : Changing). changed c (env_of env.now).variables) result
+        (followed m (λ place rest. followed (right_seen (env_of env.now) right.entry rest)
+        (λ h. converted_into (env_of env.now) at (type_of_spec (env_of env.now) (expression_of target.now)) place h))) }
 {
     match got {
         Ok((place, answers)) => {
@@ -216,7 +224,7 @@ fn assigned_at<'a, 'c>(
 // ---- into a target, by an operator
 
 // What the operator makes of the value that the target held and of what a right side comes to goes into the target.
-#[tactic(auto, using(ti_eval::proofs::Steps::steps))]
+#[tactic(auto, using(ti_eval::proofs::Lemmas::steps))]
 fn updated_from<'a, 'c, 'p>(
     alloc: Global,
     env: &Env,
@@ -227,7 +235,10 @@ fn updated_from<'a, 'c, 'p>(
     right: Right,
     got: Result<(Held, &'a [Told]), Stop>,
 ) -> Result<(Change<'c>, &'a [Told]), Stop>
-    ensures { (through : ValueType) (m : Got Holding) → Comes got.entry m → ComesAs (λ (c : Changing). changed c (env_of env.now).variables) result (followed m (λ old left. followed (right_seen (env_of env.now) right.entry left) (λ h. operated_into (env_of env.now) at operator (seen t.entry) (target_of through place.now) old h))) }
+    ensures { (through : ValueType) (m : Got Holding) → Comes got.entry m
+        → ComesAs (λ (c : Changing). changed c (env_of env.now).variables) result
+        (followed m (λ old left. followed (right_seen (env_of env.now) right.entry left)
+        (λ h. operated_into (env_of env.now) at operator (seen t.entry) (target_of through place.now) old h))) }
 {
     match got {
         Ok((old, answers)) => match value_of(alloc, env, right, answers) {
@@ -242,7 +253,7 @@ fn updated_from<'a, 'c, 'p>(
 }
 
 // The same with what the target holds.
-#[tactic(auto, using(ti_eval::proofs::Steps::steps))]
+#[tactic(auto, using(ti_eval::proofs::Lemmas::steps))]
 fn updated_at<'a, 'c>(
     alloc: Global,
     env: &Env,
@@ -252,7 +263,12 @@ fn updated_at<'a, 'c>(
     right: Right,
     got: Result<(Target<'c>, &'a [Told]), Stop>,
 ) -> Result<(Change<'c>, &'a [Told]), Stop>
-    ensures { (through : ValueType) (m : Got targets.Target) → ComesAs (target_of through) got.entry m → ComesAs (λ (c : Changing). changed c (env_of env.now).variables) result (followed m (λ place left. followed (targets.held_in (env_of env.now) (place_of_numbered (expression_of target.now)) (type_of_spec (env_of env.now) (expression_of target.now)) place left) (λ old more. followed (right_seen (env_of env.now) right.entry more) (λ h. operated_into (env_of env.now) at operator (type_of_spec (env_of env.now) (expression_of target.now)) place old h)))) }
+    ensures { (through : ValueType) (m : Got targets.Target) → ComesAs (target_of through) got.entry m
+        → ComesAs (λ (c : Changing). changed c (env_of env.now).variables) result
+        (followed m (λ place left. followed (targets.held_in (env_of env.now) (place_of_numbered (expression_of target.now))
+        (type_of_spec (env_of env.now) (expression_of target.now)) place left)
+        (λ old more. followed (right_seen (env_of env.now) right.entry more)
+        (λ h. operated_into (env_of env.now) at operator (type_of_spec (env_of env.now) (expression_of target.now)) place old h)))) }
 {
     match got {
         Ok((place, answers)) => {
@@ -275,7 +291,7 @@ fn updated_at<'a, 'c>(
 // ---- any receiver
 
 /// What becomes of the variables in scope when what a right side comes to has gone to its receiver.
-#[tactic(auto, using(ti_eval::proofs::Steps::steps))]
+#[tactic(auto, using(ti_eval::proofs::Lemmas::steps))]
 pub fn into<'a, 'c>(
     alloc: Global,
     env: &Env,
@@ -283,7 +299,8 @@ pub fn into<'a, 'c>(
     right: Right,
     answers: &'a [Told],
 ) -> Result<(Change<'c>, &'a [Told]), Stop>
-    ensures { ComesAs (λ (c : Changing). changed c (env_of env.now).variables) result (into_spec (env_of env.now) (receiver_seen receiver.entry) (right_seen (env_of env.now) right.entry) answers.now) }
+    ensures { ComesAs (λ (c : Changing). changed c (env_of env.now).variables) result
+        (into_spec (env_of env.now) (receiver_seen receiver.entry) (right_seen (env_of env.now) right.entry) answers.now) }
 {
     match receiver {
         Receiver::Nowhere => match value_of(alloc, env, right, answers) {
@@ -310,7 +327,7 @@ pub fn into<'a, 'c>(
 }
 
 /// The statement goes on when what a right side comes to has gone to its receiver.
-#[tactic(auto, using(ti_eval::proofs::Steps::steps))]
+#[tactic(auto, using(ti_eval::proofs::Lemmas::steps))]
 pub fn receives<'a, 'c>(
     alloc: Global,
     env: &Env,
@@ -318,7 +335,8 @@ pub fn receives<'a, 'c>(
     right: Right,
     answers: &'a [Told],
 ) -> Result<(Move<'c>, &'a [Told]), Stop>
-    ensures { (x : NumberedStm) → ComesAs (move_of (env_of env.now) x) result (receives_spec (env_of env.now) (receiver_seen receiver.entry) (right_seen (env_of env.now) right.entry) answers.now) }
+    ensures { (x : NumberedStm) → ComesAs (move_of (env_of env.now) x) result
+        (receives_spec (env_of env.now) (receiver_seen receiver.entry) (right_seen (env_of env.now) right.entry) answers.now) }
 {
     match into(alloc, env, receiver, right, answers) {
         Ok((change, answers)) => Ok((Move::Goes(change, Left::Of(Todo::Inside)), answers)),

@@ -61,7 +61,7 @@ fn declares_among(body: &[Stmt], v: &Variable) -> bool
 }
 
 // Whether a block or a `for` declares it.
-#[tactic(auto, using(ti_lang::proofs::ProgramBridges::program_bridges))]
+#[tactic(auto, using(ti_lang::proofs::Lemmas::program_bridges))]
 fn declares(x: Option<&Stmt>, v: &Variable) -> bool
     ensures { result ≡ is_among (declared_in (stm_seen x.entry)) (variable_of v.now) }
 {

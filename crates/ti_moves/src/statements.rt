@@ -73,7 +73,9 @@ fn valued<'a, 'c>(
     e: &Expr,
     answers: &'a [Told],
 ) -> Result<(Move<'c>, &'a [Told]), Stop>
-    ensures { ComesAs (move_of (env_of env.now) (statement_of s.now)) result (statements.valued_or_called (env_of env.now) (receiver_of (statement_of s.now)) (expression_of e.now) (called (env_of env.now) (expression_of e.now)) answers.now) }
+    ensures { ComesAs (move_of (env_of env.now) (statement_of s.now)) result
+        (statements.valued_or_called (env_of env.now) (receiver_of (statement_of s.now)) (expression_of e.now)
+        (called (env_of env.now) (expression_of e.now)) answers.now) }
 {
     match call(alloc, env, e, answers) {
         Some(came) => came,
@@ -82,14 +84,15 @@ fn valued<'a, 'c>(
 }
 
 // A thing that was made goes to where the statement wants it.
-#[tactic(auto, using(ti_eval::proofs::Steps::steps))]
+#[tactic(auto, using(ti_eval::proofs::Lemmas::steps))]
 fn made<'a, 'c>(
     alloc: Global,
     env: &Env,
     s: &'c Stmt,
     got: Result<(Held, &'a [Told]), Stop>,
 ) -> Result<(Move<'c>, &'a [Told]), Stop>
-    ensures { (m : Got Seen) → Comes got.entry m → ComesAs (move_of (env_of env.now) (statement_of s.now)) result (followed m (λ h. receives_spec (env_of env.now) (receiver_of (statement_of s.now)) (gives h))) }
+    ensures { (m : Got Seen) → Comes got.entry m → ComesAs (move_of (env_of env.now) (statement_of s.now)) result
+        (followed m (λ h. receives_spec (env_of env.now) (receiver_of (statement_of s.now)) (gives h))) }
 {
     match got {
         Ok((h, answers)) => received(alloc, env, Some(s), &h, answers),
@@ -107,8 +110,11 @@ fn broadcast<'a, 'c>(
     root: &Expr,
     answers: &'a [Told],
 ) -> Result<(Move<'c>, &'a [Told]), Stop>
-    requires { type_received (env_of env.now) (statement_of s.now) ≡ type_given (env_of env.now) (stm.Broadcast at (expression_of value.now) (expression_of root.now)) }
-    ensures { ComesAs (move_of (env_of env.now) (statement_of s.now)) result (collectives.broadcasts (env_of env.now) (receiver_of (statement_of s.now)) at (expression_of value.now) (expression_of root.now) answers.now) }
+    requires { type_received (env_of env.now) (statement_of s.now)
+        ≡ type_given (env_of env.now) (stm.Broadcast at (expression_of value.now) (expression_of root.now)) }
+    ensures { ComesAs (move_of (env_of env.now) (statement_of s.now)) result
+        (collectives.broadcasts (env_of env.now) (receiver_of (statement_of s.now)) at (expression_of value.now)
+        (expression_of root.now) answers.now) }
 {
     match broadcasts(alloc, env, at, value, root, answers) {
         Ok((arrival, answers)) => Ok((
@@ -131,7 +137,8 @@ fn initialized<'a, 'c>(
     answers: &'a [Told],
 ) -> Result<(Move<'c>, &'a [Told]), Stop>
     requires { type_received (env_of env.now) (statement_of s.now) ≡ type_given (env_of env.now) (initial_of value.now) }
-    ensures { ComesAs (move_of (env_of env.now) (statement_of s.now)) result (statements.initialized (env_of env.now) (receiver_of (statement_of s.now)) (initial_of value.now) answers.now) }
+    ensures { ComesAs (move_of (env_of env.now) (statement_of s.now)) result
+        (statements.initialized (env_of env.now) (receiver_of (statement_of s.now)) (initial_of value.now) answers.now) }
 {
     match value {
         Init::Value(e) => valued(alloc, env, s, e, answers),
@@ -186,7 +193,9 @@ fn copy<'a, 'c>(
     args: &[Expr],
     answers: &'a [Told],
 ) -> Result<(Move<'c>, &'a [Told]), Stop>
-    ensures { (name : ℕ) → ComesAs (move_of (env_of env.now) (stm.Call (exp.member at (expression_of receiver.now) name (map expression_of args.now)))) result (copying.copies (env_of env.now) at (expression_of receiver.now) (numbered_exps (map expression_of args.now)) answers.now) }
+    ensures { (name : ℕ) → ComesAs (move_of (env_of env.now) (stm.Call
+        (exp.member at (expression_of receiver.now) name (map expression_of args.now)))) result
+        (copying.copies (env_of env.now) at (expression_of receiver.now) (numbered_exps (map expression_of args.now)) answers.now) }
 {
     match copies(alloc, env, at, receiver, args, answers) {
         Ok((copy, answers)) => {
@@ -206,7 +215,9 @@ fn exchange<'a, 'c>(
     args: &[Expr],
     answers: &'a [Told],
 ) -> Result<(Move<'c>, &'a [Told]), Stop>
-    ensures { (name : ℕ) → ComesAs (move_of (env_of env.now) (stm.Call (exp.member at (expression_of receiver.now) name (map expression_of args.now)))) result (collectives.exchanges (env_of env.now) at (expression_of receiver.now) (numbered_exps (map expression_of args.now)) answers.now) }
+    ensures { (name : ℕ) → ComesAs (move_of (env_of env.now) (stm.Call
+        (exp.member at (expression_of receiver.now) name (map expression_of args.now)))) result
+        (collectives.exchanges (env_of env.now) at (expression_of receiver.now) (numbered_exps (map expression_of args.now)) answers.now) }
 {
     match exchanges(alloc, env, at, receiver, args, answers) {
         Ok((exchange, answers)) => Ok((
@@ -225,7 +236,7 @@ fn exchange<'a, 'c>(
 }
 
 /// `r.delete()`
-#[tactic(auto, using(ti_eval::proofs::Steps::steps))]
+#[tactic(auto, using(ti_eval::proofs::Lemmas::steps))]
 pub fn delete<'a, 'c>(
     alloc: Global,
     env: &Env,
@@ -233,7 +244,8 @@ pub fn delete<'a, 'c>(
     receiver: &Expr,
     answers: &'a [Told],
 ) -> Result<(Move<'c>, &'a [Told]), Stop>
-    ensures { (x : NumberedStm) → ComesAs (move_of (env_of env.now) x) result (collectives.deletes (env_of env.now) at (expression_of receiver.now) answers.now) }
+    ensures { (x : NumberedStm) → ComesAs (move_of (env_of env.now) x) result
+        (collectives.deletes (env_of env.now) at (expression_of receiver.now) answers.now) }
 {
     match evaluate(alloc, env, receiver, answers) {
         Ok((h, answers)) => {
@@ -251,7 +263,8 @@ fn dropped<'a, 'c>(
     e: &Expr,
     answers: &'a [Told],
 ) -> Result<(Move<'c>, &'a [Told]), Stop>
-    ensures { (x : NumberedStm) → ComesAs (move_of (env_of env.now) x) result (receives_spec (env_of env.now) Nowhere (eval (env_of env.now) (expression_of e.now)) answers.now) }
+    ensures { (x : NumberedStm) → ComesAs (move_of (env_of env.now) x) result
+        (receives_spec (env_of env.now) Nowhere (eval (env_of env.now) (expression_of e.now)) answers.now) }
 {
     receives(alloc, env, Receiver::Nowhere, Right::Value(e), answers)
 }
@@ -268,7 +281,8 @@ fn member_alone<'a, 'c>(
     answers: &'a [Told],
 ) -> Result<(Move<'c>, &'a [Told]), Stop>
     requires { expression_of e.now ≡ exp.member at (expression_of receiver.now) name (map expression_of args.now) }
-    ensures { ComesAs (move_of (env_of env.now) (stm.Call (expression_of e.now))) result (statements.alone (env_of env.now) (expression_of e.now) None answers.now) }
+    ensures { ComesAs (move_of (env_of env.now) (stm.Call (expression_of e.now))) result
+        (statements.alone (env_of env.now) (expression_of e.now) None answers.now) }
 {
     match called_member(env, receiver, name) {
         Some(member) => match member {
@@ -282,14 +296,15 @@ fn member_alone<'a, 'c>(
 }
 
 // An expression that is no call of a declared method.
-#[tactic(auto, using(ti_lang::proofs::ProgramBridges::program_bridges))]
+#[tactic(auto, using(ti_lang::proofs::Lemmas::program_bridges))]
 fn uncalled<'a, 'c>(
     alloc: Global,
     env: &Env,
     e: &Expr,
     answers: &'a [Told],
 ) -> Result<(Move<'c>, &'a [Told]), Stop>
-    ensures { ComesAs (move_of (env_of env.now) (stm.Call (expression_of e.now))) result (statements.alone (env_of env.now) (expression_of e.now) None answers.now) }
+    ensures { ComesAs (move_of (env_of env.now) (stm.Call (expression_of e.now))) result
+        (statements.alone (env_of env.now) (expression_of e.now) None answers.now) }
 {
     match e {
         Expr::Member {
@@ -309,7 +324,8 @@ fn alone<'a, 'c>(
     e: &Expr,
     answers: &'a [Told],
 ) -> Result<(Move<'c>, &'a [Told]), Stop>
-    ensures { ComesAs (move_of (env_of env.now) (stm.Call (expression_of e.now))) result (statements.alone (env_of env.now) (expression_of e.now) (called (env_of env.now) (expression_of e.now)) answers.now) }
+    ensures { ComesAs (move_of (env_of env.now) (stm.Call (expression_of e.now))) result
+        (statements.alone (env_of env.now) (expression_of e.now) (called (env_of env.now) (expression_of e.now)) answers.now) }
 {
     match call(alloc, env, e, answers) {
         Some(came) => came,
@@ -349,7 +365,7 @@ fn as_result<'a>(
 }
 
 /// `return`, of a value or of none.
-#[tactic(auto, using(ti_eval::proofs::Steps::steps))]
+#[tactic(auto, using(ti_eval::proofs::Lemmas::steps))]
 pub fn returns<'a, 'c>(
     alloc: Global,
     env: &Env,
@@ -357,7 +373,8 @@ pub fn returns<'a, 'c>(
     value: &Option<Expr>,
     answers: &'a [Told],
 ) -> Result<(Move<'c>, &'a [Told]), Stop>
-    ensures { (x : NumberedStm) → ComesAs (move_of (env_of env.now) x) result (statements.returns (env_of env.now) at (maybe_of expression_of value.now) answers.now) }
+    ensures { (x : NumberedStm) → ComesAs (move_of (env_of env.now) x) result
+        (statements.returns (env_of env.now) at (maybe_of expression_of value.now) answers.now) }
 {
     match value {
         Some(e) => match evaluate(alloc, env, e, answers) {
@@ -375,8 +392,10 @@ pub fn returns<'a, 'c>(
 
 // What is left of an `if`, with `else` or without, behind its condition.
 fn branch(taken: bool, with_else: bool) -> Left
-    ensures alone { with_else ≡ false → (site : Site) (at : At) (c : NumberedExp) (x : NumberedStm) → works_of site (stm.If at c x) result ≡ (if taken then Do x ∷ [] else []) }
-    ensures both { with_else ≡ true → (site : Site) (at : At) (c : NumberedExp) (x y : NumberedStm) → works_of site (stm.IfElse at c x y) result ≡ Do (if taken then x else y) ∷ [] }
+    ensures alone { with_else ≡ false → (site : Site) (at : At) (c : NumberedExp) (x : NumberedStm) → works_of site (stm.If at c x) result
+        ≡ (if taken then Do x ∷ [] else []) }
+    ensures both { with_else ≡ true → (site : Site) (at : At) (c : NumberedExp) (x y : NumberedStm)
+        → works_of site (stm.IfElse at c x y) result ≡ Do (if taken then x else y) ∷ [] }
 {
     if taken {
         Left::Part(Part::Then, Todo::Inside)
@@ -388,7 +407,7 @@ fn branch(taken: bool, with_else: bool) -> Left
 }
 
 // `if`, with `else` or without.
-#[tactic(auto, using(ti_eval::proofs::Steps::steps))]
+#[tactic(auto, using(ti_eval::proofs::Lemmas::steps))]
 fn branches<'a, 'c>(
     alloc: Global,
     env: &Env,
@@ -396,8 +415,12 @@ fn branches<'a, 'c>(
     with_else: bool,
     answers: &'a [Told],
 ) -> Result<(Move<'c>, &'a [Told]), Stop>
-    ensures alone { with_else ≡ false → (at : At) (x : NumberedStm) → ComesAs (move_of (env_of env.now) (stm.If at (expression_of condition.now) x)) result (statements.statement (env_of env.now) (stm.If at (expression_of condition.now) x) answers.now) }
-    ensures both { with_else ≡ true → (at : At) (x y : NumberedStm) → ComesAs (move_of (env_of env.now) (stm.IfElse at (expression_of condition.now) x y)) result (statements.statement (env_of env.now) (stm.IfElse at (expression_of condition.now) x y) answers.now) }
+    ensures alone { with_else ≡ false → (at : At) (x : NumberedStm)
+        → ComesAs (move_of (env_of env.now) (stm.If at (expression_of condition.now) x)) result
+        (statements.statement (env_of env.now) (stm.If at (expression_of condition.now) x) answers.now) }
+    ensures both { with_else ≡ true → (at : At) (x y : NumberedStm)
+        → ComesAs (move_of (env_of env.now) (stm.IfElse at (expression_of condition.now) x y)) result
+        (statements.statement (env_of env.now) (stm.IfElse at (expression_of condition.now) x y) answers.now) }
 {
     match evaluate(alloc, env, condition, answers) {
         Ok((h, answers)) => {
@@ -409,7 +432,7 @@ fn branches<'a, 'c>(
 }
 
 // `foreach`, before its first turn.
-#[tactic(auto, using(ti_eval::proofs::Steps::steps))]
+#[tactic(auto, using(ti_eval::proofs::Lemmas::steps))]
 fn foreach<'a, 'c>(
     alloc: Global,
     env: &Env,
@@ -417,7 +440,8 @@ fn foreach<'a, 'c>(
     domain: &Expr,
     answers: &'a [Told],
 ) -> Result<(Move<'c>, &'a [Told]), Stop>
-    ensures { (at : At) (body : NumberedStm) → ComesAs (move_of (env_of env.now) (stm.Foreach at variable (expression_of domain.now) body)) result (statements.statement (env_of env.now) (stm.Foreach at variable (expression_of domain.now) body) answers.now) }
+    ensures { (at : At) (body : NumberedStm) → ComesAs (move_of (env_of env.now) (stm.Foreach at variable (expression_of domain.now) body))
+        result (statements.statement (env_of env.now) (stm.Foreach at variable (expression_of domain.now) body) answers.now) }
 {
     match evaluate(alloc, env, domain, answers) {
         Ok((domain, answers)) => {
@@ -444,7 +468,8 @@ fn step<'a, 'c>(
     s: &'c Stmt,
     answers: &'a [Told],
 ) -> Result<(Move<'c>, &'a [Told]), Stop>
-    ensures { ComesAs (move_of (env_of env.now) (statement_of s.now)) result (receives_spec (env_of env.now) (receiver_of (statement_of s.now)) (gives (Plain (Int (pos 1)))) answers.now) }
+    ensures { ComesAs (move_of (env_of env.now) (statement_of s.now)) result
+        (receives_spec (env_of env.now) (receiver_of (statement_of s.now)) (gives (Plain (Int (pos 1)))) answers.now) }
 {
     let one = Held::plain(Value::Int(1));
     received(alloc, env, Some(s), &one, answers)
@@ -458,7 +483,8 @@ fn present<'a, 'c>(
     s: &'c Stmt,
     answers: &'a [Told],
 ) -> Result<(Move<'c>, &'a [Told]), Stop>
-    ensures { ComesAs (move_of (env_of env.now) (statement_of s.now)) result (statements.statement (env_of env.now) (statement_of s.now) answers.now) }
+    ensures { ComesAs (move_of (env_of env.now) (statement_of s.now)) result
+        (statements.statement (env_of env.now) (statement_of s.now) answers.now) }
 {
     match s {
         Stmt::Empty => Ok((goes(Todo::Inside), answers)),
@@ -509,7 +535,8 @@ pub fn statement<'a, 'c>(
     x: Option<&'c Stmt>,
     answers: &'a [Told],
 ) -> Result<(Move<'c>, &'a [Told]), Stop>
-    ensures { ComesAs (move_of (env_of env.now) (stm_seen x.entry)) result (statements.statement (env_of env.now) (stm_seen x.entry) answers.now) }
+    ensures { ComesAs (move_of (env_of env.now) (stm_seen x.entry)) result
+        (statements.statement (env_of env.now) (stm_seen x.entry) answers.now) }
 {
     match x {
         Some(s) => present(alloc, env, s, answers),
@@ -525,7 +552,8 @@ pub fn received<'a, 'c>(
     h: &Held,
     answers: &'a [Told],
 ) -> Result<(Move<'c>, &'a [Told]), Stop>
-    ensures { ComesAs (move_of (env_of env.now) (stm_seen x.entry)) result (receives_spec (env_of env.now) (receiver_of (stm_seen x.entry)) (gives h.now) answers.now) }
+    ensures { ComesAs (move_of (env_of env.now) (stm_seen x.entry)) result
+        (receives_spec (env_of env.now) (receiver_of (stm_seen x.entry)) (gives h.now) answers.now) }
 {
     receives(alloc, env, receiver_at(x), Right::Known(h), answers)
 }

@@ -41,14 +41,15 @@ pub enum Target<'c> {
 // ---- targets
 
 /// The target that an expression names: its reference and its index are evaluated.
-#[tactic(auto, using(ti_eval::proofs::Evaluating::evaluating))]
+#[tactic(auto, using(ti_eval::proofs::Lemmas::evaluating))]
 pub fn located<'a, 'c>(
     alloc: Global,
     env: &Env,
     e: &'c Expr,
     answers: &'a [Told],
 ) -> Result<(Target<'c>, &'a [Told]), Stop>
-    ensures { ComesAs (target_of (through_of (env_of env.now) (expression_of e.now))) result (targets.located (env_of env.now) (expression_of e.now) answers.now) }
+    ensures { ComesAs (target_of (through_of (env_of env.now) (expression_of e.now))) result
+        (targets.located (env_of env.now) (expression_of e.now) answers.now) }
 {
     match e {
         Expr::Variable(_, v) => Ok((Target::Variable(v), answers)),
@@ -94,7 +95,8 @@ pub fn held_in<'a>(
     target: &Target,
     answers: &'a [Told],
 ) -> Result<(Held, &'a [Told]), Stop>
-    ensures { (through type : ValueType) → Comes result (targets.held_in (env_of env.now) at type (target_of through target.now) answers.now) }
+    ensures { (through type : ValueType) → Comes result (targets.held_in (env_of env.now) at type
+        (target_of through target.now) answers.now) }
 {
     match target {
         Target::Variable(v) => Ok((find(alloc, v, env.variables)?, answers)),
@@ -143,7 +145,9 @@ fn put<'a, 'c>(
     action: Action,
     answers: &'a [Told],
 ) -> Result<(Change<'c>, &'a [Told]), Stop>
-    ensures { (through : ValueType) (ws : List InScope) → ComesAs (λ (c : Changing). changed c ws) result (followed (asked_spec (record { place = at; action = action; through = through; wanted = ToBeDone }) answers.now) (λ done. gives ws)) }
+    ensures { (through : ValueType) (ws : List InScope) → ComesAs (λ (c : Changing). changed c ws) result
+        (followed (asked_spec (record { place = at; action = action; through = through; wanted = ToBeDone }) answers.now)
+        (λ done. gives ws)) }
 {
     match asked(at, action, answers) {
         Ok((_, answers)) => Ok((Change::Same, answers)),
@@ -159,7 +163,8 @@ fn put_field<'a, 'c>(
     h: &Held,
     answers: &'a [Told],
 ) -> Result<(Change<'c>, &'a [Told]), Stop>
-    ensures { (through : ValueType) (ws : List InScope) → ComesAs (λ (c : Changing). changed c ws) result (written at through object.now (λ (obj : Thing). PutField obj field (plain_of h.now)) ws answers.now) }
+    ensures { (through : ValueType) (ws : List InScope) → ComesAs (λ (c : Changing). changed c ws) result
+        (written at through object.now (λ (obj : Thing). PutField obj field (plain_of h.now)) ws answers.now) }
 {
     match object.thing() {
         Some(obj) => {
@@ -178,7 +183,8 @@ fn put_element<'a, 'c>(
     h: &Held,
     answers: &'a [Told],
 ) -> Result<(Change<'c>, &'a [Told]), Stop>
-    ensures { (through : ValueType) (ws : List InScope) → ComesAs (λ (c : Changing). changed c ws) result (written at through grid.now (λ (grid : Thing). PutElem grid index (plain_of h.now)) ws answers.now) }
+    ensures { (through : ValueType) (ws : List InScope) → ComesAs (λ (c : Changing). changed c ws) result
+        (written at through grid.now (λ (grid : Thing). PutElem grid index (plain_of h.now)) ws answers.now) }
 {
     match grid.thing() {
         Some(grid) => {
@@ -200,7 +206,8 @@ pub fn stored<'a, 'c>(
     h: Held,
     answers: &'a [Told],
 ) -> Result<(Change<'c>, &'a [Told]), Stop>
-    ensures { (env : Where) (through : ValueType) → ComesAs (λ (c : Changing). changed c env.variables) result (targets.stored env at (target_of through target.now) h answers.now) }
+    ensures { (env : Where) (through : ValueType) → ComesAs (λ (c : Changing). changed c env.variables) result
+        (targets.stored env at (target_of through target.now) h answers.now) }
 {
     match target {
         Target::Variable(v) => Ok((Change::Changed(*v, h), answers)),

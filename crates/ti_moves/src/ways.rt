@@ -50,7 +50,8 @@ pub enum Way<'c> {
 
 // A number or a boolean as one of a type of these.
 fn as_scalar(ty: &Ty, x: Scalar) -> Option<Scalar>
-    ensures { IfSome result (λ k. (at : At) (rest : List Answer) → conversions.converted at (value_type_of ty.now) (held_of_scalar x) rest ≡ Gives (held_of_scalar k) rest) }
+    ensures { IfSome result (λ k. (at : At) (rest : List Answer) → conversions.converted at (value_type_of ty.now) (held_of_scalar x) rest
+        ≡ Gives (held_of_scalar k) rest) }
 {
     match (ty, x) {
         (Ty::Int, Scalar::Int(_)) => Some(x),
@@ -94,7 +95,9 @@ fn updated<'c>(env: &Env, op: BinaryOperator, target: &'c Expr, y: Scalar) -> Op
 
 // What a right side comes to.
 fn right(env: &Env, e: &Expr) -> Option<Scalar>
-    ensures { IfSome result (λ x. (r : Receiver) (rest : List Answer) → initialized (env_of env.now) r (stm.Value (expression_of e.now)) rest ≡ receives (env_of env.now) r (gives (held_of_scalar x)) rest) }
+    ensures { IfSome result (λ x. (r : Receiver) (rest : List Answer)
+        → initialized (env_of env.now) r (stm.Value (expression_of e.now)) rest
+        ≡ receives (env_of env.now) r (gives (held_of_scalar x)) rest) }
 {
     match computed(env, e) {
         Some(x) => Some(x),
@@ -104,7 +107,8 @@ fn right(env: &Env, e: &Expr) -> Option<Scalar>
 
 // The same of a declaration or an assignment.
 fn initial(env: &Env, value: &Init) -> Option<Scalar>
-    ensures { IfSome result (λ x. (r : Receiver) (rest : List Answer) → initialized (env_of env.now) r (initial_of value.now) rest ≡ receives (env_of env.now) r (gives (held_of_scalar x)) rest) }
+    ensures { IfSome result (λ x. (r : Receiver) (rest : List Answer) → initialized (env_of env.now) r (initial_of value.now) rest
+        ≡ receives (env_of env.now) r (gives (held_of_scalar x)) rest) }
 {
     match value {
         Init::Value(e) => right(env, e),
@@ -159,8 +163,10 @@ fn stepped<'c>(env: &Env, op: StepOperator, target: &'c Expr) -> Option<Way<'c>>
 
 // What is left of an `if`, with `else` or without, behind its condition.
 fn branch<'c>(taken: bool, with_else: bool) -> Way<'c>
-    ensures alone { with_else ≡ false → (env : Where) (at : At) (c : NumberedExp) (x : NumberedStm) → move_by env (stm.If at c x) result ≡ Goes env.variables (if taken then Do x ∷ [] else []) }
-    ensures both { with_else ≡ true → (env : Where) (at : At) (c : NumberedExp) (x y : NumberedStm) → move_by env (stm.IfElse at c x y) result ≡ Goes env.variables (Do (if taken then x else y) ∷ []) }
+    ensures alone { with_else ≡ false → (env : Where) (at : At) (c : NumberedExp) (x : NumberedStm) → move_by env (stm.If at c x) result
+        ≡ Goes env.variables (if taken then Do x ∷ [] else []) }
+    ensures both { with_else ≡ true → (env : Where) (at : At) (c : NumberedExp) (x y : NumberedStm)
+        → move_by env (stm.IfElse at c x y) result ≡ Goes env.variables (Do (if taken then x else y) ∷ []) }
 {
     if taken {
         Way::Then
@@ -173,8 +179,10 @@ fn branch<'c>(taken: bool, with_else: bool) -> Way<'c>
 
 // `if`, with `else` or without.
 fn chosen<'c>(env: &Env, condition: &Expr, with_else: bool) -> Option<Way<'c>>
-    ensures alone { with_else ≡ false → (at : At) (x : NumberedStm) → GoesBy (env_of env.now) (stm.If at (expression_of condition.now) x) result }
-    ensures both { with_else ≡ true → (at : At) (x y : NumberedStm) → GoesBy (env_of env.now) (stm.IfElse at (expression_of condition.now) x y) result }
+    ensures alone { with_else ≡ false → (at : At) (x : NumberedStm)
+        → GoesBy (env_of env.now) (stm.If at (expression_of condition.now) x) result }
+    ensures both { with_else ≡ true → (at : At) (x y : NumberedStm)
+        → GoesBy (env_of env.now) (stm.IfElse at (expression_of condition.now) x y) result }
 {
     match computed(env, condition) {
         Some(Scalar::Truth(taken)) => Some(branch(taken, with_else)),

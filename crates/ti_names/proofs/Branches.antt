@@ -22,7 +22,7 @@ use Rattle.ti_names.specs.Branched.{numbered_branches}
 use Rattle.ti_names.specs.Mirrors.Numbered.{number_exp, number_stm, number_maybe_stm}
 use Rattle.ti_names.specs.Seen.{tree_maybe, seen_maybe}
 use Rattle.ti_rules.specs.Mirrors.First.{sooner}
-use Rattle.ti_rules.proofs.First.{sooner_none}
+use Rattle.ti_rules.proofs.Lemmas.{sooner_none}
 use Rattle.ti_names.specs.Found.{first_in}
 use Rattle.ti_names.proofs.Firsts.{in_none, in_append}
 
@@ -63,7 +63,8 @@ held_if at c x (Some y) = refl
 
 -- ---- what an `if` means
 
-pub number_branches : (site : Site) (at : Place) (c : Exp) (x : Stm) (y : MaybeStm) → number_stm site (branches at c x y) ≡ numbered_branches at (number_exp site c) (number_stm site x) (number_maybe_stm (past site x) y)
+pub number_branches : (site : Site) (at : Place) (c : Exp) (x : Stm) (y : MaybeStm) → number_stm site (branches at c x y)
+    ≡ numbered_branches at (number_exp site c) (number_stm site x) (number_maybe_stm (past site x) y)
 number_branches site at c x s.NoStm = refl
 number_branches site at c x (s.SomeStm y) = refl
 
@@ -100,7 +101,8 @@ pub in_foreach : (site : Site) (at name_at : Place) (name : List ℕ) (domain : 
     ≡ sooner (sooner (first_in (node site (VariableName name_at name) ∷ [])) (first_in (exp_nodes site domain))) (first_in (stm_nodes (declares site name Foreach) body))
 in_foreach site at name_at name domain body =
     let own : Node = node site (VariableName name_at name) in
-    in_append (own ∷ exp_nodes site domain) (stm_nodes (declares site name Foreach) body) ∙ ap (λ f. sooner f (first_in (stm_nodes (declares site name Foreach) body))) (in_append (own ∷ []) (exp_nodes site domain))
+    in_append (own ∷ exp_nodes site domain) (stm_nodes (declares site name Foreach) body)
+    ∙ ap (λ f. sooner f (first_in (stm_nodes (declares site name Foreach) body))) (in_append (own ∷ []) (exp_nodes site domain))
 
 pub ruleset statement_bridges = (seen_if, seen_for, held_for, held_if, number_branches, behind_branches, in_branches, in_for)
 

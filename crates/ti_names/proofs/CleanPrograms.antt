@@ -14,8 +14,13 @@ use Rattle.ti_lang.specs.Program.Statements.{NumberedDims, NumberedInit, Numbere
 use Rattle.ti_lang.specs.Program.Classes.{NumberedField, NumberedClass, NumberedParam, NumberedParams, NumberedResult, NumberedMethod, NumberedProgram}
 use Rattle.ti_lang.specs.Members.{class_named, fields_in, field_named, OwnMethod, method_named}
 use Rattle.ti_lang.specs.Scopes.{Site, class_site, most_variables, IsFresh, HasRoom}
-use Rattle.ti_lang.specs.Nodes.{base_nodes, type_nodes, exp_nodes, exps_nodes, range_nodes, ranges_nodes, maybe_nodes, dims_nodes, init_nodes, print_nodes, stm_nodes, maybe_stm_nodes, stms_nodes, fields_nodes, classes_nodes, result_nodes, param_list_nodes, params_nodes, method_nodes, methods_nodes, nodes_of, node, ClassName, FieldName, MethodName, VariableName, ClassUse}
-use Rattle.ti_lang.specs.Numbering.{IsKnownBase, NumbersType, NumbersExp, NumbersExps, NumbersRange, NumbersRanges, NumbersMaybe, NumbersDims, NumbersInit, NumbersPrint, NumbersStm, NumbersMaybeStm, NumbersStms, NumbersFields, NumbersClasses, NumbersResult, NumbersParamList, NumbersParams, NumbersMethod, NumbersMethods, Numbers}
+use Rattle.ti_lang.specs.Nodes.{base_nodes, type_nodes, exp_nodes, exps_nodes, range_nodes, ranges_nodes, maybe_nodes, dims_nodes}
+use Rattle.ti_lang.specs.Nodes.{init_nodes, print_nodes, stm_nodes, maybe_stm_nodes, stms_nodes, fields_nodes, classes_nodes, result_nodes}
+use Rattle.ti_lang.specs.Nodes.{param_list_nodes, params_nodes, method_nodes, methods_nodes, nodes_of, node, ClassName, FieldName}
+use Rattle.ti_lang.specs.Nodes.{MethodName, VariableName, ClassUse}
+use Rattle.ti_lang.specs.Numbering.{IsKnownBase, NumbersType, NumbersExp, NumbersExps, NumbersRange, NumbersRanges, NumbersMaybe}
+use Rattle.ti_lang.specs.Numbering.{NumbersDims, NumbersInit, NumbersPrint, NumbersStm, NumbersMaybeStm, NumbersStms, NumbersFields}
+use Rattle.ti_lang.specs.Numbering.{NumbersClasses, NumbersResult, NumbersParamList, NumbersParams, NumbersMethod, NumbersMethods, Numbers}
 use Rattle.ti_rules.specs.declared.rule.Rule.TheVariants.{N2}
 use Rattle.ti_rules.specs.Refusals.{refused_if}
 use Rattle.ti_rules.specs.MainForm.{is_another}
@@ -168,7 +173,9 @@ clean_params : {site : Site} {params : ParamsTree} {q : NumberedParams} → Numb
 clean_params NumbersParams.words = Clean.no_nodes
 clean_params (NumbersParams.params params) = clean_param_list params
 
-clean_method : {site : Site} (number : ℕ) {own : OwnMethod} {method : NumberedMethod} → refused_if (is_another (method_named site.text own.class own.method.name) number) N2 own.method.place ≡ [] → NumbersMethod site own method
+clean_method : {site : Site} (number : ℕ) {own : OwnMethod} {method : NumberedMethod}
+    → refused_if (is_another (method_named site.text own.class own.method.name) number) N2 own.method.place ≡ []
+    → NumbersMethod site own method
     → Clean (method_nodes site number own)
 clean_method {site} number {own} first (NumbersMethod.method result ps statements) =
     let head : Clean (node site (MethodName number own) ∷ result_nodes site own.method.result) = Clean.more_nodes first (clean_result site result) in

@@ -9,7 +9,7 @@ use Rattle.ti_syntax.specs.declared.tree.exprs.Expr.{Expr, Call, Point, Rect, Me
 use Rattle.ti_syntax.specs.Trees.Expressions.{Exp, Exps, exps, ranges_tree}
 use Rattle.ti_syntax.specs.Trees.Expressions as t
 use Rattle.ti_syntax.specs.Trees.Views.{exp_of, exps_of, ranges_of}
-use Rattle.ti_syntax.proofs.Bridges.{seen_call, seen_point, seen_rect, seen_member, seen_index}
+use Rattle.ti_syntax.proofs.Lemmas.{seen_call, seen_point, seen_rect, seen_member, seen_index}
 use Rattle.ti_syntax.specs.Trees.Classes.{TextTree}
 use Rattle.ti_lang.specs.Members.{methods_of}
 use Rattle.ti_lang.specs.Scopes.{Site, own_method_named, class_before_dot}
@@ -20,7 +20,7 @@ use Rattle.ti_rules.specs.Refusals.{refused_if}
 use Rattle.ti_rules.specs.Mirrors.First.{sooner, first_of}
 use Rattle.ti_rules.specs.BrokenNames.{lacks_method, node_refusals, name_refusals}
 use Rattle.ti_rules.specs.MainForm.{main_refusals}
-use Rattle.ti_rules.proofs.First.{sooner_none, sooner_assoc, first_append, first_append_each, first_alone, first_nil}
+use Rattle.ti_rules.proofs.Lemmas.{sooner_none, sooner_assoc, first_append, first_append_each, first_alone, first_nil}
 use Rattle.ti_names.specs.Found.{first_in}
 
 pub none_sooner : (a : Option Refusal) → sooner None a ≡ a
@@ -59,7 +59,8 @@ in_rect site a at v is = ap (λ z. first_in (exp_nodes site z)) (seen_rect a at 
 
 pub in_member : (site : Site) (a : Expr) (at : Place) (x : Box Expr Global) (name : List ℕ) (v : Vec Expr Global) → a ≡ Member at x name v
     → first_in (exp_nodes site (exp_of a))
-    ≡ sooner (sooner (first_of (refused_if (lacks_method site (class_before_dot site (exp_of x.value)) name) N1 at)) (first_in (if is_some (class_before_dot site (exp_of x.value)) then [] else exp_nodes site (exp_of x.value))))
+    ≡ sooner (sooner (first_of (refused_if (lacks_method site (class_before_dot site (exp_of x.value)) name) N1 at))
+    (first_in (if is_some (class_before_dot site (exp_of x.value)) then [] else exp_nodes site (exp_of x.value))))
     (first_in (exps_nodes site (exps (exps_of v))))
 in_member site a at x name v is =
     let e = exp_of x.value in
@@ -77,7 +78,8 @@ pub ruleset in_expressions = (in_call, in_point, in_rect, in_member, in_index)
 -- ---- lists that are walked
 
 -- one element more
-pub in_step : (found next whole : Option Refusal) (all head rest : List Node) → sooner found (first_in all) ≡ whole → all ≡ head ++ rest → next ≡ sooner found (first_in head) → sooner next (first_in rest) ≡ whole
+pub in_step : (found next whole : Option Refusal) (all head rest : List Node) → sooner found (first_in all) ≡ whole → all ≡ head ++ rest
+    → next ≡ sooner found (first_in head) → sooner next (first_in rest) ≡ whole
 in_step found next whole all head rest so is more =
     ap (λ z. sooner z (first_in rest)) more ∙ sooner_assoc found (first_in head) (first_in rest) ∙ ap (sooner found) (sym (in_append head rest)) ∙ sym (ap (λ z. sooner found (first_in z)) is) ∙ so
 
@@ -85,7 +87,8 @@ pub in_end : (found whole : Option Refusal) (all : List Node) → sooner found (
 in_end found whole all so is = sym (sooner_none found) ∙ ap (sooner found) (sym in_none) ∙ sym (ap (λ z. sooner found (first_in z)) is) ∙ so
 
 -- the same of a list of refusals
-pub list_step : (found next whole : Option Refusal) (all head rest : List Refusal) → sooner found (first_of all) ≡ whole → all ≡ head ++ rest → next ≡ sooner found (first_of head) → sooner next (first_of rest) ≡ whole
+pub list_step : (found next whole : Option Refusal) (all head rest : List Refusal) → sooner found (first_of all) ≡ whole → all ≡ head
+    ++ rest → next ≡ sooner found (first_of head) → sooner next (first_of rest) ≡ whole
 list_step found next whole all head rest so is more =
     ap (λ z. sooner z (first_of rest)) more ∙ sooner_assoc found (first_of head) (first_of rest) ∙ ap (sooner found) (sym (first_append head rest)) ∙ sym (ap (λ z. sooner found (first_of z)) is) ∙ so
 
@@ -94,7 +97,8 @@ list_end found whole all so is = sym (sooner_none found) ∙ ap (sooner found) (
 
 -- ---- of a text
 
-pub in_text : (text : TextTree) → sooner (sooner (first_in (classes_nodes text 0 text)) (first_in (methods_nodes text 0 0 (methods_of text)))) (first_of (main_refusals text)) ≡ first_of (name_refusals text)
+pub in_text : (text : TextTree) → sooner (sooner (first_in (classes_nodes text 0 text))
+    (first_in (methods_nodes text 0 0 (methods_of text)))) (first_of (main_refusals text)) ≡ first_of (name_refusals text)
 unfolding first_in
 in_text text =
     ap (λ z. sooner z (first_of (main_refusals text))) (sym (first_append_each node_refusals (classes_nodes text 0 text) (methods_nodes text 0 0 (methods_of text))))

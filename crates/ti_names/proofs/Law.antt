@@ -9,7 +9,7 @@ use Rattle.ti_rules.specs.Mirrors.First.{first_of}
 use Rattle.ti_rules.specs.Refusals.{IsFirstRefusal}
 use Rattle.ti_rules.specs.MainForm.{main_refusals}
 use Rattle.ti_rules.specs.BrokenNames.{node_refusals, name_refusals, BreaksNames}
-use Rattle.ti_rules.proofs.First.{first_is, first_none}
+use Rattle.ti_rules.proofs.Lemmas.{first_is, first_none}
 use Rattle.ti_names.specs.Mirrors.Numbered.{number_program}
 use Rattle.ti_names.proofs.CleanNodes.{empty_left, empty_right, clean_of, of_clean}
 use Rattle.ti_names.proofs.CleanPrograms.{clean_program}

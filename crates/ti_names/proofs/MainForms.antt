@@ -26,7 +26,8 @@ not_refused false rule at e = refl
 -- ---- methods with a parameter `String[] x`
 
 -- none of them is another than main
-no_words : (main : Option ℕ) (n : ℕ) (ms : List OwnMethod) → ((k : ℕ) (own : OwnMethod) → slice_get ms k ≡ Some own → (is_words own.method.params && is_another main (n + k)) ≡ false) → words_refusals main n ms ≡ []
+no_words : (main : Option ℕ) (n : ℕ) (ms : List OwnMethod) → ((k : ℕ) (own : OwnMethod) → slice_get ms k ≡ Some own
+    → (is_words own.method.params && is_another main (n + k)) ≡ false) → words_refusals main n ms ≡ []
 no_words main n [] none = refl
 no_words main n (x ∷ ms) none =
     let number : n ≡ n + 0 = omega arith in
@@ -34,7 +35,8 @@ no_words main n (x ∷ ms) none =
     ap (λ b. refused_if b N3 x.method.place ++ words_refusals main (n + 1) ms) first
     ∙ no_words main (n + 1) ms (λ k own at. let more : n + 1 + k ≡ n + suc k = omega arith in ap (λ z. is_words own.method.params && is_another main z) more ∙ none (suc k) own at)
 
-words_none : (main : Option ℕ) (n : ℕ) (ms : List OwnMethod) → words_refusals main n ms ≡ [] → (k : ℕ) (own : OwnMethod) → slice_get ms k ≡ Some own → (is_words own.method.params && is_another main (n + k)) ≡ false
+words_none : (main : Option ℕ) (n : ℕ) (ms : List OwnMethod) → words_refusals main n ms ≡ [] → (k : ℕ) (own : OwnMethod) → slice_get ms k
+    ≡ Some own → (is_words own.method.params && is_another main (n + k)) ≡ false
 words_none main n [] e k own at = cc
 words_none main n (x ∷ ms) e zero own at =
     let same : x ≡ own = cc in
@@ -52,7 +54,8 @@ pub clean_main : (text : TextTree) (number : ℕ) → HasMain text number → ma
 clean_main text number main =
     let found = main_is main in
     let form : form_refusals text (main_class text) (main_method text) ≡ [] =
-    (λ j. form_refusals text (main.is_class j) (found j)) ∙ ap (λ (o : Option OwnMethod). option_map_or (λ (own : OwnMethod). refused_if (not (has_main_form own.method)) N3 own.method.place) o []) main.stands
+    (λ j. form_refusals text (main.is_class j) (found j)) ∙ ap (λ (o : Option OwnMethod). option_map_or
+    (λ (own : OwnMethod). refused_if (not (has_main_form own.method)) N3 own.method.place) o []) main.stands
     ∙ ap (λ b. refused_if (not b) N3 main.own.method.place) main.form in
     let words : words_refusals (main_method text) 0 (methods_of text) ≡ [] = no_words (main_method text) 0 (methods_of text) (λ k own at. alone k own at (is_words own.method.params) refl) in
     λ j. form j ++ words j
@@ -96,7 +99,8 @@ main_of_clean text none = by (main_class text) refl (empty_left (form_refusals t
         let number : n ≡ 0 + k = cc in
         sym (number ∙ zero_k)
 
-    formed : (class n : ℕ) → main_class text ≡ Some class → main_method text ≡ Some n → (own : OwnMethod) → slice_get (methods_of text) n ≡ Some own → (b : Bool) → has_main_form own.method ≡ b → refused_if (not b) N3 own.method.place ≡ []
+    formed : (class n : ℕ) → main_class text ≡ Some class → main_method text ≡ Some n → (own : OwnMethod) → slice_get (methods_of text) n
+        ≡ Some own → (b : Bool) → has_main_form own.method ≡ b → refused_if (not b) N3 own.method.place ≡ []
         → HasMain text n
     formed class n e f own at true is form = record {
       class = class;
@@ -109,7 +113,8 @@ main_of_clean text none = by (main_class text) refl (empty_left (form_refusals t
     }
     formed class n e f own at false is form = cc
 
-    numbered : (class : ℕ) → main_class text ≡ Some class → (number : Option ℕ) → main_method text ≡ number → form_refusals text (Some class) number ≡ [] → HasMain text (unwrap_or (main_method text) 0)
+    numbered : (class : ℕ) → main_class text ≡ Some class → (number : Option ℕ) → main_method text ≡ number
+        → form_refusals text (Some class) number ≡ [] → HasMain text (unwrap_or (main_method text) 0)
     numbered class e None f form =
         let c = found_at (λ (x : ClassTree). bytes_eq (codes "Main") x.name) text class e in
         let named : refused_if true N3 c.0.place ≡ [] = sym (ap (λ (o : Option ClassTree). option_map_or (λ (x : ClassTree). refused_if true N3 x.place) o []) c.1) ∙ form in
@@ -118,7 +123,9 @@ main_of_clean text none = by (main_class text) refl (empty_left (form_refusals t
         let method : method_named text class (codes "main") ≡ Some n = sym (ap (λ c. option_and_then (λ (c : ℕ). method_named text c (codes "main")) c) e) ∙ f in
         let m = found_at (λ (x : OwnMethod). (x.class == class) && bytes_eq (codes "main") x.method.name) (methods_of text) n method in
         subst (HasMain text) (sym (ap (λ o. unwrap_or o 0) f))
-        (formed class n e f m.0 m.1 (has_main_form m.0.method) refl (sym (ap (λ (o : Option OwnMethod). option_map_or (λ (own : OwnMethod). refused_if (not (has_main_form own.method)) N3 own.method.place) o []) m.1) ∙ form))
+        (formed class n e f m.0 m.1 (has_main_form m.0.method) refl (sym
+        (ap (λ (o : Option OwnMethod). option_map_or (λ (own : OwnMethod). refused_if
+        (not (has_main_form own.method)) N3 own.method.place) o []) m.1) ∙ form))
 
     by : (class : Option ℕ) → main_class text ≡ class → form_refusals text class (main_method text) ≡ [] → HasMain text (unwrap_or (main_method text) 0)
     by None e form = cc

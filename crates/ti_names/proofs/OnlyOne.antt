@@ -14,9 +14,14 @@ use Rattle.ti_lang.specs.Program.Classes.{NumberedField, NumberedClass, Numbered
 use Rattle.ti_lang.specs.Program.Classes as p
 use Rattle.ti_lang.specs.Members.{OwnMethod, is_single, method_named, name_number}
 use Rattle.ti_lang.specs.Scopes.{numbered_type, Site, body_site}
-use Rattle.ti_lang.specs.Numbering.{NumbersType, NumbersExp, NumbersExps, NumbersRange, NumbersRanges, NumbersMaybe, NumbersDims, NumbersInit, NumbersPrint, NumbersStm, NumbersMaybeStm, NumbersStms, NumbersFields, NumbersClasses, NumbersResult, NumbersParamList, NumbersParams, NumbersMethod, NumbersMethods, HasMain, Numbers}
+use Rattle.ti_lang.specs.Numbering.{NumbersType, NumbersExp, NumbersExps, NumbersRange, NumbersRanges, NumbersMaybe, NumbersDims}
+use Rattle.ti_lang.specs.Numbering.{NumbersInit, NumbersPrint, NumbersStm, NumbersMaybeStm, NumbersStms, NumbersFields, NumbersClasses}
+use Rattle.ti_lang.specs.Numbering.{NumbersResult, NumbersParamList, NumbersParams, NumbersMethod, NumbersMethods, HasMain, Numbers}
 use Rattle.ti_rules.specs.MainForm.{main_method}
-use Rattle.ti_names.specs.Mirrors.Numbered.{number_exp, number_exps, number_range, number_ranges, number_maybe, number_dims, number_init, number_print, number_stm, number_maybe_stm, number_stms, number_list, number_fields, number_classes, number_result, number_param_list, number_params, number_method, number_methods, number_program}
+use Rattle.ti_names.specs.Mirrors.Numbered.{number_exp, number_exps, number_range, number_ranges, number_maybe, number_dims, number_init}
+use Rattle.ti_names.specs.Mirrors.Numbered.{number_print, number_stm, number_maybe_stm, number_stms, number_list, number_fields}
+use Rattle.ti_names.specs.Mirrors.Numbered.{number_classes, number_result, number_param_list, number_params, number_method, number_methods}
+use Rattle.ti_names.specs.Mirrors.Numbered.{number_program}
 use Rattle.ti_names.proofs.Lists.{number_ranges_list, number_stms_list}
 
 only_type : {text : TextTree} {t : TypeTree} {u : NumberedType} → NumbersType text t u → u ≡ numbered_type text t
@@ -160,7 +165,8 @@ only_method : {site : Site} {own : OwnMethod} {method : NumberedMethod} → Numb
 only_method {site} {own} (NumbersMethod.method {body = body} result ps statements) =
     let a = only_result result in
     let b = only_params ps in
-    let rows : numbered_stms body ≡ numbered_stms (number_list (body_site site own.method.params) own.method.body) = only_stms statements ∙ number_stms_list (body_site site own.method.params) own.method.body in
+    let rows : numbered_stms body ≡ numbered_stms (number_list (body_site site own.method.params) own.method.body) = only_stms statements
+    ∙ number_stms_list (body_site site own.method.params) own.method.body in
     let c : body ≡ number_list (body_site site own.method.params) own.method.body = sym (listed_stms body) ∙ ap stm_list rows ∙ listed_stms _ in
     λ i. record {
       class = own.class;

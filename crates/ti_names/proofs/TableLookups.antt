@@ -48,7 +48,8 @@ first_or table q name n more = by (is_some (lookup (bytes_eq name) table)) refl
         found None true = refl
         found None false = refl
 
-lookup_numbered : (q : List ℕ) (table : List (List ℕ × ℕ)) (n : ℕ) (names : List (List ℕ)) → lookup (bytes_eq q) (with_numbered table n names) ≡ option_or (lookup (bytes_eq q) table) (position_from (bytes_eq q) n names)
+lookup_numbered : (q : List ℕ) (table : List (List ℕ × ℕ)) (n : ℕ) (names : List (List ℕ))
+    → lookup (bytes_eq q) (with_numbered table n names) ≡ option_or (lookup (bytes_eq q) table) (position_from (bytes_eq q) n names)
 lookup_numbered q table n [] = none_or (lookup (bytes_eq q) table)
   where
     none_or : (o : Option ℕ) → o ≡ option_or o None
@@ -103,7 +104,8 @@ own_position class name n [] = refl
 own_position class name n (FieldMember f ∷ ms) = own_position class name n ms
 own_position class name n (MethodMember m ∷ ms) =
     let self : (class == class) ≡ true = grind (arith, nat_tests) in
-    ap (cond (bytes_eq name m.name) (Some n)) (own_position class name (n + 1) ms) ∙ ap (λ b. cond (b && bytes_eq name m.name) (Some n) (position_from (test class name) (n + 1) (methods_in class ms))) (sym self)
+    ap (cond (bytes_eq name m.name) (Some n)) (own_position class name (n + 1) ms)
+    ∙ ap (λ b. cond (b && bytes_eq name m.name) (Some n) (position_from (test class name) (n + 1) (methods_in class ms))) (sym self)
 
 other_position : (class other : ℕ) (name : List ℕ) (n : ℕ) (ms : List MemberTree) → (other == class) ≡ false → position_from (test class name) n (methods_in other ms) ≡ None
 other_position class other name n [] apart = refl
@@ -194,7 +196,8 @@ names_kept names name there = sym (ap (λ b. if b then names else names ++ name 
 pub names_more : (names : List (List ℕ)) (name : List ℕ) → is_some (lookup (bytes_eq name) (numbered 0 names)) ≡ false → names ++ name ∷ [] ≡ with_name names name
 names_more names name lacks = sym (ap (λ b. if b then names else names ++ name ∷ []) (sym (named_any name 0 names) ∙ lacks))
 
-pub table_more : (names : List (List ℕ)) (name : List ℕ) → is_some (lookup (bytes_eq name) (numbered 0 names)) ≡ false → with_first (numbered 0 names) name (length names) ≡ numbered 0 (names ++ name ∷ [])
+pub table_more : (names : List (List ℕ)) (name : List ℕ) → is_some (lookup (bytes_eq name) (numbered 0 names)) ≡ false
+    → with_first (numbered 0 names) name (length names) ≡ numbered 0 (names ++ name ∷ [])
 table_more names name lacks =
     let start : length names ≡ 0 + length names = omega arith in
     ap (λ b. if b then numbered 0 names else numbered 0 names ++ (name, length names) ∷ []) lacks ∙ ap (λ k. numbered 0 names ++ (name, k) ∷ []) start ∙ sym (numbered_more 0 names name)

@@ -12,7 +12,10 @@ use Rattle.ti_lang.specs.Program.Expressions as n
 use Rattle.ti_lang.specs.Members.{class_named, is_static_method}
 use Rattle.ti_lang.specs.Scopes.{numbered_type, Site, variable_named, own_field_named, own_method_named, static_method_named, class_before_dot}
 use Rattle.ti_lang.specs.Nodes.{base_nodes, type_nodes, exp_nodes, exps_nodes, range_nodes, ranges_nodes, maybe_nodes}
-use Rattle.ti_lang.specs.Numbering.{IsKnownBase, NumbersType, known, NumbersExp, int, long, truth, null, this, variable, own_field, call, own_call, this_proc, num_procs, point, rect, unary, binary, cast, select, member, class_call, index, NumbersExps, no_exps, more_exps, NumbersRange, plain, stepped, NumbersRanges, no_ranges, more_ranges, NumbersMaybe}
+use Rattle.ti_lang.specs.Numbering.{IsKnownBase, NumbersType, known, NumbersExp, int, long, truth, null, this, variable, own_field, call}
+use Rattle.ti_lang.specs.Numbering.{own_call, this_proc, num_procs, point, rect, unary, binary, cast, select, member, class_call, index}
+use Rattle.ti_lang.specs.Numbering.{NumbersExps, no_exps, more_exps, NumbersRange, plain, stepped, NumbersRanges, no_ranges, more_ranges}
+use Rattle.ti_lang.specs.Numbering.{NumbersMaybe}
 use Rattle.ti_rules.specs.declared.rule.Rule.TheVariants.{N1}
 use Rattle.ti_rules.specs.Refusals.{refused_if}
 use Rattle.ti_rules.specs.BrokenNames.{lacks_method}
@@ -21,7 +24,8 @@ use Rattle.ti_names.proofs.CleanNodes.{Clean, first_clean, rest_clean, clean_lef
 
 -- ---- types
 
-pub known_class : (text : _) (at : Place) (name : List ℕ) (found : Option ℕ) → class_named text name ≡ found → refused_if (is_none found) N1 at ≡ [] → (class : ℕ) × (class_named text name ≡ Some class)
+pub known_class : (text : _) (at : Place) (name : List ℕ) (found : Option ℕ) → class_named text name ≡ found
+    → refused_if (is_none found) N1 at ≡ [] → (class : ℕ) × (class_named text name ≡ Some class)
 known_class text at name (Some class) is none = (class, is)
 known_class text at name None is none = cc
 
@@ -94,7 +98,8 @@ mutual
   total_exp site (t.Select at x name) c = total_select site at x name (class_before_dot site x) refl (first_clean c) (rest_clean c) (total_exp site x)
   total_exp site (t.Member at x name args) c =
       let receiver = if is_some (class_before_dot site x) then [] else exp_nodes site x in
-      total_member site at x name args (class_before_dot site x) refl (first_clean c) (clean_left receiver _ (rest_clean c)) (total_exp site x) (total_exps site args (clean_right receiver _ (rest_clean c)))
+      total_member site at x name args (class_before_dot site x) refl (first_clean c) (clean_left receiver _ (rest_clean c))
+      (total_exp site x) (total_exps site args (clean_right receiver _ (rest_clean c)))
   total_exp site (t.Index at x parts) c = index (total_exp site x (clean_left (exp_nodes site x) _ c)) (total_exps site parts (clean_right (exp_nodes site x) _ c))
 
   pub total_exps : (site : Site) (xs : Exps) → Clean (exps_nodes site xs) → NumbersExps site xs (number_exps site xs)

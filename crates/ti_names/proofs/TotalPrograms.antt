@@ -37,7 +37,8 @@ total_fields text class number (f ∷ fs) c =
     let site = class_site text class in
     let head = node site (FieldName number f) ∷ type_nodes site f.ty in
     let both = clean_left head _ c in
-    NumbersFields.more (same_number (field_named text class f.name) number f.place (first_clean both)) (total_type site f.ty (rest_clean both)) (total_fields text class (number + 1) fs (clean_right head _ c))
+    NumbersFields.more (same_number (field_named text class f.name) number f.place (first_clean both))
+    (total_type site f.ty (rest_clean both)) (total_fields text class (number + 1) fs (clean_right head _ c))
 
 total_classes : (text : TextTree) (number : ℕ) (cs : List ClassTree) → Clean (classes_nodes text number cs) → NumbersClasses text number cs (number_classes text cs)
 total_classes text number [] c = NumbersClasses.none
@@ -45,7 +46,8 @@ total_classes text number (class ∷ cs) c =
     let site = class_site text number in
     let head = node site (ClassName number class) ∷ fields_nodes site 0 (fields_in class.members) in
     let both = clean_left head _ c in
-    NumbersClasses.more (same_number (class_named text class.name) number class.place (first_clean both)) (total_fields text number 0 (fields_in class.members) (rest_clean both)) (total_classes text (number + 1) cs (clean_right head _ c))
+    NumbersClasses.more (same_number (class_named text class.name) number class.place (first_clean both))
+    (total_fields text number 0 (fields_in class.members) (rest_clean both)) (total_classes text (number + 1) cs (clean_right head _ c))
 
 total_result : (site : Site) (r : ResultTree) → Clean (result_nodes site r) → NumbersResult site.text r (number_result site.text r)
 total_result site (c.Void at) clean = NumbersResult.void

@@ -106,7 +106,9 @@ mutual
   total_stm site (s.Foreach at name_at name domain body) c =
       let head = node site (VariableName name_at name) ∷ exp_nodes site domain in
       let both = clean_left head _ c in
-      NumbersStm.foreach (fresh_variable site name_at name (Clean.more_nodes (first_clean both) Clean.no_nodes)) (room_for_variable site name_at name (Clean.more_nodes (first_clean both) Clean.no_nodes)) (total_exp site domain (rest_clean both))
+      NumbersStm.foreach (fresh_variable site name_at name (Clean.more_nodes (first_clean both) Clean.no_nodes))
+      (room_for_variable site name_at name (Clean.more_nodes (first_clean both) Clean.no_nodes))
+      (total_exp site domain (rest_clean both))
       (total_stm (declares site name Foreach) body (clean_right head _ c))
 
   pub total_maybe_stm : (site : Site) (x : MaybeStm) → Clean (maybe_stm_nodes site x) → NumbersMaybeStm site x (number_maybe_stm site x)

@@ -27,7 +27,14 @@ scope_of names = map (λ e. (e.0, variable_of e.1)) names
 
 -- a place in a text
 abbrev pub site_of : Site → scopes.Site
-site_of a = record { text = text_of a.tables.now; class = a.class; static = a.is_static; scope = scope_of a.scope; variables = a.variables; literals = a.literals }
+site_of a = record {
+  text = text_of a.tables.now;
+  class = a.class;
+  static = a.is_static;
+  scope = scope_of a.scope;
+  variables = a.variables;
+  literals = a.literals;
+}
 
 -- ---- statements that may be left out
 

@@ -125,7 +125,8 @@ fn with_members<'a>(
     names: NameTable<'a>,
     members: &'a [Member],
 ) -> Result<NameTable<'a>, Memory>
-    ensures { IfOk result (λ t. t.spelled.items ≡ fold with_name names.entry.spelled.items (map name_of_member (map member_of members.now))) }
+    ensures { IfOk result (λ t. t.spelled.items ≡ fold with_name names.entry.spelled.items
+        (map name_of_member (map member_of members.now))) }
 {
     let mut names = names;
     for member in members {

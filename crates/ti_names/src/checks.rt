@@ -44,7 +44,8 @@ impl<'t, 'a> Site<'t, 'a> {
     }
 
     fn check_name(&self, place: Place, name: &[u8]) -> Option<Refusal>
-        ensures { result ≡ first_of (refused_where (is_none (variable_named (site_of self.now) name.now) && is_none (own_field_named (site_of self.now) name.now)) N1 place) }
+        ensures { result ≡ first_of (refused_where (is_none (variable_named (site_of self.now) name.now) && is_none
+            (own_field_named (site_of self.now) name.now)) N1 place) }
     {
         let unknown = self.variable(name).is_none() && self.own_field(name).is_none();
         refused_if(unknown, Rule::N1, place)
@@ -69,7 +70,7 @@ impl<'t, 'a> Site<'t, 'a> {
     }
 
     /// The declaration of a variable.
-    #[tactic(auto, using(crate::proofs::Firsts::in_nodes, crate::proofs::Lists::scopes, ti_rules::proofs::First::firsts))]
+    #[tactic(auto, using(crate::proofs::Firsts::in_nodes, crate::proofs::Lists::scopes, ti_rules::proofs::Lemmas::firsts))]
     pub fn check_variable(&self, place: Place, name: &Spelled) -> Option<Refusal>
         ensures { result ≡ first_in (node (site_of self.now) (VariableName place name.now) ∷ []) }
     {
@@ -150,7 +151,8 @@ impl<'t, 'a> Site<'t, 'a> {
     #[cycle(check_expr)]
     #[tactic(auto, using(crate::proofs::Firsts::in_nodes))]
     fn check_receiver(&self, x: &tree::Expr) -> Option<Refusal>
-        ensures { result ≡ first_in (if is_some (class_before_dot (site_of self.now) (exp_of x.now)) then [] else exp_nodes (site_of self.now) (exp_of x.now)) }
+        ensures { result ≡ first_in (if is_some (class_before_dot (site_of self.now) (exp_of x.now)) then [] else exp_nodes
+            (site_of self.now) (exp_of x.now)) }
     {
         if self.class_before_dot(x).is_some() {
             None
@@ -161,7 +163,7 @@ impl<'t, 'a> Site<'t, 'a> {
 
     /// An expression.
     #[cycle(check_expr)]
-    #[tactic(auto, using(ti_syntax::proofs::Bridges::bridges, crate::proofs::Firsts::in_nodes, crate::proofs::Firsts::in_expressions))]
+    #[tactic(auto, using(ti_syntax::proofs::Lemmas::bridges, crate::proofs::Firsts::in_nodes, crate::proofs::Firsts::in_expressions))]
     pub fn check_exp(&self, x: &tree::Expr) -> Option<Refusal>
         ensures { result ≡ first_in (exp_nodes (site_of self.now) (exp_of x.now)) }
     {

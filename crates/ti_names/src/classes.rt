@@ -32,7 +32,8 @@ impl<'t, 'a> Site<'t, 'a> {
     }
 
     fn fields(&self, members: &[tree::Member]) -> Result<Vec<Field>, Memory>
-        ensures { IfOk result (λ v. map numbered_field_of v.items ≡ number_fields (text_of self.now.tables.now) (fields_in (map member_of members.now))) }
+        ensures { IfOk result (λ v. map numbered_field_of v.items ≡ number_fields (text_of self.now.tables.now)
+            (fields_in (map member_of members.now))) }
     {
         let mut fields = Vec::new(self.alloc);
         for member in members {
@@ -54,7 +55,8 @@ impl<'t, 'a> Site<'t, 'a> {
     }
 
     fn classes(&self, classes: &[tree::Class]) -> Result<Vec<Class>, Memory>
-        ensures { IfOk result (λ v. map numbered_class_of v.items ≡ number_classes (text_of self.now.tables.now) (map class_of classes.now)) }
+        ensures { IfOk result (λ v. map numbered_class_of v.items ≡ number_classes (text_of self.now.tables.now)
+            (map class_of classes.now)) }
     {
         let mut done = Vec::new(self.alloc);
         for class in classes {
@@ -67,7 +69,8 @@ impl<'t, 'a> Site<'t, 'a> {
 
     #[tactic(auto, using(crate::proofs::Firsts::in_nodes))]
     fn check_field(&self, number: u32, field: &tree::Field) -> Option<Refusal>
-        ensures { result ≡ first_in (node (site_of self.now) (FieldName number (field_of field.now)) ∷ type_nodes (site_of self.now) (type_of field.now.ty)) }
+        ensures { result ≡ first_in (node (site_of self.now) (FieldName number (field_of field.now)) ∷ type_nodes (site_of self.now)
+            (type_of field.now.ty)) }
     {
         let named = self.tables.field(self.class, field.name.as_bytes());
         let twice = refused_if(is_another(named, number), Rule::N2, field.place);
@@ -94,7 +97,8 @@ impl<'t, 'a> Site<'t, 'a> {
 
     #[tactic(auto, using(crate::proofs::Firsts::in_nodes))]
     fn check_class(&self, class: &tree::Class) -> Result<Option<Refusal>, Memory>
-        ensures { IfOk result (λ r. r ≡ first_in (node (site_of self.now) (ClassName self.now.class (class_of class.now)) ∷ fields_nodes (site_of self.now) 0 (fields_in (class_of class.now).members))) }
+        ensures { IfOk result (λ r. r ≡ first_in (node (site_of self.now) (ClassName self.now.class (class_of class.now)) ∷ fields_nodes
+            (site_of self.now) 0 (fields_in (class_of class.now).members))) }
     {
         let named = self.tables.class(class.name.as_bytes());
         let twice = refused_if(is_another(named, self.class), Rule::N2, class.place);
@@ -120,7 +124,8 @@ fn check_class(
     number: u32,
     class: &tree::Class,
 ) -> Result<Option<Refusal>, Memory>
-    ensures { IfOk result (λ r. r ≡ first_in (node (class_site (text_of tables.now) number) (ClassName number (class_of class.now)) ∷ fields_nodes (class_site (text_of tables.now) number) 0 (fields_in (class_of class.now).members))) }
+    ensures { IfOk result (λ r. r ≡ first_in (node (class_site (text_of tables.now) number) (ClassName number (class_of class.now))
+        ∷ fields_nodes (class_site (text_of tables.now) number) 0 (fields_in (class_of class.now).members))) }
 {
     class_site(alloc, tables, number).check_class(class)
 }

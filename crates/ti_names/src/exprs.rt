@@ -19,7 +19,7 @@ use ti_lang::program::{Dims, Expr, Init, Range};
 use ti_syntax::tree;
 
 /// A call of a method of a class that is named, if there is one.
-#[tactic(auto, using(ti_lang::proofs::ProgramBridges::program_bridges))]
+#[tactic(auto, using(ti_lang::proofs::Lemmas::program_bridges))]
 fn class_called(place: Place, method: Option<u32>, args: Vec<Expr>) -> Expr
     ensures { expression_of result ≡ class_called place method (numbered_exps (map expression_of args.items)) }
 {
@@ -47,7 +47,7 @@ impl<'t, 'a> Site<'t, 'a> {
     }
 
     /// A call of a method of the own class, if there is one.
-    #[tactic(auto, using(ti_lang::proofs::ProgramBridges::program_bridges))]
+    #[tactic(auto, using(ti_lang::proofs::Lemmas::program_bridges))]
     fn called(&self, place: Place, method: Option<u32>, args: Vec<Expr>) -> Expr
         ensures { expression_of result ≡ called (text_of self.now.tables.now) place method (numbered_exps (map expression_of args.items)) }
     {
@@ -72,7 +72,7 @@ impl<'t, 'a> Site<'t, 'a> {
     }
 
     #[cycle(number_expr)]
-    #[tactic(auto, using(ti_lang::proofs::ProgramBridges::program_bridges, crate::proofs::Lists::lists))]
+    #[tactic(auto, using(ti_lang::proofs::Lemmas::program_bridges, crate::proofs::Lists::lists))]
     fn call(&self, place: Place, name: &[u8], args: &[tree::Expr]) -> Result<Expr, Memory>
         ensures { IfOk result (λ y. expression_of y ≡ number_exp (site_of self.now) (t.call place name.now (map exp_of args.now))) }
     {
@@ -82,7 +82,7 @@ impl<'t, 'a> Site<'t, 'a> {
     }
 
     #[cycle(number_expr)]
-    #[tactic(auto, using(ti_lang::proofs::ProgramBridges::program_bridges))]
+    #[tactic(auto, using(ti_lang::proofs::Lemmas::program_bridges))]
     fn select(&self, place: Place, x: &tree::Expr, name: &[u8]) -> Result<Expr, Memory>
         ensures { IfOk result (λ y. expression_of y ≡ number_exp (site_of self.now) (t.Select place (exp_of x.now) name.now)) }
     {
@@ -106,7 +106,8 @@ impl<'t, 'a> Site<'t, 'a> {
         name: &[u8],
         args: &[tree::Expr],
     ) -> Result<Expr, Memory>
-        ensures { IfOk result (λ y. expression_of y ≡ class_called place (static_method_named (site_of self.now) class name.now) (number_exps (site_of self.now) (exps (map exp_of args.now)))) }
+        ensures { IfOk result (λ y. expression_of y ≡ class_called place (static_method_named (site_of self.now) class name.now)
+            (number_exps (site_of self.now) (exps (map exp_of args.now)))) }
     {
         let method = self.static_method(class, name);
         let args = self.exps(args)?;
@@ -163,7 +164,7 @@ impl<'t, 'a> Site<'t, 'a> {
 
     /// An expression.
     #[cycle(number_expr)]
-    #[tactic(auto, using(ti_syntax::proofs::Bridges::bridges, ti_lang::proofs::ProgramBridges::program_bridges, crate::proofs::Lists::lists))]
+    #[tactic(auto, using(ti_syntax::proofs::Lemmas::bridges, ti_lang::proofs::Lemmas::program_bridges, crate::proofs::Lists::lists))]
     pub fn exp(&self, x: &tree::Expr) -> Result<Expr, Memory>
         ensures { IfOk result (λ y. expression_of y ≡ number_exp (site_of self.now) (exp_of x.now)) }
     {
@@ -281,7 +282,8 @@ impl<'t, 'a> Site<'t, 'a> {
         bracket: Place,
         dims: &tree::Dims,
     ) -> Result<Init, Memory>
-        ensures { IfOk result (λ v. initial_of v ≡ number_init (site_of self.now) (s.NewGrid place (maybe_of exp_of region.now) (type_of element.now) bracket (dims_of dims.now))) }
+        ensures { IfOk result (λ v. initial_of v ≡ number_init (site_of self.now)
+            (s.NewGrid place (maybe_of exp_of region.now) (type_of element.now) bracket (dims_of dims.now))) }
     {
         Ok(Init::NewGrid {
             place,

@@ -48,7 +48,7 @@ impl Literals {
     }
 
     #[cycle(literals)]
-    #[tactic(auto, using(ti_syntax::proofs::Bridges::bridges))]
+    #[tactic(auto, using(ti_syntax::proofs::Lemmas::bridges))]
     fn stmt(&mut self, x: &Stmt) -> Result<(), Memory>
         ensures { OnOk result (self.new.texts.items ≡ self.old.texts.items ++ literals (stm_of x.now)) }
     {

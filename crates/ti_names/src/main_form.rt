@@ -70,7 +70,7 @@ pub fn main_method(tables: &Tables<'_>) -> Option<u32>
 }
 
 /// Whether there is a `main`, of the required form.
-#[tactic(auto, using(ti_rules::proofs::First::first_nil))]
+#[tactic(auto, using(ti_rules::proofs::Lemmas::first_nil))]
 fn check_form(
     tree: &Tree,
     methods: &[Own<'_>],
@@ -118,7 +118,7 @@ fn check_words(methods: &[Own<'_>], main: Option<u32>) -> Result<Option<Refusal>
 }
 
 /// What is wrong with `main`.
-#[tactic(auto, using(ti_rules::proofs::First::firsts))]
+#[tactic(auto, using(ti_rules::proofs::Lemmas::firsts))]
 pub fn check_main(
     tree: &Tree,
     tables: &Tables<'_>,

@@ -37,8 +37,10 @@ impl<'t, 'a> Site<'t, 'a> {
     #[tactic(auto, using(crate::proofs::Firsts::in_nodes))]
     fn param(&mut self, param: &'a tree::Param) -> Result<Resolved<Param>, Memory>
         ensures part { IfOk result (λ r. numbered_param_of r.part ≡ number_param (text_of self.old.tables.now) (param_of param.now)) }
-        ensures refusal { IfOk result (λ r. r.refusal ≡ first_in (type_nodes (site_of self.old) (type_of param.now.ty) ++ node (site_of self.old) (VariableName param.now.place param.now.name) ∷ [])) }
-        ensures site { OnOk result (site_of self.new ≡ declares (site_of self.old) param.now.name (typed_as (text_of self.old.tables.now) (type_of param.now.ty))) }
+        ensures refusal { IfOk result (λ r. r.refusal ≡ first_in (type_nodes (site_of self.old) (type_of param.now.ty)
+            ++ node (site_of self.old) (VariableName param.now.place param.now.name) ∷ [])) }
+        ensures site { OnOk result (site_of self.new ≡ declares (site_of self.old) param.now.name
+            (typed_as (text_of self.old.tables.now) (type_of param.now.ty))) }
     {
         let named = self.check_variable(param.place, &param.name);
         let refusal = sooner(self.check_type(&param.ty), named);
@@ -56,7 +58,8 @@ impl<'t, 'a> Site<'t, 'a> {
 
     #[tactic(auto, using(crate::proofs::Firsts::none_sooner))]
     fn param_list(&mut self, params: &'a [tree::Param]) -> Result<Resolved<Vec<Param>>, Memory>
-        ensures part { IfOk result (λ r. map numbered_param_of r.part.items ≡ number_param_list (text_of self.old.tables.now) (map param_of params.now)) }
+        ensures part { IfOk result (λ r. map numbered_param_of r.part.items
+            ≡ number_param_list (text_of self.old.tables.now) (map param_of params.now)) }
         ensures refusal { IfOk result (λ r. r.refusal ≡ first_in (param_list_nodes (site_of self.old) (map param_of params.now))) }
         ensures site { OnOk result (site_of self.new ≡ behind_params (site_of self.old) (map param_of params.now)) }
     {
@@ -116,7 +119,8 @@ impl<'t, 'a> Site<'t, 'a> {
     /// The name and the result of the method of a number.
     #[tactic(auto, using(crate::proofs::Firsts::in_nodes))]
     fn check_head(&self, number: u32, own: Own<'a>) -> Option<Refusal>
-        ensures { result ≡ first_in (node (site_of self.now) (MethodName number (own_of own.entry)) ∷ result_nodes (site_of self.now) (own_of own.entry).method.result) }
+        ensures { result ≡ first_in (node (site_of self.now) (MethodName number (own_of own.entry)) ∷ result_nodes (site_of self.now)
+            (own_of own.entry).method.result) }
     {
         let named = self.tables.method(own.class, own.method.name.as_bytes());
         let twice = refused_if(is_another(named, number), Rule::N2, own.method.place);
@@ -159,8 +163,10 @@ fn method<'a>(
     own: Own<'a>,
     before: u32,
 ) -> Result<Resolved<Method>, Memory>
-    ensures part { IfOk result (λ r. numbered_method_of r.part ≡ number_method (method_site (text_of tables.now) (own_of own.entry) before) (own_of own.entry)) }
-    ensures refusal { IfOk result (λ r. r.refusal ≡ first_in (method_nodes (method_site (text_of tables.now) (own_of own.entry) before) number (own_of own.entry))) }
+    ensures part { IfOk result (λ r. numbered_method_of r.part ≡ number_method (method_site (text_of tables.now) (own_of own.entry) before)
+        (own_of own.entry)) }
+    ensures refusal { IfOk result (λ r. r.refusal ≡ first_in (method_nodes
+        (method_site (text_of tables.now) (own_of own.entry) before) number (own_of own.entry))) }
 {
     let mut site = method_site(alloc, tables, own, before);
     site.method(number, own)
@@ -173,8 +179,10 @@ pub fn methods<'a>(
     tables: &Tables<'a>,
     methods: &[Own<'a>],
 ) -> Result<AllMethods, Memory>
-    ensures part { IfOk result (λ m. map numbered_method_of m.methods.items ≡ number_methods (text_of tables.now) 0 (map own_of methods.now)) }
-    ensures literals { IfOk result (λ m. m.literals.texts.items ≡ flat_map (λ (own : OwnMethod). literals_in (stms own.method.body)) (map own_of methods.now)) }
+    ensures part { IfOk result (λ m. map numbered_method_of m.methods.items
+        ≡ number_methods (text_of tables.now) 0 (map own_of methods.now)) }
+    ensures literals { IfOk result (λ m. m.literals.texts.items ≡ flat_map (λ (own : OwnMethod). literals_in (stms own.method.body))
+        (map own_of methods.now)) }
     ensures refusal { IfOk result (λ m. m.refusal ≡ first_in (methods_nodes (text_of tables.now) 0 0 (map own_of methods.now))) }
 {
     let mut done = Vec::new(alloc);

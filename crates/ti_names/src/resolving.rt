@@ -102,7 +102,9 @@ pub fn resolve(alloc: Global, tree: &Tree) -> Result<Program, NameErr>
 
 /// That each text has a program or a refusal by the rules of names: a program exactly where it breaks none of them, and only one.
 pub fn one_program()
-    ensures some { (text : TextTree) → ((program : NumberedProgram) × Numbers text program) ⊎ ((refusal : RefusalSeen) × IsFirstRefusal (BreaksNames text) refusal) }
-    ensures unbroken { (text : TextTree) (program : NumberedProgram) → Numbers text program → (refusal : RefusalSeen) → BreaksNames text refusal → ⊥ }
+    ensures some { (text : TextTree) → ((program : NumberedProgram) × Numbers text program)
+        ⊎ ((refusal : RefusalSeen) × IsFirstRefusal (BreaksNames text) refusal) }
+    ensures unbroken { (text : TextTree) (program : NumberedProgram) → Numbers text program → (refusal : RefusalSeen)
+        → BreaksNames text refusal → ⊥ }
     ensures only { (text : TextTree) (p q : NumberedProgram) → Numbers text p → Numbers text q → p ≡ q }
 {}

@@ -64,7 +64,8 @@ impl<'t, 'a> Site<'t, 'a> {
 
     fn print(&mut self, what: &tree::Printed) -> Result<Printed, Memory>
         ensures part { IfOk result (λ w. printed_of w ≡ number_print (site_of self.old) (print_of what.now)) }
-        ensures site { OnOk result (site_of self.new ≡ record (site_of self.old) { literals = self.old.literals + length (printed_text (print_of what.now)) }) }
+        ensures site { OnOk result (site_of self.new ≡ record (site_of self.old)
+            { literals = self.old.literals + length (printed_text (print_of what.now)) }) }
     {
         match what {
             tree::Printed::Nothing => Ok(Printed::Nothing),
@@ -83,8 +84,10 @@ impl<'t, 'a> Site<'t, 'a> {
         target: &tree::Expr,
         value: &tree::Init,
     ) -> Result<Resolved<Stmt>, Memory>
-        ensures part { IfOk result (λ r. statement_of r.part ≡ number_stm (site_of self.now) (s.Assign place (exp_of target.now) (init_of value.now))) }
-        ensures refusal { IfOk result (λ r. r.refusal ≡ first_in (stm_nodes (site_of self.now) (s.Assign place (exp_of target.now) (init_of value.now)))) }
+        ensures part { IfOk result (λ r. statement_of r.part ≡ number_stm (site_of self.now)
+            (s.Assign place (exp_of target.now) (init_of value.now))) }
+        ensures refusal { IfOk result (λ r. r.refusal ≡ first_in (stm_nodes (site_of self.now)
+            (s.Assign place (exp_of target.now) (init_of value.now)))) }
     {
         let refusal = sooner(self.check_exp(target), self.check_init(value));
         let value = Box::new(self.alloc, self.init(value)?)?;
@@ -105,8 +108,10 @@ impl<'t, 'a> Site<'t, 'a> {
         target: &tree::Expr,
         value: &tree::Expr,
     ) -> Result<Resolved<Stmt>, Memory>
-        ensures part { IfOk result (λ r. statement_of r.part ≡ number_stm (site_of self.now) (s.Update place operator (exp_of target.now) (exp_of value.now))) }
-        ensures refusal { IfOk result (λ r. r.refusal ≡ first_in (stm_nodes (site_of self.now) (s.Update place operator (exp_of target.now) (exp_of value.now)))) }
+        ensures part { IfOk result (λ r. statement_of r.part ≡ number_stm (site_of self.now)
+            (s.Update place operator (exp_of target.now) (exp_of value.now))) }
+        ensures refusal { IfOk result (λ r. r.refusal ≡ first_in (stm_nodes (site_of self.now)
+            (s.Update place operator (exp_of target.now) (exp_of value.now)))) }
     {
         let refusal = sooner(self.check_exp(target), self.check_exp(value));
         let (target, value) = self.two(target, value)?;
@@ -128,7 +133,8 @@ impl<'t, 'a> Site<'t, 'a> {
         target: &tree::Expr,
     ) -> Result<Resolved<Stmt>, Memory>
         ensures part { IfOk result (λ r. statement_of r.part ≡ number_stm (site_of self.now) (s.Step place operator (exp_of target.now))) }
-        ensures refusal { IfOk result (λ r. r.refusal ≡ first_in (stm_nodes (site_of self.now) (s.Step place operator (exp_of target.now)))) }
+        ensures refusal { IfOk result (λ r. r.refusal ≡ first_in (stm_nodes (site_of self.now)
+            (s.Step place operator (exp_of target.now)))) }
     {
         Ok(Resolved {
             part: Stmt::Step {
@@ -152,7 +158,8 @@ impl<'t, 'a> Site<'t, 'a> {
 
     fn leave(&self, place: Place, value: &Option<tree::Expr>) -> Result<Resolved<Stmt>, Memory>
         ensures part { IfOk result (λ r. statement_of r.part ≡ number_stm (site_of self.now) (s.Return place (maybe_of exp_of value.now))) }
-        ensures refusal { IfOk result (λ r. r.refusal ≡ first_in (stm_nodes (site_of self.now) (s.Return place (maybe_of exp_of value.now)))) }
+        ensures refusal { IfOk result (λ r. r.refusal ≡ first_in (stm_nodes (site_of self.now)
+            (s.Return place (maybe_of exp_of value.now)))) }
     {
         Ok(Resolved {
             part: Stmt::Return(place, self.maybe(value)?),
@@ -179,9 +186,12 @@ impl<'t, 'a> Site<'t, 'a> {
         name: &'a Spelled,
         value: &tree::Init,
     ) -> Result<Resolved<Stmt>, Memory>
-        ensures part { IfOk result (λ r. statement_of r.part ≡ number_stm (site_of self.old) (s.Declare place (type_of ty.now) name.now (init_of value.now))) }
-        ensures refusal { IfOk result (λ r. r.refusal ≡ first_in (stm_nodes (site_of self.old) (s.Declare place (type_of ty.now) name.now (init_of value.now)))) }
-        ensures site { OnOk result (site_of self.new ≡ behind (site_of self.old) (s.Declare place (type_of ty.now) name.now (init_of value.now))) }
+        ensures part { IfOk result (λ r. statement_of r.part ≡ number_stm (site_of self.old)
+            (s.Declare place (type_of ty.now) name.now (init_of value.now))) }
+        ensures refusal { IfOk result (λ r. r.refusal ≡ first_in (stm_nodes (site_of self.old)
+            (s.Declare place (type_of ty.now) name.now (init_of value.now)))) }
+        ensures site { OnOk result (site_of self.new ≡ behind (site_of self.old)
+            (s.Declare place (type_of ty.now) name.now (init_of value.now))) }
     {
         let head = sooner(self.check_type(ty), self.check_variable(place, name));
         let refusal = sooner(head, self.check_init(value));
@@ -306,7 +316,8 @@ impl<'t, 'a> Site<'t, 'a> {
     ) -> Result<Resolved<Guarded>, Memory>
         ensures condition { IfOk result (λ r. expression_of r.part.condition ≡ number_exp (site_of self.old) (exp_of condition.now)) }
         ensures body { IfOk result (λ r. statement_of r.part.body.value ≡ number_stm (site_of self.old) (stm_of body.now)) }
-        ensures refusal { IfOk result (λ r. r.refusal ≡ first_in (exp_nodes (site_of self.old) (exp_of condition.now) ++ stm_nodes (site_of self.old) (stm_of body.now))) }
+        ensures refusal { IfOk result (λ r. r.refusal ≡ first_in (exp_nodes (site_of self.old) (exp_of condition.now)
+            ++ stm_nodes (site_of self.old) (stm_of body.now))) }
         ensures site { OnOk result (site_of self.new ≡ past (site_of self.old) (stm_of body.now)) }
     {
         let refusal = self.check_exp(condition);
@@ -329,8 +340,10 @@ impl<'t, 'a> Site<'t, 'a> {
         head: Resolved<Guarded>,
         otherwise: &'a Option<Box<tree::Stmt>>,
     ) -> Result<Resolved<Stmt>, Memory>
-        ensures part { IfOk result (λ r. statement_of r.part ≡ numbered_branches place (expression_of head.part.condition) (statement_of head.part.body.value) (number_maybe_stm (site_of self.old) (tree_maybe otherwise.now))) }
-        ensures refusal { IfOk result (λ r. r.refusal ≡ sooner head.refusal (first_in (maybe_stm_nodes (site_of self.old) (tree_maybe otherwise.now)))) }
+        ensures part { IfOk result (λ r. statement_of r.part ≡ numbered_branches place (expression_of head.part.condition)
+            (statement_of head.part.body.value) (number_maybe_stm (site_of self.old) (tree_maybe otherwise.now))) }
+        ensures refusal { IfOk result (λ r. r.refusal ≡ sooner head.refusal
+            (first_in (maybe_stm_nodes (site_of self.old) (tree_maybe otherwise.now)))) }
         ensures site { OnOk result (site_of self.new ≡ past_maybe (site_of self.old) (tree_maybe otherwise.now)) }
     {
         let otherwise = self.maybe_inner(otherwise)?;
@@ -354,9 +367,12 @@ impl<'t, 'a> Site<'t, 'a> {
         body: &'a tree::Stmt,
         domain: &tree::Expr,
     ) -> Result<Resolved<Stmt>, Memory>
-        ensures part { IfOk result (λ r. statement_of r.part ≡ number_stm (site_of self.old) (s.Foreach place name_place name.now (exp_of domain.now) (stm_of body.now))) }
-        ensures refusal { IfOk result (λ r. r.refusal ≡ first_in (stm_nodes (site_of self.old) (s.Foreach place name_place name.now (exp_of domain.now) (stm_of body.now)))) }
-        ensures site { OnOk result (site_of self.new ≡ behind (site_of self.old) (s.Foreach place name_place name.now (exp_of domain.now) (stm_of body.now))) }
+        ensures part { IfOk result (λ r. statement_of r.part ≡ number_stm (site_of self.old)
+            (s.Foreach place name_place name.now (exp_of domain.now) (stm_of body.now))) }
+        ensures refusal { IfOk result (λ r. r.refusal ≡ first_in (stm_nodes (site_of self.old)
+            (s.Foreach place name_place name.now (exp_of domain.now) (stm_of body.now)))) }
+        ensures site { OnOk result (site_of self.new ≡ behind (site_of self.old)
+            (s.Foreach place name_place name.now (exp_of domain.now) (stm_of body.now))) }
     {
         let len = self.scope.len();
         let named = self.check_variable(name_place, name);

@@ -50,7 +50,7 @@ impl<'t, 'a> Site<'t, 'a> {
     }
 
     /// A type.
-    #[tactic(auto, using(ti_lang::proofs::Copies::copies))]
+    #[tactic(auto, using(ti_lang::proofs::Lemmas::copies))]
     pub fn type_use(&self, ty: &TypeName) -> Result<TypeUse, Memory>
         ensures { IfOk result (λ t. type_use_of t ≡ numbered_type (text_of self.now.tables.now) (type_of ty.now)) }
     {

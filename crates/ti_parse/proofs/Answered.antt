@@ -13,9 +13,7 @@ use Rattle.ti_syntax.specs.Spelling.Loads.{classes_loads}
 use Rattle.ti_parse_expr.specs.Answers.{EndsAtEnd}
 use Rattle.ti_parse_expr.specs.Mirrors.Input.{At, Over, Spent, Outcome, Parser, and_then, kind, place, sees}
 use Rattle.ti_parse_expr.specs.Mirrors.Full.{limited, rest_of}
-use Rattle.ti_parse_expr.proofs.Law.{Says, Said, append_nil, token}
-use Rattle.ti_parse_expr.proofs.Local.{Near, Same}
-use Rattle.ti_parse_expr.proofs.Answered.{inside}
+use Rattle.ti_parse_expr.proofs.Lemmas.{Says, Said, append_nil, token, Near, Same, inside}
 use Rattle.ti_parse.specs.Mirrors.Way.{plain}
 use Rattle.ti_parse.specs.Mirrors.Classes.{classes, ended, text}
 use Rattle.ti_parse.proofs.Ends.{classes_no_end}
@@ -160,7 +158,8 @@ module _ (says : (turns : ℕ) (l : List Token) → Said turns AllClasses (λ r.
           decides = refused f t rest e (unexpected (begins_text f w tree s) (no_more n f rest t at) shallow);
         }
 
-    over_by : (f rest w : List Token) (t : Token) (tree : TextTree) → list ≡ f ++ t ∷ rest → AllClasses ((f ++ t ∷ []) ++ w) tree → reading n list ≡ Err (Over (t ∷ rest)) → Judged list (Err (Over (t ∷ rest)))
+    over_by : (f rest w : List Token) (t : Token) (tree : TextTree) → list ≡ f ++ t ∷ rest → AllClasses ((f ++ t ∷ []) ++ w) tree
+        → reading n list ≡ Err (Over (t ∷ rest)) → Judged list (Err (Over (t ∷ rest)))
     over_by f rest w t tree e s is =
         let at : reading n (f ++ t ∷ rest) ≡ Err (Over (t ∷ rest)) = ap (reading n) (sym e) ∙ is in
         let parts : f ++ t ∷ (w ++ last) ≡ ((f ++ t ∷ []) ++ w) ++ last = sym (append_assoc (f ++ t ∷ []) w last ∙ append_assoc f (t ∷ []) (w ++ last)) in

@@ -27,7 +27,8 @@ module _ (w : Way) (turns : ℕ) (target : Exp) (l : List Token) where
   pub update_changes : {op : BinaryOperator} → sees k.Assign l ≡ false → update_of (kind l) ≡ Some op → changed_if w turns target Target l ≡ updated w turns (place l) op target (next l)
   update_changes h is = no_assign (kind l) h ∙ ap (λ z. update_if w turns target z (step_of (kind l)) l) is
 
-  pub step_changes : {op : StepOperator} → sees k.Assign l ≡ false → update_of (kind l) ≡ None → step_of (kind l) ≡ Some op → changed_if w turns target Target l ≡ Ok (s.Step (place l) op target, next l)
+  pub step_changes : {op : StepOperator} → sees k.Assign l ≡ false → update_of (kind l) ≡ None → step_of (kind l) ≡ Some op
+      → changed_if w turns target Target l ≡ Ok (s.Step (place l) op target, next l)
   step_changes h other is = no_assign (kind l) h ∙ ap (λ z. update_if w turns target z (step_of (kind l)) l) other ∙ ap (λ z. update_if w turns target None z l) is
 
   pub nothing_changes : sees k.Assign l ≡ false → update_of (kind l) ≡ None → step_of (kind l) ≡ None → changed_if w turns target Target l ≡ Err (At l)

@@ -10,8 +10,7 @@ use Rattle.ti_syntax.specs.Spelling.Loads.{classes_loads}
 use Rattle.ti_parse_expr.specs.Answers.{EndsAtEnd}
 use Rattle.ti_parse_expr.specs.Mirrors.Input.{At, Over, Spent, kind, place}
 use Rattle.ti_parse_expr.specs.Mirrors.Full.{usual, limited}
-use Rattle.ti_parse_expr.proofs.Local.{Near}
-use Rattle.ti_parse_expr.proofs.FullLaws.{full_near, operand_near_full, behind_name_near, behind_bracket_near}
+use Rattle.ti_parse_expr.proofs.Lemmas.{Near, full_near, operand_near_full, behind_name_near, behind_bracket_near}
 use Rattle.ti_parse.specs.Mirrors.Way.{plain}
 use Rattle.ti_parse.specs.Mirrors.Classes.{classes, text}
 use Rattle.ti_parse.proofs.SoundClasses.{classes_say}

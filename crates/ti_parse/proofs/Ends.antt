@@ -19,7 +19,8 @@ use Rattle.ti_syntax.specs.Spelling.Statements.{Start, Region, Dims, Initial, De
 use Rattle.ti_syntax.specs.Spelling.Statements as s
 use Rattle.ti_syntax.specs.Spelling.Classes.{ParamList, Parameters, Method, Modified, Member, Members, ClassModified, Class, AllClasses}
 use Rattle.ti_syntax.specs.Spelling.Classes as c
-use Rattle.ti_parse_expr.proofs.Ends.{ends, end_of, arity_ends, based_ends, qualified_ends, gridded_ends, whole_ends, postfixed_ends, ranges_ends}
+use Rattle.ti_parse_expr.proofs.Lemmas.{ends, end_of, arity_ends, based_ends, qualified_ends, gridded_ends, whole_ends, postfixed_ends}
+use Rattle.ti_parse_expr.proofs.Lemmas.{ranges_ends}
 
 -- how many tokens are the end
 abbrev last_of : TokenKind → ℕ
@@ -156,7 +157,17 @@ mutual
   stated_lasts (s.block {l = l} o c h xs h2) = omega (arith, lasts-append l (c ∷ []), ap last_of h, ap last_of h2, items_lasts xs)
   stated_lasts (s.empty t h) = omega (arith, ap last_of h)
   stated_lasts (s.if_alone {l = l} {m = m} i h e x) = omega (arith, lasts-append l m, ap last_of h, condition_lasts e, stated_lasts x)
-  stated_lasts (s.if_else {l = l} {m = m} {v = v} i d h e x h2 y) = omega (arith, lasts-append l (m ++ d ∷ v), lasts-append m (d ∷ v), ap last_of h, ap last_of h2, condition_lasts e, stated_lasts x, stated_lasts y)
+  stated_lasts (s.if_else {l = l} {m = m} {v = v} i d h e x h2 y) =
+      omega (
+        arith,
+        lasts-append l (m ++ d ∷ v),
+        lasts-append m (d ∷ v),
+        ap last_of h,
+        ap last_of h2,
+        condition_lasts e,
+        stated_lasts x,
+        stated_lasts y,
+      )
   stated_lasts (s.while {l = l} {m = m} w h e x) = omega (arith, lasts-append l m, ap last_of h, condition_lasts e, stated_lasts x)
   stated_lasts (s.for {l = l} {m = m} {u = u} {v = v} f o p q c h h2 first h3 test h4 update h5 x) =
       omega (
@@ -214,7 +225,8 @@ modified_lasts (c.more t {word = word} h ms) = omega (arith, modifier_goes_on t.
 member_lasts : {l : List Token} {x : MemberTree} → Member l x → lasts l ≡ 0
 member_lasts (c.void_method {l = l} {m = m} v t e ms h h2 rest) = omega (arith, lasts-append l (v ∷ t ∷ m), ap last_of h, ap last_of h2, modified_lasts ms, method_lasts rest)
 member_lasts (c.field {l = l} {m = m} t u ms ty h h2) = omega (arith, lasts-append l (m ++ t ∷ u ∷ []), lasts-append m (t ∷ u ∷ []), ap last_of h, ap last_of h2, modified_lasts ms, field_lasts ty)
-member_lasts (c.method {l = l} {m = m} {v = v} t e ms ty h rest) = omega (arith, lasts-append l (m ++ t ∷ v), lasts-append m (t ∷ v), ap last_of h, modified_lasts ms, typed_lasts ty, method_lasts rest)
+member_lasts (c.method {l = l} {m = m} {v = v} t e ms ty h rest) =
+    omega (arith, lasts-append l (m ++ t ∷ v), lasts-append m (t ∷ v), ap last_of h, modified_lasts ms, typed_lasts ty, method_lasts rest)
 
 members_lasts : {l : List Token} {xs : List MemberTree} → Members l xs → lasts l ≡ 0
 members_lasts c.none = refl

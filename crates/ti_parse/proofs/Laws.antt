@@ -6,8 +6,8 @@ use Rattle.ti_syntax.specs.declared.token.TokenKind.{TokenKind}
 use Rattle.ti_syntax.specs.declared.token.TokenKind.TheVariants as k
 use Rattle.ti_syntax.specs.Tokens.{same_kind}
 use Rattle.ti_parse_expr.specs.Mirrors.Input.{At, Over, Spent, Outcome, Parser, and_then, kind, place, expect, expect_word, named_by, sees, spells}
-use Rattle.ti_parse_expr.proofs.Law.{BeginsIn, Said, Any, then_said, after_said, as_said, done_said, refused_said, over_said, spent_said, token, append_nil}
-use Rattle.ti_parse_expr.proofs.Phrases.{spells_is}
+use Rattle.ti_parse_expr.proofs.Lemmas.{BeginsIn, Said, Any, then_said, after_said, as_said, done_said, refused_said, over_said, spent_said}
+use Rattle.ti_parse_expr.proofs.Lemmas.{token, append_nil, spells_is}
 
 -- what the value that was read and the rest meet
 abbrev pub Meets : {A : Type 0} → (A → List Token → Type 0) → Outcome A → Type 0
@@ -33,7 +33,8 @@ meets_free (Err e) = tt
 pub told : {A : Type 0} {n : ℕ} {U : List Token → A → Type 0} {l : List Token} {out : Outcome A} → BeginsIn U [] → Said n U Any l out → Tells n U Free l out
 told {out = out} some said = record { some = some; said = said; meets = meets_free out }
 
-pub as_tells : {A : Type 0} {n : ℕ} {T U : List Token → A → Type 0} {Q : A → List Token → Type 0} {l : List Token} {out : Outcome A} → ((g : List Token) (y : A) → T g y → U g y) → Tells n T Q l out → Tells n U Q l out
+pub as_tells : {A : Type 0} {n : ℕ} {T U : List Token → A → Type 0} {Q : A → List Token → Type 0} {l : List Token} {out : Outcome A}
+    → ((g : List Token) (y : A) → T g y → U g y) → Tells n T Q l out → Tells n U Q l out
 as_tells {n = n} as_u tells =
     let (w, y, s) = tells.some in
     record { some = (w, y, as_u w y s); said = as_said {m = n} (omega arith) as_u (λ _ _. tt) tells.said; meets = tells.meets }
@@ -42,12 +43,14 @@ as_tells {n = n} as_u tells =
 pub fewer_tells : {A : Type 0} {n m : ℕ} {U : List Token → A → Type 0} {Q : A → List Token → Type 0} {l : List Token} {out : Outcome A} → n ≤ m → Tells m U Q l out → Tells n U Q l out
 fewer_tells le tells = record { some = tells.some; said = as_said le (λ g y s. s) (λ _ _. tt) tells.said; meets = tells.meets }
 
-meets_so : {A : Type 0} (n : ℕ) (U : List Token → A → Type 0) (P Q : A → List Token → Type 0) (l : List Token) → ((f r : List Token) (x : A) → U f x → P x r → Q x r) → (out : Outcome A) → Said n U Any l out → Meets P out → Meets Q out
+meets_so : {A : Type 0} (n : ℕ) (U : List Token → A → Type 0) (P Q : A → List Token → Type 0) (l : List Token)
+    → ((f r : List Token) (x : A) → U f x → P x r → Q x r) → (out : Outcome A) → Said n U Any l out → Meets P out → Meets Q out
 meets_so n U P Q l so (Ok p) said q = let (f, e, s, any) = said.says in so f p.1 p.0 s q
 meets_so n U P Q l so (Err e) said q = tt
 
 -- value and rest meet what follows from the phrase
-pub so_tells : {A : Type 0} {n : ℕ} {U : List Token → A → Type 0} {P Q : A → List Token → Type 0} {l : List Token} {out : Outcome A} → ((f r : List Token) (x : A) → U f x → P x r → Q x r) → Tells n U P l out → Tells n U Q l out
+pub so_tells : {A : Type 0} {n : ℕ} {U : List Token → A → Type 0} {P Q : A → List Token → Type 0} {l : List Token} {out : Outcome A}
+    → ((f r : List Token) (x : A) → U f x → P x r → Q x r) → Tells n U P l out → Tells n U Q l out
 so_tells {n = n} {U = U} {P = P} {Q = Q} {l = l} {out = out} so tells = record { some = tells.some; said = tells.said; meets = meets_so n U P Q l so out tells.said tells.meets }
 
 says_meeting : {A : Type 0} (n : ℕ) (U : List Token → A → Type 0) (R : List Token → Type 0) (l : List Token) (out : Outcome A) → Said n U Any l out → Meets (λ _ r. R r) out → Said n U R l out
@@ -85,7 +88,8 @@ if_tells true p q holds fails = holds refl
 if_tells false p q holds fails = fails refl
 
 -- whether the next token is of a kind
-pub if_head : {A : Type 0} {n : ℕ} {U : List Token → A → Type 0} {Q : A → List Token → Type 0} {l : List Token} (q : TokenKind) → ((a : TokenKind) → same_kind a q ≡ true → a ≡ q) → same_kind k.End q ≡ false → (p r : Parser A)
+pub if_head : {A : Type 0} {n : ℕ} {U : List Token → A → Type 0} {Q : A → List Token → Type 0} {l : List Token} (q : TokenKind)
+    → ((a : TokenKind) → same_kind a q ≡ true → a ≡ q) → same_kind k.End q ≡ false → (p r : Parser A)
     → ((t : Token) (ts : List Token) → l ≡ t ∷ ts → t.kind ≡ q → Tells n U Q (t ∷ ts) (p (t ∷ ts))) → (sees q l ≡ false → Tells n U Q l (r l)) → Tells n U Q l ((if sees q l then p else r) l)
 if_head {n = n} {U = U} {Q = Q} {l = l} q is_q not_end p r holds fails = if_tells (sees q l) p r (there l refl) fails
   where
@@ -93,7 +97,8 @@ if_head {n = n} {U = U} {Q = Q} {l = l} q is_q not_end p r holds fails = if_tell
     there [] is h = let wrong : false ≡ true = sym not_end ∙ h in cc
     there (t ∷ ts) is h = holds t ts is (is_q t.kind h)
 
-pub if_sees : {A : Type 0} {n : ℕ} {U : List Token → A → Type 0} {Q : A → List Token → Type 0} {l : List Token} (q : TokenKind) → ((a : TokenKind) → same_kind a q ≡ true → a ≡ q) → same_kind k.End q ≡ false → (p r : Parser A)
+pub if_sees : {A : Type 0} {n : ℕ} {U : List Token → A → Type 0} {Q : A → List Token → Type 0} {l : List Token} (q : TokenKind)
+    → ((a : TokenKind) → same_kind a q ≡ true → a ≡ q) → same_kind k.End q ≡ false → (p r : Parser A)
     → ((t : Token) (ts : List Token) → t.kind ≡ q → Tells n U Q (t ∷ ts) (p (t ∷ ts))) → (sees q l ≡ false → Tells n U Q l (r l)) → Tells n U Q l ((if sees q l then p else r) l)
 if_sees q is_q not_end p r holds fails = if_head q is_q not_end p r (λ t ts is h. holds t ts h) fails
 
@@ -145,13 +150,15 @@ pub then_tells : {A B : Type 0} {n : ℕ} {S : List Token → A → Type 0} {U :
 then_tells {n = n} {S = S} {U = U} {R = R} {l = l} {out = out} p tells next = then_by n n S Free U R l (λ f x s. omega arith) (λ x. tt) p (λ f r x s _. next f r x s) out tells
 
 -- where the rest behind the first hangs on its value
-pub then_met : {A B : Type 0} {n : ℕ} {S : List Token → A → Type 0} {Q : A → List Token → Type 0} {U : List Token → B → Type 0} {R : B → List Token → Type 0} {l : List Token} {out : Outcome A} (p : A → Parser B)
+pub then_met : {A B : Type 0} {n : ℕ} {S : List Token → A → Type 0} {Q : A → List Token → Type 0} {U : List Token → B → Type 0} {R : B
+    → List Token → Type 0} {l : List Token} {out : Outcome A} (p : A → Parser B)
     → ((x : A) → Q x []) → Tells n S Q l out → ((f r : List Token) (x : A) → S f x → Q x r → Tells n (λ g y. U (f ++ g) y) R r (p x r)) → Tells n U R l (and_then out p)
 then_met {n = n} {S = S} {Q = Q} {U = U} {R = R} {l = l} {out = out} p ends tells next = then_by n n S Q U R l (λ f x s. omega arith) ends p next out tells
 
 -- a turn of a loop: the first reads a token at least
 pub then_turn : {A B : Type 0} {n : ℕ} {S : List Token → A → Type 0} {U : List Token → B → Type 0} {R : B → List Token → Type 0} {l : List Token} {out : Outcome A} (p : A → Parser B)
-    → ((f : List Token) (x : A) → S f x → 0 < length f) → Tells (suc n) S Free l out → ((f r : List Token) (x : A) → S f x → Tells n (λ g y. U (f ++ g) y) R r (p x r)) → Tells (suc n) U R l (and_then out p)
+    → ((f : List Token) (x : A) → S f x → 0 < length f) → Tells (suc n) S Free l out
+    → ((f r : List Token) (x : A) → S f x → Tells n (λ g y. U (f ++ g) y) R r (p x r)) → Tells (suc n) U R l (and_then out p)
 then_turn {n = n} {S = S} {U = U} {R = R} {l = l} {out = out} p long tells next =
     then_by (suc n) n S Free U R l (λ f x s. let some = long f x s in omega arith) (λ x. tt) p (λ f r x s _. next f r x s) out tells
 
@@ -160,19 +167,23 @@ pub map_tells : {A B : Type 0} {n : ℕ} {S : List Token → A → Type 0} {U : 
     → Tells n S Free l out → Tells n U Free l (and_then out (λ x j. Ok (make x, j)))
 map_tells {U = U} make made tells = then_tells _ tells (λ f r x s. done_tells (subst (λ z. U z (make x)) (sym (append_nil f)) (made f x s)))
 
-pub map_met : {A B : Type 0} {n : ℕ} {S : List Token → A → Type 0} {Q : A → List Token → Type 0} {U : List Token → B → Type 0} {R : B → List Token → Type 0} {l : List Token} {out : Outcome A} (make : A → B)
-    → ((x : A) → Q x []) → ((f : List Token) (x : A) → S f x → U f (make x)) → ((x : A) (r : List Token) → Q x r → R (make x) r) → Tells n S Q l out → Tells n U R l (and_then out (λ x j. Ok (make x, j)))
+pub map_met : {A B : Type 0} {n : ℕ} {S : List Token → A → Type 0} {Q : A → List Token → Type 0} {U : List Token → B → Type 0} {R : B
+    → List Token → Type 0} {l : List Token} {out : Outcome A} (make : A → B)
+    → ((x : A) → Q x []) → ((f : List Token) (x : A) → S f x → U f (make x)) → ((x : A) (r : List Token) → Q x r → R (make x) r)
+    → Tells n S Q l out → Tells n U R l (and_then out (λ x j. Ok (make x, j)))
 map_met {U = U} make ends made rest tells = then_met _ ends tells (λ f r x s q. met_tells (subst (λ z. U z (make x)) (sym (append_nil f)) (made f x s)) (rest x r q))
 
 -- ---- tokens that are wanted, with their places
 
-want_by : {A : Type 0} {n : ℕ} {U : List Token → A → Type 0} {Q : A → List Token → Type 0} (q : TokenKind) (p : Place → Parser A) → ((t : Token) (ts : List Token) → t.kind ≡ q → Tells n (λ g y. U (t ∷ g) y) Q ts (p t.place ts))
+want_by : {A : Type 0} {n : ℕ} {U : List Token → A → Type 0} {Q : A → List Token → Type 0} (q : TokenKind) (p : Place → Parser A)
+    → ((t : Token) (ts : List Token) → t.kind ≡ q → Tells n (λ g y. U (t ∷ g) y) Q ts (p t.place ts))
     → (t : Token) (ts : List Token) (b : Bool) → (b ≡ true → t.kind ≡ q) → Tells n U Q (t ∷ ts) (and_then {A = Unit {0}} (if b then Ok (tt, ts) else Err (At (t ∷ ts))) (λ _. p t.place))
 want_by q p next t ts true is = after_tells (next t ts (is refl))
 want_by q p next t ts false is = let (w, x, s) = (next (token q) [] refl).some in refused_tells (token q ∷ w, x, s)
 
 -- a token of a kind, where its place is used
-pub want_here : {A : Type 0} {n : ℕ} {U : List Token → A → Type 0} {Q : A → List Token → Type 0} {l : List Token} (q : TokenKind) → ((a : TokenKind) → same_kind a q ≡ true → a ≡ q) → same_kind k.End q ≡ false
+pub want_here : {A : Type 0} {n : ℕ} {U : List Token → A → Type 0} {Q : A → List Token → Type 0} {l : List Token} (q : TokenKind)
+    → ((a : TokenKind) → same_kind a q ≡ true → a ≡ q) → same_kind k.End q ≡ false
     → (p : Place → Parser A) → ((t : Token) (ts : List Token) → t.kind ≡ q → Tells n (λ g y. U (t ∷ g) y) Q ts (p t.place ts)) → Tells n U Q l (and_then (expect q l) (λ _. p (place l)))
 want_here {n = n} {U = U} {Q = Q} {l = l} q is_q not_end p next = go l
   where
@@ -180,7 +191,8 @@ want_here {n = n} {U = U} {Q = Q} {l = l} q is_q not_end p next = go l
     go [] = let (w, x, s) = (next (token q) [] refl).some in rw not_end (refused_tells (token q ∷ w, x, s))
     go (t ∷ ts) = want_by q p next t ts (same_kind t.kind q) (is_q t.kind)
 
-pub want_tells : {A : Type 0} {n : ℕ} {U : List Token → A → Type 0} {Q : A → List Token → Type 0} {l : List Token} (q : TokenKind) → ((a : TokenKind) → same_kind a q ≡ true → a ≡ q) → same_kind k.End q ≡ false
+pub want_tells : {A : Type 0} {n : ℕ} {U : List Token → A → Type 0} {Q : A → List Token → Type 0} {l : List Token} (q : TokenKind)
+    → ((a : TokenKind) → same_kind a q ≡ true → a ≡ q) → same_kind k.End q ≡ false
     → (p : Unit {0} → Parser A) → ((t : Token) (ts : List Token) → t.kind ≡ q → Tells n (λ g y. U (t ∷ g) y) Q ts (p tt ts)) → Tells n U Q l (and_then (expect q l) p)
 want_tells q is_q not_end p next = want_here q is_q not_end (λ _. p tt) next
 

@@ -11,8 +11,10 @@ use Rattle.ti_syntax.specs.Spelling.Statements.{Region, Dims, Initial, Declared,
 use Rattle.ti_syntax.specs.Spelling.Statements as s
 use Rattle.ti_syntax.specs.Spelling.Classes.{Method, Member, Members}
 use Rattle.ti_syntax.specs.Spelling.Classes as c
-use Rattle.ti_syntax.specs.Spelling.Loads.{Load, Free, free, weights, region_loads, range_loads, ranges_loads, dims_loads, initial_loads, declared_loads, changed_loads, printed_loads, condition_loads, first_loads, optional_loads, update_loads, stated_loads, items_loads, method_loads, member_loads, members_loads}
-use Rattle.ti_parse_expr.proofs.FullLaws.{weights_long}
+use Rattle.ti_syntax.specs.Spelling.Loads.{Load, Free, free, weights, region_loads, range_loads, ranges_loads, dims_loads, initial_loads}
+use Rattle.ti_syntax.specs.Spelling.Loads.{declared_loads, changed_loads, printed_loads, condition_loads, first_loads, optional_loads}
+use Rattle.ti_syntax.specs.Spelling.Loads.{update_loads, stated_loads, items_loads, method_loads, member_loads, members_loads}
+use Rattle.ti_parse_expr.proofs.Lemmas.{weights_long}
 
 -- as many loads as tokens
 pub record Loaded (loads : List Load) (l : List Token) : Type 0 where
@@ -104,7 +106,9 @@ mutual
   stated_loaded n (s.if_else i d h c x h2 y) = one_loaded (both_loaded (condition_loaded c) (both_loaded (stated_loaded (suc n) x) (one_loaded (stated_loaded (suc n) y))))
   stated_loaded n (s.while w h c x) = one_loaded (both_loaded (condition_loaded c) (stated_loaded (suc n) x))
   stated_loaded n (s.for f o p q c h h2 first h3 test h4 update h5 x) =
-      one_loaded (one_loaded (both_loaded (first_loaded first) (one_loaded (both_loaded (optional_loaded test) (one_loaded (both_loaded (update_loaded update) (one_loaded (stated_loaded (suc n) x))))))))
+      one_loaded (one_loaded (both_loaded (first_loaded first) (one_loaded
+      (both_loaded (optional_loaded test) (one_loaded (both_loaded (update_loaded update)
+      (one_loaded (stated_loaded (suc n) x))))))))
   stated_loaded n (s.foreach {l = l} f o t i c h h2 h3 h4 d h5 x) = one_loaded (one_loaded (one_loaded (one_loaded (both_loaded (weights_loaded l) (one_loaded (stated_loaded (suc n) x))))))
   stated_loaded n (s.change t d h) = both_loaded (changed_loaded d) last_loaded
   stated_loaded n (s.call {l = l} t x h) = both_loaded (weights_loaded l) last_loaded

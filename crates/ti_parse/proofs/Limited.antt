@@ -31,8 +31,10 @@ pub record StopsIn {A : Type 0} (f g : List Token) (out : Outcome A) : Type 0 wh
   pub is : f ≡ front ++ heavy ∷ rest
   pub over : out ≡ Err (Over (heavy ∷ (rest ++ g)))
 
-stops_if : {A : Type 0} (x : Load) (loads : List Load) (t : Token) (f g : List Token) (out : Outcome A) → ((i : ℕ) → IsAbove (slice_get (loads ++ Free ∷ []) i) → i < length f → StopsIn f g (limited loads (f ++ g) out))
-    → (i : ℕ) → IsAbove (slice_get (x ∷ (loads ++ Free ∷ [])) i) → i < suc (length f) → (b : Bool) → is_above x ≡ b → StopsIn (t ∷ f) g (if b then Err (Over (t ∷ (f ++ g))) else limited loads (f ++ g) out)
+stops_if : {A : Type 0} (x : Load) (loads : List Load) (t : Token) (f g : List Token) (out : Outcome A)
+    → ((i : ℕ) → IsAbove (slice_get (loads ++ Free ∷ []) i) → i < length f → StopsIn f g (limited loads (f ++ g) out))
+    → (i : ℕ) → IsAbove (slice_get (x ∷ (loads ++ Free ∷ [])) i) → i < suc (length f) → (b : Bool) → is_above x ≡ b
+    → StopsIn (t ∷ f) g (if b then Err (Over (t ∷ (f ++ g))) else limited loads (f ++ g) out)
 stops_if x loads t f g out more i a lt true h = record { front = []; heavy = t; rest = f; is = refl; over = refl }
 stops_if x loads t f g out more zero a lt false h = absurd (not_above x h a)
 stops_if x loads t f g out more (suc i) a lt false h =
@@ -71,12 +73,14 @@ above_later loads u f t l p true more h = absurd (omega (arith, ap (λ o. length
 above_later loads u f t l p false more h = more h
 
 -- the load of that token is above
-pub above_there : {A : Type 0} (loads : List Load) (f : List Token) (t : Token) (l : List Token) (p : A × List Token) → limited loads (f ++ t ∷ l) (Ok p) ≡ Err (Over (t ∷ l)) → IsAbove (slice_get (loads ++ Free ∷ []) (length f))
+pub above_there : {A : Type 0} (loads : List Load) (f : List Token) (t : Token) (l : List Token) (p : A × List Token)
+    → limited loads (f ++ t ∷ l) (Ok p) ≡ Err (Over (t ∷ l)) → IsAbove (slice_get (loads ++ Free ∷ []) (length f))
 above_there [] f t l p h = cc
 above_there (x ∷ loads) [] t l p h = above_now x loads t l p (is_above x) refl h
 above_there (x ∷ loads) (u ∷ f) t l p h = above_later loads u f t l p (is_above x) (above_there loads f t l p) h
 
-never_if : {A : Type 0} (loads : List Load) (l r : List Token) (p : A × List Token) → (limited loads (next l) (Ok p) ≡ Err (At r) → ⊥) → (b : Bool) → (if b then Err (Over l) else limited loads (next l) (Ok p)) ≡ Err (At r) → ⊥
+never_if : {A : Type 0} (loads : List Load) (l r : List Token) (p : A × List Token) → (limited loads (next l) (Ok p) ≡ Err (At r) → ⊥)
+    → (b : Bool) → (if b then Err (Over l) else limited loads (next l) (Ok p)) ≡ Err (At r) → ⊥
 never_if loads l r p more true h = cc
 never_if loads l r p more false h = more h
 

@@ -13,9 +13,7 @@ use Rattle.ti_syntax.specs.Spelling.Loads.{Load, Free, free, weights}
 use Rattle.ti_parse_expr.specs.declared.parse.Form.TheVariants as form
 use Rattle.ti_parse_expr.specs.Mirrors.Input.{At, Over, Outcome, Parser, and_then, kind, sees, spells, expect, expect_word, any_name, named_by}
 use Rattle.ti_parse_expr.specs.Mirrors.Full.{Limits, above, limited_to, full_to}
-use Rattle.ti_parse_expr.proofs.Law.{append_nil}
-use Rattle.ti_parse_expr.proofs.Follows.{IsCloser}
-use Rattle.ti_parse_expr.proofs.FullLaws.{full_reads, limited_fits, limited_then}
+use Rattle.ti_parse_expr.proofs.Lemmas.{append_nil, IsCloser, full_reads, limited_fits, limited_then}
 use Rattle.ti_parse.proofs.Lengths.{Loaded, none_loaded, one_loaded, both_loaded, free_loaded, weights_loaded}
 
 -- ---- what is read
@@ -26,15 +24,18 @@ pub record IsRead {A : Type 0} (limits : Limits) (turns : ℕ) (p : Parser A) (l
   pub reads : length l < turns → p (l ++ r) ≡ limited_to limits loads (l ++ r) (Ok (x, r))
 
 -- a part that is read where the turns are enough
-pub bounded_reads : {A : Type 0} {limits : Limits} {turns : ℕ} {p : Parser A} {loads : List Load} {l r : List Token} {x : A} → Loaded loads l → (length l < turns → IsRead limits turns p loads l r x) → IsRead limits turns p loads l r x
+pub bounded_reads : {A : Type 0} {limits : Limits} {turns : ℕ} {p : Parser A} {loads : List Load} {l r : List Token} {x : A}
+    → Loaded loads l → (length l < turns → IsRead limits turns p loads l r x) → IsRead limits turns p loads l r x
 bounded_reads loaded part = record { loaded = loaded; reads = λ lt. (part lt).reads lt }
 
 -- another reader that goes the same way here
-pub same_reads : {A : Type 0} {limits : Limits} {turns : ℕ} {p : Parser A} {loads : List Load} {l r : List Token} {x : A} (q : Parser A) → p (l ++ r) ≡ q (l ++ r) → IsRead limits turns q loads l r x → IsRead limits turns p loads l r x
+pub same_reads : {A : Type 0} {limits : Limits} {turns : ℕ} {p : Parser A} {loads : List Load} {l r : List Token} {x : A} (q : Parser A)
+    → p (l ++ r) ≡ q (l ++ r) → IsRead limits turns q loads l r x → IsRead limits turns p loads l r x
 same_reads q same part = record { loaded = part.loaded; reads = λ lt. same ∙ part.reads lt }
 
 -- the same tree, written otherwise
-pub result_reads : {A : Type 0} {limits : Limits} {turns : ℕ} {p : Parser A} {loads : List Load} {l r : List Token} {x y : A} → x ≡ y → IsRead limits turns p loads l r x → IsRead limits turns p loads l r y
+pub result_reads : {A : Type 0} {limits : Limits} {turns : ℕ} {p : Parser A} {loads : List Load} {l r : List Token} {x y : A} → x ≡ y
+    → IsRead limits turns p loads l r x → IsRead limits turns p loads l r y
 result_reads {limits = limits} {turns = turns} {p = p} {loads = loads} {l = l} {r = r} same part = subst (λ z. IsRead limits turns p loads l r z) same part
 
 -- ---- parts in a row
@@ -63,7 +64,8 @@ pub done_reads : {A : Type 0} {limits : Limits} {turns : ℕ} {r : List Token} {
 done_reads = record { loaded = none_loaded; reads = λ lt. refl }
 
 -- nothing is left to read
-pub last_reads : {A : Type 0} {limits : Limits} {turns : ℕ} {p : Parser A} {loads : List Load} {l r : List Token} {x : A} → IsRead limits turns p (loads ++ []) (l ++ []) r x → IsRead limits turns p loads l r x
+pub last_reads : {A : Type 0} {limits : Limits} {turns : ℕ} {p : Parser A} {loads : List Load} {l r : List Token} {x : A}
+    → IsRead limits turns p (loads ++ []) (l ++ []) r x → IsRead limits turns p loads l r x
 last_reads {limits = limits} {turns = turns} {p = p} {loads = loads} {l = l} {r = r} {x = x} part =
     subst (λ a. IsRead limits turns p a l r x) (append_nil loads) (subst (λ a. IsRead limits turns p (loads ++ []) a r x) (append_nil l) part)
 
@@ -120,7 +122,8 @@ want {t = t} {ts = ts} {r = r} q f h rest = record {
       ∙ rest.reads (omega (arith, lt));
 }
 
-pub want_word : {A : Type 0} {limits : Limits} {turns : ℕ} {loads : List Load} {t : Token} {ts r : List Token} {x : A} (word : List ℕ) (f : List Token → Unit {0} → Parser A) → bytes_eq word word ≡ true → t.kind ≡ k.Name word
+pub want_word : {A : Type 0} {limits : Limits} {turns : ℕ} {loads : List Load} {t : Token} {ts r : List Token} {x : A} (word : List ℕ)
+    (f : List Token → Unit {0} → Parser A) → bytes_eq word word ≡ true → t.kind ≡ k.Name word
     → IsRead limits turns (λ i. f (t ∷ i) tt i) loads ts r x → IsRead limits turns (λ i. and_then (expect_word word i) (f i)) (Free ∷ loads) (t ∷ ts) r x
 want_word {t = t} {ts = ts} {r = r} word f same h rest = record {
   loaded = one_loaded rest.loaded;
@@ -139,7 +142,9 @@ name_took {t = t} {ts = ts} {r = r} f h rest = record {
 -- ---- by the kind of the next token
 
 -- a reader that goes by that kind
-pub by_kind : {A : Type 0} {limits : Limits} {turns : ℕ} {loads : List Load} {l r : List Token} {x : A} (f : TokenKind → Parser A) {q : TokenKind} → kind (l ++ r) ≡ q → IsRead limits turns (f q) loads l r x → IsRead limits turns (λ i. f (kind i) i) loads l r x
+pub by_kind : {A : Type 0} {limits : Limits} {turns : ℕ} {loads : List Load} {l r : List Token} {x : A} (f : TokenKind
+    → Parser A) {q : TokenKind} → kind (l ++ r) ≡ q → IsRead limits turns (f q) loads l r x
+    → IsRead limits turns (λ i. f (kind i) i) loads l r x
 by_kind {l = l} {r = r} f h part = record { loaded = part.loaded; reads = λ lt. ap (λ z. f z (l ++ r)) h ∙ part.reads lt }
 
 -- a test of the list
@@ -163,11 +168,13 @@ pub free_reads : {A : Type 0} {limits : Limits} {turns : ℕ} {l r : List Token}
 free_reads {limits = limits} {l = l} {r = r} {x = x} p is = record { loaded = free_loaded l; reads = λ lt. is lt ∙ sym (limited_free limits l (l ++ r) (Ok (x, r))) }
 
 -- two such parts in a row
-pub free_both : {A : Type 0} {limits : Limits} {turns : ℕ} {p : Parser A} {r : List Token} {x : A} (a b : List Token) → IsRead limits turns p (free a ++ free b) (a ++ b) r x → IsRead limits turns p (free (a ++ b)) (a ++ b) r x
+pub free_both : {A : Type 0} {limits : Limits} {turns : ℕ} {p : Parser A} {r : List Token} {x : A} (a b : List Token)
+    → IsRead limits turns p (free a ++ free b) (a ++ b) r x → IsRead limits turns p (free (a ++ b)) (a ++ b) r x
 free_both {limits = limits} {turns = turns} {p = p} {r = r} {x = x} a b part = subst (λ z. IsRead limits turns p z (a ++ b) r x) (sym (map-append (λ t. Free) a b)) part
 
 -- such a part, behind which another reader goes on
-pub free_then : {A : Type 0} {limits : Limits} {turns : ℕ} {p : Parser A} {b r : List Token} {lb : List Load} {x : A} (l : List Token) (q : Parser A) → (length l < turns → p (l ++ (b ++ r)) ≡ q (b ++ r)) → IsRead limits turns q lb b r x
+pub free_then : {A : Type 0} {limits : Limits} {turns : ℕ} {p : Parser A} {b r : List Token} {lb : List Load} {x : A} (l : List Token)
+    (q : Parser A) → (length l < turns → p (l ++ (b ++ r)) ≡ q (b ++ r)) → IsRead limits turns q lb b r x
     → IsRead limits turns p (free l ++ lb) (l ++ b) r x
 free_then {limits = limits} {p = p} {b = b} {r = r} {lb = lb} {x = x} l q is rest = record {
   loaded = both_loaded (free_loaded l) rest.loaded;

@@ -27,7 +27,8 @@ only_tree list (Ok t) (s, low) tree q low2 = one_tree list (tree_of t) tree s q
 only_tree list (Err (Refused r)) (misfit, is, g) tree q low = absurd (not_both list misfit r.place tree g q low)
 only_tree list (Err Memory) h tree q low = refl
 
-pub only_refusal : (list : List Token) (answer : Result Tree ParseErr) → Parsed list answer → (misfit : Misfit) (place : Place) → IsGrammarRefusal list (Some (misfit, place)) → RefusesOnly answer misfit place
+pub only_refusal : (list : List Token) (answer : Result Tree ParseErr) → Parsed list answer → (misfit : Misfit) (place : Place)
+    → IsGrammarRefusal list (Some (misfit, place)) → RefusesOnly answer misfit place
 only_refusal list (Ok t) (s, low) misfit place g = not_both list misfit place (tree_of t) g s low
 only_refusal list (Err (Refused r)) (misfit2, is, g2) misfit place g =
     let e : ◌≡◌ {A = Option (Misfit × Place)} (Some (misfit2, r.place)) (Some (misfit, place)) = one_refusal g2 g in

@@ -21,7 +21,7 @@ use Rattle.ti_syntax.specs.Spelling.Classes as grammar
 use Rattle.ti_syntax.specs.Spelling.Loads.{free, method_loads, member_loads, members_loads, class_loads, classes_loads}
 use Rattle.ti_parse_expr.specs.Mirrors.Input.{and_then, kind, sees}
 use Rattle.ti_parse_expr.specs.Mirrors.Full.{Limits, limited_to}
-use Rattle.ti_parse_expr.proofs.Law.{append_nil}
+use Rattle.ti_parse_expr.proofs.Lemmas.{append_nil}
 use Rattle.ti_parse.specs.Mirrors.Way.{up_to}
 use Rattle.ti_parse.specs.Mirrors.Parts.{is_wide, wide, field, typed}
 use Rattle.ti_parse.specs.Mirrors.Classes as spec
@@ -130,10 +130,12 @@ params_front (grammar.more {l = l} {m = m} t c s h h2 q) r = ap (λ z. begins_it
 module _ (limits : Limits) (allows : 0 < limits.weight) (turns : ℕ) where
   -- ---- modifiers
 
-  modifiers_read : {l : List Token} {ms : List Modifier} → Modified l ms → (n : ℕ) (found : List Modifier) (r : List Token) → modifier_of (kind r) ≡ None → length l < n → modifiers (up_to limits) turns modifier_of n found (l ++ r) ≡ Ok (found ++ ms, r)
+  modifiers_read : {l : List Token} {ms : List Modifier} → Modified l ms → (n : ℕ) (found : List Modifier) (r : List Token)
+      → modifier_of (kind r) ≡ None → length l < n → modifiers (up_to limits) turns modifier_of n found (l ++ r) ≡ Ok (found ++ ms, r)
   unfolding modifiers
   modifiers_read grammar.none zero found r free lt = absurd (omega arith)
-  modifiers_read grammar.none (suc n) found r free lt = ap (λ q. spec.modifiers_if (up_to limits) turns (modifiers (up_to limits) turns modifier_of n) found q r) free ∙ ap (λ z. Ok (z, r)) (sym (append_nil found))
+  modifiers_read grammar.none (suc n) found r free lt = ap (λ q. spec.modifiers_if (up_to limits) turns
+      (modifiers (up_to limits) turns modifier_of n) found q r) free ∙ ap (λ z. Ok (z, r)) (sym (append_nil found))
   modifiers_read (grammar.more t is s) zero found r free lt = absurd (omega arith)
   modifiers_read (grammar.more {l = l} {ms = ms} t {word = word} is s) (suc n) found r free lt =
       let one : Modifier = record { word = word; place = t.place } in
@@ -145,7 +147,8 @@ module _ (limits : Limits) (allows : 0 < limits.weight) (turns : ℕ) where
       → modifiers (up_to limits) turns class_modifier_of n found (l ++ r) ≡ Ok (found ++ ms, r)
   unfolding modifiers
   class_modifiers_read grammar.none zero found r free lt = absurd (omega arith)
-  class_modifiers_read grammar.none (suc n) found r free lt = ap (λ q. spec.modifiers_if (up_to limits) turns (modifiers (up_to limits) turns class_modifier_of n) found q r) free ∙ ap (λ z. Ok (z, r)) (sym (append_nil found))
+  class_modifiers_read grammar.none (suc n) found r free lt = ap (λ q. spec.modifiers_if (up_to limits) turns
+      (modifiers (up_to limits) turns class_modifier_of n) found q r) free ∙ ap (λ z. Ok (z, r)) (sym (append_nil found))
   class_modifiers_read (grammar.more t is s) zero found r free lt = absurd (omega arith)
   class_modifiers_read (grammar.more {l = l} {ms = ms} t {word = word} is s) (suc n) found r free lt =
       let one : Modifier = record { word = word; place = t.place } in
@@ -153,10 +156,12 @@ module _ (limits : Limits) (allows : 0 < limits.weight) (turns : ℕ) where
       ∙ class_modifiers_read s n (found ++ one ∷ []) r free (omega arith)
       ∙ ap (λ z. Ok (z, r)) (append_assoc found (one ∷ []) ms)
 
-  modifiers_part : {l : List Token} {ms : List Modifier} → Modified l ms → (r : List Token) → modifier_of (kind r) ≡ None → IsRead limits turns (modifiers (up_to limits) turns modifier_of turns []) (free l) l r ms
+  modifiers_part : {l : List Token} {ms : List Modifier} → Modified l ms → (r : List Token) → modifier_of (kind r) ≡ None
+      → IsRead limits turns (modifiers (up_to limits) turns modifier_of turns []) (free l) l r ms
   modifiers_part s r free = free_reads (modifiers (up_to limits) turns modifier_of turns []) (λ lt. modifiers_read s turns [] r free lt)
 
-  class_modifiers_part : {l : List Token} {ms : List Modifier} → ClassModified l ms → (r : List Token) → class_modifier_of (kind r) ≡ None → IsRead limits turns (modifiers (up_to limits) turns class_modifier_of turns []) (free l) l r ms
+  class_modifiers_part : {l : List Token} {ms : List Modifier} → ClassModified l ms → (r : List Token) → class_modifier_of (kind r) ≡ None
+      → IsRead limits turns (modifiers (up_to limits) turns class_modifier_of turns []) (free l) l r ms
   class_modifiers_part s r free = free_reads (modifiers (up_to limits) turns class_modifier_of turns []) (λ lt. class_modifiers_read s turns [] r free lt)
 
   -- ---- types
@@ -172,7 +177,8 @@ module _ (limits : Limits) (allows : 0 < limits.weight) (turns : ℕ) where
 
   -- ---- methods
 
-  more_params_read : {l : List Token} {ps : List ParamTree} → ParamList l ps → (n : ℕ) (found : List ParamTree) → length l < n → (r : List Token) → kind r ≡ k.RightParen → IsRead limits turns (more_params (up_to limits) turns n found) (free l) l r (found ++ ps)
+  more_params_read : {l : List Token} {ps : List ParamTree} → ParamList l ps → (n : ℕ) (found : List ParamTree) → length l < n
+      → (r : List Token) → kind r ≡ k.RightParen → IsRead limits turns (more_params (up_to limits) turns n found) (free l) l r (found ++ ps)
   unfolding more_params
   more_params_read (grammar.last t s h) zero found lt r end = absurd (omega arith)
   more_params_read (grammar.last {l = l} t s h) (suc n) found lt r end = free_both l (t ∷ []) (then_reads _ (typed_part s h) (name_took _ h (sees_reads k.Comma _ _ end done_reads)))
@@ -181,7 +187,8 @@ module _ (limits : Limits) (allows : 0 < limits.weight) (turns : ℕ) where
       free_both l (t ∷ c ∷ m) (then_reads _ (typed_part s h) (name_took _ h (sees_reads k.Comma _ _ hc (took
       (result_reads (append_assoc found (_ ∷ []) ps) (more_params_read q n (found ++ _ ∷ []) (omega (arith, length-append l (t ∷ c ∷ m))) r end))))))
 
-  params_typed : (q : TokenKind) (i : List Token) → begins_item q ≡ true → spec.params_by (up_to limits) turns q i ≡ and_then (more_params (up_to limits) turns turns [] i) (λ ps i. Ok (tree.Params ps, i))
+  params_typed : (q : TokenKind) (i : List Token) → begins_item q ≡ true → spec.params_by (up_to limits) turns q i
+      ≡ and_then (more_params (up_to limits) turns turns [] i) (λ ps i. Ok (tree.Params ps, i))
   params_typed k.RightParen i h = cc
   params_typed k.KeywordString i h = cc
   params_typed _ i h = refl
@@ -195,7 +202,8 @@ module _ (limits : Limits) (allows : 0 < limits.weight) (turns : ℕ) where
       (made_reads _ (bounded_reads (free_loaded l) (λ lt. more_params_read q turns [] lt r end)) refl)
 
   method_reads : {l : List Token} {ps : ParamsTree} {xs : List Stm} {e : Token} (s : Method l ps xs e) (ms : List Modifier) (result : ResultTree) (at : Place) (name : List ℕ) (r : List Token)
-      → IsRead limits turns (method (up_to limits) turns ms result at name) (method_loads s) l r (tree.MethodMember (record { modifiers = ms; result = result; place = at; name = name; params = ps; body = xs; end = e.place }))
+      → IsRead limits turns (method (up_to limits) turns ms result at name) (method_loads s) l r
+      (tree.MethodMember (record { modifiers = ms; result = result; place = at; name = name; params = ps; body = xs; end = e.place }))
   unfolding method
   method_reads (grammar.method o c b e ho ps hc hb items he) ms result at name r =
       want k.LeftParen _ ho (then_reads _ (params_read ps _ hc) (want k.RightParen _ hc (want k.LeftBrace _ hb
@@ -203,7 +211,8 @@ module _ (limits : Limits) (allows : 0 < limits.weight) (turns : ℕ) where
 
   -- ---- members
 
-  member_base : (ms : List Modifier) (q : TokenKind) (i : List Token) → begins_base q ≡ true → spec.member_by (up_to limits) turns ms q i ≡ and_then (field (up_to limits) turns i) (field_or_method (up_to limits) turns ms)
+  member_base : (ms : List Modifier) (q : TokenKind) (i : List Token) → begins_base q ≡ true → spec.member_by (up_to limits) turns ms q i
+      ≡ and_then (field (up_to limits) turns i) (field_or_method (up_to limits) turns ms)
   member_base ms k.KeywordInt i h = refl
   member_base ms k.KeywordLong i h = refl
   member_base ms k.KeywordBoolean i h = refl
@@ -212,12 +221,15 @@ module _ (limits : Limits) (allows : 0 < limits.weight) (turns : ℕ) where
   member_base ms (k.Name name) i h = refl
   member_base ms _ i h = absurd (false≢true h)
 
-  member_wide : (ms : List Modifier) (q : TokenKind) (i : List Token) → is_wide q ≡ true → spec.member_by (up_to limits) turns ms q i ≡ and_then (wide (up_to limits) turns i) (λ ty. method_named (up_to limits) turns ms (tree.Typed ty))
+  member_wide : (ms : List Modifier) (q : TokenKind) (i : List Token) → is_wide q ≡ true → spec.member_by (up_to limits) turns ms q i
+      ≡ and_then (wide (up_to limits) turns i) (λ ty. method_named (up_to limits) turns ms (tree.Typed ty))
   member_wide ms k.KeywordDomain i h = refl
   member_wide ms k.KeywordSharedRegion i h = refl
   member_wide ms _ i h = absurd (false≢true h)
 
-  from_field : {m : List Token} {ty : TypeTree} → FieldType m ty → (ms : List Modifier) (b r : List Token) → member_from (up_to limits) turns ms ((m ++ b) ++ r) ≡ and_then (field (up_to limits) turns ((m ++ b) ++ r)) (field_or_method (up_to limits) turns ms)
+  from_field : {m : List Token} {ty : TypeTree} → FieldType m ty → (ms : List Modifier) (b r : List Token)
+      → member_from (up_to limits) turns ms ((m ++ b) ++ r) ≡ and_then (field (up_to limits) turns ((m ++ b) ++ r))
+      (field_or_method (up_to limits) turns ms)
   unfolding member_from
   from_field {m = m} s ms b r = member_base ms (kind ((m ++ b) ++ r)) ((m ++ b) ++ r) (ap (λ z. begins_base (kind z)) (append_assoc m b r) ∙ front_field s (b ++ r))
 
@@ -246,14 +258,17 @@ module _ (limits : Limits) (allows : 0 < limits.weight) (turns : ℕ) where
       (same_reads (λ i. and_then (wide (up_to limits) turns i) (λ ty. method_named (up_to limits) turns words (tree.Typed ty))) (from_wide ty words (t ∷ v) r)
       (then_reads _ (wide_part ty ht) (name_took _ ht (method_reads rest words (tree.Typed type) t.place _ r))))
 
-  members_read : {l : List Token} {xs : List MemberTree} (s : Members l xs) (n : ℕ) (found : List MemberTree) → length l < n → (r : List Token) → kind r ≡ k.RightBrace → IsRead limits turns (members (up_to limits) turns n found) (members_loads s) l r (found ++ xs)
+  members_read : {l : List Token} {xs : List MemberTree} (s : Members l xs) (n : ℕ) (found : List MemberTree) → length l < n
+      → (r : List Token) → kind r ≡ k.RightBrace → IsRead limits turns (members (up_to limits) turns n found) (members_loads s) l r (found
+      ++ xs)
   unfolding members
   members_read grammar.none zero found lt r end = absurd (omega arith)
   members_read grammar.none (suc n) found lt r end = result_reads (sym (append_nil found)) (sees_reads k.RightBrace _ _ end done_reads)
   members_read (grammar.more x xs) zero found lt r end = absurd (omega arith)
   members_read (grammar.more {l = l} {m = m} {x = y} {xs = ys} x xs) (suc n) found lt r end =
       test_reads (sees k.RightBrace) _ _ false (member_not_end (kind ((l ++ m) ++ r)) (ap (λ z. begins_member (kind z)) (append_assoc l m r) ∙ member_front x (m ++ r)))
-      (then_reads _ (member_reads x (m ++ r)) (result_reads (append_assoc found (y ∷ []) ys) (members_read xs n (found ++ y ∷ []) (omega (arith, length-append l m, member_some l (member_front x []))) r end)))
+      (then_reads _ (member_reads x (m ++ r)) (result_reads (append_assoc found (y ∷ []) ys)
+      (members_read xs n (found ++ y ∷ []) (omega (arith, length-append l m, member_some l (member_front x []))) r end)))
 
   -- ---- classes
 
@@ -263,14 +278,16 @@ module _ (limits : Limits) (allows : 0 < limits.weight) (turns : ℕ) where
       then_reads _ (class_modifiers_part ms _ (ap class_modifier_of hc)) (want k.KeywordClass _ hc (name_took _ ht (want k.LeftBrace _ ho
       (then_reads _ (bounded_reads (members_loaded xs) (λ lt. members_read xs turns [] lt _ he)) (want k.RightBrace _ he done_reads)))))
 
-  classes_reads : {l : List Token} {xs : List ClassTree} (s : AllClasses l xs) (n : ℕ) (found : List ClassTree) → length l < n → (r : List Token) → kind r ≡ k.End → IsRead limits turns (classes (up_to limits) turns n found) (classes_loads s) l r (found ++ xs)
+  classes_reads : {l : List Token} {xs : List ClassTree} (s : AllClasses l xs) (n : ℕ) (found : List ClassTree) → length l < n
+      → (r : List Token) → kind r ≡ k.End → IsRead limits turns (classes (up_to limits) turns n found) (classes_loads s) l r (found ++ xs)
   unfolding classes
   classes_reads grammar.none zero found lt r end = absurd (omega arith)
   classes_reads grammar.none (suc n) found lt r end = result_reads (sym (append_nil found)) (sees_reads k.End _ _ end done_reads)
   classes_reads (grammar.more x xs) zero found lt r end = absurd (omega arith)
   classes_reads (grammar.more {l = l} {m = m} {x = y} {xs = ys} x xs) (suc n) found lt r end =
       test_reads (sees k.End) _ _ false (class_not_end (kind ((l ++ m) ++ r)) (ap (λ z. begins_class (kind z)) (append_assoc l m r) ∙ class_front x (m ++ r)))
-      (then_reads _ (class_reads x (m ++ r)) (result_reads (append_assoc found (y ∷ []) ys) (classes_reads xs n (found ++ y ∷ []) (omega (arith, length-append l m, class_some l (class_front x []))) r end)))
+      (then_reads _ (class_reads x (m ++ r)) (result_reads (append_assoc found (y ∷ []) ys)
+      (classes_reads xs n (found ++ y ∷ []) (omega (arith, length-append l m, class_some l (class_front x []))) r end)))
 
 pub classes_read : (limits : Limits) → 0 < limits.weight → {l : List Token} {xs : List ClassTree} (s : AllClasses l xs) (turns : ℕ) (r : List Token) → kind r ≡ k.End → length (l ++ r) < turns
     → classes (up_to limits) turns turns [] (l ++ r) ≡ limited_to limits (classes_loads s) (l ++ r) (Ok (xs, r))

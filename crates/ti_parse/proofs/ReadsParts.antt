@@ -26,9 +26,8 @@ use Rattle.ti_parse_expr.specs.declared.parse.Form.TheVariants as form
 use Rattle.ti_parse_expr.specs.Mirrors.Input.{Parser, and_then, kind, sees}
 use Rattle.ti_parse_expr.specs.Mirrors.Types.{base, qualifiers, grids}
 use Rattle.ti_parse_expr.specs.Mirrors.Full.{Limits, full_to}
-use Rattle.ti_parse_expr.proofs.Follows.{test_reads as same_test, IsCloser, paren_closes, colon_closes, comma_closes, bracket_closes}
-use Rattle.ti_parse_expr.proofs.Fronts.{begins, front_whole}
-use Rattle.ti_parse_expr.proofs.CompleteTypes.{base_reads, grids_read, qualifiers_read}
+use Rattle.ti_parse_expr.proofs.Lemmas.{test_reads as same_test, IsCloser, paren_closes, colon_closes, comma_closes, bracket_closes, begins}
+use Rattle.ti_parse_expr.proofs.Lemmas.{front_whole, base_reads, grids_read, qualifiers_read}
 use Rattle.ti_parse.specs.Mirrors.Way.{up_to}
 use Rattle.ti_parse.specs.Mirrors.Parts as spec
 use Rattle.ti_parse.specs.Mirrors.Parts.{region, range_from, more_ranges, dims, new_grid, new_named, made, new_thing, broadcast, initial, declared, printer, printed_text, printed, condition, optional}
@@ -117,7 +116,8 @@ module _ (limits : Limits) (turns : ℕ) where
   -- a range and what follows it, where behind a lower bound before a colon a range is read on
   range_reads : {B : Type 0} {l b r : List Token} {lb : List Load} {x : RangeTree} {y : B} (s : Range l x) (more : Exp → Parser B) (rest : RangeTree → Parser B)
       → ((low : Exp) (i : List Token) → sees k.Colon i ≡ true → more low i ≡ and_then (range_from (up_to limits) turns low i) rest)
-      → IsCloser (kind (b ++ r)) → sees k.Colon (b ++ r) ≡ false → IsRead limits turns (rest x) lb b r y → IsRead limits turns (λ i. and_then (full_to limits form.Whole i) more) (range_loads s ++ lb) (l ++ b) r y
+      → IsCloser (kind (b ++ r)) → sees k.Colon (b ++ r) ≡ false → IsRead limits turns (rest x) lb b r y
+      → IsRead limits turns (λ i. and_then (full_to limits form.Whole i) more) (range_loads s ++ lb) (l ++ b) r y
   range_reads {b = b} {lb = lb} (expressions.plain {l = l} {m = m} s {low = low} start hs high) more rest goes_on closes no_colon part =
       regroup_reads (weights l) (Free ∷ weights m) lb l (s ∷ m) b
       (then_reads more (whole (ends colon_closes hs) start) (same_reads _ (goes_on low _ (ap (λ q. same_kind q k.Colon) hs)) (then_reads rest (plain_reads low s hs high closes no_colon) part)))
@@ -145,9 +145,11 @@ module _ (limits : Limits) (turns : ℕ) where
   unfolding dims
   dims_reads (grammar.domain e) r h = last_reads (then_reads _ (whole (ends bracket_closes h) e) (sees_reads k.Colon _ _ h done_reads))
   dims_reads (grammar.ranges (expressions.last_range {r = x} s) few) r h =
-      last_reads (range_reads s _ _ (λ low i is. same_test (sees k.Colon i) true _ _ i is) (ends bracket_closes h) (ap (λ q. same_kind q k.Colon) h) (made_reads _ (more_ranges_stop 2 (x ∷ []) r h) refl))
+      last_reads (range_reads s _ _ (λ low i is. same_test (sees k.Colon i) true _ _ i is) (ends bracket_closes h)
+      (ap (λ q. same_kind q k.Colon) h) (made_reads _ (more_ranges_stop 2 (x ∷ []) r h) refl))
   dims_reads (grammar.ranges (expressions.more_ranges t {r = x} s ht q) few) r h =
-      range_reads s _ _ (λ low i is. same_test (sees k.Colon i) true _ _ i is) (ends comma_closes ht) (ap (λ q. same_kind q k.Colon) ht) (made_reads _ (more_ranges_read q 2 (x ∷ []) t r ht h (omega (arith, few))) refl)
+      range_reads s _ _ (λ low i is. same_test (sees k.Colon i) true _ _ i is) (ends comma_closes ht) (ap (λ q. same_kind q k.Colon) ht)
+      (made_reads _ (more_ranges_read q 2 (x ∷ []) t r ht h (omega (arith, few))) refl)
 
   -- ---- new things
 
@@ -159,7 +161,8 @@ module _ (limits : Limits) (turns : ℕ) where
   -- a grid, after the base of its elements
   new_grid_reads : {q d g : List Token} {qs : List Qualifier} {gs : List GridTree} {x : DimsTree} (at : Place) (owner : Option Exp) (begin : Base) (o c : Token) (r : List Token)
       → Qualified q qs → o.kind ≡ k.LeftBracket → (s : Dims d x) → c.kind ≡ k.RightBracket → Gridded g gs → length gs ≤ 2 → EndsRight (kind r)
-      → IsRead limits turns (new_grid (up_to limits) turns at owner begin) (free q ++ Free ∷ (dims_loads s ++ Free ∷ free g)) (q ++ o ∷ (d ++ c ∷ g)) r (tree.NewGrid at owner (record { base = begin; qualifiers = qs; grids = gs }) o.place x)
+      → IsRead limits turns (new_grid (up_to limits) turns at owner begin) (free q ++ Free ∷ (dims_loads s ++ Free ∷ free g)) (q
+      ++ o ∷ (d ++ c ∷ g)) r (tree.NewGrid at owner (record { base = begin; qualifiers = qs; grids = gs }) o.place x)
   unfolding new_grid
   new_grid_reads at owner begin o c r qs ho s hc gs few stop =
       then_reads _ (free_reads (qualifiers turns []) (λ lt. qualifiers_read qs turns [] _ (ap qualifier_of ho) lt))
@@ -176,7 +179,8 @@ module _ (limits : Limits) (turns : ℕ) where
 
   grid_reads : {a q d g : List Token} {begin : Base} {qs : List Qualifier} {gs : List GridTree} {x : DimsTree} (at : Place) (owner : Option Exp) (o c : Token) (r : List Token)
       → Based a begin → Qualified q qs → o.kind ≡ k.LeftBracket → (s : Dims d x) → c.kind ≡ k.RightBracket → Gridded g gs → length gs ≤ 2 → EndsRight (kind r)
-      → IsRead limits turns (made (up_to limits) turns at owner) (free a ++ (free q ++ Free ∷ (dims_loads s ++ Free ∷ free g))) (a ++ (q ++ o ∷ (d ++ c ∷ g))) r (tree.NewGrid at owner (record { base = begin; qualifiers = qs; grids = gs }) o.place x)
+      → IsRead limits turns (made (up_to limits) turns at owner) (free a ++ (free q ++ Free ∷ (dims_loads s ++ Free ∷ free g))) (a
+      ++ (q ++ o ∷ (d ++ c ∷ g))) r (tree.NewGrid at owner (record { base = begin; qualifiers = qs; grids = gs }) o.place x)
   unfolding made new_named
   grid_reads at owner o c r (types.int t h) qs ho s hc gs few stop =
       by_kind (spec.made_by (up_to limits) turns at owner) h (then_reads _ (base_part (types.int t h) _) (new_grid_reads at owner _ o c r qs ho s hc gs few stop))
@@ -199,7 +203,8 @@ module _ (limits : Limits) (turns : ℕ) where
   thing_reads : {l b r : List Token} {lb : List Load} {owner : Option Exp} {x : InitTree} (at : Place) (s : Region l owner) → begins_new (kind (b ++ r)) ≡ true → sees k.LeftParen (b ++ r) ≡ false
       → IsRead limits turns (made (up_to limits) turns at owner) lb b r x → IsRead limits turns (new_thing (up_to limits) turns at) (region_loads s ++ lb) (l ++ b) r x
   unfolding new_thing
-  thing_reads {l = l} {b = b} {r = r} at s begin free part = same_reads _ (new_other at (kind ((l ++ b) ++ r)) ((l ++ b) ++ r) (front_region s b r begin)) (then_reads _ (region_reads s (b ++ r) free) part)
+  thing_reads {l = l} {b = b} {r = r} at s begin free part = same_reads _
+      (new_other at (kind ((l ++ b) ++ r)) ((l ++ b) ++ r) (front_region s b r begin)) (then_reads _ (region_reads s (b ++ r) free) part)
 
   -- ---- right sides
 
@@ -218,10 +223,12 @@ module _ (limits : Limits) (turns : ℕ) where
   initial_reads (grammar.new_grid n o c hn s begin qs ho d hc gs few) r stop =
       by_kind (spec.initial_by (up_to limits) turns) hn (took (thing_reads n.place s (based_new begin _ r) (based_not_paren begin _ r) (grid_reads n.place _ o c r begin qs ho d hc gs few stop)))
   initial_reads (grammar.broadcast b f hb e hf root) r stop =
-      by_kind (spec.initial_by (up_to limits) turns) hb (took (then_reads _ (whole (ends (name_closes (codes "from")) hf) e) (want_word (codes "from") _ refl hf (made_reads _ (whole stop.closer root) refl))))
+      by_kind (spec.initial_by (up_to limits) turns) hb (took (then_reads _ (whole (ends (name_closes (codes "from")) hf) e)
+      (want_word (codes "from") _ refl hf (made_reads _ (whole stop.closer root) refl))))
 
   -- a declaration, after its type
-  pub declared_part : {m : List Token} {name : List ℕ} {value : InitTree} (ty : TypeTree) (t a : Token) (r : List Token) → t.kind ≡ k.Name name → a.kind ≡ k.Assign → (s : Initial m value) → EndsRight (kind r)
+  pub declared_part : {m : List Token} {name : List ℕ} {value : InitTree} (ty : TypeTree) (t a : Token) (r : List Token) → t.kind
+      ≡ k.Name name → a.kind ≡ k.Assign → (s : Initial m value) → EndsRight (kind r)
       → IsRead limits turns (declared (up_to limits) turns ty) (Free ∷ Free ∷ initial_loads s) (t ∷ a ∷ m) r (tree.Declare t.place ty name value)
   unfolding declared
   declared_part ty t a r ht ha s stop = name_took _ ht (want k.Assign _ ha (made_reads _ (initial_reads s r stop) refl))

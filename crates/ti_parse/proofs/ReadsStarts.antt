@@ -23,10 +23,8 @@ use Rattle.ti_syntax.specs.Spelling.Loads.{Load, Free, free, weights, initial_lo
 use Rattle.ti_parse_expr.specs.Mirrors.Input.{Parser, Outcome, and_then, kind, next, sees}
 use Rattle.ti_parse_expr.specs.Mirrors.Exprs.{Operand, is_dim}
 use Rattle.ti_parse_expr.specs.Mirrors.Full.{Limits, operand_to}
-use Rattle.ti_parse_expr.proofs.Phrases.{binds_small}
-use Rattle.ti_parse_expr.proofs.Follows.{test_reads as same_test, then_ok, and_then_assoc, goes, is_name}
-use Rattle.ti_parse_expr.proofs.Fronts.{begins, front_whole, not_dim}
-use Rattle.ti_parse_expr.proofs.FullLaws.{operand_reads, behind_name_is, behind_bracket_is}
+use Rattle.ti_parse_expr.proofs.Lemmas.{binds_small, test_reads as same_test, then_ok, and_then_assoc, goes, is_name, begins, front_whole}
+use Rattle.ti_parse_expr.proofs.Lemmas.{not_dim, operand_reads, behind_name_is, behind_bracket_is}
 use Rattle.ti_parse.specs.Mirrors.Way.{up_to}
 use Rattle.ti_parse.specs.Mirrors.Parts as spec
 use Rattle.ti_parse.specs.Mirrors.Parts.{Begun, Declares, Starts, begins_declaration, typed, begun, begun_bracket, declared, changed, change, first, update}
@@ -160,7 +158,8 @@ module _ (limits : Limits) (allows : 0 < limits.weight) (turns : ℕ) where
     reads = λ lt. let small = binds_small (kind r) in operand_reads limits ending l r x s (record { operand = e.operand; call = λ _. e.call; operators = omega arith });
   }
 
-  pub start_reads : {B : Type 0} {p : Parser B} {more : Operand → Parser B} {ending : Ending} {a b r : List Token} {lb : List Load} {x : Exp} {y : B} → StartsWith limits p more → Start ending a x → EndsOperand (kind (b ++ r))
+  pub start_reads : {B : Type 0} {p : Parser B} {more : Operand → Parser B} {ending : Ending} {a b r : List Token} {lb : List Load}
+      {x : Exp} {y : B} → StartsWith limits p more → Start ending a x → EndsOperand (kind (b ++ r))
       → IsRead limits turns (more (x, ending)) lb b r y → IsRead limits turns p (weights a ++ lb) (a ++ b) r y
   start_reads {more = more} {b = b} {r = r} begin (grammar.start {l = a} s h) e part =
       let same = append_assoc a b r in
@@ -169,11 +168,13 @@ module _ (limits : Limits) (allows : 0 < limits.weight) (turns : ℕ) where
 
   -- ---- changes
 
-  changed_update : (target : Exp) (q : TokenKind) (op : BinaryOperator) (i : List Token) → update_of q ≡ Some op → spec.changed_by (up_to limits) turns target q i ≡ spec.update_if (up_to limits) turns target (Some op) (step_of q) i
+  changed_update : (target : Exp) (q : TokenKind) (op : BinaryOperator) (i : List Token) → update_of q ≡ Some op
+      → spec.changed_by (up_to limits) turns target q i ≡ spec.update_if (up_to limits) turns target (Some op) (step_of q) i
   changed_update target k.Assign op i h = cc
   changed_update target q op i h = ap (λ z. spec.update_if (up_to limits) turns target z (step_of q) i) h
 
-  changed_step : (target : Exp) (q : TokenKind) (op : StepOperator) (i : List Token) → step_of q ≡ Some op → spec.changed_by (up_to limits) turns target q i ≡ spec.update_if (up_to limits) turns target None (Some op) i
+  changed_step : (target : Exp) (q : TokenKind) (op : StepOperator) (i : List Token) → step_of q ≡ Some op
+      → spec.changed_by (up_to limits) turns target q i ≡ spec.update_if (up_to limits) turns target None (Some op) i
   changed_step target k.PlusPlus op i h = ap (λ z. spec.update_if (up_to limits) turns target None z i) h
   changed_step target k.MinusMinus op i h = ap (λ z. spec.update_if (up_to limits) turns target None z i) h
   changed_step target _ op i h = absurd (none-some op h)
@@ -186,9 +187,11 @@ module _ (limits : Limits) (allows : 0 < limits.weight) (turns : ℕ) where
   update_part : {m : List Token} {x : Exp} (target : Exp) (t : Token) (op : BinaryOperator) (r : List Token) → update_of t.kind ≡ Some op → expressions.Whole 1 m x → EndsRight (kind r)
       → IsRead limits turns (changed (up_to limits) turns (target, Target)) (Free ∷ weights m) (t ∷ m) r (tree.Update t.place op target x)
   unfolding changed
-  update_part {m = m} target t op r h s stop = same_reads (spec.update_if (up_to limits) turns target (Some op) (step_of t.kind)) (changed_update target t.kind op (t ∷ (m ++ r)) h) (took (made_reads _ (whole stop.closer s) refl))
+  update_part {m = m} target t op r h s stop = same_reads (spec.update_if (up_to limits) turns target (Some op) (step_of t.kind))
+      (changed_update target t.kind op (t ∷ (m ++ r)) h) (took (made_reads _ (whole stop.closer s) refl))
 
-  step_part : (target : Exp) (t : Token) (op : StepOperator) (r : List Token) → step_of t.kind ≡ Some op → IsRead limits turns (changed (up_to limits) turns (target, Target)) (Free ∷ []) (t ∷ []) r (tree.Step t.place op target)
+  step_part : (target : Exp) (t : Token) (op : StepOperator) (r : List Token) → step_of t.kind ≡ Some op
+      → IsRead limits turns (changed (up_to limits) turns (target, Target)) (Free ∷ []) (t ∷ []) r (tree.Step t.place op target)
   unfolding changed
   step_part target t op r h = same_reads (spec.update_if (up_to limits) turns target None (Some op)) (changed_step target t.kind op (t ∷ r) h) (took done_reads)
 
@@ -229,7 +232,8 @@ module _ (limits : Limits) (allows : 0 < limits.weight) (turns : ℕ) where
       → ((i : List Token) → begins_declaration (kind i) ≡ true → p i ≡ and_then (typed (up_to limits) turns i) more) → DeclaresWith turns p more
   declares_with {p = p} more named reserved = record { goes_on = λ s r h lt. go s r h lt }
     where
-      by_type : {l : List Token} {ty : TypeTree} {next : List ℕ} → Typed l ty → (r : List Token) → begins_declaration (kind (l ++ r)) ≡ true → kind r ≡ k.Name next → length l < turns → p (l ++ r) ≡ more ty r
+      by_type : {l : List Token} {ty : TypeTree} {next : List ℕ} → Typed l ty → (r : List Token) → begins_declaration (kind (l ++ r)) ≡ true
+          → kind r ≡ k.Name next → length l < turns → p (l ++ r) ≡ more ty r
       by_type {l = l} s r word h lt = reserved (l ++ r) word ∙ then_ok more (typed_reads limits turns s r (name_ends h) lt)
 
       go : {l : List Token} {ty : TypeTree} {next : List ℕ} → Typed l ty → (r : List Token) → kind r ≡ k.Name next → length l < turns → p (l ++ r) ≡ more ty r
@@ -238,7 +242,8 @@ module _ (limits : Limits) (allows : 0 < limits.weight) (turns : ℕ) where
       go (types.field (types.field_type (types.boolean t h2) q g few)) r h lt = by_type (types.field (types.field_type (types.boolean t h2) q g few)) r (ap begins_declaration h2) h lt
       go (types.field (types.field_type (types.point t h2 n) q g few)) r h lt = by_type (types.field (types.field_type (types.point t h2 n) q g few)) r (ap begins_declaration h2) h lt
       go (types.field (types.field_type (types.rect_domain t h2 n) q g few)) r h lt = by_type (types.field (types.field_type (types.rect_domain t h2 n) q g few)) r (ap begins_declaration h2) h lt
-      go (types.field (types.field_type {l = l} {m = m} (types.named t {name = name} h2) q g few)) r h lt = named t ((l ++ m) ++ r) r name _ h2 (begun_declares limits turns q g few t.place name r h (omega (arith, lt)))
+      go (types.field (types.field_type {l = l} {m = m} (types.named t {name = name} h2) q g few)) r h lt =
+          named t ((l ++ m) ++ r) r name _ h2 (begun_declares limits turns q g few t.place name r h (omega (arith, lt)))
       go (types.wide (types.domain t h2 n q)) r h lt = by_type (types.wide (types.domain t h2 n q)) r (ap begins_declaration h2) h lt
       go (types.wide (types.shared_region t h2 q)) r h lt = by_type (types.wide (types.shared_region t h2 q)) r (ap begins_declaration h2) h lt
 
@@ -249,7 +254,8 @@ module _ (limits : Limits) (allows : 0 < limits.weight) (turns : ℕ) where
   unfolding begun_bracket
   begun_index t o us name h h2 no_dim = same_test (is_dim (kind us)) false _ _ us no_dim ∙ ap (λ z. and_then z (λ x i. Ok (Starts x, i))) (sym (behind_bracket_is limits allows t o us name h h2))
 
-  begun_by_starts : (t : Token) (ts : List Token) (name : List ℕ) → t.kind ≡ k.Name name → (q : TokenKind) → kind ts ≡ q → is_name q ≡ false → qualifier_of q ≡ None → (sees k.LeftBracket ts ≡ true → is_dim (kind (next ts)) ≡ false)
+  begun_by_starts : (t : Token) (ts : List Token) (name : List ℕ) → t.kind ≡ k.Name name → (q : TokenKind) → kind ts ≡ q → is_name q ≡ false
+      → qualifier_of q ≡ None → (sees k.LeftBracket ts ≡ true → is_dim (kind (next ts)) ≡ false)
       → spec.begun_by (up_to limits) turns t.place name q ts ≡ and_then (operand_to limits (t ∷ ts)) (λ x i. Ok (Starts x, i))
   begun_by_starts t ts name h (k.Name other) is no_name free no_dim = absurd (false≢true (sym no_name))
   begun_by_starts t [] name h k.LeftBracket is no_name free no_dim = cc
@@ -257,11 +263,14 @@ module _ (limits : Limits) (allows : 0 < limits.weight) (turns : ℕ) where
   begun_by_starts t ts name h q is no_name free no_dim =
       ap (λ z. spec.begun_if (up_to limits) turns t.place name z ts) free ∙ ap (λ z. and_then z (λ x i. Ok (Starts x, i))) (sym (behind_name_is limits t ts name h))
 
-  begun_starts : (t : Token) (ts : List Token) (name : List ℕ) → t.kind ≡ k.Name name → BehindName ts → begun (up_to limits) turns t.place name ts ≡ and_then (operand_to limits (t ∷ ts)) (λ x i. Ok (Starts x, i))
+  begun_starts : (t : Token) (ts : List Token) (name : List ℕ) → t.kind ≡ k.Name name → BehindName ts
+      → begun (up_to limits) turns t.place name ts ≡ and_then (operand_to limits (t ∷ ts)) (λ x i. Ok (Starts x, i))
   unfolding begun
   begun_starts t ts name h behind = begun_by_starts t ts name h (kind ts) refl behind.name behind.qualifier behind.dim
 
-  pub named_starts : {B : Type 0} (t : Token) (ts : List Token) (name : List ℕ) (rest : Begun → Parser B) → t.kind ≡ k.Name name → BehindName ts → and_then (begun (up_to limits) turns t.place name ts) rest ≡ and_then (operand_to limits (t ∷ ts)) (λ x. rest (Starts x))
+  pub named_starts : {B : Type 0} (t : Token) (ts : List Token) (name : List ℕ) (rest : Begun → Parser B) → t.kind ≡ k.Name name
+      → BehindName ts → and_then (begun (up_to limits) turns t.place name ts) rest
+      ≡ and_then (operand_to limits (t ∷ ts)) (λ x. rest (Starts x))
   named_starts t ts name rest h behind = ap (λ o. and_then o rest) (begun_starts t ts name h behind) ∙ and_then_assoc (operand_to limits (t ∷ ts)) (λ x i. Ok (Starts x, i)) rest
 
   -- a reader that goes on with what begins with a name, or else with an operand
@@ -284,7 +293,8 @@ module _ (limits : Limits) (allows : 0 < limits.weight) (turns : ℕ) where
   abbrev some : Stm → Parser MaybeStm
   some x i = Ok (tree.SomeStm x, i)
 
-  first_type : (q : TokenKind) (i : List Token) → begins_declaration q ≡ true → spec.first_by (up_to limits) turns q i ≡ and_then (typed (up_to limits) turns i) (λ ty i. and_then (declared (up_to limits) turns ty i) some)
+  first_type : (q : TokenKind) (i : List Token) → begins_declaration q ≡ true → spec.first_by (up_to limits) turns q i
+      ≡ and_then (typed (up_to limits) turns i) (λ ty i. and_then (declared (up_to limits) turns ty i) some)
   first_type k.KeywordInt i h = and_then_assoc (typed (up_to limits) turns i) (declared (up_to limits) turns) some
   first_type k.KeywordLong i h = and_then_assoc (typed (up_to limits) turns i) (declared (up_to limits) turns) some
   first_type k.KeywordBoolean i h = and_then_assoc (typed (up_to limits) turns i) (declared (up_to limits) turns) some
@@ -311,7 +321,8 @@ module _ (limits : Limits) (allows : 0 < limits.weight) (turns : ℕ) where
       starts_with _ (λ t ts name h behind. ap (λ q. spec.first_by (up_to limits) turns q (t ∷ ts)) h ∙ named_starts t ts name (λ x i. and_then (spec.first_of (up_to limits) turns x i) some) h behind)
       (λ i h h2. first_operand (kind i) i h h2 ∙ ap (λ o. and_then o some) (same_test (starts (kind i)) true _ _ i h2) ∙ and_then_assoc (operand_to limits i) (changed (up_to limits) turns) some)
 
-  pub first_reads : {l : List Token} {x : MaybeStm} (s : First l x) (r : List Token) → kind r ≡ k.Semicolon → EndsRight (kind r) → IsRead limits turns (first (up_to limits) turns) (first_loads s) l r x
+  pub first_reads : {l : List Token} {x : MaybeStm} (s : First l x) (r : List Token) → kind r ≡ k.Semicolon → EndsRight (kind r)
+      → IsRead limits turns (first (up_to limits) turns) (first_loads s) l r x
   unfolding first
   first_reads grammar.none r h stop = by_kind (spec.first_by (up_to limits) turns) h done_reads
   first_reads (grammar.declaration d) r h stop = last_reads (declared_reads first_declares some (λ ty i. refl) d stop done_reads)
@@ -321,7 +332,8 @@ module _ (limits : Limits) (allows : 0 < limits.weight) (turns : ℕ) where
   not_paren k.RightParen h = cc
   not_paren _ h = refl
 
-  pub update_reads : {l : List Token} {x : MaybeStm} (s : Update l x) (r : List Token) → kind r ≡ k.RightParen → EndsRight (kind r) → IsRead limits turns (update (up_to limits) turns) (update_loads s) l r x
+  pub update_reads : {l : List Token} {x : MaybeStm} (s : Update l x) (r : List Token) → kind r ≡ k.RightParen → EndsRight (kind r)
+      → IsRead limits turns (update (up_to limits) turns) (update_loads s) l r x
   unfolding update
   update_reads grammar.none r h stop = sees_reads k.RightParen _ _ h done_reads
   update_reads (grammar.change {l = l} d) r h stop = test_reads (sees k.RightParen) _ _ false (not_paren (kind (l ++ r)) (starts_change d r)) (made_reads _ (change_reads d r stop) refl)

@@ -18,8 +18,7 @@ use Rattle.ti_syntax.specs.Spelling.Statements as grammar
 use Rattle.ti_syntax.specs.Spelling.Loads.{Load, Free, Level, free, weights, changed_loads, printed_loads, condition_loads, first_loads, optional_loads, update_loads, declared_loads, stated_loads, items_loads}
 use Rattle.ti_parse_expr.specs.Mirrors.Input.{Parser, and_then, kind, sees, expect}
 use Rattle.ti_parse_expr.specs.Mirrors.Full.{Limits, operand_to}
-use Rattle.ti_parse_expr.proofs.Follows.{test_reads as same_test, then_ok, is_name, paren_closes}
-use Rattle.ti_parse_expr.proofs.Law.{append_nil}
+use Rattle.ti_parse_expr.proofs.Lemmas.{test_reads as same_test, then_ok, is_name, paren_closes, append_nil}
 use Rattle.ti_parse.specs.Mirrors.Way.{up_to}
 use Rattle.ti_parse.specs.Mirrors.Parts as parts
 use Rattle.ti_parse.specs.Mirrors.Parts.{begins_declaration, typed, declared, simple, print, barrier, break_out, continue_on, return_from}
@@ -116,19 +115,25 @@ module _ (limits : Limits) (allows : 0 < limits.weight) (turns : ℕ) where
 
   call_part : (x : Exp) (t : Token) (r : List Token) → t.kind ≡ k.Semicolon → IsRead limits turns (simple (up_to limits) turns (x, Call)) (Free ∷ []) (t ∷ []) r (tree.Call x)
   unfolding simple
-  call_part x t r h = same_reads (parts.simple_if (up_to limits) turns (x, Call) true) (ap (λ q. parts.simple_if (up_to limits) turns (x, Call) (true && same_kind q k.Semicolon) (t ∷ r)) h) (took done_reads)
+  call_part x t r h = same_reads (parts.simple_if (up_to limits) turns (x, Call) true)
+      (ap (λ q. parts.simple_if (up_to limits) turns (x, Call) (true && same_kind q k.Semicolon) (t ∷ r)) h) (took done_reads)
 
-  change_reads : {p : Parser Stm} {l : List Token} {x : Stm} → StartsWith limits p (simple (up_to limits) turns) → (d : Changed l x) (t : Token) → t.kind ≡ k.Semicolon → (r : List Token) → IsRead limits turns p (changed_loads d ++ Free ∷ []) (l ++ t ∷ []) r x
+  change_reads : {p : Parser Stm} {l : List Token} {x : Stm} → StartsWith limits p (simple (up_to limits) turns)
+      → (d : Changed l x) (t : Token) → t.kind ≡ k.Semicolon → (r : List Token)
+      → IsRead limits turns p (changed_loads d ++ Free ∷ []) (l ++ t ∷ []) r x
   unfolding simple
-  change_reads begin d t h r = changed_reads limits allows turns begin (λ x i. and_then (expect k.Semicolon i) (λ _ i. Ok (x, i))) (λ target i. refl) d (semicolon_ends h) (want k.Semicolon _ h done_reads)
+  change_reads begin d t h r = changed_reads limits allows turns begin (λ x i. and_then (expect k.Semicolon i) (λ _ i. Ok (x, i)))
+      (λ target i. refl) d (semicolon_ends h) (want k.Semicolon _ h done_reads)
 
-  call_reads : {p : Parser Stm} {l : List Token} {x : Exp} → StartsWith limits p (simple (up_to limits) turns) → Start Call l x → (t : Token) → t.kind ≡ k.Semicolon → (r : List Token) → IsRead limits turns p (weights l ++ Free ∷ []) (l ++ t ∷ []) r (tree.Call x)
+  call_reads : {p : Parser Stm} {l : List Token} {x : Exp} → StartsWith limits p (simple (up_to limits) turns) → Start Call l x
+      → (t : Token) → t.kind ≡ k.Semicolon → (r : List Token) → IsRead limits turns p (weights l ++ Free ∷ []) (l ++ t ∷ []) r (tree.Call x)
   call_reads begin s t h r = start_reads limits allows turns begin s (call_ends h) (call_part _ t r h)
 
   print_reads : {l m : List Token} {what : PrintTree} (p o c t : Token) → Printer l p → o.kind ≡ k.LeftParen → (s : Printed m what) → c.kind ≡ k.RightParen → t.kind ≡ k.Semicolon → (r : List Token)
       → IsRead limits turns (print (up_to limits) turns) (free l ++ Free ∷ (printed_loads s ++ Free ∷ Free ∷ [])) (l ++ o ∷ (m ++ c ∷ t ∷ [])) r (tree.Print p.place what)
   unfolding print
-  print_reads p o c t printer ho s hc ht r = then_reads _ (printer_reads limits turns printer _) (want k.LeftParen _ ho (then_reads _ (printed_reads limits turns s _ hc) (want k.RightParen _ hc (want k.Semicolon _ ht done_reads))))
+  print_reads p o c t printer ho s hc ht r = then_reads _ (printer_reads limits turns printer _)
+      (want k.LeftParen _ ho (then_reads _ (printed_reads limits turns s _ hc) (want k.RightParen _ hc (want k.Semicolon _ ht done_reads))))
 
   barrier_reads : (d b o c t : Token) → d.kind ≡ k.Dot → b.kind ≡ k.Name (codes "barrier") → o.kind ≡ k.LeftParen → c.kind ≡ k.RightParen → t.kind ≡ k.Semicolon → (r : List Token)
       → IsRead limits turns (barrier (up_to limits) turns) (free (d ∷ b ∷ o ∷ c ∷ t ∷ [])) (d ∷ b ∷ o ∷ c ∷ t ∷ []) r (tree.Barrier b.place)
@@ -165,7 +170,9 @@ module _ (limits : Limits) (allows : 0 < limits.weight) (turns : ℕ) where
   -- ---- compound statements, with a reader of the statements in them
 
   module _ (inner : Parser Stm) where
-    block_reads : {l r : List Token} {loads : List Load} {xs : List Stm} (c : Token) → c.kind ≡ k.RightBrace → IsRead limits turns (items (up_to limits) turns inner turns []) loads l (c ∷ r) xs → IsRead limits turns (block (up_to limits) turns inner) (loads ++ Free ∷ []) (l ++ c ∷ []) r (tree.block xs)
+    block_reads : {l r : List Token} {loads : List Load} {xs : List Stm} (c : Token) → c.kind ≡ k.RightBrace
+        → IsRead limits turns (items (up_to limits) turns inner turns []) loads l (c ∷ r) xs
+        → IsRead limits turns (block (up_to limits) turns inner) (loads ++ Free ∷ []) (l ++ c ∷ []) r (tree.block xs)
     unfolding block
     block_reads c h part = then_reads _ part (want k.RightBrace _ h done_reads)
 
@@ -174,7 +181,8 @@ module _ (limits : Limits) (allows : 0 < limits.weight) (turns : ℕ) where
     unfolding conditional
     if_reads at s free part = then_reads _ (condition_reads limits turns s _) (last_reads (then_reads _ part (test_reads (sees k.KeywordElse) _ _ false free done_reads)))
 
-    else_reads : {l m v r : List Token} {la lb : List Load} {c : Exp} {x y : Stm} (at : Place) (s : Condition l c) (d : Token) → d.kind ≡ k.KeywordElse → IsRead limits turns inner la m (d ∷ (v ++ r)) x → IsRead limits turns inner lb v r y
+    else_reads : {l m v r : List Token} {la lb : List Load} {c : Exp} {x y : Stm} (at : Place) (s : Condition l c) (d : Token) → d.kind
+        ≡ k.KeywordElse → IsRead limits turns inner la m (d ∷ (v ++ r)) x → IsRead limits turns inner lb v r y
         → IsRead limits turns (conditional (up_to limits) turns inner at) (condition_loads s ++ (la ++ Free ∷ lb)) (l ++ (m ++ d ∷ v)) r (tree.IfElse at c x y)
     unfolding conditional
     else_reads at s d h first second = then_reads _ (condition_reads limits turns s _) (then_reads _ first (sees_reads k.KeywordElse _ _ h (took (made_reads _ second refl))))
@@ -184,34 +192,43 @@ module _ (limits : Limits) (allows : 0 < limits.weight) (turns : ℕ) where
     unfolding while_loop
     while_reads at s part = then_reads _ (condition_reads limits turns s _) (made_reads _ part refl)
 
-    for_reads : {l m u v r : List Token} {loads : List Load} {begin change : MaybeStm} {test : Option Exp} {x : Stm} (at : Place) (o p q c : Token) → o.kind ≡ k.LeftParen → (f : First l begin) → p.kind ≡ k.Semicolon → (t : Optional m test)
+    for_reads : {l m u v r : List Token} {loads : List Load} {begin change : MaybeStm} {test : Option Exp} {x : Stm} (at : Place)
+        (o p q c : Token) → o.kind ≡ k.LeftParen → (f : First l begin) → p.kind ≡ k.Semicolon → (t : Optional m test)
         → q.kind ≡ k.Semicolon → (g : Update u change) → c.kind ≡ k.RightParen → IsRead limits turns inner loads v r x
-        → IsRead limits turns (for_loop (up_to limits) turns inner at) (Free ∷ (first_loads f ++ Free ∷ (optional_loads t ++ Free ∷ (update_loads g ++ Free ∷ loads)))) (o ∷ (l ++ p ∷ (m ++ q ∷ (u ++ c ∷ v)))) r (tree.For at begin test change x)
+        → IsRead limits turns (for_loop (up_to limits) turns inner at)
+        (Free ∷ (first_loads f ++ Free ∷ (optional_loads t ++ Free ∷ (update_loads g ++ Free ∷ loads))))
+        (o ∷ (l ++ p ∷ (m ++ q ∷ (u ++ c ∷ v)))) r (tree.For at begin test change x)
     unfolding for_loop
     for_reads at o p q c ho f hp t hq g hc part =
         want k.LeftParen _ ho (then_reads _ (first_reads limits allows turns f _ hp (semicolon_ends hp)) (want k.Semicolon _ hp (then_reads _ (optional_part limits turns t _ hq) (want k.Semicolon _ hq
         (then_reads _ (update_reads limits allows turns g _ hc (paren_ends hc)) (want k.RightParen _ hc (made_reads _ part refl)))))))
 
-    foreach_reads : {l m r : List Token} {loads : List Load} {name : List ℕ} {domain : Exp} {x : Stm} (at : Place) (o t i c : Token) → o.kind ≡ k.LeftParen → t.kind ≡ k.Name name → i.kind ≡ k.Name (codes "in") → Whole 1 l domain
+    foreach_reads : {l m r : List Token} {loads : List Load} {name : List ℕ} {domain : Exp} {x : Stm} (at : Place) (o t i c : Token)
+        → o.kind ≡ k.LeftParen → t.kind ≡ k.Name name → i.kind ≡ k.Name (codes "in") → Whole 1 l domain
         → c.kind ≡ k.RightParen → IsRead limits turns inner loads m r x
         → IsRead limits turns (foreach_loop (up_to limits) turns inner at) (Free ∷ Free ∷ Free ∷ (weights l ++ Free ∷ loads)) (o ∷ t ∷ i ∷ (l ++ c ∷ m)) r (tree.Foreach at t.place name domain x)
     unfolding foreach_loop
     foreach_reads at o t i c ho ht hi domain hc part =
         want k.LeftParen _ ho (name_took _ ht (want_word (codes "in") _ refl hi (then_reads _ (whole (ends paren_closes hc) domain) (want k.RightParen _ hc (made_reads _ part refl)))))
 
-  compound_reads : {ts r : List Token} {loads : List Load} {x : Stm} (levels level : ℕ) → levels + level ≡ suc limits.level → (t : Token) (q : TokenKind) → t.kind ≡ q → is_compound q ≡ true → Loaded (Level level ∷ loads) (t ∷ ts)
-      → ((n : ℕ) → n + suc level ≡ suc limits.level → IsRead limits turns (compound (up_to limits) turns (stmt (up_to limits) turns n) t.place q) loads ts r x) → IsRead limits turns (stmt (up_to limits) turns levels) (Level level ∷ loads) (t ∷ ts) r x
+  compound_reads : {ts r : List Token} {loads : List Load} {x : Stm} (levels level : ℕ) → levels + level ≡ suc limits.level
+      → (t : Token) (q : TokenKind) → t.kind ≡ q → is_compound q ≡ true → Loaded (Level level ∷ loads) (t ∷ ts)
+      → ((n : ℕ) → n + suc level ≡ suc limits.level → IsRead limits turns
+      (compound (up_to limits) turns (stmt (up_to limits) turns n) t.place q) loads ts r x)
+      → IsRead limits turns (stmt (up_to limits) turns levels) (Level level ∷ loads) (t ∷ ts) r x
   unfolding stmt
   compound_reads {ts = ts} {r = r} zero level all t q h begin loaded part =
       over_reads (lt-ltb limits.level level (omega (arith, all))) loaded (same_test (is_compound t.kind) true _ _ (t ∷ (ts ++ r)) (ap is_compound h ∙ begin))
   compound_reads {ts = ts} {r = r} (suc n) level all t q h begin loaded part =
       load_took (le-ltb limits.level level (omega (arith, all))) (same_reads (compound (up_to limits) turns (stmt (up_to limits) turns n) t.place q)
-      (same_test (is_compound t.kind) true _ _ (t ∷ (ts ++ r)) (ap is_compound h ∙ begin) ∙ ap (λ z. compound (up_to limits) turns (stmt (up_to limits) turns n) t.place z (ts ++ r)) h) (part n (omega (arith, all))))
+      (same_test (is_compound t.kind) true _ _ (t ∷ (ts ++ r)) (ap is_compound h ∙ begin)
+      ∙ ap (λ z. compound (up_to limits) turns (stmt (up_to limits) turns n) t.place z (ts ++ r)) h) (part n (omega (arith, all))))
 
   -- ---- items
 
   item_type : (inner : Parser Stm) (q : TokenKind) (i : List Token) → begins_declaration q ≡ true
-      → spec.item_by (up_to limits) turns inner q i ≡ and_then (typed (up_to limits) turns i) (λ ty i. and_then (declared (up_to limits) turns ty i) (λ x i. and_then (expect k.Semicolon i) (λ _ i. Ok (x, i))))
+      → spec.item_by (up_to limits) turns inner q i ≡ and_then (typed (up_to limits) turns i)
+      (λ ty i. and_then (declared (up_to limits) turns ty i) (λ x i. and_then (expect k.Semicolon i) (λ _ i. Ok (x, i))))
   item_type inner k.KeywordInt i h = refl
   item_type inner k.KeywordLong i h = refl
   item_type inner k.KeywordBoolean i h = refl
@@ -221,11 +238,14 @@ module _ (limits : Limits) (allows : 0 < limits.weight) (turns : ℕ) where
   item_type inner k.KeywordSharedRegion i h = refl
   item_type inner _ i h = absurd (false≢true h)
 
-  item_declares : (inner : Parser Stm) → DeclaresWith turns (item (up_to limits) turns inner) (λ ty i. and_then (declared (up_to limits) turns ty i) (λ x i. and_then (expect k.Semicolon i) (λ _ i. Ok (x, i))))
+  item_declares : (inner : Parser Stm) → DeclaresWith turns (item (up_to limits) turns inner)
+      (λ ty i. and_then (declared (up_to limits) turns ty i) (λ x i. and_then (expect k.Semicolon i) (λ _ i. Ok (x, i))))
   unfolding item
   item_declares inner = declares_with limits allows turns _ (λ t ts r name ty h is. ap (λ q. spec.item_by (up_to limits) turns inner q (t ∷ ts)) h ∙ then_ok _ is) (λ i h. item_type inner (kind i) i h)
 
-  item_operand : (levels : ℕ) (q : TokenKind) (i : List Token) → kind i ≡ q → is_name q ≡ false → starts q ≡ true → spec.item_by (up_to limits) turns (stmt (up_to limits) turns levels) q i ≡ and_then (operand_to limits i) (simple (up_to limits) turns)
+  item_operand : (levels : ℕ) (q : TokenKind) (i : List Token) → kind i ≡ q → is_name q ≡ false → starts q ≡ true
+      → spec.item_by (up_to limits) turns (stmt (up_to limits) turns levels) q i
+      ≡ and_then (operand_to limits i) (simple (up_to limits) turns)
   item_operand levels (k.Name name) i is h h2 = absurd (false≢true (sym h))
   item_operand levels k.KeywordThis i is h h2 = small_starts levels i k.KeywordThis is h2
   item_operand levels k.LeftParen i is h h2 = small_starts levels i k.LeftParen is h2
@@ -234,7 +254,9 @@ module _ (limits : Limits) (allows : 0 < limits.weight) (turns : ℕ) where
   item_starts : (levels : ℕ) → StartsWith limits (item (up_to limits) turns (stmt (up_to limits) turns levels)) (simple (up_to limits) turns)
   unfolding item
   item_starts levels =
-      starts_with limits allows turns _ (λ t ts name h behind. ap (λ q. spec.item_by (up_to limits) turns (stmt (up_to limits) turns levels) q (t ∷ ts)) h ∙ named_starts limits allows turns t ts name (spec.named_item (up_to limits) turns (stmt (up_to limits) turns levels)) h behind)
+      starts_with limits allows turns _ (λ t ts name h behind. ap (λ q. spec.item_by (up_to limits) turns
+      (stmt (up_to limits) turns levels) q (t ∷ ts)) h ∙ named_starts limits allows turns t ts name
+      (spec.named_item (up_to limits) turns (stmt (up_to limits) turns levels)) h behind)
       (λ i h h2. item_operand levels (kind i) i refl h h2)
 
   -- the first tokens of statements that begin with no operand
@@ -268,11 +290,14 @@ module _ (limits : Limits) (allows : 0 < limits.weight) (turns : ℕ) where
   item_leads inner k.KeywordReturn i h = refl
   item_leads inner _ i h = absurd (false≢true h)
 
-  led_item : {loads : List Load} {l r : List Token} {x : Stm} (inner : Parser Stm) → leads (kind (l ++ r)) ≡ true → IsRead limits turns inner loads l r x → IsRead limits turns (item (up_to limits) turns inner) loads l r x
+  led_item : {loads : List Load} {l r : List Token} {x : Stm} (inner : Parser Stm) → leads (kind (l ++ r)) ≡ true
+      → IsRead limits turns inner loads l r x → IsRead limits turns (item (up_to limits) turns inner) loads l r x
   unfolding item
   led_item {l = l} {r = r} inner h part = same_reads inner (item_leads inner (kind (l ++ r)) (l ++ r) h) part
 
-  item_reads : {b : Bool} {l : List Token} {x : Stm} (s : Stated b l x) (levels n : ℕ) (r : List Token) → IsRead limits turns (stmt (up_to limits) turns levels) (stated_loads n s) l r x → IsRead limits turns (item (up_to limits) turns (stmt (up_to limits) turns levels)) (stated_loads n s) l r x
+  item_reads : {b : Bool} {l : List Token} {x : Stm} (s : Stated b l x) (levels n : ℕ) (r : List Token)
+      → IsRead limits turns (stmt (up_to limits) turns levels) (stated_loads n s) l r x
+      → IsRead limits turns (item (up_to limits) turns (stmt (up_to limits) turns levels)) (stated_loads n s) l r x
   item_reads (grammar.block o c h xs h2) levels n r part = led_item (stmt (up_to limits) turns levels) (ap leads h) part
   item_reads (grammar.empty t h) levels n r part = led_item (stmt (up_to limits) turns levels) (ap leads h) part
   item_reads (grammar.if_alone i h c x) levels n r part = led_item (stmt (up_to limits) turns levels) (ap leads h) part
@@ -303,7 +328,9 @@ module _ (limits : Limits) (allows : 0 < limits.weight) (turns : ℕ) where
   -- ---- statements and items
 
   mutual
-    pub stmt_reads : {b : Bool} {l : List Token} {x : Stm} (s : Stated b l x) (levels level : ℕ) → levels + level ≡ suc limits.level → (r : List Token) → (b ≡ true → sees k.KeywordElse r ≡ false) → IsRead limits turns (stmt (up_to limits) turns levels) (stated_loads level s) l r x
+    pub stmt_reads : {b : Bool} {l : List Token} {x : Stm} (s : Stated b l x) (levels level : ℕ) → levels + level ≡ suc limits.level
+        → (r : List Token) → (b ≡ true → sees k.KeywordElse r ≡ false)
+        → IsRead limits turns (stmt (up_to limits) turns levels) (stated_loads level s) l r x
     stmt_reads (grammar.block o c h xs h2) levels level all r free =
         compound_reads levels level all o k.LeftBrace h refl (stated_loaded level (grammar.block o c h xs h2))
         (λ n less. block_reads (stmt (up_to limits) turns n) c h2 (bounded_reads (items_loaded (suc level) xs) (λ lt. items_reads xs n (suc level) less turns [] lt (c ∷ r) h2)))
@@ -315,7 +342,8 @@ module _ (limits : Limits) (allows : 0 < limits.weight) (turns : ℕ) where
         compound_reads levels level all i k.KeywordIf h refl (stated_loaded level (grammar.if_else i d h c x h2 y))
         (λ n less. else_reads (stmt (up_to limits) turns n) i.place c d h2 (stmt_reads x n (suc level) less (d ∷ (v ++ r)) (λ wrong. cc)) (stmt_reads y n (suc level) less r free))
     stmt_reads (grammar.while w h c x) levels level all r free =
-        compound_reads levels level all w k.KeywordWhile h refl (stated_loaded level (grammar.while w h c x)) (λ n less. while_reads (stmt (up_to limits) turns n) w.place c (stmt_reads x n (suc level) less r free))
+        compound_reads levels level all w k.KeywordWhile h refl (stated_loaded level (grammar.while w h c x))
+        (λ n less. while_reads (stmt (up_to limits) turns n) w.place c (stmt_reads x n (suc level) less r free))
     stmt_reads (grammar.for f o p q c h h2 first h3 test h4 update h5 x) levels level all r free =
         compound_reads levels level all f k.KeywordFor h refl (stated_loaded level (grammar.for f o p q c h h2 first h3 test h4 update h5 x))
         (λ n less. for_reads (stmt (up_to limits) turns n) f.place o p q c h2 first h3 test h4 update h5 (stmt_reads x n (suc level) less r free))
@@ -334,15 +362,20 @@ module _ (limits : Limits) (allows : 0 < limits.weight) (turns : ℕ) where
     stmt_reads (grammar.continue c t h h2) levels level all r free = same_reads _ (small_is levels (c ∷ t ∷ r) k.KeywordContinue h refl) (continue_reads c t h2 r)
     stmt_reads (grammar.return {l = l} w t h value h2) levels level all r free = same_reads _ (small_is levels (w ∷ ((l ++ t ∷ []) ++ r)) k.KeywordReturn h refl) (return_reads w t value h2 r)
 
-    pub items_reads : {l : List Token} {xs : List Stm} (s : Items l xs) (levels level : ℕ) → levels + level ≡ suc limits.level → (n : ℕ) (found : List Stm) → length l < n → (r : List Token) → kind r ≡ k.RightBrace
+    pub items_reads : {l : List Token} {xs : List Stm} (s : Items l xs) (levels level : ℕ) → levels + level ≡ suc limits.level
+        → (n : ℕ) (found : List Stm) → length l < n → (r : List Token) → kind r ≡ k.RightBrace
         → IsRead limits turns (items (up_to limits) turns (stmt (up_to limits) turns levels) n found) (items_loads level s) l r (found ++ xs)
     items_reads grammar.no_item levels level all n found lt r h = result_reads (sym (append_nil found)) (items_stop (stmt (up_to limits) turns levels) n found r (omega arith) h)
     items_reads (grammar.declaration t d h2 xs) levels level all zero found lt r h = absurd (omega arith)
     items_reads (grammar.declaration {l = l} {m = m} t {x = x} {xs = rest} d h2 xs) levels level all (suc n) found lt r h =
         let same = append_assoc l (t ∷ []) m in
         ungroup_reads (declared_loads d) (Free ∷ []) (items_loads level xs) l (t ∷ []) m
-        (items_turn (stmt (up_to limits) turns levels) n found rest (ap (λ z. sees k.RightBrace (z ++ r)) same ∙ not_end (kind ((l ++ t ∷ m) ++ r)) (ap (λ z. begins_item (kind z)) (append_assoc l (t ∷ m) r) ∙ declared_front d (t ∷ (m ++ r))))
-        (declared_reads limits allows turns (item_declares (stmt (up_to limits) turns levels)) (λ x i. and_then (expect k.Semicolon i) (λ _ i. Ok (x, i))) (λ ty i. refl) d (semicolon_ends h2) (want k.Semicolon _ h2 done_reads))
+        (items_turn (stmt (up_to limits) turns levels) n found rest (ap (λ z. sees k.RightBrace (z ++ r)) same
+        ∙ not_end (kind ((l ++ t ∷ m) ++ r)) (ap (λ z. begins_item (kind z)) (append_assoc l (t ∷ m) r)
+        ∙ declared_front d (t ∷ (m ++ r))))
+        (declared_reads limits allows turns (item_declares (stmt (up_to limits) turns levels))
+        (λ x i. and_then (expect k.Semicolon i) (λ _ i. Ok (x, i))) (λ ty i. refl) d (semicolon_ends h2)
+        (want k.Semicolon _ h2 done_reads))
         (items_reads xs levels level all n (found ++ x ∷ []) (omega (arith, length-append l (t ∷ m))) r h))
     items_reads (grammar.statement x xs) levels level all zero found lt r h = absurd (omega arith)
     items_reads (grammar.statement {l = l} {m = m} {x = y} {xs = rest} x xs) levels level all (suc n) found lt r h =

@@ -18,8 +18,8 @@ use Rattle.ti_parse_expr.specs.Mirrors.Input.{and_then, kind}
 use Rattle.ti_parse_expr.specs.Mirrors.Full.{Limits}
 use Rattle.ti_parse_expr.specs.Mirrors.Types.{arity, base, qualifiers, grid, grids, field_type}
 use Rattle.ti_parse_expr.specs.Mirrors.Exprs.{is_dim}
-use Rattle.ti_parse_expr.proofs.Follows.{then_ok, test_reads}
-use Rattle.ti_parse_expr.proofs.CompleteTypes.{arity_reads, base_reads, EndsType, field_type_reads, grid_reads, grids_read, qualifiers_read, gridded_front}
+use Rattle.ti_parse_expr.proofs.Lemmas.{then_ok, test_reads, arity_reads, base_reads, EndsType, field_type_reads, grid_reads, grids_read}
+use Rattle.ti_parse_expr.proofs.Lemmas.{qualifiers_read, gridded_front}
 use Rattle.ti_parse.specs.Mirrors.Way.{up_to}
 use Rattle.ti_parse.specs.Mirrors.Parts.{Declares, is_wide, wide, wide_by, field, typed, begun, begun_by, begun_bracket}
 
@@ -74,7 +74,9 @@ module _ (limits : Limits) (turns : ℕ) where
       ∙ then_ok _ (arity_reads s (m ++ r))
       ∙ then_ok (λ qs i. Ok (record { base = b.Domain t.place _; qualifiers = qs; grids = [] }, i)) (qualifiers_read q turns [] r free (omega (arith, length-append l m)))
   wide_reads (types.shared_region {l = l} t h q) r free lt =
-      ap (λ z. wide_by (up_to limits) turns z (t ∷ (l ++ r))) h ∙ then_ok (λ qs i. Ok (record { base = b.SharedRegion t.place; qualifiers = qs; grids = [] }, i)) (qualifiers_read q turns [] r free (omega arith))
+      ap (λ z. wide_by (up_to limits) turns z (t ∷ (l ++ r))) h ∙ then_ok
+      (λ qs i. Ok (record { base = b.SharedRegion t.place; qualifiers = qs; grids = [] }, i))
+      (qualifiers_read q turns [] r free (omega arith))
 
   pub typed_reads : {l : List Token} {ty : TypeTree} → Typed l ty → (r : List Token) → EndsType r → length l < turns → typed (up_to limits) turns (l ++ r) ≡ Ok (ty, r)
   unfolding typed
@@ -89,19 +91,26 @@ module _ (limits : Limits) (turns : ℕ) where
   begun_qualified at name i k.KeywordLocal word h = refl
   begun_qualified at name i _ word h = absurd (none-some word h)
 
-  begun_grids : {l m : List Token} {qs : List Qualifier} {gs : List GridTree} → Qualified l qs → Gridded m gs → length gs ≤ 2 → (at : Place) (name : List ℕ) (o t c : Token) (n : ℕ) (r : List Token) → t.kind ≡ k.Dim n → 1 ≤ n → n ≤ 3 → c.kind ≡ k.RightBracket → EndsType r
+  begun_grids : {l m : List Token} {qs : List Qualifier} {gs : List GridTree} → Qualified l qs → Gridded m gs → length gs ≤ 2
+      → (at : Place) (name : List ℕ) (o t c : Token) (n : ℕ) (r : List Token) → t.kind ≡ k.Dim n → 1 ≤ n → n ≤ 3 → c.kind ≡ k.RightBracket
+      → EndsType r
       → length (l ++ m) < turns
-      → begun_bracket (up_to limits) turns at name o.place (t ∷ c ∷ ((l ++ m) ++ r)) ≡ Ok (Declares (record { base = b.Named at name; qualifiers = []; grids = record { dim = n; qualifiers = qs } ∷ gs }), r)
+      → begun_bracket (up_to limits) turns at name o.place (t ∷ c ∷ ((l ++ m) ++ r))
+      ≡ Ok (Declares (record { base = b.Named at name; qualifiers = []; grids = record { dim = n; qualifiers = qs } ∷ gs }), r)
   unfolding begun_bracket
   begun_grids {l = l} {m = m} {qs = qs} {gs = gs} s g few at name o t c n r ht low high hc ends lt =
       let one : GridTree = record { dim = n; qualifiers = qs } in
       let long = length-append l m in
       test_reads (is_dim t.kind) true _ _ (t ∷ c ∷ ((l ++ m) ++ r)) (ap is_dim ht)
-      ∙ ap (λ z. and_then (grid turns (t ∷ c ∷ z)) (λ g i. and_then (grids turns 2 (g ∷ []) i) (λ gs i. Ok (Declares (record { base = b.Named at name; qualifiers = []; grids = gs }), i)))) (append_assoc l m r)
-      ∙ then_ok (λ g i. and_then (grids turns 2 (g ∷ []) i) (λ gs i. Ok (Declares (record { base = b.Named at name; qualifiers = []; grids = gs }), i))) (grid_reads s turns t c n (m ++ r) ht low high hc (gridded_front g r ends.qualifier) (omega arith))
+      ∙ ap (λ z. and_then (grid turns (t ∷ c ∷ z)) (λ g i. and_then (grids turns 2 (g ∷ []) i)
+      (λ gs i. Ok (Declares (record { base = b.Named at name; qualifiers = []; grids = gs }), i)))) (append_assoc l m r)
+      ∙ then_ok (λ g i. and_then (grids turns 2 (g ∷ []) i) (λ gs i. Ok
+      (Declares (record { base = b.Named at name; qualifiers = []; grids = gs }), i)))
+      (grid_reads s turns t c n (m ++ r) ht low high hc (gridded_front g r ends.qualifier) (omega arith))
       ∙ then_ok (λ gs i. Ok (Declares (record { base = b.Named at name; qualifiers = []; grids = gs }), i)) (grids_read g turns 2 (one ∷ []) r ends few (omega arith))
 
-  pub begun_declares : {l m : List Token} {qs : List Qualifier} {gs : List GridTree} {next : List ℕ} → Qualified l qs → Gridded m gs → length gs ≤ 3 → (at : Place) (name : List ℕ) (r : List Token) → kind r ≡ k.Name next → length (l ++ m) < turns
+  pub begun_declares : {l m : List Token} {qs : List Qualifier} {gs : List GridTree} {next : List ℕ} → Qualified l qs → Gridded m gs
+      → length gs ≤ 3 → (at : Place) (name : List ℕ) (r : List Token) → kind r ≡ k.Name next → length (l ++ m) < turns
       → begun (up_to limits) turns at name ((l ++ m) ++ r) ≡ Ok (Declares (record { base = b.Named at name; qualifiers = qs; grids = gs }), r)
   unfolding begun
   begun_declares types.none types.none few at name r is lt = ap (λ q. begun_by (up_to limits) turns at name q r) is

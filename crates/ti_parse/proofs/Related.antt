@@ -28,10 +28,13 @@ use Rattle.ti_parse_expr.specs.Mirrors.Input.{At, Over, Spent, Parser, ◌>>=◌
 use Rattle.ti_parse_expr.specs.Mirrors.Types.{arity, base as type_base, qualifiers, grid, grids, field_type}
 use Rattle.ti_parse_expr.specs.Mirrors.Exprs.{Operand, is_dim}
 use Rattle.ti_parse_expr.specs.Mirrors.Full.{full, full_operand, full_behind_name, full_behind_bracket}
-use Rattle.ti_parse_expr.proofs.Related as expr
+use Rattle.ti_parse_expr.proofs.Lemmas as expr
 use Rattle.ti_parse.specs.Mirrors.Way.{Way, plain}
 use Rattle.ti_parse.specs.Mirrors.Parts as parts
-use Rattle.ti_parse.specs.Mirrors.Parts.{is_wide, begins_declaration, is_call, Begun, Declares, Starts, class_type, wide, field, typed, range_from, more_ranges, dims, region, new_grid, new_named, made, new_thing, broadcast, initial, declared, changed, simple, change, begun_bracket, begun, printer, printed_text, printed, print, barrier, break_out, continue_on, return_from, condition, first, optional, update}
+use Rattle.ti_parse.specs.Mirrors.Parts.{is_wide, begins_declaration, is_call, Begun, Declares, Starts, class_type, wide, field, typed}
+use Rattle.ti_parse.specs.Mirrors.Parts.{range_from, more_ranges, dims, region, new_grid, new_named, made, new_thing, broadcast, initial}
+use Rattle.ti_parse.specs.Mirrors.Parts.{declared, changed, simple, change, begun_bracket, begun, printer, printed_text, printed, print}
+use Rattle.ti_parse.specs.Mirrors.Parts.{barrier, break_out, continue_on, return_from, condition, first, optional, update}
 use Rattle.ti_parse.specs.Mirrors.Statements as statements
 use Rattle.ti_parse.specs.Mirrors.Statements.{is_compound, item, items, block, conditional, while_loop, for_loop, foreach_loop, compound, small, stmt, body}
 use Rattle.ti_parse.specs.Mirrors.Classes as texts
@@ -219,7 +222,9 @@ module _ (Q : (A : Type 0) → Parser A → Parser A → Type 0) (T : ℕ → �
   -- a choice by the next token
   r_test : {A : Type 0} (test : TokenKind → Bool) {p1 q1 p2 q2 : Parser A} → R p1 q1 → R p2 q2
       → R (λ i. if◌then◌else◌ {A = Parser A} (test (kind i)) p1 p2 i) (λ i. if◌then◌else◌ {A = Parser A} (test (kind i)) q1 q2 i)
-  r_test {A = A} test {p1 = p1} {q1 = q1} {p2 = p2} {q2 = q2} n1 n2 = r_kind (λ a. if◌then◌else◌ {A = Parser A} (test a) p1 p2) (λ a. if◌then◌else◌ {A = Parser A} (test a) q1 q2) (λ a. r_if (test a) n1 n2)
+  r_test {A = A} test {p1 = p1} {q1 = q1} {p2 = p2} {q2 = q2} n1 n2 =
+      r_kind (λ a. if◌then◌else◌ {A = Parser A} (test a) p1 p2) (λ a. if◌then◌else◌ {A = Parser A} (test a) q1 q2)
+      (λ a. r_if (test a) n1 n2)
 
   r_sees : {A : Type 0} (q : TokenKind) {p1 q1 p2 q2 : Parser A} → R p1 q1 → R p2 q2
       → R (λ i. if◌then◌else◌ {A = Parser A} (sees q i) p1 p2 i) (λ i. if◌then◌else◌ {A = Parser A} (sees q i) q1 q2 i)
@@ -267,8 +272,12 @@ module _ (Q : (A : Type 0) → Parser A → Parser A → Type 0) (T : ℕ → �
     r_field_type begin = expr.r_field_type Q T q_pure q_refuse q_take q_then q_kind q_place q_spent t_none t_less turns more most begin
 
     r_wide_by : (q : TokenKind) → R (parts.wide_by plain turns q) (parts.wide_by v more q)
-    r_wide_by k.KeywordDomain = r_place (domain_at plain turns) (domain_at v more) (λ at. r_then r_take (λ _. r_then r_arity (λ n. r_then (r_qualifiers []) (λ qs. r_pure (record { base = b.Domain at n; qualifiers = qs; grids = [] })))))
-    r_wide_by k.KeywordSharedRegion = r_place (shared_region_at plain turns) (shared_region_at v more) (λ at. r_then r_take (λ _. r_then (r_qualifiers []) (λ qs. r_pure (record { base = b.SharedRegion at; qualifiers = qs; grids = [] }))))
+    r_wide_by k.KeywordDomain = r_place (domain_at plain turns) (domain_at v more)
+        (λ at. r_then r_take (λ _. r_then r_arity (λ n. r_then (r_qualifiers [])
+        (λ qs. r_pure (record { base = b.Domain at n; qualifiers = qs; grids = [] })))))
+    r_wide_by k.KeywordSharedRegion = r_place (shared_region_at plain turns) (shared_region_at v more)
+        (λ at. r_then r_take (λ _. r_then (r_qualifiers []) (λ qs. r_pure
+        (record { base = b.SharedRegion at; qualifiers = qs; grids = [] }))))
     r_wide_by _ = r_refuse
 
     r_wide : R (wide plain turns) (wide v more)
@@ -287,7 +296,9 @@ module _ (Q : (A : Type 0) → Parser A → Parser A → Type 0) (T : ℕ → �
 
     r_range_from : (low : Exp) → R (range_from plain turns low) (range_from v more low)
     unfolding range_from
-    r_range_from low = r_then (r_expect k.Colon) (λ _. r_then r_whole (λ high. r_sees k.Colon (r_then r_take (λ _. r_then r_whole (λ step. r_pure (e.Stepped low high step)))) (r_pure (e.Plain low high))))
+    r_range_from low = r_then (r_expect k.Colon) (λ _. r_then r_whole
+        (λ high. r_sees k.Colon (r_then r_take (λ _. r_then r_whole (λ step. r_pure (e.Stepped low high step))))
+        (r_pure (e.Plain low high))))
 
     r_more_ranges : (n : ℕ) (found : List RangeTree) → R (more_ranges plain turns n found) (more_ranges v more n found)
     unfolding more_ranges
@@ -306,11 +317,15 @@ module _ (Q : (A : Type 0) → Parser A → Parser A → Type 0) (T : ℕ → �
     unfolding new_grid
     r_new_grid at owner begin =
         r_then (r_qualifiers []) (λ qs. r_place (new_grid_at plain turns at owner begin qs) (new_grid_at v more at owner begin qs)
-        (λ dims_at. r_then (r_expect k.LeftBracket) (λ _. r_then r_dims (λ d. r_then (r_expect k.RightBracket) (λ _. r_then (r_grids 2 []) (λ gs. r_pure (s.NewGrid at owner (record { base = begin; qualifiers = qs; grids = gs }) dims_at d)))))))
+        (λ dims_at. r_then (r_expect k.LeftBracket) (λ _. r_then r_dims
+        (λ d. r_then (r_expect k.RightBracket) (λ _. r_then (r_grids 2 [])
+        (λ gs. r_pure (s.NewGrid at owner (record { base = begin; qualifiers = qs; grids = gs }) dims_at d)))))))
 
     r_new_named : (at : Place) (owner : Option Exp) (name_at : Place) (name : List ℕ) → R (new_named plain turns at owner name_at name) (new_named v more at owner name_at name)
     unfolding new_named
-    r_new_named at owner name_at name = r_sees k.LeftParen (r_then r_take (λ _. r_then (r_expect k.RightParen) (λ _. r_pure (s.NewObject at owner name_at name)))) (r_new_grid at owner (b.Named name_at name))
+    r_new_named at owner name_at name = r_sees k.LeftParen (r_then r_take
+        (λ _. r_then (r_expect k.RightParen) (λ _. r_pure (s.NewObject at owner name_at name))))
+        (r_new_grid at owner (b.Named name_at name))
 
     r_made_other : (at : Place) (owner : Option Exp) → R (λ i. and_then (type_base i) (new_grid plain turns at owner)) (λ i. and_then (type_base i) (new_grid v more at owner))
     r_made_other at owner = r_then r_base (r_new_grid at owner)
@@ -354,7 +369,8 @@ module _ (Q : (A : Type 0) → Parser A → Parser A → Type 0) (T : ℕ → �
 
     r_declared : (ty : TypeTree) → R (declared plain turns ty) (declared v more ty)
     unfolding declared
-    r_declared ty = r_place (declared_at plain turns ty) (declared_at v more ty) (λ at. r_then r_name (λ name. r_then (r_expect k.Assign) (λ _. r_then r_initial (λ value. r_pure (s.Declare at ty name value)))))
+    r_declared ty = r_place (declared_at plain turns ty) (declared_at v more ty)
+        (λ at. r_then r_name (λ name. r_then (r_expect k.Assign) (λ _. r_then r_initial (λ value. r_pure (s.Declare at ty name value)))))
 
     r_update_if : (target : Exp) (op : Option BinaryOperator) (step : Option StepOperator) → R (parts.update_if plain turns target op step) (parts.update_if v more target op step)
     r_update_if target (Some op) step = r_place (update_at plain target op) (update_at v target op) (λ at. r_then r_take (λ _. r_then r_whole (λ x. r_pure (s.Update at op target x))))
@@ -395,7 +411,9 @@ module _ (Q : (A : Type 0) → Parser A → Parser A → Type 0) (T : ℕ → �
     r_begun_bracket : (at : Place) (name : List ℕ) (z : Place) → R (begun_bracket plain turns at name z) (begun_bracket v more at name z)
     unfolding begun_bracket
     r_begun_bracket at name z =
-        r_test is_dim (r_then r_grid (λ g. r_then (r_grids 2 (g ∷ [])) (λ gs. r_pure (Declares (record { base = b.Named at name; qualifiers = []; grids = gs }))))) (r_then (q_behind_bracket z at name) (λ o. r_pure (Starts o)))
+        r_test is_dim (r_then r_grid (λ g. r_then (r_grids 2 (g ∷ []))
+        (λ gs. r_pure (Declares (record { base = b.Named at name; qualifiers = []; grids = gs })))))
+        (r_then (q_behind_bracket z at name) (λ o. r_pure (Starts o)))
 
     r_begun_if : (at : Place) (name : List ℕ) (word : Option QualifierWord) → R (parts.begun_if plain turns at name word) (parts.begun_if v more at name word)
     r_begun_if at name (Some word) = r_then (r_field_type (b.Named at name)) (λ ty. r_pure (Declares ty))
@@ -444,7 +462,9 @@ module _ (Q : (A : Type 0) → Parser A → Parser A → Type 0) (T : ℕ → �
 
     r_print : R (print plain turns) (print v more)
     unfolding print
-    r_print = r_then r_printer (λ at. r_then (r_expect k.LeftParen) (λ _. r_then r_printed (λ what. r_then (r_expect k.RightParen) (λ _. r_then (r_expect k.Semicolon) (λ _. r_pure (s.Print at what))))))
+    r_print = r_then r_printer (λ at. r_then (r_expect k.LeftParen)
+        (λ _. r_then r_printed (λ what. r_then (r_expect k.RightParen)
+        (λ _. r_then (r_expect k.Semicolon) (λ _. r_pure (s.Print at what))))))
 
     r_barrier : R (barrier plain turns) (barrier v more)
     unfolding barrier
@@ -535,14 +555,18 @@ module _ (Q : (A : Type 0) → Parser A → Parser A → Type 0) (T : ℕ → �
       r_for_loop : (at : Place) → R (for_loop plain turns one1 at) (for_loop v more one2 at)
       unfolding for_loop
       r_for_loop at =
-          r_then (r_expect k.LeftParen) (λ _. r_then r_first (λ begin. r_then (r_expect k.Semicolon) (λ _. r_then r_optional (λ z. r_then (r_expect k.Semicolon) (λ _. r_then r_update (λ change. r_then (r_expect k.RightParen)
+          r_then (r_expect k.LeftParen) (λ _. r_then r_first (λ begin. r_then (r_expect k.Semicolon)
+          (λ _. r_then r_optional (λ z. r_then (r_expect k.Semicolon)
+          (λ _. r_then r_update (λ change. r_then (r_expect k.RightParen)
           (λ _. r_then r_one (λ x. r_pure (s.For at begin z change x)))))))))
 
       r_foreach_loop : (at : Place) → R (foreach_loop plain turns one1 at) (foreach_loop v more one2 at)
       unfolding foreach_loop
       r_foreach_loop at =
           r_then (r_expect k.LeftParen) (λ _. r_place (foreach_at plain one1 at) (foreach_at v one2 at)
-          (λ name_at. r_then r_name (λ name. r_then (r_expect_word (codes "in")) (λ _. r_then r_whole (λ domain. r_then (r_expect k.RightParen) (λ _. r_then r_one (λ x. r_pure (s.Foreach at name_at name domain x))))))))
+          (λ name_at. r_then r_name (λ name. r_then (r_expect_word (codes "in"))
+          (λ _. r_then r_whole (λ domain. r_then (r_expect k.RightParen)
+          (λ _. r_then r_one (λ x. r_pure (s.Foreach at name_at name domain x))))))))
 
       r_compound : (at : Place) (q : TokenKind) → R (compound plain turns one1 at q) (compound v more one2 at q)
       r_compound at k.LeftBrace = r_block
@@ -590,7 +614,9 @@ module _ (Q : (A : Type 0) → Parser A → Parser A → Type 0) (T : ℕ → �
     r_more_params (suc m) zero h found = absurd (t_none m h)
     r_more_params (suc m) (suc m2) h found =
         r_then r_typed (λ ty. r_place (param_at plain (more_params plain turns m) found ty) (param_at v (more_params v more m2) found ty)
-        (λ at. r_then r_name (λ name. r_sees k.Comma (r_then r_take (λ _. r_more_params m m2 (t_less m m2 h) (found ++ record { ty = ty; place = at; name = name } ∷ []))) (r_pure (found ++ record { ty = ty; place = at; name = name } ∷ [])))))
+        (λ at. r_then r_name (λ name. r_sees k.Comma (r_then r_take (λ _. r_more_params m m2 (t_less m m2 h) (found
+        ++ record { ty = ty; place = at; name = name } ∷ [])))
+        (r_pure (found ++ record { ty = ty; place = at; name = name } ∷ [])))))
 
     r_words : R (words plain turns) (words v more)
     unfolding words
@@ -625,7 +651,9 @@ module _ (Q : (A : Type 0) → Parser A → Parser A → Type 0) (T : ℕ → �
     unfolding field_or_method
     r_field_or_method ms ty =
         r_place (field_or_method_at plain turns ms ty) (field_or_method_at v more ms ty)
-        (λ at. r_then r_name (λ name. r_sees k.Semicolon (r_then r_take (λ _. r_pure (c.FieldMember (record { modifiers = ms; ty = ty; place = at; name = name })))) (r_method ms (c.Typed ty) at name)))
+        (λ at. r_then r_name (λ name. r_sees k.Semicolon (r_then r_take
+        (λ _. r_pure (c.FieldMember (record { modifiers = ms; ty = ty; place = at; name = name }))))
+        (r_method ms (c.Typed ty) at name)))
 
     r_typed_member : (ms : List Modifier) (one : Bool) → R (texts.typed_member plain turns ms one) (texts.typed_member v more ms one)
     r_typed_member ms true = r_then r_wide (λ ty. r_method_named ms (c.Typed ty))
@@ -645,7 +673,8 @@ module _ (Q : (A : Type 0) → Parser A → Parser A → Type 0) (T : ℕ → �
     r_modifiers_if : (f g : List Modifier → Parser (List Modifier)) → ((found : List Modifier) → R (f found) (g found)) → (found : List Modifier) (word : Option ModifierWord)
         → R (texts.modifiers_if plain turns f found word) (texts.modifiers_if v more g found word)
     r_modifiers_if f g next found None = r_pure found
-    r_modifiers_if f g next found (Some word) = r_place (modifier_at plain f found word) (modifier_at v g found word) (λ at. r_then r_take (λ _. next (found ++ record { word = word; place = at } ∷ [])))
+    r_modifiers_if f g next found (Some word) = r_place (modifier_at plain f found word) (modifier_at v g found word)
+        (λ at. r_then r_take (λ _. next (found ++ record { word = word; place = at } ∷ [])))
 
     r_modifiers : (word_of : TokenKind → Option ModifierWord) (m m2 : ℕ) → T m m2 → (found : List Modifier) → R (modifiers plain turns word_of m found) (modifiers v more word_of m2 found)
     unfolding modifiers
@@ -671,7 +700,14 @@ module _ (Q : (A : Type 0) → Parser A → Parser A → Type 0) (T : ℕ → �
     unfolding class_from
     r_class_from ms =
         r_place (class_at plain turns ms) (class_at v more ms) (λ word. r_then (r_expect k.KeywordClass) (λ _. r_place (class_named_at plain turns ms word) (class_named_at v more ms word)
-        (λ at. r_then r_name (λ name. r_then (r_expect k.LeftBrace) (λ _. r_then (r_members turns more most []) (λ xs. r_then (r_expect k.RightBrace) (λ _. r_pure (record { modifiers = ms; word = word; place = at; name = name; members = xs }))))))))
+        (λ at. r_then r_name (λ name. r_then (r_expect k.LeftBrace) (λ _. r_then (r_members turns more most [])
+        (λ xs. r_then (r_expect k.RightBrace) (λ _. r_pure (record {
+          modifiers = ms;
+          word = word;
+          place = at;
+          name = name;
+          members = xs;
+        }))))))))
 
     r_class : R (class plain turns) (class v more)
     unfolding class

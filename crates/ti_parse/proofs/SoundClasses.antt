@@ -17,8 +17,7 @@ use Rattle.ti_syntax.specs.Spelling.Types as types
 use Rattle.ti_syntax.specs.Spelling.Classes.{ParamList, Parameters, Method, Modified, Member, Members, ClassModified, Class, AllClasses}
 use Rattle.ti_syntax.specs.Spelling.Classes as grammar
 use Rattle.ti_parse_expr.specs.Mirrors.Input.{Outcome, Parser, ◌>>=◌, ◌>>◌, pure, here, and_then, sees, expect, any_name, take_token}
-use Rattle.ti_parse_expr.proofs.TokenKinds.{paren_is, close_is, bracket_is, shut_is, comma_is}
-use Rattle.ti_parse_expr.proofs.Law.{BeginsIn, Said, token, append_nil}
+use Rattle.ti_parse_expr.proofs.Lemmas.{paren_is, close_is, bracket_is, shut_is, comma_is, BeginsIn, Said, token, append_nil}
 use Rattle.ti_parse.specs.Mirrors.Way.{plain}
 use Rattle.ti_parse.specs.Mirrors.Parts.{is_wide}
 use Rattle.ti_parse.specs.Mirrors.Classes as spec
@@ -76,11 +75,14 @@ class_tree ms word at name xs = record { modifiers = ms; word = word; place = at
 
 module _ (turns : ℕ) (word_of : TokenKind → Option ModifierWord) (M : List Token → List Modifier → Type 0) (none : M [] []) (word_of_end : word_of k.End ≡ None)
     (more : (t : Token) (word : ModifierWord) (f : List Token) (ms : List Modifier) → word_of t.kind ≡ Some word → M f ms → M (t ∷ f) (record { word = word; place = t.place } ∷ ms)) where
-  modifiers_end : (m : ℕ) (found : List Modifier) (q : Option ModifierWord) → q ≡ None → Tells (suc m) (More M found) Free [] (spec.modifiers_if plain turns (modifiers plain turns word_of m) found q [])
+  modifiers_end : (m : ℕ) (found : List Modifier) (q : Option ModifierWord) → q ≡ None
+      → Tells (suc m) (More M found) Free [] (spec.modifiers_if plain turns (modifiers plain turns word_of m) found q [])
   modifiers_end m found None is = done_tells (no_more found none)
   modifiers_end m found (Some word) is = cc
 
-  modifiers_if_tells : (m : ℕ) (found : List Modifier) → ((found : List Modifier) (l : List Token) → Tells m (More M found) Free l (modifiers plain turns word_of m found l)) → (t : Token) (ts : List Token) (q : Option ModifierWord) → word_of t.kind ≡ q
+  modifiers_if_tells : (m : ℕ) (found : List Modifier) → ((found : List Modifier) (l : List Token)
+      → Tells m (More M found) Free l (modifiers plain turns word_of m found l)) → (t : Token) (ts : List Token) (q : Option ModifierWord)
+      → word_of t.kind ≡ q
       → Tells (suc m) (More M found) Free (t ∷ ts) (spec.modifiers_if plain turns (modifiers plain turns word_of m) found q (t ∷ ts))
   modifiers_if_tells m found rec t ts None is = done_tells (no_more found none)
   modifiers_if_tells m found rec t ts (Some word) is =
@@ -102,9 +104,12 @@ module _ (turns : ℕ) where
   more_params_tell (suc m) le found l =
       then_tells _ (fewer_tells le (typed_tells turns l)) (λ f r ty s.
       name_here
-      (λ at name i. if◌then◌else◌ {A = Parser (List ParamTree)} (sees k.Comma i) (λ i. and_then (take_token i) (λ _. more_params plain turns m (found ++ param_tree ty at name ∷ []))) (pure (found ++ param_tree ty at name ∷ [])) i)
+      (λ at name i. if◌then◌else◌ {A = Parser (List ParamTree)} (sees k.Comma i)
+      (λ i. and_then (take_token i) (λ _. more_params plain turns m (found ++ param_tree ty at name ∷ [])))
+      (pure (found ++ param_tree ty at name ∷ [])) i)
       (λ t name ts ht. if_sees k.Comma comma_is refl _ _
-      (λ c us hc. after_turn (as_tells (λ g y q. one_more (param_tree ty t.place name) (λ ys p. grammar.more t c s ht hc p) q) (more_params_tell m (omega arith) (found ++ param_tree ty t.place name ∷ []) us)))
+      (λ c us hc. after_turn (as_tells (λ g y q. one_more (param_tree ty t.place name) (λ ys p. grammar.more t c s ht hc p) q)
+      (more_params_tell m (omega arith) (found ++ param_tree ty t.place name ∷ []) us)))
       (λ _. done_tells (record { others = param_tree ty t.place name ∷ []; are = refl; spelled = grammar.last t s ht }))))
 
   -- behind `String`
@@ -143,7 +148,8 @@ module _ (turns : ℕ) where
 
   -- behind the result
   pub method_named_tells : (U : List Token → MemberTree → Type 0) (ms : List Modifier) (result : ResultTree)
-      → ((t : Token) (name : List ℕ) (f : List Token) (ps : ParamsTree) (xs : List Stm) (e : Token) → t.kind ≡ k.Name name → Method f ps xs e → U (t ∷ f) (method_tree ms result t.place name ps xs e.place))
+      → ((t : Token) (name : List ℕ) (f : List Token) (ps : ParamsTree) (xs : List Stm) (e : Token) → t.kind ≡ k.Name name
+      → Method f ps xs e → U (t ∷ f) (method_tree ms result t.place name ps xs e.place))
       → (l : List Token) → Tells turns U Free l (method_named plain turns ms result l)
   unfolding method_named
   method_named_tells U ms result made l =
@@ -158,17 +164,20 @@ module _ (turns : ℕ) where
   unfolding field_or_method
   field_or_method_tells a m ms ty sm sty l =
       name_here
-      (λ at name i. if◌then◌else◌ {A = Parser MemberTree} (sees k.Semicolon i) (λ i. and_then (take_token i) (λ _. pure (tree.FieldMember (record { modifiers = ms; ty = ty; place = at; name = name }))))
+      (λ at name i. if◌then◌else◌ {A = Parser MemberTree} (sees k.Semicolon i)
+      (λ i. and_then (take_token i) (λ _. pure (tree.FieldMember (record { modifiers = ms; ty = ty; place = at; name = name }))))
       (method plain turns ms (tree.Typed ty) at name) i)
       (λ t name ts ht. if_sees k.Semicolon semicolon_is refl _ _ (λ s us hs. after_tells (done_tells (grammar.field t s sm sty ht hs)))
       (λ _. method_tells (λ f x. Member (a ++ (m ++ t ∷ f)) x) ms (tree.Typed ty) t.place name (λ f ps xs e q. grammar.method t e sm (types.field sty) ht q) ts))
 
-  typed_member_tells : (a : List Token) (ms : List Modifier) → Modified a ms → (l : List Token) (is_wide : Bool) → Tells turns (λ f x. Member (a ++ f) x) Free l (spec.typed_member plain turns ms is_wide l)
+  typed_member_tells : (a : List Token) (ms : List Modifier) → Modified a ms → (l : List Token) (is_wide : Bool)
+      → Tells turns (λ f x. Member (a ++ f) x) Free l (spec.typed_member plain turns ms is_wide l)
   typed_member_tells a ms sm l true =
       then_tells _ (wide_tells turns l) (λ m r ty sty. method_named_tells (λ f x. Member (a ++ (m ++ f)) x) ms (tree.Typed ty) (λ t name f ps xs e ht q. grammar.method t e sm (types.wide sty) ht q) r)
   typed_member_tells a ms sm l false = then_tells _ (field_tells turns l) (λ m r ty sty. field_or_method_tells a m ms ty sm sty r)
 
-  member_by_tells : (a : List Token) (ms : List Modifier) → Modified a ms → (v : Token) (l : List Token) (q : TokenKind) → v.kind ≡ q → Tells turns (λ f x. Member (a ++ f) x) Free (v ∷ l) (spec.member_by plain turns ms q (v ∷ l))
+  member_by_tells : (a : List Token) (ms : List Modifier) → Modified a ms → (v : Token) (l : List Token) (q : TokenKind) → v.kind ≡ q
+      → Tells turns (λ f x. Member (a ++ f) x) Free (v ∷ l) (spec.member_by plain turns ms q (v ∷ l))
   member_by_tells a ms sm v l k.KeywordVoid h =
       after_tells (method_named_tells (λ f x. Member (a ++ v ∷ f) x) ms (tree.Void v.place) (λ t name f ps xs e ht q. grammar.void_method v t e sm h ht q) l)
   member_by_tells a ms sm v l q h = typed_member_tells a ms sm (v ∷ l) (is_wide q)

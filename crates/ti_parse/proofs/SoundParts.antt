@@ -26,17 +26,18 @@ use Rattle.ti_parse_expr.specs.Mirrors.Input.{At, Over, Spent, Outcome, Parser, 
 use Rattle.ti_parse_expr.specs.Mirrors.Types.{arity, base, qualifiers, grid, grids, field_type}
 use Rattle.ti_parse_expr.specs.Mirrors.Exprs.{Operand, is_dim}
 use Rattle.ti_parse_expr.specs.Mirrors.Full.{usual, full, full_operand, full_behind_name, full_behind_bracket}
-use Rattle.ti_parse_expr.proofs.TokenKinds.{paren_is, close_is, bracket_is, shut_is, comma_is, dot_is, colon_is}
-use Rattle.ti_parse_expr.proofs.Law.{BeginsIn, Said, Any, as_said, token, ended}
-use Rattle.ti_parse_expr.proofs.SoundTypes.{arity_says, base_says, some_base, all_qualifiers_say, any_qualifiers, field_type_says, grid_says, grids_say, gridded_append, GridRest, MoreGrids}
-use Rattle.ti_parse_expr.proofs.Phrases.{Post, ranges_snoc, postfixed_some}
-use Rattle.ti_parse_expr.proofs.Sound.{whole_int}
+use Rattle.ti_parse_expr.proofs.Lemmas.{paren_is, close_is, bracket_is, shut_is, comma_is, dot_is, colon_is, BeginsIn, Said, Any, as_said}
+use Rattle.ti_parse_expr.proofs.Lemmas.{token, ended, arity_says, base_says, some_base, all_qualifiers_say, any_qualifiers, field_type_says}
+use Rattle.ti_parse_expr.proofs.Lemmas.{grid_says, grids_say, gridded_append, GridRest, MoreGrids, Post, ranges_snoc, postfixed_some}
+use Rattle.ti_parse_expr.proofs.Lemmas.{whole_int, full_says, operand_says, behind_name_is, behind_bracket_is}
 use Rattle.ti_parse.specs.Mirrors.Way.{plain}
 use Rattle.ti_parse.specs.Mirrors.Parts as spec
-use Rattle.ti_parse.specs.Mirrors.Parts.{is_wide, begins_declaration, Begun, Declares, Starts, wide, field, typed, range_from, more_ranges, dims, region, new_grid, new_named, made, new_thing, broadcast, initial, declared, changed, simple, change, begun_bracket, begun, printer, printed_text, printed, print, barrier, break_out, continue_on, return_from, condition, first, optional, update}
+use Rattle.ti_parse.specs.Mirrors.Parts.{is_wide, begins_declaration, Begun, Declares, Starts, wide, field, typed, range_from, more_ranges}
+use Rattle.ti_parse.specs.Mirrors.Parts.{dims, region, new_grid, new_named, made, new_thing, broadcast, initial, declared, changed, simple}
+use Rattle.ti_parse.specs.Mirrors.Parts.{change, begun_bracket, begun, printer, printed_text, printed, print, barrier, break_out}
+use Rattle.ti_parse.specs.Mirrors.Parts.{continue_on, return_from, condition, first, optional, update}
 use Rattle.ti_parse.proofs.Laws.{Free, Tells, told, as_tells, done_tells, refused_tells, if_tells, if_sees, after_tells, then_tells, map_tells, want_here, want_tells, last_tells, word_here, word_tells, name_here}
 use Rattle.ti_parse.proofs.SoundKinds.{assign_is, plus_is, semicolon_is, println_is}
-use Rattle.ti_parse_expr.proofs.FullLaws.{full_says, operand_says, behind_name_is, behind_bracket_is}
 
 -- ---- some phrases
 
@@ -50,7 +51,15 @@ some_arity : BeginsIn Arity []
 some_arity = (token k.Less ∷ token (k.Int (pos 1)) ∷ token k.Greater ∷ [], 1, types.arity (token k.Less) (token (k.Int (pos 1))) (token k.Greater) refl refl (omega arith) (omega arith) refl)
 
 some_wide : BeginsIn WideType []
-some_wide = (token k.KeywordSharedRegion ∷ [], record { base = b.SharedRegion (token k.KeywordSharedRegion).place; qualifiers = []; grids = [] }, types.shared_region (token k.KeywordSharedRegion) refl types.none)
+some_wide = (
+  token k.KeywordSharedRegion ∷ [],
+  record {
+    base = b.SharedRegion (token k.KeywordSharedRegion).place;
+    qualifiers = [];
+    grids = [];
+  },
+  types.shared_region (token k.KeywordSharedRegion) refl types.none,
+)
 
 -- a type with nothing behind what it begins with
 base_alone : {a : List Token} {x : Base} → Based a x → FieldType (a ++ []) (record { base = x; qualifiers = []; grids = [] })
@@ -132,13 +141,15 @@ module _ (turns : ℕ) where
   unfolding range_from
   range_from_tells a low s l =
       want_tells k.Colon colon_is refl _ (λ c ts hc. then_tells _ (whole_tells ts) (λ f r high q.
-      if_sees k.Colon colon_is refl _ _ (λ t us ht. after_tells (map_tells _ (λ g step p. exprs.stepped c t s hc q ht p) (whole_tells us))) (λ _. done_tells (exprs.plain c s hc (ended (Whole 1) f high q)))))
+      if_sees k.Colon colon_is refl _ _ (λ t us ht. after_tells (map_tells _ (λ g step p. exprs.stepped c t s hc q ht p) (whole_tells us)))
+      (λ _. done_tells (exprs.plain c s hc (ended (Whole 1) f high q)))))
 
   -- some list of ranges so far, and the most that there may be
   abbrev pub FewRanges : ℕ → List Token → List RangeTree → Type 0
   FewRanges n f rs = Ranges f rs × (length rs ≤ n)
 
-  pub more_ranges_tell : (n : ℕ) (a : List Token) (found : List RangeTree) → Ranges a found → length found + n ≤ 3 → (l : List Token) → Tells turns (λ f rs. FewRanges 3 (a ++ f) rs) Free l (more_ranges plain turns n found l)
+  pub more_ranges_tell : (n : ℕ) (a : List Token) (found : List RangeTree) → Ranges a found → length found + n ≤ 3 → (l : List Token)
+      → Tells turns (λ f rs. FewRanges 3 (a ++ f) rs) Free l (more_ranges plain turns n found l)
   unfolding more_ranges
   more_ranges_tell zero a found s few l = done_tells (ended Ranges a found s, omega (arith, few))
   more_ranges_tell (suc n) a found s few l =
@@ -178,7 +189,9 @@ module _ (turns : ℕ) where
       → Tells turns (λ f y. Initial (n ∷ (l ++ t ∷ f)) y) Free i (new_named plain turns n.place owner t.place name i)
   unfolding new_named
   new_named_tells n t l owner name hn placed ht i =
-      if_sees k.LeftParen paren_is refl _ _ (λ o ts ho. after_tells (last_tells k.RightParen close_is refl (tree.NewObject n.place owner t.place name) (λ c hc. grammar.new_object n t o c hn placed ht ho hc)))
+      if_sees k.LeftParen paren_is refl _ _ (λ o ts ho. after_tells
+      (last_tells k.RightParen close_is refl (tree.NewObject n.place owner t.place name)
+      (λ c hc. grammar.new_object n t o c hn placed ht ho hc)))
       (λ _. new_grid_tells n l (t ∷ []) owner (b.Named t.place name) hn placed (types.named t ht) i)
 
   -- behind `new` and the region
@@ -201,7 +214,8 @@ module _ (turns : ℕ) where
   new_placed : (n : Token) → n.kind ≡ k.KeywordNew → (i : List Token) → Tells turns (λ f y. Initial (n ∷ f) y) Free i (and_then (region plain turns i) (made plain turns n.place))
   new_placed n hn i = then_tells _ (region_tells i) (λ f r owner s. made_tells n f owner hn s r)
 
-  new_by_tells : (n : Token) → n.kind ≡ k.KeywordNew → (t : Token) (ts : List Token) (q : TokenKind) → t.kind ≡ q → Tells turns (λ f y. Initial (n ∷ f) y) Free (t ∷ ts) (spec.new_by plain turns n.place q (t ∷ ts))
+  new_by_tells : (n : Token) → n.kind ≡ k.KeywordNew → (t : Token) (ts : List Token) (q : TokenKind) → t.kind ≡ q
+      → Tells turns (λ f y. Initial (n ∷ f) y) Free (t ∷ ts) (spec.new_by plain turns n.place q (t ∷ ts))
   new_by_tells n hn t ts k.KeywordSharedRegion h =
       after_tells (want_tells k.LeftParen paren_is refl _ (λ o us ho. last_tells k.RightParen close_is refl (tree.NewRegion n.place) (λ c hc. grammar.new_region n t o c hn h ho hc)))
   new_by_tells n hn t ts _ h = new_placed n hn (t ∷ ts)
@@ -291,13 +305,16 @@ module _ (turns : ℕ) where
       let (w, y, made) = some_change (a ++ d ∷ n ∷ []) (e.Select n.place x []) (grammar.start (exprs.select d n s refl refl) (starts_append a (d ∷ n ∷ []) so)) in
       (d ∷ n ∷ w, y, subst (λ z. Changed z y) (append_assoc a (d ∷ n ∷ []) w) made)
 
-  update_if_tells : (a : List Token) (target : Exp) → Start Target a target → (t : Token) (ts : List Token) (op : Option BinaryOperator) (step : Option StepOperator) → update_of t.kind ≡ op → step_of t.kind ≡ step
+  update_if_tells : (a : List Token) (target : Exp) → Start Target a target
+      → (t : Token) (ts : List Token) (op : Option BinaryOperator) (step : Option StepOperator) → update_of t.kind ≡ op → step_of t.kind
+      ≡ step
       → Tells turns (λ f x. Changed (a ++ f) x) Free (t ∷ ts) (spec.update_if plain turns target op step (t ∷ ts))
   update_if_tells a target s t ts (Some op) step h h2 = after_tells (map_tells _ (λ g x q. grammar.update t s h q) (whole_tells turns ts))
   update_if_tells a target s t ts None (Some op) h h2 = after_tells (done_tells (grammar.step t s h2))
   update_if_tells a target s t ts None None h h2 = refused_tells (some_change a target s)
 
-  changed_by_tells : (a : List Token) (target : Exp) → Start Target a target → (t : Token) (ts : List Token) (q : TokenKind) → t.kind ≡ q → Tells turns (λ f x. Changed (a ++ f) x) Free (t ∷ ts) (spec.changed_by plain turns target q (t ∷ ts))
+  changed_by_tells : (a : List Token) (target : Exp) → Start Target a target → (t : Token) (ts : List Token) (q : TokenKind) → t.kind ≡ q
+      → Tells turns (λ f x. Changed (a ++ f) x) Free (t ∷ ts) (spec.changed_by plain turns target q (t ∷ ts))
   changed_by_tells a target s t ts k.Assign h = after_tells (map_tells _ (λ g x q. grammar.assign t s h q) (initial_tells turns ts))
   changed_by_tells a target s t ts q h = update_if_tells a target s t ts (update_of q) (step_of q) (ap update_of h) (ap step_of h)
 
@@ -305,7 +322,8 @@ module _ (turns : ℕ) where
   target_changed a x s [] = refused_tells (some_change a x s)
   target_changed a x s (t ∷ ts) = changed_by_tells a x s t ts t.kind refl
 
-  changed_if_tells : (a : List Token) (x : Exp) (ending : Ending) → Postfixed ending a x → starts_so a ≡ true → (l : List Token) → Tells turns (λ f y. Changed (a ++ f) y) Free l (spec.changed_if plain turns x ending l)
+  changed_if_tells : (a : List Token) (x : Exp) (ending : Ending) → Postfixed ending a x → starts_so a ≡ true → (l : List Token)
+      → Tells turns (λ f y. Changed (a ++ f) y) Free l (spec.changed_if plain turns x ending l)
   changed_if_tells a x Target s so l = target_changed a x (grammar.start s so) l
   changed_if_tells a x Call s so l = refused_tells (member_change a x Call s so)
   changed_if_tells a x Other s so l = refused_tells (member_change a x Other s so)
@@ -329,7 +347,8 @@ module _ (turns : ℕ) where
   change_says : (a : List Token) (x : Operand) → StartsSo a x → (l : List Token) → Tells turns (λ f y. Shut (a ++ f) y) Free l (spec.simple_if plain turns x false l)
   change_says a x s l = then_tells _ (changed_tells a x s l) (λ f r y q. last_tells k.Semicolon semicolon_is refl y (λ t h. change_closed a f y t q h))
 
-  call_or_change : (a : List Token) (x : Exp) → StartsSo a (x, Call) → (l : List Token) (done : Bool) → sees k.Semicolon l ≡ done → Tells turns (λ f y. Shut (a ++ f) y) Free l (spec.simple_if plain turns (x, Call) done l)
+  call_or_change : (a : List Token) (x : Exp) → StartsSo a (x, Call) → (l : List Token) (done : Bool) → sees k.Semicolon l ≡ done
+      → Tells turns (λ f y. Shut (a ++ f) y) Free l (spec.simple_if plain turns (x, Call) done l)
   call_or_change a x s [] true h = cc
   call_or_change a x (s, so) (t ∷ ts) true h = after_tells (done_tells (grammar.call t (grammar.start s so) (semicolon_is t.kind h), refl))
   call_or_change a x s l false h = change_says a (x, Call) s l
@@ -352,26 +371,37 @@ module _ (turns : ℕ) where
   abbrev grid_of_name : Token → List ℕ → List GridTree → TypeTree
   grid_of_name t name gs = record { base = b.Named t.place name; qualifiers = []; grids = gs }
 
-  named_grid : (t o : Token) (name : List ℕ) → t.kind ≡ k.Name name → (f : List Token) (g : GridTree) (ys gs : List GridTree) → Gridded (o ∷ f) (g ∷ ys) → gs ≡ g ∷ ys → length ys ≤ 2 → Typed (t ∷ o ∷ f) (grid_of_name t name gs)
+  named_grid : (t o : Token) (name : List ℕ) → t.kind ≡ k.Name name → (f : List Token) (g : GridTree) (ys gs : List GridTree)
+      → Gridded (o ∷ f) (g ∷ ys) → gs ≡ g ∷ ys → length ys ≤ 2 → Typed (t ∷ o ∷ f) (grid_of_name t name gs)
   named_grid t o name ht f g ys gs s is few = types.field (types.field_type (types.named t ht) types.none (subst (Gridded (o ∷ f)) (sym is) s) (omega (arith, few, ap length is)))
 
   -- grids behind the name t and the bracket o
   begun_grid : (t o : Token) (name : List ℕ) → t.kind ≡ k.Name name → o.kind ≡ k.LeftBracket → (l : List Token)
       → Tells turns (λ f x. BegunIs (t ∷ o ∷ f) x) Free l (and_then (grid turns l) (λ g i. and_then (grids turns 2 (g ∷ []) i) (λ gs j. Ok (Declares (grid_of_name t name gs), j))))
   begun_grid t o name ht ho l =
-      then_tells _ (told some (grid_says turns o ho l)) (λ f r g s. map_tells _ (λ h gs (ys, is, q, few). named_grid t o name ht (f ++ h) g ys gs (gridded_append s q) is few) (told (no_more g) (grids_say turns 2 (g ∷ []) r)))
+      then_tells _ (told some (grid_says turns o ho l)) (λ f r g s. map_tells _
+      (λ h gs (ys, is, q, few). named_grid t o name ht (f ++ h) g ys gs (gridded_append s q) is few)
+      (told (no_more g) (grids_say turns 2 (g ∷ []) r)))
     where
       some : BeginsIn (GridRest o) []
-      some = (token (k.Dim 1) ∷ token k.RightBracket ∷ [], record { dim = 1; qualifiers = [] }, types.more o (token (k.Dim 1)) (token k.RightBracket) ho refl (omega arith) (omega arith) refl types.none types.none)
+      some = (
+        token (k.Dim 1) ∷ token k.RightBracket ∷ [],
+        record { dim = 1; qualifiers = [] },
+        types.more o (token (k.Dim 1)) (token k.RightBracket) ho refl (omega arith) (omega arith) refl types.none types.none,
+      )
 
       no_more : (g : GridTree) → BeginsIn (MoreGrids 2 (g ∷ [])) []
       no_more g = ([], g ∷ [], ([], refl, types.none, omega arith))
 
-  pub begun_bracket_tells : (t o : Token) (name : List ℕ) → t.kind ≡ k.Name name → o.kind ≡ k.LeftBracket → (l : List Token) → Tells turns BegunIs Free (t ∷ o ∷ l) (begun_bracket plain turns t.place name o.place l)
+  pub begun_bracket_tells : (t o : Token) (name : List ℕ) → t.kind ≡ k.Name name → o.kind ≡ k.LeftBracket → (l : List Token)
+      → Tells turns BegunIs Free (t ∷ o ∷ l) (begun_bracket plain turns t.place name o.place l)
   unfolding begun_bracket
   begun_bracket_tells t o name ht ho l = by (is_dim (kind l))
     where
-      by : (is_grid : Bool) → Tells turns BegunIs Free (t ∷ o ∷ l) ((if◌then◌else◌ {A = Parser Begun} is_grid (λ i. and_then (grid turns i) (λ g i. and_then (grids turns 2 (g ∷ []) i) (λ gs j. Ok (Declares (grid_of_name t name gs), j)))) (λ i. and_then (full_behind_bracket o.place t.place name i) (λ x j. Ok (Starts x, j)))) l)
+      by : (is_grid : Bool) → Tells turns BegunIs Free (t ∷ o ∷ l) ((if◌then◌else◌ {A = Parser Begun} is_grid
+          (λ i. and_then (grid turns i) (λ g i. and_then (grids turns 2 (g ∷ []) i)
+          (λ gs j. Ok (Declares (grid_of_name t name gs), j)))) (λ i. and_then (full_behind_bracket o.place t.place name i)
+          (λ x j. Ok (Starts x, j)))) l)
       by true = after_tells (after_tells (begun_grid t o name ht ho l))
       by false = start_behind t name ht (o ∷ l) (full_behind_bracket o.place t.place name l) (behind_bracket_is usual (omega arith) t o l name ht ho)
 
@@ -379,7 +409,8 @@ module _ (turns : ℕ) where
   begun_if_tells t name ht l (Some word) = after_tells (map_tells Declares (λ f ty s. types.field s) (field_behind turns (t ∷ []) (b.Named t.place name) (types.named t ht) l))
   begun_if_tells t name ht l None = start_behind t name ht l (full_behind_name t.place name l) (behind_name_is usual t l name ht)
 
-  begun_by_tells : (t : Token) (name : List ℕ) → t.kind ≡ k.Name name → (u : Token) (us : List Token) (q : TokenKind) → u.kind ≡ q → Tells turns BegunIs Free (t ∷ u ∷ us) (spec.begun_by plain turns t.place name q (u ∷ us))
+  begun_by_tells : (t : Token) (name : List ℕ) → t.kind ≡ k.Name name → (u : Token) (us : List Token) (q : TokenKind) → u.kind ≡ q
+      → Tells turns BegunIs Free (t ∷ u ∷ us) (spec.begun_by plain turns t.place name q (u ∷ us))
   begun_by_tells t name ht u us (k.Name next) h = after_tells (done_tells (types.field (base_alone (types.named t ht))))
   begun_by_tells t name ht u us k.LeftBracket h = begun_bracket_tells t u name ht h us
   begun_by_tells t name ht u us q h = begun_if_tells t name ht (u ∷ us) (qualifier_of q)
@@ -430,7 +461,9 @@ module _ (turns : ℕ) where
   barrier_tells i hi l =
       want_tells k.Dot dot_is refl _ (λ d us hd.
       word_here (codes "barrier") (λ at. expect k.LeftParen >> (expect k.RightParen >> (expect k.Semicolon >> pure (tree.Barrier at)))) (λ w vs hw.
-      want_tells k.LeftParen paren_is refl _ (λ o ws ho. want_tells k.RightParen close_is refl _ (λ c xs hc. last_tells k.Semicolon semicolon_is refl (tree.Barrier w.place) (λ t ht. (grammar.barrier i d w o c t hi hd hw ho hc ht, refl))))))
+      want_tells k.LeftParen paren_is refl _ (λ o ws ho. want_tells k.RightParen close_is refl _
+      (λ c xs hc. last_tells k.Semicolon semicolon_is refl (tree.Barrier w.place)
+      (λ t ht. (grammar.barrier i d w o c t hi hd hw ho hc ht, refl))))))
 
   -- ---- jumps, where their words are the first tokens
 
@@ -455,14 +488,17 @@ module _ (turns : ℕ) where
 
   pub condition_tells : (l : List Token) → Tells turns Condition Free l (condition plain turns l)
   unfolding condition
-  condition_tells l = want_tells k.LeftParen paren_is refl _ (λ o ts ho. then_tells _ (whole_tells turns ts) (λ f r x s. last_tells k.RightParen close_is refl x (λ c hc. grammar.condition o c ho s hc)))
+  condition_tells l = want_tells k.LeftParen paren_is refl _ (λ o ts ho. then_tells _ (whole_tells turns ts)
+      (λ f r x s. last_tells k.RightParen close_is refl x (λ c hc. grammar.condition o c ho s hc)))
 
   first_of_tells : (f : List Token) (x : Begun) → BegunIs f x → (l : List Token) → Tells turns (λ g y. First (f ++ g) (tree.SomeStm y)) Free l (spec.first_of plain turns x l)
   first_of_tells f (Declares ty) s l = as_tells (λ g y q. grammar.declaration q) (declared_tells turns f ty s l)
   first_of_tells f (Starts x) s l = as_tells (λ g y q. grammar.change q) (changed_tells f x s l)
 
   first_unnamed : (l : List Token) (declares : Bool)
-      → Tells turns First Free l (and_then ((if◌then◌else◌ {A = Parser Stm} declares (λ i. and_then (typed plain turns i) (declared plain turns)) (change plain turns)) l) (λ x j. Ok (tree.SomeStm x, j)))
+      → Tells turns First Free l
+      (and_then ((if◌then◌else◌ {A = Parser Stm} declares (λ i. and_then (typed plain turns i) (declared plain turns))
+      (change plain turns)) l) (λ x j. Ok (tree.SomeStm x, j)))
   first_unnamed l true = map_tells tree.SomeStm (λ f x s. grammar.declaration s) (then_tells _ (typed_tells turns l) (λ f r ty s. declared_tells turns f ty s r))
   first_unnamed l false = map_tells tree.SomeStm (λ f x s. grammar.change s) (change_tells l)
 

@@ -13,8 +13,7 @@ use Rattle.ti_syntax.specs.Spelling.Statements as grammar
 use Rattle.ti_parse_expr.specs.declared.parse.Form.TheVariants as form
 use Rattle.ti_parse_expr.specs.Mirrors.Input.{Outcome, Parser, ◌>>=◌, ◌>>◌, pure, refuse, and_then, kind, sees, expect, expect_word, take_token}
 use Rattle.ti_parse_expr.specs.Mirrors.Full.{full, full_operand}
-use Rattle.ti_parse_expr.proofs.TokenKinds.{paren_is, close_is}
-use Rattle.ti_parse_expr.proofs.Law.{BeginsIn, token, append_nil, ended}
+use Rattle.ti_parse_expr.proofs.Lemmas.{paren_is, close_is, BeginsIn, token, append_nil, ended}
 use Rattle.ti_parse.specs.Mirrors.Way.{plain}
 use Rattle.ti_parse.specs.Mirrors.Parts.{begins_declaration, Begun, Declares, Starts, typed, declared, simple}
 use Rattle.ti_parse.specs.Mirrors.Statements as spec
@@ -100,7 +99,9 @@ module _ (turns : ℕ) (stmt : Parser Stm) (stmt_tells : (l : List Token) → Te
   named_item_tells a (Starts x) s l = as_tells (λ f y (q, h). statement q) (simple_tells turns a x s l)
 
   item_unnamed : (l : List Token) (declares : Bool)
-      → Tells turns ItemIs Free l ((if◌then◌else◌ {A = Parser Stm} declares (λ i. and_then (typed plain turns i) (λ ty i. and_then (declared plain turns ty i) (λ x i. and_then (expect k.Semicolon i) (λ _ j. Ok (x, j))))) stmt) l)
+      → Tells turns ItemIs Free l ((if◌then◌else◌ {A = Parser Stm} declares
+      (λ i. and_then (typed plain turns i) (λ ty i. and_then (declared plain turns ty i)
+      (λ x i. and_then (expect k.Semicolon i) (λ _ j. Ok (x, j))))) stmt) l)
   item_unnamed l true = then_tells _ (typed_tells turns l) (λ f r ty s. declared_closed f ty s r)
   item_unnamed l false = as_tells (λ f x s. statement s) (so_tells (λ f r x s _. tt) (stmt_tells l))
 
@@ -193,7 +194,8 @@ module _ (turns : ℕ) where
   simple_statement l = shut_tells (small_tells l)
 
   -- where no compound statement may begin
-  deep_tells : (t : Token) (ts : List Token) (q : TokenKind) → t.kind ≡ q → Tells turns Statement NoElse (t ∷ ts) ((if◌then◌else◌ {A = Parser Stm} (is_compound q) too_deep (small plain turns)) (t ∷ ts))
+  deep_tells : (t : Token) (ts : List Token) (q : TokenKind) → t.kind ≡ q
+      → Tells turns Statement NoElse (t ∷ ts) ((if◌then◌else◌ {A = Parser Stm} (is_compound q) too_deep (small plain turns)) (t ∷ ts))
   deep_tells t ts k.LeftBrace h = over_tells (block_tells turns (small plain turns) simple_statement t h []).some
   deep_tells t ts k.KeywordIf h = over_tells (conditional_tells turns (small plain turns) simple_statement t h []).some
   deep_tells t ts k.KeywordWhile h = over_tells (while_tells turns (small plain turns) simple_statement t h []).some
@@ -202,7 +204,8 @@ module _ (turns : ℕ) where
   deep_tells t ts _ h = simple_statement (t ∷ ts)
 
   compound_tells : (stmt : Parser Stm) → ((l : List Token) → Tells turns Statement NoElse l (stmt l)) → (t : Token) (ts : List Token) (q : TokenKind) → t.kind ≡ q
-      → Tells turns Statement NoElse (t ∷ ts) ((if◌then◌else◌ {A = Parser Stm} (is_compound q) (λ i. and_then (take_token i) (λ _. spec.compound plain turns stmt t.place q)) (small plain turns)) (t ∷ ts))
+      → Tells turns Statement NoElse (t ∷ ts) ((if◌then◌else◌ {A = Parser Stm} (is_compound q)
+      (λ i. and_then (take_token i) (λ _. spec.compound plain turns stmt t.place q)) (small plain turns)) (t ∷ ts))
   compound_tells stmt inner t ts k.LeftBrace h = after_tells (block_tells turns stmt inner t h ts)
   compound_tells stmt inner t ts k.KeywordIf h = after_tells (conditional_tells turns stmt inner t h ts)
   compound_tells stmt inner t ts k.KeywordWhile h = after_tells (while_tells turns stmt inner t h ts)

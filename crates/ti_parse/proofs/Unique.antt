@@ -4,7 +4,7 @@ use Rattle.ti_base.specs.declared.place.Place.{Place}
 use Rattle.ti_syntax.specs.declared.token.Token.{Token}
 use Rattle.ti_syntax.specs.Trees.Classes.{TextTree}
 use Rattle.ti_syntax.specs.Spelling.{Spells, BeginsText, IsShallow, Misfit, ShowsMisfit, unexpected, too_deep, IsGrammarRefusal, fits, refused}
-use Rattle.ti_parse_expr.proofs.Apart.{Apart, apart}
+use Rattle.ti_parse_expr.proofs.Lemmas.{Apart, apart}
 
 -- what begins a text has fronts that begin it too
 front_begins : (f : List Token) (t : Token) (v more : List Token) (tree : TextTree) (list : List Token) → list ≡ f ++ t ∷ v → Spells (list ++ more) tree → BeginsText (f ++ t ∷ [])
@@ -42,11 +42,14 @@ none_before front v (too_deep {front = f} {t = t} b deep shallow) is begins low 
 -- one token shows one misfit
 one_misfit : {m m2 : Misfit} {f g : List Token} {t u : Token} → ShowsMisfit m f t → ShowsMisfit m2 g u → f ≡ g → t ≡ u → m ≡ m2
 one_misfit (unexpected b never low) (unexpected b2 never2 low2) same is = refl
-one_misfit (unexpected {front = f} {t = t} b never low) (too_deep {front = g} {t = u} b2 deep2 low2) same is = absurd (never (subst BeginsText (ap (λ z. z ++ u ∷ []) (sym same) ∙ ap (λ z. f ++ z ∷ []) (sym is)) b2))
-one_misfit (too_deep {front = f} {t = t} b deep low) (unexpected {front = g} {t = u} b2 never2 low2) same is = absurd (never2 (subst BeginsText (ap (λ z. z ++ t ∷ []) same ∙ ap (λ z. g ++ z ∷ []) is) b))
+one_misfit (unexpected {front = f} {t = t} b never low) (too_deep {front = g} {t = u} b2 deep2 low2) same is =
+    absurd (never (subst BeginsText (ap (λ z. z ++ u ∷ []) (sym same) ∙ ap (λ z. f ++ z ∷ []) (sym is)) b2))
+one_misfit (too_deep {front = f} {t = t} b deep low) (unexpected {front = g} {t = u} b2 never2 low2) same is =
+    absurd (never2 (subst BeginsText (ap (λ z. z ++ t ∷ []) same ∙ ap (λ z. g ++ z ∷ []) is) b))
 one_misfit (too_deep b deep low) (too_deep b2 deep2 low2) same is = refl
 
-same_refusal : {m m2 : Misfit} {f g : List Token} {t u : Token} (v w : List Token) → ShowsMisfit m f t → ShowsMisfit m2 g u → Apart f (t ∷ v) g u w → ◌≡◌ {A = Option (Misfit × Place)} (Some (m, t.place)) (Some (m2, u.place))
+same_refusal : {m m2 : Misfit} {f g : List Token} {t u : Token} (v w : List Token) → ShowsMisfit m f t → ShowsMisfit m2 g u
+    → Apart f (t ∷ v) g u w → ◌≡◌ {A = Option (Misfit × Place)} (Some (m, t.place)) (Some (m2, u.place))
 same_refusal {f = f} {g = g} {t = t} v w x y (inl (a, b, is, longer)) =
     let head : t ≡ a = cc in
     absurd (none_before g b x (longer ∙ ap (λ z. f ++ z ∷ b) (sym head)) (misfit_begins y) (misfit_shallow y))

@@ -106,7 +106,8 @@ impl Reader {
         place: Place,
         name: Spelled,
     ) -> Result<Member, Stop>
-        ensures { ReadsAs member_of (spec.method plain self.turns modifiers.items (result_of result_type) place name tokens.old) result tokens.new }
+        ensures { ReadsAs member_of (spec.method plain self.turns modifiers.items (result_of result_type) place name tokens.old) result
+            tokens.new }
     {
         let params = self.signature(tokens)?;
         let braced = self.braced(tokens)?;
@@ -131,7 +132,8 @@ impl Reader {
         modifiers: Vec<Modifier>,
         result_type: ResultType,
     ) -> Result<Member, Stop>
-        ensures { ReadsAs member_of (spec.method_named plain self.turns modifiers.items (result_of result_type) tokens.old) result tokens.new }
+        ensures { ReadsAs member_of (spec.method_named plain self.turns modifiers.items (result_of result_type) tokens.old) result
+            tokens.new }
     {
         let place = tokens.place();
         let name = tokens.name(self.alloc)?;

@@ -159,7 +159,8 @@ impl Reader {
         name_place: Place,
         name: Spelled,
     ) -> Result<Init, Stop>
-        ensures { ReadsAs init_of (spec.new_named plain self.turns place (maybe_of exp_of region) name_place name tokens.old) result tokens.new }
+        ensures { ReadsAs init_of (spec.new_named plain self.turns place (maybe_of exp_of region) name_place name tokens.old) result
+            tokens.new }
     {
         if !tokens.sees(TokenKind::LeftParen) {
             return self.new_grid(tokens, place, region, Base::Named(name_place, name));

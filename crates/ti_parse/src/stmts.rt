@@ -53,7 +53,8 @@ impl<F: Fn(Reader, &mut Tokens<'_>, u32) -> Result<Box<Stmt>, Stop>> Statements<
     /// An item, after what it begins with.
     fn named_item(&self, tokens: &mut Tokens<'_>, begun: Begun) -> Result<Box<Stmt>, Stop>
         requires { Nests self.now.reader self.now.levels (F.pre self.now.stmt) (F.post self.now.stmt) }
-        ensures { ReadsAs boxed_stm (spec.named_item plain self.now.reader.turns (spec.stmt plain self.now.reader.turns self.now.levels) (begun_of begun) tokens.old) result tokens.new }
+        ensures { ReadsAs boxed_stm (spec.named_item plain self.now.reader.turns (spec.stmt plain self.now.reader.turns self.now.levels)
+            (begun_of begun) tokens.old) result tokens.new }
     {
         match begun {
             Begun::Declares(ty) => self.reader.declared_alone(tokens, ty),
@@ -65,7 +66,8 @@ impl<F: Fn(Reader, &mut Tokens<'_>, u32) -> Result<Box<Stmt>, Stop>> Statements<
     #[tactic(auto, unfolding(crate::specs::Mirrors::Statements::item))]
     fn item(&self, tokens: &mut Tokens<'_>) -> Result<Box<Stmt>, Stop>
         requires { Nests self.now.reader self.now.levels (F.pre self.now.stmt) (F.post self.now.stmt) }
-        ensures { ReadsAs boxed_stm (spec.item plain self.now.reader.turns (spec.stmt plain self.now.reader.turns self.now.levels) tokens.old) result tokens.new }
+        ensures { ReadsAs boxed_stm (spec.item plain self.now.reader.turns
+            (spec.stmt plain self.now.reader.turns self.now.levels) tokens.old) result tokens.new }
     {
         match tokens.peek() {
             TokenKind::Name(name) => {
@@ -89,7 +91,8 @@ impl<F: Fn(Reader, &mut Tokens<'_>, u32) -> Result<Box<Stmt>, Stop>> Statements<
     #[tactic(auto, unfolding(crate::specs::Mirrors::Statements::items))]
     pub fn items(&self, tokens: &mut Tokens<'_>) -> Result<Vec<Stmt>, Stop>
         requires { Nests self.now.reader self.now.levels (F.pre self.now.stmt) (F.post self.now.stmt) }
-        ensures { ReadsAs stms_of (spec.items plain self.now.reader.turns (spec.stmt plain self.now.reader.turns self.now.levels) self.now.reader.turns [] tokens.old) result tokens.new }
+        ensures { ReadsAs stms_of (spec.items plain self.now.reader.turns
+            (spec.stmt plain self.now.reader.turns self.now.levels) self.now.reader.turns [] tokens.old) result tokens.new }
     {
         let mut found = Vec::new(self.reader.alloc);
         for _turn in 0..self.reader.turns {
@@ -108,10 +111,11 @@ impl<F: Fn(Reader, &mut Tokens<'_>, u32) -> Result<Box<Stmt>, Stop>> Statements<
     // ---- compound statements
 
     /// A block, after its `{`.
-    #[tactic(auto, unfolding(crate::specs::Mirrors::Statements::block), using(ti_syntax::proofs::Bridges::bridges))]
+    #[tactic(auto, unfolding(crate::specs::Mirrors::Statements::block), using(ti_syntax::proofs::Lemmas::bridges))]
     fn block(&self, tokens: &mut Tokens<'_>) -> Result<Box<Stmt>, Stop>
         requires { Nests self.now.reader self.now.levels (F.pre self.now.stmt) (F.post self.now.stmt) }
-        ensures { ReadsAs boxed_stm (spec.block plain self.now.reader.turns (spec.stmt plain self.now.reader.turns self.now.levels) tokens.old) result tokens.new }
+        ensures { ReadsAs boxed_stm (spec.block plain self.now.reader.turns
+            (spec.stmt plain self.now.reader.turns self.now.levels) tokens.old) result tokens.new }
     {
         let body = self.items(tokens)?;
         tokens.expect(TokenKind::RightBrace)?;
@@ -122,7 +126,8 @@ impl<F: Fn(Reader, &mut Tokens<'_>, u32) -> Result<Box<Stmt>, Stop>> Statements<
     #[tactic(auto, unfolding(crate::specs::Mirrors::Statements::conditional))]
     fn conditional(&self, tokens: &mut Tokens<'_>, place: Place) -> Result<Box<Stmt>, Stop>
         requires { Nests self.now.reader self.now.levels (F.pre self.now.stmt) (F.post self.now.stmt) }
-        ensures { ReadsAs boxed_stm (spec.conditional plain self.now.reader.turns (spec.stmt plain self.now.reader.turns self.now.levels) place tokens.old) result tokens.new }
+        ensures { ReadsAs boxed_stm (spec.conditional plain self.now.reader.turns
+            (spec.stmt plain self.now.reader.turns self.now.levels) place tokens.old) result tokens.new }
     {
         let condition = self.reader.condition(tokens)?;
         let then = self.stmt(tokens)?;
@@ -138,7 +143,9 @@ impl<F: Fn(Reader, &mut Tokens<'_>, u32) -> Result<Box<Stmt>, Stop>> Statements<
         then: Box<Stmt>,
     ) -> Result<Box<Stmt>, Stop>
         requires { Nests self.now.reader self.now.levels (F.pre self.now.stmt) (F.post self.now.stmt) }
-        ensures { ReadsAs boxed_stm (spec.conditional_behind plain self.now.reader.turns (spec.stmt plain self.now.reader.turns self.now.levels) place (exp_of condition) (boxed_stm then) tokens.old) result tokens.new }
+        ensures { ReadsAs boxed_stm (spec.conditional_behind plain self.now.reader.turns
+            (spec.stmt plain self.now.reader.turns self.now.levels) place (exp_of condition) (boxed_stm then) tokens.old) result
+            tokens.new }
     {
         if !tokens.sees(TokenKind::KeywordElse) {
             let alone = Stmt::If {
@@ -164,7 +171,8 @@ impl<F: Fn(Reader, &mut Tokens<'_>, u32) -> Result<Box<Stmt>, Stop>> Statements<
     #[tactic(auto, unfolding(crate::specs::Mirrors::Statements::while_loop))]
     fn while_loop(&self, tokens: &mut Tokens<'_>, place: Place) -> Result<Box<Stmt>, Stop>
         requires { Nests self.now.reader self.now.levels (F.pre self.now.stmt) (F.post self.now.stmt) }
-        ensures { ReadsAs boxed_stm (spec.while_loop plain self.now.reader.turns (spec.stmt plain self.now.reader.turns self.now.levels) place tokens.old) result tokens.new }
+        ensures { ReadsAs boxed_stm (spec.while_loop plain self.now.reader.turns
+            (spec.stmt plain self.now.reader.turns self.now.levels) place tokens.old) result tokens.new }
     {
         let condition = self.reader.condition(tokens)?;
         let body = self.stmt(tokens)?;
@@ -180,7 +188,8 @@ impl<F: Fn(Reader, &mut Tokens<'_>, u32) -> Result<Box<Stmt>, Stop>> Statements<
     #[tactic(auto, unfolding(crate::specs::Mirrors::Statements::for_loop))]
     fn for_loop(&self, tokens: &mut Tokens<'_>, place: Place) -> Result<Box<Stmt>, Stop>
         requires { Nests self.now.reader self.now.levels (F.pre self.now.stmt) (F.post self.now.stmt) }
-        ensures { ReadsAs boxed_stm (spec.for_loop plain self.now.reader.turns (spec.stmt plain self.now.reader.turns self.now.levels) place tokens.old) result tokens.new }
+        ensures { ReadsAs boxed_stm (spec.for_loop plain self.now.reader.turns
+            (spec.stmt plain self.now.reader.turns self.now.levels) place tokens.old) result tokens.new }
     {
         let head = self.reader.for_head(tokens)?;
         let body = self.stmt(tokens)?;
@@ -198,7 +207,8 @@ impl<F: Fn(Reader, &mut Tokens<'_>, u32) -> Result<Box<Stmt>, Stop>> Statements<
     #[tactic(auto, unfolding(crate::specs::Mirrors::Statements::foreach_loop))]
     fn foreach_loop(&self, tokens: &mut Tokens<'_>, place: Place) -> Result<Box<Stmt>, Stop>
         requires { Nests self.now.reader self.now.levels (F.pre self.now.stmt) (F.post self.now.stmt) }
-        ensures { ReadsAs boxed_stm (spec.foreach_loop plain self.now.reader.turns (spec.stmt plain self.now.reader.turns self.now.levels) place tokens.old) result tokens.new }
+        ensures { ReadsAs boxed_stm (spec.foreach_loop plain self.now.reader.turns
+            (spec.stmt plain self.now.reader.turns self.now.levels) place tokens.old) result tokens.new }
     {
         tokens.expect(TokenKind::LeftParen)?;
         let name_place = tokens.place();
@@ -225,7 +235,8 @@ impl<F: Fn(Reader, &mut Tokens<'_>, u32) -> Result<Box<Stmt>, Stop>> Statements<
         kind: &TokenKind,
     ) -> Result<Box<Stmt>, Stop>
         requires { Nests self.now.reader self.now.levels (F.pre self.now.stmt) (F.post self.now.stmt) }
-        ensures { ReadsAs boxed_stm (spec.compound plain self.now.reader.turns (spec.stmt plain self.now.reader.turns self.now.levels) place kind.now tokens.old) result tokens.new }
+        ensures { ReadsAs boxed_stm (spec.compound plain self.now.reader.turns
+            (spec.stmt plain self.now.reader.turns self.now.levels) place kind.now tokens.old) result tokens.new }
     {
         match kind {
             TokenKind::LeftBrace => self.block(tokens),

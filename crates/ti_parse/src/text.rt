@@ -64,7 +64,8 @@ pub fn parse(alloc: Global, toks: &[Token]) -> Result<Tree, ParseErr>
     ensures answer { Parsed toks.now result }
     // Nothing else is answered to tokens that have a tree, or a refusal.
     ensures only_tree { (tree : TextTree) → Spells toks.now tree → IsShallow toks.now → GivesOnly result tree }
-    ensures only_refusal { (misfit : Misfit) (place : PlaceSeen) → IsGrammarRefusal toks.now (Some (misfit, place)) → RefusesOnly result misfit place }
+    ensures only_refusal { (misfit : Misfit) (place : PlaceSeen) → IsGrammarRefusal toks.now (Some (misfit, place))
+        → RefusesOnly result misfit place }
 {
     read_tree(alloc, toks)
 }

@@ -43,15 +43,19 @@ phrase_of form.Mul s = grammar.operand (grammar.postfixed s)
 phrase_of form.Postfix {ending} s = (ending, s)
 
 -- one token that doesn't count is within the limit
-light_one : {A : Type 0} (t : Token) (q : TokenKind) → t.kind ≡ q → ((l : List Token) (out : Outcome A) → limited_to usual (Weight ((if counts q then 1 else 0) + 0) ∷ weights_behind (arity_behind q) ((if counts q then 1 else 0) + 0) []) l out ≡ out)
+light_one : {A : Type 0} (t : Token) (q : TokenKind) → t.kind ≡ q
+    → ((l : List Token) (out : Outcome A) → limited_to usual (Weight ((if counts q then 1 else 0) + 0) ∷ weights_behind (arity_behind q)
+    ((if counts q then 1 else 0) + 0) []) l out ≡ out)
     → (l : List Token) (out : Outcome A) → limited_to usual (weights_behind 0 0 (t ∷ [])) l out ≡ out
 light_one t q h is l out = ap (λ z. limited_to usual (Weight ((if counts z then 1 else 0) + 0) ∷ weights_behind (arity_behind z) ((if counts z then 1 else 0) + 0) []) l out) h ∙ is l out
 
-one_read : (f : Form) (t u : Token) (rest : List Token) (x : Exp) → Phrase f (t ∷ []) x → ends_operand u.kind ≡ true → ((l : List Token) (out : Outcome Exp) → limited_to usual (weights_behind 0 0 (t ∷ [])) l out ≡ out)
+one_read : (f : Form) (t u : Token) (rest : List Token) (x : Exp) → Phrase f (t ∷ []) x → ends_operand u.kind ≡ true
+    → ((l : List Token) (out : Outcome Exp) → limited_to usual (weights_behind 0 0 (t ∷ [])) l out ≡ out)
     → full f (t ∷ u ∷ rest) ≡ Ok (x, u ∷ rest)
 one_read f t u rest x s ends light =
     let l = t ∷ u ∷ rest in
-    let reads : phrase (suc (length l)) f l ≡ Ok (x, u ∷ rest) = phrase_reads f (suc (length l)) (t ∷ []) (u ∷ rest) x s (closer_stops u.kind u rest (level_of f) (t ∷ []) (closes u.kind ends) (one_level f) refl) (omega arith) in
+    let reads : phrase (suc (length l)) f l ≡ Ok (x, u ∷ rest) = phrase_reads f (suc (length l)) (t ∷ []) (u ∷ rest) x s
+    (closer_stops u.kind u rest (level_of f) (t ∷ []) (closes u.kind ends) (one_level f) refl) (omega arith) in
     let one : suc (suc (length rest)) - suc (length rest) ≡ 1 = omega arith in
     ap (λ out. limited_to usual (weights_behind 0 0 (taken l out)) l out) reads
     ∙ (ap (λ n. limited_to usual (weights_behind 0 0 (take n l)) l (Ok (x, u ∷ rest))) one ∙ light l (Ok (x, u ∷ rest)))
@@ -68,7 +72,8 @@ nothing_behind at name l ends =
     let turns = suc (suc (length l)) in
     let c = closes (kind l) ends in
     let reads : behind_name turns at name l ≡ Ok ((e.Name at name, Target), l) =
-    then_ok (postfix turns (expr turns) turns) (named_alone turns (expr turns) (expr_reads turns) at name l c.call) ∙ postfix_stops turns (expr turns) (expr_reads turns) turns (e.Name at name, Target) l c.operand (omega arith) in
+    then_ok (postfix turns (expr turns) turns) (named_alone turns (expr turns) (expr_reads turns) at name l c.call)
+    ∙ postfix_stops turns (expr turns) (expr_reads turns) turns (e.Name at name, Target) l c.operand (omega arith) in
     let none : length l - length l ≡ 0 = omega arith in
     ap (λ out. limited_to usual (weights_behind 0 0 (taken l out)) l out) reads
     ∙ ap (λ n. limited_to usual (weights_behind 0 0 (take n l)) l (Ok ((e.Name at name, Target), l))) none

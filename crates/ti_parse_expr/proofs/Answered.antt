@@ -91,7 +91,8 @@ module _ (form : Form) (n : ℕ) (f rest : List Token) (t : Token) where
   not_both : (x : Exp) (r : List Token) → phrase n form (f ++ t ∷ rest) ≡ Ok (x, r) → phrase n form (f ++ t ∷ rest) ≡ Err (At (t ∷ rest)) → ⊥
   not_both x r a b = let c : ◌≡◌ {A = Outcome Exp} (Ok (x, r)) (Err (At (t ∷ rest))) = sym a ∙ b in cc
 
-  no_phrase_by : length (f ++ t ∷ rest) < n → phrase n form (f ++ t ∷ rest) ≡ Err (At (t ∷ rest)) → (x : Exp) → Phrase form f x → Stops (level_of form) f (t ∷ rest) ⊎ BeginsPhrase form (f ++ t ∷ []) → ⊥
+  no_phrase_by : length (f ++ t ∷ rest) < n → phrase n form (f ++ t ∷ rest) ≡ Err (At (t ∷ rest)) → (x : Exp) → Phrase form f x
+      → Stops (level_of form) f (t ∷ rest) ⊎ BeginsPhrase form (f ++ t ∷ []) → ⊥
   no_phrase_by lt is x s (inl stops) = not_both x (t ∷ rest) (phrase_reads form n f (t ∷ rest) x s stops lt) is
   no_phrase_by lt is x s (inr begins) = no_more_refused is begins
 
@@ -197,7 +198,16 @@ module _ (form : Form) (weight : ℕ) (l c : List Token) (cut : IsCut weight l c
       absurd (omega (arith, phrase_ends form (c ++ more) x s, ends-append c more, ap ends cut.made, ends-append cut.front (cut.last ∷ []), one))
 
   heavy_by : BeginsPhrase form c → IsTooHeavy form weight l cut.last.place
-  heavy_by begins = record { front = cut.front; heavy = cut.last; rest = cut.rest; is = cut.is; begins = subst (BeginsPhrase form) cut.made begins; light = cut.light; above = is_heavy begins cut.stops; at = refl }
+  heavy_by begins = record {
+    front = cut.front;
+    heavy = cut.last;
+    rest = cut.rest;
+    is = cut.is;
+    begins = subst (BeginsPhrase form) cut.made begins;
+    light = cut.light;
+    above = is_heavy begins cut.stops;
+    at = refl;
+  }
 
   pub some_cut : 0 < length c
   some_cut = omega (arith, ap length cut.made, length-append cut.front (cut.last ∷ []))

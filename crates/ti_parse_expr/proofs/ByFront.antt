@@ -16,18 +16,24 @@ module _ {T B : Type 0} (view : T → B) (weight : ℕ) (list front : List Token
   over_reads : (o : Outcome B) (new : List Token) → widened weight list front o ≡ over → new ≡ drop (length front - 1) list → ReadsAs view (widened weight list front o) (Err stop.TooDeep) new
   over_reads o new is at = is ∙ ap (λ z. Err (Over z)) (sym at)
 
-  passed_if : (left : List Token) (other out : Outcome B) (c : Bool) → passed weight front (length left) ≡ c → out ≡ (if passed weight front (length left) then over else other) → out ≡ (if c then over else other)
+  passed_if : (left : List Token) (other out : Outcome B) (c : Bool) → passed weight front (length left) ≡ c → out
+      ≡ (if passed weight front (length left) then over else other) → out ≡ (if c then over else other)
   passed_if left other out c h is = is ∙ ap (λ b. if b then over else other) h
 
-  moved : (o : Outcome B) (answer : Result T Stop) (left new : List Token) → ReadsAs view o answer left → is_final answer ≡ false → passed weight front (length left) ≡ false → new ≡ drop (length front - length left) list
+  moved : (o : Outcome B) (answer : Result T Stop) (left new : List Token) → ReadsAs view o answer left → is_final answer ≡ false
+      → passed weight front (length left) ≡ false → new ≡ drop (length front - length left) list
       → ReadsAs view (widened weight list front o) answer new
-  moved o (Ok x) left new is not h at = passed_if left (Ok (view x, drop (length front - length left) list)) (widened weight list front o) false h (ap (widened weight list front) is) ∙ ap (λ z. Ok (view x, z)) (sym at)
-  moved o (Err stop.Refused) left new is not h at = passed_if left (Err (At (drop (length front - length left) list))) (widened weight list front o) false h (ap (widened weight list front) is) ∙ ap (λ z. Err (At z)) (sym at)
-  moved o (Err stop.TooDeep) left new is not h at = passed_if left (Err (Over (drop (length front - length left) list))) (widened weight list front o) false h (ap (widened weight list front) is) ∙ ap (λ z. Err (Over z)) (sym at)
+  moved o (Ok x) left new is not h at = passed_if left (Ok (view x, drop (length front - length left) list))
+      (widened weight list front o) false h (ap (widened weight list front) is) ∙ ap (λ z. Ok (view x, z)) (sym at)
+  moved o (Err stop.Refused) left new is not h at = passed_if left (Err (At (drop (length front - length left) list)))
+      (widened weight list front o) false h (ap (widened weight list front) is) ∙ ap (λ z. Err (At z)) (sym at)
+  moved o (Err stop.TooDeep) left new is not h at = passed_if left (Err (Over (drop (length front - length left) list)))
+      (widened weight list front o) false h (ap (widened weight list front) is) ∙ ap (λ z. Err (Over z)) (sym at)
   moved o (Err stop.Memory) left new is not h at = cc
   moved o (Err stop.Spent) left new is not h at = cc
 
-  over_all : (o : Outcome B) (answer : Result T Stop) (left : List Token) → ReadsAs view o answer left → is_final answer ≡ false → passed weight front (length left) ≡ true → widened weight list front o ≡ over
+  over_all : (o : Outcome B) (answer : Result T Stop) (left : List Token) → ReadsAs view o answer left → is_final answer ≡ false
+      → passed weight front (length left) ≡ true → widened weight list front o ≡ over
   over_all o (Ok x) left is not h = passed_if left (Ok (view x, drop (length front - length left) list)) (widened weight list front o) true h (ap (widened weight list front) is)
   over_all o (Err stop.Refused) left is not h = passed_if left (Err (At (drop (length front - length left) list))) (widened weight list front o) true h (ap (widened weight list front) is)
   over_all o (Err stop.TooDeep) left is not h = passed_if left (Err (Over (drop (length front - length left) list))) (widened weight list front o) true h (ap (widened weight list front) is)
@@ -48,8 +54,10 @@ module _ {T B : Type 0} (view : T → B) (weight : ℕ) (list front : List Token
   widens_reads o answer left new _ is (moves not kept at) = moved o answer left new is not kept at
 
 -- where each answer of the function value is what a parser reads
-pub front_reads : {T B : Type 0} (view : T → B) (weight : ℕ) (p : ℕ → Parser B) (post : MutBor (List Token) → ℕ → Result T Stop → MutBor (List Token) → Type 0) (list : List Token) (result : Result T Stop) (new : List Token) (out : Outcome B)
-    → within weight p list ≡ out → ((before after : MutBor (List Token)) (n : ℕ) (r : Result T Stop) → post before n r after → ReadsAs view (p n before.now) r after.now) → ByFront weight post list result new
+pub front_reads : {T B : Type 0} (view : T → B) (weight : ℕ) (p : ℕ → Parser B) (post : MutBor (List Token) → ℕ → Result T Stop
+    → MutBor (List Token) → Type 0) (list : List Token) (result : Result T Stop) (new : List Token) (out : Outcome B)
+    → within weight p list ≡ out → ((before after : MutBor (List Token)) (n : ℕ) (r : Result T Stop) → post before n r after
+    → ReadsAs view (p n before.now) r after.now) → ByFront weight post list result new
     → ReadsAs view out result new
 front_reads view weight p post list result new out same reads made =
     let there : ReadsAs view (p (suc (length made.before.now)) made.before.now) made.answer made.after.now =

@@ -23,7 +23,10 @@ use Rattle.ti_syntax.specs.Spelling.Expressions as grammar
 use Rattle.ti_parse_expr.specs.Mirrors.Input.{At, Outcome, place, Parser, and_then, kind, next, sees, spells, expect, take_token, any_name, named_by}
 use Rattle.ti_parse_expr.specs.Mirrors.Types.{base as type_base, grid, grids}
 use Rattle.ti_parse_expr.specs.Mirrors.Exprs as spec
-use Rattle.ti_parse_expr.specs.Mirrors.Exprs.{Operand, begins_type, is_dim, more_args, args, more_parts, parts_from, parts, range_from, more_ranges, ranges_from, bracket, process_name, process, named, member, index, postfix, group, operand, operation, climb, cast, cast_from, cast_from_grid, group_from, paren_name_bracket, paren_name, paren, unary, prefix, level, expr}
+use Rattle.ti_parse_expr.specs.Mirrors.Exprs.{Operand, begins_type, is_dim, more_args, args, more_parts, parts_from, parts, range_from}
+use Rattle.ti_parse_expr.specs.Mirrors.Exprs.{more_ranges, ranges_from, bracket, process_name, process, named, member, index, postfix}
+use Rattle.ti_parse_expr.specs.Mirrors.Exprs.{group, operand, operation, climb, cast, cast_from, cast_from_grid, group_from}
+use Rattle.ti_parse_expr.specs.Mirrors.Exprs.{paren_name_bracket, paren_name, paren, unary, prefix, level, expr}
 use Rattle.ti_parse_expr.proofs.Law.{Says}
 use Rattle.ti_parse_expr.proofs.Phrases.{bound, binds, binds_small, strength_small, prefixed_some, whole_some}
 use Rattle.ti_parse_expr.proofs.Sound.{Below, expr_says}
@@ -34,12 +37,14 @@ use Rattle.ti_parse_expr.proofs.Fronts.{begins, front_whole, not_type, not_dim, 
 module _ (turns : ℕ) (expr : ℕ → Parser Exp)
     (expr_reads : (n : ℕ) (l r : List Token) (x : Exp) → 1 ≤ n → n ≤ 11 → Whole n l x → Stops n l r → length (l ++ r) < turns → expr n (l ++ r) ≡ Ok (x, r)) where
   -- an expression before a token that can't go on with it
-  inner_reads : {l : List Token} {x : Exp} → Whole 1 l x → (q : TokenKind) → IsCloser q → (c : Token) → c.kind ≡ q → (r : List Token) → length (l ++ c ∷ r) < turns → expr 1 (l ++ c ∷ r) ≡ Ok (x, c ∷ r)
+  inner_reads : {l : List Token} {x : Exp} → Whole 1 l x → (q : TokenKind) → IsCloser q → (c : Token) → c.kind ≡ q → (r : List Token)
+      → length (l ++ c ∷ r) < turns → expr 1 (l ++ c ∷ r) ≡ Ok (x, c ∷ r)
   inner_reads {l = l} {x = x} s q closes c h r lt = expr_reads 1 l (c ∷ r) x (omega arith) (omega arith) s (closer_stops q c r 1 l closes (omega arith) h) lt
 
   -- ---- arguments
 
-  more_args_read : {l : List Token} {xs : List Exp} → Listed l xs → (m : ℕ) (found : List Exp) (c : Token) (r : List Token) → c.kind ≡ k.RightParen → length (l ++ c ∷ r) ≤ m → length (l ++ c ∷ r) < turns
+  more_args_read : {l : List Token} {xs : List Exp} → Listed l xs → (m : ℕ) (found : List Exp) (c : Token) (r : List Token) → c.kind
+      ≡ k.RightParen → length (l ++ c ∷ r) ≤ m → length (l ++ c ∷ r) < turns
       → more_args turns expr m found (l ++ c ∷ r) ≡ Ok (found ++ xs, c ∷ r)
   unfolding more_args
   more_args_read (grammar.last {l = l} s) zero found c r h le lt = absurd (omega (arith, length-append l (c ∷ r)))
@@ -64,8 +69,11 @@ module _ (turns : ℕ) (expr : ℕ → Parser Exp)
       ∙ then_ok _ (more_args_read s turns [] c r h (omega arith) lt)
       ∙ then_ok (λ _ j. Ok (xs, j)) (expect_reads k.RightParen c r refl h)
 
-  call_reads : {l : List Token} {xs : List Exp} → Args l xs → (o c : Token) → o.kind ≡ k.LeftParen → c.kind ≡ k.RightParen → (make : List Exp → Operand) (other : Parser Operand) (r : List Token) → length (l ++ c ∷ r) < turns
-      → if◌then◌else◌ {A = Parser Operand} (sees k.LeftParen (o ∷ (l ++ c ∷ r))) (λ i. and_then (take_token i) (λ _ i. and_then (args turns expr i) (λ xs j. Ok (make xs, j)))) other (o ∷ (l ++ c ∷ r)) ≡ Ok (make xs, r)
+  call_reads : {l : List Token} {xs : List Exp} → Args l xs → (o c : Token) → o.kind ≡ k.LeftParen → c.kind ≡ k.RightParen
+      → (make : List Exp → Operand) (other : Parser Operand) (r : List Token) → length (l ++ c ∷ r) < turns
+      → if◌then◌else◌ {A = Parser Operand} (sees k.LeftParen (o ∷ (l ++ c ∷ r)))
+      (λ i. and_then (take_token i) (λ _ i. and_then (args turns expr i) (λ xs j. Ok (make xs, j)))) other (o ∷ (l ++ c ∷ r))
+      ≡ Ok (make xs, r)
   call_reads s o c h h2 make other r lt =
       test_reads (same_kind o.kind k.LeftParen) true _ _ (o ∷ (_ ++ c ∷ r)) (ap (λ q. same_kind q k.LeftParen) h) ∙ then_ok (λ xs j. Ok (make xs, j)) (args_read s c h2 r lt)
 
@@ -76,15 +84,18 @@ module _ (turns : ℕ) (expr : ℕ → Parser Exp)
   more_parts_stop zero found c r h = refl
   more_parts_stop (suc n) found c r h = test_reads (same_kind c.kind k.Comma) false _ _ (c ∷ r) (ap (λ q. same_kind q k.Comma) h)
 
-  more_parts_turn : (n : ℕ) (found : List Exp) (t : Token) (ts : List Token) → t.kind ≡ k.Comma → more_parts turns expr (suc n) found (t ∷ ts) ≡ and_then (expr 1 ts) (λ x. more_parts turns expr n (found ++ x ∷ []))
+  more_parts_turn : (n : ℕ) (found : List Exp) (t : Token) (ts : List Token) → t.kind ≡ k.Comma
+      → more_parts turns expr (suc n) found (t ∷ ts) ≡ and_then (expr 1 ts) (λ x. more_parts turns expr n (found ++ x ∷ []))
   unfolding more_parts
   more_parts_turn n found t ts h = test_reads (same_kind t.kind k.Comma) true _ _ (t ∷ ts) (ap (λ q. same_kind q k.Comma) h)
 
-  more_parts_read : {l : List Token} {xs : List Exp} → Listed l xs → (n : ℕ) (found : List Exp) (t c : Token) (r : List Token) → t.kind ≡ k.Comma → c.kind ≡ k.RightBracket → length xs ≤ n → length (l ++ c ∷ r) < turns
+  more_parts_read : {l : List Token} {xs : List Exp} → Listed l xs → (n : ℕ) (found : List Exp) (t c : Token) (r : List Token) → t.kind
+      ≡ k.Comma → c.kind ≡ k.RightBracket → length xs ≤ n → length (l ++ c ∷ r) < turns
       → more_parts turns expr n found (t ∷ (l ++ c ∷ r)) ≡ Ok (found ++ xs, c ∷ r)
   more_parts_read (grammar.last s) zero found t c r ht h few lt = absurd (omega (arith, few))
   more_parts_read (grammar.last {l = l} {x = x} s) (suc n) found t c r ht h few lt =
-      more_parts_turn n found t (l ++ c ∷ r) ht ∙ then_ok (λ x. more_parts turns expr n (found ++ x ∷ [])) (inner_reads s k.RightBracket bracket_closes c h r lt) ∙ more_parts_stop n (found ++ x ∷ []) c r h
+      more_parts_turn n found t (l ++ c ∷ r) ht ∙ then_ok (λ x. more_parts turns expr n (found ++ x ∷ []))
+      (inner_reads s k.RightBracket bracket_closes c h r lt) ∙ more_parts_stop n (found ++ x ∷ []) c r h
   more_parts_read (grammar.more u s h2 q) zero found t c r ht h few lt = absurd (omega (arith, few))
   more_parts_read (grammar.more {l = l} {m = m} u {x = x} {xs = xs} s h2 q) (suc n) found t c r ht h few lt =
       let same = append_assoc l (u ∷ m) (c ∷ r) in
@@ -96,7 +107,8 @@ module _ (turns : ℕ) (expr : ℕ → Parser Exp)
       ∙ more_parts_read q n (found ++ x ∷ []) u c r h2 h (omega (arith, few)) (omega (arith, len, n2))
       ∙ ap (λ z. Ok (z, c ∷ r)) (append_assoc found (x ∷ []) xs)
 
-  parts_from_turn : (first : Exp) (i : List Token) (xs : List Exp) (c : Token) (r : List Token) → c.kind ≡ k.RightBracket → more_parts turns expr 2 (first ∷ []) i ≡ Ok (xs, c ∷ r) → parts_from turns expr first i ≡ Ok (xs, r)
+  parts_from_turn : (first : Exp) (i : List Token) (xs : List Exp) (c : Token) (r : List Token) → c.kind ≡ k.RightBracket
+      → more_parts turns expr 2 (first ∷ []) i ≡ Ok (xs, c ∷ r) → parts_from turns expr first i ≡ Ok (xs, r)
   unfolding parts_from
   parts_from_turn first i xs c r h is = then_ok _ is ∙ then_ok (λ _ j. Ok (xs, j)) (expect_reads k.RightBracket c r refl h)
 
@@ -116,14 +128,17 @@ module _ (turns : ℕ) (expr : ℕ → Parser Exp)
         parts_from_turn x (t ∷ (m ++ c ∷ r)) (x ∷ xs) c r h (more_parts_read q 2 (x ∷ []) t c r h2 h (omega (arith, few)) (omega (arith, len, n2))),
       )
 
-  parts_read : {l : List Token} {xs : List Exp} → Listed l xs → length xs ≤ 3 → (c : Token) (r : List Token) → c.kind ≡ k.RightBracket → length (l ++ c ∷ r) < turns → parts turns expr (l ++ c ∷ r) ≡ Ok (xs, r)
+  parts_read : {l : List Token} {xs : List Exp} → Listed l xs → length xs ≤ 3 → (c : Token) (r : List Token) → c.kind ≡ k.RightBracket
+      → length (l ++ c ∷ r) < turns → parts turns expr (l ++ c ∷ r) ≡ Ok (xs, r)
   unfolding parts
   parts_read s few c r h lt = let (first, rest, is, no_colon, goes_on) = listed_split s few c r h lt in then_ok (parts_from turns expr) is ∙ goes_on
 
   -- ---- ranges
 
   after_high_reads : (low high : Exp) (d : Token) (r : List Token) → same_kind d.kind k.Colon ≡ false
-      → if◌then◌else◌ {A = Parser RangeTree} (sees k.Colon (d ∷ r)) (λ i. and_then (take_token i) (λ _ i. and_then (expr 1 i) (λ step j. Ok (e.Stepped low high step, j)))) (λ i. Ok (e.Plain low high, i)) (d ∷ r) ≡ Ok (e.Plain low high, d ∷ r)
+      → if◌then◌else◌ {A = Parser RangeTree} (sees k.Colon (d ∷ r))
+      (λ i. and_then (take_token i) (λ _ i. and_then (expr 1 i) (λ step j. Ok (e.Stepped low high step, j))))
+      (λ i. Ok (e.Plain low high, i)) (d ∷ r) ≡ Ok (e.Plain low high, d ∷ r)
   after_high_reads low high d r h = test_reads (same_kind d.kind k.Colon) false _ _ (d ∷ r) h
 
   -- the lower bound, and what is left behind it
@@ -154,7 +169,9 @@ module _ (turns : ℕ) (expr : ℕ → Parser Exp)
         ap (expr 1) same ∙ inner_reads a k.Colon colon_closes s hs ((m ++ t ∷ v) ++ d ∷ r) (omega (arith, len)),
         ap (λ q. same_kind q k.Colon) hs,
         then_ok _ (expect_reads k.Colon s ((m ++ t ∷ v) ++ d ∷ r) refl hs)
-            ∙ then_ok (λ high i. if◌then◌else◌ {A = Parser RangeTree} (sees k.Colon i) (λ i. and_then (take_token i) (λ _ i. and_then (expr 1 i) (λ step j. Ok (e.Stepped low high step, j)))) (λ i. Ok (e.Plain low high, i)) i)
+            ∙ then_ok (λ high i. if◌then◌else◌ {A = Parser RangeTree} (sees k.Colon i)
+            (λ i. and_then (take_token i) (λ _ i. and_then (expr 1 i) (λ step j. Ok (e.Stepped low high step, j))))
+            (λ i. Ok (e.Plain low high, i)) i)
             (ap (expr 1) e2 ∙ inner_reads b2 k.Colon colon_closes t ht (v ++ d ∷ r) (omega (arith, len, len2, n2)))
             ∙ test_reads (same_kind t.kind k.Colon) true _ _ (t ∷ (v ++ d ∷ r)) (ap (λ q. same_kind q k.Colon) ht)
             ∙ then_ok (λ step j. Ok (e.Stepped low high step, j)) (inner_reads c2 q closes d hd r (omega (arith, len, len2, n2, n3))),
@@ -165,7 +182,8 @@ module _ (turns : ℕ) (expr : ℕ → Parser Exp)
   more_ranges_stop zero found c r h = refl
   more_ranges_stop (suc n) found c r h = test_reads (same_kind c.kind k.Comma) false _ _ (c ∷ r) (ap (λ q. same_kind q k.Comma) h)
 
-  more_ranges_turn : (n : ℕ) (found : List RangeTree) (t : Token) (ts s r : List Token) (low : Exp) (x : RangeTree) → t.kind ≡ k.Comma → expr 1 ts ≡ Ok (low, s) → range_from turns expr low s ≡ Ok (x, r)
+  more_ranges_turn : (n : ℕ) (found : List RangeTree) (t : Token) (ts s r : List Token) (low : Exp) (x : RangeTree) → t.kind ≡ k.Comma
+      → expr 1 ts ≡ Ok (low, s) → range_from turns expr low s ≡ Ok (x, r)
       → more_ranges turns expr (suc n) found (t ∷ ts) ≡ more_ranges turns expr n (found ++ x ∷ []) r
   unfolding more_ranges
   more_ranges_turn n found t ts s r low x h is goes_on =
@@ -173,7 +191,8 @@ module _ (turns : ℕ) (expr : ℕ → Parser Exp)
       ∙ then_ok (λ low i. and_then (range_from turns expr low i) (λ x. more_ranges turns expr n (found ++ x ∷ []))) is
       ∙ then_ok (λ x. more_ranges turns expr n (found ++ x ∷ [])) goes_on
 
-  more_ranges_read : {l : List Token} {rs : List RangeTree} → Ranges l rs → (n : ℕ) (found : List RangeTree) (t c : Token) (r : List Token) → t.kind ≡ k.Comma → c.kind ≡ k.RightBracket → length rs ≤ n → length (l ++ c ∷ r) < turns
+  more_ranges_read : {l : List Token} {rs : List RangeTree} → Ranges l rs → (n : ℕ) (found : List RangeTree) (t c : Token) (r : List Token)
+      → t.kind ≡ k.Comma → c.kind ≡ k.RightBracket → length rs ≤ n → length (l ++ c ∷ r) < turns
       → more_ranges turns expr n found (t ∷ (l ++ c ∷ r)) ≡ Ok (found ++ rs, c ∷ r)
   more_ranges_read (grammar.last_range s) zero found t c r ht h few lt = absurd (omega (arith, few))
   more_ranges_read (grammar.last_range {l = l} {r = x} s) (suc n) found t c r ht h few lt =
@@ -214,13 +233,15 @@ module _ (turns : ℕ) (expr : ℕ → Parser Exp)
 
   -- ---- literals in brackets
 
-  point_reads : {l : List Token} {xs : List Exp} → Listed l xs → length xs ≤ 3 → (at : Place) (c : Token) (r : List Token) → c.kind ≡ k.RightBracket → length (l ++ c ∷ r) < turns → bracket turns expr at (l ++ c ∷ r) ≡ Ok (e.point at xs, r)
+  point_reads : {l : List Token} {xs : List Exp} → Listed l xs → length xs ≤ 3 → (at : Place) (c : Token) (r : List Token) → c.kind
+      ≡ k.RightBracket → length (l ++ c ∷ r) < turns → bracket turns expr at (l ++ c ∷ r) ≡ Ok (e.point at xs, r)
   unfolding bracket
   point_reads {xs = xs} s few at c r h lt =
       let (first, rest, is, no_colon, goes_on) = listed_split s few c r h lt in
       then_ok _ is ∙ test_reads (sees k.Colon rest) false _ _ rest no_colon ∙ then_ok (λ xs j. Ok (e.point at xs, j)) goes_on
 
-  rect_reads : {l : List Token} {rs : List RangeTree} → Ranges l rs → length rs ≤ 3 → (at : Place) (c : Token) (r : List Token) → c.kind ≡ k.RightBracket → length (l ++ c ∷ r) < turns → bracket turns expr at (l ++ c ∷ r) ≡ Ok (e.rect at rs, r)
+  rect_reads : {l : List Token} {rs : List RangeTree} → Ranges l rs → length rs ≤ 3 → (at : Place) (c : Token) (r : List Token) → c.kind
+      ≡ k.RightBracket → length (l ++ c ∷ r) < turns → bracket turns expr at (l ++ c ∷ r) ≡ Ok (e.rect at rs, r)
   unfolding bracket
   rect_reads {rs = rs} s few at c r h lt =
       let (low, rest, is, colon, goes_on) = ranges_split s few c r h lt in
@@ -240,11 +261,13 @@ module _ (turns : ℕ) (expr : ℕ → Parser Exp)
   name_reads : (t : Token) (name : List ℕ) (r : List Token) → t.kind ≡ k.Name name → any_name (t ∷ r) ≡ Ok (name, r)
   name_reads t name r h = ap (λ q. named_by q (t ∷ r)) h
 
-  member_select : (left : Exp) (t : Token) (name : List ℕ) (r : List Token) → t.kind ≡ k.Name name → sees k.LeftParen r ≡ false → member turns expr left (t ∷ r) ≡ Ok ((e.Select t.place left name, Target), r)
+  member_select : (left : Exp) (t : Token) (name : List ℕ) (r : List Token) → t.kind ≡ k.Name name → sees k.LeftParen r ≡ false
+      → member turns expr left (t ∷ r) ≡ Ok ((e.Select t.place left name, Target), r)
   unfolding member
   member_select left t name r h free = then_ok _ (name_reads t name r h) ∙ test_reads (sees k.LeftParen r) false _ _ r free
 
-  member_call : {l : List Token} {xs : List Exp} → Args l xs → (left : Exp) (t o c : Token) (name : List ℕ) (r : List Token) → t.kind ≡ k.Name name → o.kind ≡ k.LeftParen → c.kind ≡ k.RightParen → length (l ++ c ∷ r) < turns
+  member_call : {l : List Token} {xs : List Exp} → Args l xs → (left : Exp) (t o c : Token) (name : List ℕ) (r : List Token) → t.kind
+      ≡ k.Name name → o.kind ≡ k.LeftParen → c.kind ≡ k.RightParen → length (l ++ c ∷ r) < turns
       → member turns expr left (t ∷ o ∷ (l ++ c ∷ r)) ≡ Ok ((e.member t.place left name xs, Call), r)
   unfolding member
   member_call s left t o c name r h h2 h3 lt = then_ok _ (name_reads t name _ h) ∙ call_reads s o c h2 h3 (λ xs. (e.member t.place left name xs, Call)) _ r lt
@@ -256,7 +279,8 @@ module _ (turns : ℕ) (expr : ℕ → Parser Exp)
 
   -- ---- what stands behind an operand
 
-  postfix_turn : (m : ℕ) (left : Operand) (t : Token) (ts : List Token) (q : TokenKind) → t.kind ≡ q → postfix turns expr (suc m) left (t ∷ ts) ≡ spec.postfix_by turns expr (postfix turns expr m) left q (t ∷ ts)
+  postfix_turn : (m : ℕ) (left : Operand) (t : Token) (ts : List Token) (q : TokenKind) → t.kind ≡ q
+      → postfix turns expr (suc m) left (t ∷ ts) ≡ spec.postfix_by turns expr (postfix turns expr m) left q (t ∷ ts)
   unfolding postfix
   postfix_turn m left t ts q h = ap (λ z. spec.postfix_by turns expr (postfix turns expr m) left z (t ∷ ts)) h
 
@@ -270,7 +294,8 @@ module _ (turns : ℕ) (expr : ℕ → Parser Exp)
   postfix_stops zero left r h some = absurd (omega arith)
   postfix_stops (suc m) left r h some = postfix_stops_by (postfix turns expr m) left r (kind r) h
 
-  postfix_dot : (m : ℕ) (left x : Operand) (d : Token) (ts r : List Token) → d.kind ≡ k.Dot → member turns expr left.0 ts ≡ Ok (x, r) → postfix turns expr (suc m) left (d ∷ ts) ≡ postfix turns expr m x r
+  postfix_dot : (m : ℕ) (left x : Operand) (d : Token) (ts r : List Token) → d.kind ≡ k.Dot → member turns expr left.0 ts ≡ Ok (x, r)
+      → postfix turns expr (suc m) left (d ∷ ts) ≡ postfix turns expr m x r
   postfix_dot m left x d ts r h is = postfix_turn m left d ts k.Dot h ∙ then_ok (postfix turns expr m) is
 
   postfix_bracket : (m : ℕ) (left x : Operand) (d : Token) (ts r : List Token) → d.kind ≡ k.LeftBracket → index turns expr d.place left.0 ts ≡ Ok (x, r)
@@ -279,7 +304,8 @@ module _ (turns : ℕ) (expr : ℕ → Parser Exp)
 
   -- more turns change nothing
   postfix_more_by : (m m2 : ℕ) (rec : (left x : Operand) (i r : List Token) → postfix turns expr m left i ≡ Ok (x, r) → postfix turns expr m2 left i ≡ Ok (x, r))
-      → (left x : Operand) (i r : List Token) (q : TokenKind) → spec.postfix_by turns expr (postfix turns expr m) left q i ≡ Ok (x, r) → spec.postfix_by turns expr (postfix turns expr m2) left q i ≡ Ok (x, r)
+      → (left x : Operand) (i r : List Token) (q : TokenKind) → spec.postfix_by turns expr (postfix turns expr m) left q i ≡ Ok (x, r)
+      → spec.postfix_by turns expr (postfix turns expr m2) left q i ≡ Ok (x, r)
   postfix_more_by m m2 rec left x i r k.Dot h =
       let (y, s, is, goes_on) = first_of_two (member turns expr left.0 (next i)) (postfix turns expr m) x r h in
       then_ok (postfix turns expr m2) is ∙ rec y x s r goes_on
@@ -350,7 +376,8 @@ module _ (turns : ℕ) (expr : ℕ → Parser Exp)
         prefix = ap (prefix turns expr) (sym list) ∙ prefix_turn t ts q h ∙ prefix_leads q (t ∷ ts) lead ∙ ap dropped reads;
       }
 
-  after_dot : (a : List Token) (left x : Operand) (d : Token) (ts r : List Token) → d.kind ≡ k.Dot → member turns expr left.0 (ts ++ r) ≡ Ok (x, r) → PostfixLeft a left (d ∷ (ts ++ r)) → PostfixLeft (a ++ d ∷ ts) x r
+  after_dot : (a : List Token) (left x : Operand) (d : Token) (ts r : List Token) → d.kind ≡ k.Dot → member turns expr left.0 (ts ++ r)
+      ≡ Ok (x, r) → PostfixLeft a left (d ∷ (ts ++ r)) → PostfixLeft (a ++ d ∷ ts) x r
   after_dot a left x d ts r h is s = go s.left s.enough s.operand s.prefix
     where
       go : (m : ℕ) → length (d ∷ (ts ++ r)) < m → operand turns expr (a ++ d ∷ (ts ++ r)) ≡ postfix turns expr m left (d ∷ (ts ++ r))
@@ -363,7 +390,8 @@ module _ (turns : ℕ) (expr : ℕ → Parser Exp)
         prefix = ap (prefix turns expr) (append_assoc a (d ∷ ts) r) ∙ p ∙ ap dropped (postfix_dot m left x d (ts ++ r) r h is);
       }
 
-  after_bracket : (a : List Token) (left x : Operand) (d : Token) (ts r : List Token) → d.kind ≡ k.LeftBracket → index turns expr d.place left.0 (ts ++ r) ≡ Ok (x, r) → PostfixLeft a left (d ∷ (ts ++ r)) → PostfixLeft (a ++ d ∷ ts) x r
+  after_bracket : (a : List Token) (left x : Operand) (d : Token) (ts r : List Token) → d.kind ≡ k.LeftBracket
+      → index turns expr d.place left.0 (ts ++ r) ≡ Ok (x, r) → PostfixLeft a left (d ∷ (ts ++ r)) → PostfixLeft (a ++ d ∷ ts) x r
   after_bracket a left x d ts r h is s = go s.left s.enough s.operand s.prefix
     where
       go : (m : ℕ) → length (d ∷ (ts ++ r)) < m → operand turns expr (a ++ d ∷ (ts ++ r)) ≡ postfix turns expr m left (d ∷ (ts ++ r))
@@ -378,17 +406,24 @@ module _ (turns : ℕ) (expr : ℕ → Parser Exp)
 
   -- ---- `Ti.thisProc()` and `Ti.numProcs()`
 
-  process_reads : (at : Place) (d n o c : Token) (r : List Token) (is_this : Bool) → d.kind ≡ k.Dot → n.kind ≡ (if is_this then k.Name (codes "thisProc") else k.Name (codes "numProcs")) → o.kind ≡ k.LeftParen → c.kind ≡ k.RightParen
+  process_reads : (at : Place) (d n o c : Token) (r : List Token) (is_this : Bool) → d.kind ≡ k.Dot → n.kind
+      ≡ (if is_this then k.Name (codes "thisProc") else k.Name (codes "numProcs")) → o.kind ≡ k.LeftParen → c.kind ≡ k.RightParen
       → process at (d ∷ n ∷ o ∷ c ∷ r) ≡ Ok (if is_this then e.ThisProc at else e.NumProcs at, r)
   unfolding process process_name
   process_reads at d n o c r true hd hn ho hc =
       then_ok _ (expect_reads k.Dot d (n ∷ o ∷ c ∷ r) refl hd)
-      ∙ ap (λ q. and_then (if◌then◌else◌ {A = Parser Bool} (spells (codes "thisProc") q) (λ i. Ok (true, next i)) (if◌then◌else◌ {A = Parser Bool} (spells (codes "numProcs") q) (λ i. Ok (false, next i)) (λ i. Err (At i))) (n ∷ o ∷ c ∷ r)) (λ is_this i. and_then (expect k.LeftParen i) (λ _ i. and_then (expect k.RightParen i) (λ _ j. Ok (if is_this then e.ThisProc at else e.NumProcs at, j))))) hn
+      ∙ ap (λ q. and_then (if◌then◌else◌ {A = Parser Bool} (spells (codes "thisProc") q) (λ i. Ok (true, next i))
+      (if◌then◌else◌ {A = Parser Bool} (spells (codes "numProcs") q) (λ i. Ok (false, next i)) (λ i. Err (At i))) (n ∷ o ∷ c ∷ r))
+      (λ is_this i. and_then (expect k.LeftParen i) (λ _ i. and_then (expect k.RightParen i)
+      (λ _ j. Ok (if is_this then e.ThisProc at else e.NumProcs at, j))))) hn
       ∙ then_ok _ (expect_reads k.LeftParen o (c ∷ r) refl ho)
       ∙ then_ok _ (expect_reads k.RightParen c r refl hc)
   process_reads at d n o c r false hd hn ho hc =
       then_ok _ (expect_reads k.Dot d (n ∷ o ∷ c ∷ r) refl hd)
-      ∙ ap (λ q. and_then (if◌then◌else◌ {A = Parser Bool} (spells (codes "thisProc") q) (λ i. Ok (true, next i)) (if◌then◌else◌ {A = Parser Bool} (spells (codes "numProcs") q) (λ i. Ok (false, next i)) (λ i. Err (At i))) (n ∷ o ∷ c ∷ r)) (λ is_this i. and_then (expect k.LeftParen i) (λ _ i. and_then (expect k.RightParen i) (λ _ j. Ok (if is_this then e.ThisProc at else e.NumProcs at, j))))) hn
+      ∙ ap (λ q. and_then (if◌then◌else◌ {A = Parser Bool} (spells (codes "thisProc") q) (λ i. Ok (true, next i))
+      (if◌then◌else◌ {A = Parser Bool} (spells (codes "numProcs") q) (λ i. Ok (false, next i)) (λ i. Err (At i))) (n ∷ o ∷ c ∷ r))
+      (λ is_this i. and_then (expect k.LeftParen i) (λ _ i. and_then (expect k.RightParen i)
+      (λ _ j. Ok (if is_this then e.ThisProc at else e.NumProcs at, j))))) hn
       ∙ then_ok _ (expect_reads k.LeftParen o (c ∷ r) refl ho)
       ∙ then_ok _ (expect_reads k.RightParen c r refl hc)
 
@@ -409,7 +444,8 @@ module _ (turns : ℕ) (expr : ℕ → Parser Exp)
   operation_reads {b = b} {y = y} t op left r s stops lt =
       then_ok (λ right j. Ok (e.Binary t.place op left right, j)) (expr_reads (strength op + 1) b r y (omega arith) (omega (arith, strength_small op)) s stops lt)
 
-  climb_turn : {b : List Token} {y : Exp} (least m : ℕ) (t : Token) (op : BinaryOperator) (left : Exp) (r : List Token) → infix_of t.kind ≡ Some op → least ≤ strength op → Whole (strength op + 1) b y → Stops (strength op + 1) b r → length (b ++ r) < turns
+  climb_turn : {b : List Token} {y : Exp} (least m : ℕ) (t : Token) (op : BinaryOperator) (left : Exp) (r : List Token) → infix_of t.kind
+      ≡ Some op → least ≤ strength op → Whole (strength op + 1) b y → Stops (strength op + 1) b r → length (b ++ r) < turns
       → climb turns expr least (suc m) left (t ∷ (b ++ r)) ≡ climb turns expr least m (e.Binary t.place op left y) r
   unfolding climb
   climb_turn {b = b} least m t op left r is above s stops lt =
@@ -433,7 +469,8 @@ module _ (turns : ℕ) (expr : ℕ → Parser Exp)
       other : (z : Option UnaryOperator) → z ≡ Some op → spec.unary_or turns expr z i ≡ unary turns expr op i
       other z h = ap (λ z. spec.unary_or turns expr z i) h
 
-  unary_reads : (op : UnaryOperator) (t : Token) (l r : List Token) (x : Exp) → Prefixed l x → goes (kind r) ≡ false → NoCall l r → length (l ++ r) < turns → unary turns expr op (t ∷ (l ++ r)) ≡ Ok (e.Unary t.place op x, r)
+  unary_reads : (op : UnaryOperator) (t : Token) (l r : List Token) (x : Exp) → Prefixed l x → goes (kind r) ≡ false → NoCall l r
+      → length (l ++ r) < turns → unary turns expr op (t ∷ (l ++ r)) ≡ Ok (e.Unary t.place op x, r)
   unfolding unary
   unary_reads op t l r x s free call lt = then_ok (λ x j. Ok (e.Unary t.place op x, j)) (expr_reads 11 l r x (omega arith) (omega arith) (grammar.operand s) (small_stops l r free call) lt)
 
@@ -443,7 +480,8 @@ module _ (turns : ℕ) (expr : ℕ → Parser Exp)
       → cast turns expr at ty (c ∷ (l ++ r)) ≡ Ok (e.Cast at ty x, r)
   unfolding cast
   cast_reads at ty c l r x hc s free call lt =
-      then_ok _ (expect_reads k.RightParen c (l ++ r) refl hc) ∙ then_ok (λ x j. Ok (e.Cast at ty x, j)) (expr_reads 11 l r x (omega arith) (omega arith) (grammar.operand s) (small_stops l r free call) lt)
+      then_ok _ (expect_reads k.RightParen c (l ++ r) refl hc) ∙ then_ok (λ x j. Ok (e.Cast at ty x, j))
+      (expr_reads 11 l r x (omega arith) (omega arith) (grammar.operand s) (small_stops l r free call) lt)
 
   paren_turn : (at : Place) (i : List Token) (q : TokenKind) → kind i ≡ q → paren turns expr at i ≡ spec.paren_by turns expr at q i
   unfolding paren
@@ -457,7 +495,8 @@ module _ (turns : ℕ) (expr : ℕ → Parser Exp)
   paren_type at i k.KeywordRectDomain h is = paren_turn at i k.KeywordRectDomain h
   paren_type at i _ h is = cc
 
-  cast_from_reads : {l m : List Token} {qs : List Qualifier} {gs : List GridTree} → Qualified l qs → Gridded m gs → length gs ≤ 3 → (at : Place) (begin : Base) (i : List Token) → EndsType i → length (l ++ m) < turns
+  cast_from_reads : {l m : List Token} {qs : List Qualifier} {gs : List GridTree} → Qualified l qs → Gridded m gs → length gs ≤ 3
+      → (at : Place) (begin : Base) (i : List Token) → EndsType i → length (l ++ m) < turns
       → cast_from turns expr at begin ((l ++ m) ++ i) ≡ cast turns expr at (record { base = begin; qualifiers = qs; grids = gs }) i
   unfolding cast_from
   cast_from_reads s g few at begin i ends lt = then_ok (cast turns expr at) (field_type_reads s g few turns begin i ends lt)
@@ -473,19 +512,25 @@ module _ (turns : ℕ) (expr : ℕ → Parser Exp)
   paren_name_qualified at name_at name i _ word h = cc
 
   -- a cast whose type is a name and grids
-  grid_cast_reads : {l m : List Token} {qs : List Qualifier} {gs : List GridTree} → Qualified l qs → Gridded m gs → length gs ≤ 2 → (at name_at : Place) (name : List ℕ) (o t c : Token) (n : ℕ) (i : List Token) → o.kind ≡ k.LeftBracket → t.kind ≡ k.Dim n
+  grid_cast_reads : {l m : List Token} {qs : List Qualifier} {gs : List GridTree} → Qualified l qs → Gridded m gs → length gs ≤ 2
+      → (at name_at : Place) (name : List ℕ) (o t c : Token) (n : ℕ) (i : List Token) → o.kind ≡ k.LeftBracket → t.kind ≡ k.Dim n
       → 1 ≤ n → n ≤ 3 → c.kind ≡ k.RightBracket → EndsType i → length (l ++ m) < turns
-      → paren_name_bracket turns expr at name_at name (o ∷ t ∷ c ∷ ((l ++ m) ++ i)) ≡ cast turns expr at (record { base = b.Named name_at name; qualifiers = []; grids = record { dim = n; qualifiers = qs } ∷ gs }) i
+      → paren_name_bracket turns expr at name_at name (o ∷ t ∷ c ∷ ((l ++ m) ++ i))
+      ≡ cast turns expr at (record { base = b.Named name_at name; qualifiers = []; grids = record { dim = n; qualifiers = qs } ∷ gs }) i
   unfolding paren_name_bracket cast_from_grid
   grid_cast_reads {l = l} {m = m} {qs = qs} {gs = gs} s g few at name_at name o t c n i ho ht low high hc ends lt =
       let one : GridTree = record { dim = n; qualifiers = qs } in
       let long = length-append l m in
       test_reads (is_dim t.kind) true _ _ (t ∷ c ∷ ((l ++ m) ++ i)) (ap is_dim ht)
-      ∙ ap (λ z. and_then (grid turns (t ∷ c ∷ z)) (λ g i. and_then (grids turns 2 (g ∷ []) i) (λ gs. cast turns expr at (record { base = b.Named name_at name; qualifiers = []; grids = gs })))) (append_assoc l m i)
-      ∙ then_ok (λ g i. and_then (grids turns 2 (g ∷ []) i) (λ gs. cast turns expr at (record { base = b.Named name_at name; qualifiers = []; grids = gs }))) (grid_reads s turns t c n (m ++ i) ht low high hc (gridded_front g i ends.qualifier) (omega arith))
+      ∙ ap (λ z. and_then (grid turns (t ∷ c ∷ z)) (λ g i. and_then (grids turns 2 (g ∷ []) i)
+      (λ gs. cast turns expr at (record { base = b.Named name_at name; qualifiers = []; grids = gs })))) (append_assoc l m i)
+      ∙ then_ok (λ g i. and_then (grids turns 2 (g ∷ []) i) (λ gs. cast turns expr at
+      (record { base = b.Named name_at name; qualifiers = []; grids = gs })))
+      (grid_reads s turns t c n (m ++ i) ht low high hc (gridded_front g i ends.qualifier) (omega arith))
       ∙ then_ok (λ gs. cast turns expr at (record { base = b.Named name_at name; qualifiers = []; grids = gs })) (grids_read g turns 2 (one ∷ []) i ends few (omega arith))
 
-  paren_name_reads_cast : {l m : List Token} {qs : List Qualifier} {gs : List GridTree} → Qualified l qs → Gridded m gs → length gs ≤ 3 → (at name_at : Place) (name : List ℕ) → is_name_alone (b.Named name_at name) qs gs ≡ false → (i : List Token) → EndsType i
+  paren_name_reads_cast : {l m : List Token} {qs : List Qualifier} {gs : List GridTree} → Qualified l qs → Gridded m gs → length gs ≤ 3
+      → (at name_at : Place) (name : List ℕ) → is_name_alone (b.Named name_at name) qs gs ≡ false → (i : List Token) → EndsType i
       → length (l ++ m) < turns → paren_name turns expr at name_at name ((l ++ m) ++ i) ≡ cast turns expr at (record { base = b.Named name_at name; qualifiers = qs; grids = gs }) i
   paren_name_reads_cast types.none types.none few at name_at name proper i ends lt = cc
   paren_name_reads_cast types.none (types.more {l = l} {m = m} {qs = qs} {gs = gs} o t c {n = n} ho ht low high hc s g) few at name_at name proper i ends lt =
@@ -495,14 +540,17 @@ module _ (turns : ℕ) (expr : ℕ → Parser Exp)
       ∙ paren_name_qualified at name_at name (t ∷ ((l ++ m) ++ i)) t.kind word is
       ∙ cast_from_reads (types.more t is s) g few at (b.Named name_at name) i ends lt
 
-  paren_reserved : {a l m : List Token} {begin : Base} {qs : List Qualifier} {gs : List GridTree} → Based a begin → Qualified l qs → Gridded m gs → length gs ≤ 3 → (at : Place) (i : List Token) → EndsType i → length (l ++ m) < turns
+  paren_reserved : {a l m : List Token} {begin : Base} {qs : List Qualifier} {gs : List GridTree} → Based a begin → Qualified l qs
+      → Gridded m gs → length gs ≤ 3 → (at : Place) (i : List Token) → EndsType i → length (l ++ m) < turns
       → begins_type (kind (a ++ ((l ++ m) ++ i))) ≡ true → paren turns expr at (a ++ ((l ++ m) ++ i)) ≡ cast turns expr at (record { base = begin; qualifiers = qs; grids = gs }) i
   paren_reserved {a = a} {l = l} {m = m} {begin = begin} s q g few at i ends lt reserved =
       paren_type at (a ++ ((l ++ m) ++ i)) (kind (a ++ ((l ++ m) ++ i))) refl reserved
       ∙ then_ok (cast_from turns expr at) (base_reads s ((l ++ m) ++ i))
       ∙ cast_from_reads q g few at begin i ends lt
 
-  paren_based : {a l m : List Token} {begin : Base} {qs : List Qualifier} {gs : List GridTree} → Based a begin → Qualified l qs → Gridded m gs → length gs ≤ 3 → is_name_alone begin qs gs ≡ false → (at : Place) (i : List Token) → EndsType i → length (l ++ m) < turns
+  paren_based : {a l m : List Token} {begin : Base} {qs : List Qualifier} {gs : List GridTree} → Based a begin → Qualified l qs
+      → Gridded m gs → length gs ≤ 3 → is_name_alone begin qs gs ≡ false → (at : Place) (i : List Token) → EndsType i
+      → length (l ++ m) < turns
       → paren turns expr at (a ++ ((l ++ m) ++ i)) ≡ cast turns expr at (record { base = begin; qualifiers = qs; grids = gs }) i
   paren_based (types.int t h) q g few proper at i ends lt = paren_reserved (types.int t h) q g few at i ends lt (ap begins_type h)
   paren_based (types.long t h) q g few proper at i ends lt = paren_reserved (types.long t h) q g few at i ends lt (ap begins_type h)
@@ -526,7 +574,8 @@ module _ (turns : ℕ) (expr : ℕ → Parser Exp)
   unfolding group
   group_reads i r c x h is = then_ok _ is ∙ then_ok (λ _. postfix turns expr turns (x, Other)) (expect_reads k.RightParen c r refl h)
 
-  group_from_reads : (first left : Operand) (i s r : List Token) (c : Token) (x : Exp) → c.kind ≡ k.RightParen → postfix turns expr turns first i ≡ Ok (left, s) → climb turns expr 1 turns left.0 s ≡ Ok (x, c ∷ r)
+  group_from_reads : (first left : Operand) (i s r : List Token) (c : Token) (x : Exp) → c.kind ≡ k.RightParen
+      → postfix turns expr turns first i ≡ Ok (left, s) → climb turns expr 1 turns left.0 s ≡ Ok (x, c ∷ r)
       → group_from turns expr first i ≡ dropped (postfix turns expr turns (x, Other) r)
   unfolding group_from
   group_from_reads first left i s r c x h is goes_on =
@@ -555,7 +604,8 @@ module _ (turns : ℕ) (expr : ℕ → Parser Exp)
       let below : binds (kind ts) < 1 = omega arith in
       then_ok _ (named_alone at name ts call) ∙ then_ok _ (postfix_stops turns (e.Name at name, Target) ts free some) ∙ climb_stops 1 turns (e.Name at name) ts below some
 
-  no_qualifier : (at : Place) (name : List ℕ) (ts r : List Token) (c : Token) (x : Exp) → c.kind ≡ k.RightParen → 0 < turns → named_level at name ts ≡ Ok (x, c ∷ r) → (word : QualifierWord) → qualifier_of (kind ts) ≡ Some word → ⊥
+  no_qualifier : (at : Place) (name : List ℕ) (ts r : List Token) (c : Token) (x : Exp) → c.kind ≡ k.RightParen → 0 < turns
+      → named_level at name ts ≡ Ok (x, c ∷ r) → (word : QualifierWord) → qualifier_of (kind ts) ≡ Some word → ⊥
   no_qualifier at name ts r c x h some is word q =
       let rest : ts ≡ c ∷ r = ap rest_of (sym (name_alone at name ts word q some) ∙ is) in
       let none : None ≡ qualifier_of (kind ts) = sym (ap (λ z. qualifier_of (kind z)) rest ∙ ap qualifier_of h) in
@@ -582,7 +632,8 @@ module _ (turns : ℕ) (expr : ℕ → Parser Exp)
         let (x, s2, first, goes_on) = first_of_two (expr 1 us) (parts_from turns expr) xs s inner in
         dim_refused us s2 x dim first
 
-    bracket_group_by : (at name_at : Place) (name : List ℕ) (d : Token) (us v : List Token) (y : Operand) (dim : Bool) → is_dim (kind us) ≡ dim → index turns expr d.place (e.Name name_at name) us ≡ Ok (y, v)
+    bracket_group_by : (at name_at : Place) (name : List ℕ) (d : Token) (us v : List Token) (y : Operand) (dim : Bool) → is_dim (kind us)
+        ≡ dim → index turns expr d.place (e.Name name_at name) us ≡ Ok (y, v)
         → paren_name_bracket turns expr at name_at name (d ∷ us) ≡ group_from turns expr y v
     unfolding paren_name_bracket
     bracket_group_by at name_at name d us v y true h is = absurd (no_dim d.place (e.Name name_at name) us v y is h)
@@ -594,11 +645,13 @@ module _ (turns : ℕ) (expr : ℕ → Parser Exp)
     bracket_group_then at name_at name d us v s r c x y left n le hc first goes_on climbs =
         bracket_group_by at name_at name d us v y (is_dim (kind us)) refl first ∙ group_from_reads y left v s r c x hc (postfix_more n turns le y left v s goes_on) climbs
 
-    bracket_group : (at name_at : Place) (name : List ℕ) (d : Token) (us r : List Token) (c : Token) (x : Exp) → c.kind ≡ k.RightParen → d.kind ≡ k.LeftBracket → named_level name_at name (d ∷ us) ≡ Ok (x, c ∷ r)
+    bracket_group : (at name_at : Place) (name : List ℕ) (d : Token) (us r : List Token) (c : Token) (x : Exp) → c.kind ≡ k.RightParen
+        → d.kind ≡ k.LeftBracket → named_level name_at name (d ∷ us) ≡ Ok (x, c ∷ r)
         → paren_name_bracket turns expr at name_at name (d ∷ us) ≡ dropped (postfix turns expr turns (x, Other) r)
     bracket_group at name_at name d us r c x hc hd is =
         let alone = named_alone name_at name (d ∷ us) (ap (λ z. same_kind z k.LeftParen) hd) in
-        let (left, s, loop, climbs) = first_of_two (postfix turns expr turns (e.Name name_at name, Target) (d ∷ us)) (λ left i. climb turns expr 1 turns left.0 i) x (c ∷ r) (sym (then_ok _ alone) ∙ is) in
+        let (left, s, loop, climbs) = first_of_two (postfix turns expr turns (e.Name name_at name, Target) (d ∷ us))
+        (λ left i. climb turns expr 1 turns left.0 i) x (c ∷ r) (sym (then_ok _ alone) ∙ is) in
         let (y, v, n, le, first, goes_on) = index_first turns (e.Name name_at name, Target) left d us s hd loop in
         bracket_group_then at name_at name d us v s r c x y left n le hc first goes_on climbs
 
@@ -610,28 +663,33 @@ module _ (turns : ℕ) (expr : ℕ → Parser Exp)
     name_group : (at name_at : Place) (name : List ℕ) (ts r : List Token) (c : Token) (x : Exp) → c.kind ≡ k.RightParen → named_level name_at name ts ≡ Ok (x, c ∷ r)
         → and_then (named turns expr name_at name ts) (group_from turns expr) ≡ dropped (postfix turns expr turns (x, Other) r)
     name_group at name_at name ts r c x hc is =
-        let (first, s, begun, goes_on) = first_of_two (named turns expr name_at name ts) (λ first i. and_then (postfix turns expr turns first i) (λ left i. climb turns expr 1 turns left.0 i)) x (c ∷ r) is in
+        let (first, s, begun, goes_on) = first_of_two (named turns expr name_at name ts)
+        (λ first i. and_then (postfix turns expr turns first i) (λ left i. climb turns expr 1 turns left.0 i)) x (c ∷ r) is in
         let (left, s2, loop, climbs) = first_of_two (postfix turns expr turns first s) (λ left i. climb turns expr 1 turns left.0 i) x (c ∷ r) goes_on in
         name_group_by name_at name ts s s2 r c x first left hc begun loop climbs
 
-    paren_name_if : (at name_at : Place) (name : List ℕ) (ts r : List Token) (c : Token) (x : Exp) → c.kind ≡ k.RightParen → 0 < turns → named_level name_at name ts ≡ Ok (x, c ∷ r) → (q : Option QualifierWord) → qualifier_of (kind ts) ≡ q
+    paren_name_if : (at name_at : Place) (name : List ℕ) (ts r : List Token) (c : Token) (x : Exp) → c.kind ≡ k.RightParen → 0 < turns
+        → named_level name_at name ts ≡ Ok (x, c ∷ r) → (q : Option QualifierWord) → qualifier_of (kind ts) ≡ q
         → if◌then◌else◌ {A = Parser Exp} (is_some q) (cast_from turns expr at (b.Named name_at name)) (λ i. and_then (named turns expr name_at name i) (group_from turns expr)) ts
         ≡ dropped (postfix turns expr turns (x, Other) r)
     paren_name_if at name_at name ts r c x hc some is (Some word) h = absurd (no_qualifier name_at name ts r c x hc some is word h)
     paren_name_if at name_at name ts r c x hc some is None h = name_group at name_at name ts r c x hc is
 
-    paren_name_by_reads : (at name_at : Place) (name : List ℕ) (ts r : List Token) (c : Token) (x : Exp) → c.kind ≡ k.RightParen → 0 < turns → named_level name_at name ts ≡ Ok (x, c ∷ r) → (q : TokenKind) → kind ts ≡ q
+    paren_name_by_reads : (at name_at : Place) (name : List ℕ) (ts r : List Token) (c : Token) (x : Exp) → c.kind ≡ k.RightParen → 0 < turns
+        → named_level name_at name ts ≡ Ok (x, c ∷ r) → (q : TokenKind) → kind ts ≡ q
         → spec.paren_name_by turns expr at name_at name q ts ≡ dropped (postfix turns expr turns (x, Other) r)
     paren_name_by_reads at name_at name [] r c x hc some is k.LeftBracket h = cc
     paren_name_by_reads at name_at name (d ∷ us) r c x hc some is k.LeftBracket h = bracket_group at name_at name d us r c x hc h is
     paren_name_by_reads at name_at name ts r c x hc some is q h = paren_name_if at name_at name ts r c x hc some is (qualifier_of q) (ap qualifier_of h)
 
-    paren_by_reads : (at : Place) (t : Token) (ts r : List Token) (c : Token) (x : Exp) → c.kind ≡ k.RightParen → 0 < turns → expr 1 (t ∷ ts) ≡ Ok (x, c ∷ r) → level turns expr 1 (t ∷ ts) ≡ Ok (x, c ∷ r)
+    paren_by_reads : (at : Place) (t : Token) (ts r : List Token) (c : Token) (x : Exp) → c.kind ≡ k.RightParen → 0 < turns
+        → expr 1 (t ∷ ts) ≡ Ok (x, c ∷ r) → level turns expr 1 (t ∷ ts) ≡ Ok (x, c ∷ r)
         → (q : TokenKind) → t.kind ≡ q → begins q ≡ true → spec.paren_by turns expr at q (t ∷ ts) ≡ dropped (postfix turns expr turns (x, Other) r)
     paren_by_reads at t ts r c x hc some is a (k.Name name) h begin =
         paren_name_turn at t.place name ts (kind ts) refl ∙ paren_name_by_reads at t.place name ts r c x hc some (sym (level_name t name ts h) ∙ a) (kind ts) refl
     paren_by_reads at t ts r c x hc some is a q h begin =
-        test_reads (begins_type q) false (λ i. and_then (type_base i) (cast_from turns expr at)) (λ i. dropped (group turns expr i)) (t ∷ ts) (not_type q begin) ∙ ap dropped (group_reads (t ∷ ts) r c x hc is)
+        test_reads (begins_type q) false (λ i. and_then (type_base i) (cast_from turns expr at)) (λ i. dropped (group turns expr i))
+        (t ∷ ts) (not_type q begin) ∙ ap dropped (group_reads (t ∷ ts) r c x hc is)
 
     paren_reads : (at : Place) (i r : List Token) (c : Token) (x : Exp) → c.kind ≡ k.RightParen → 0 < turns → expr 1 i ≡ Ok (x, c ∷ r) → level turns expr 1 i ≡ Ok (x, c ∷ r) → begins (kind i) ≡ true
         → paren turns expr at i ≡ dropped (postfix turns expr turns (x, Other) r)
@@ -643,7 +701,9 @@ module _ (turns : ℕ) (expr : ℕ → Parser Exp)
     abbrev ClimbLeft : ℕ → List Token → Exp → List Token → Type 0
     ClimbLeft least l x r = (m : ℕ) × (length r < m) × (level turns expr least (l ++ r) ≡ climb turns expr least m x r)
 
-    operation_law : (a b : List Token) (left y : Exp) (t : Token) (op : BinaryOperator) → infix_of t.kind ≡ Some op → Whole (strength op + 1) b y → (least : ℕ) → least ≤ strength op → (r : List Token) → Stops (strength op + 1) b r → length (b ++ r) < turns
+    operation_law : (a b : List Token) (left y : Exp) (t : Token) (op : BinaryOperator) → infix_of t.kind ≡ Some op
+        → Whole (strength op + 1) b y → (least : ℕ) → least ≤ strength op → (r : List Token) → Stops (strength op + 1) b r
+        → length (b ++ r) < turns
         → ClimbLeft least a left (t ∷ (b ++ r)) → ClimbLeft least (a ++ t ∷ b) (e.Binary t.place op left y) r
     operation_law a b left y t op is s least above r stops lt (zero, more, reads) = absurd (omega arith)
     operation_law a b left y t op is s least above r stops lt (suc m, more, reads) =
@@ -705,18 +765,23 @@ module _ (turns : ℕ) (expr : ℕ → Parser Exp)
           led o (l ++ c ∷ r) (o ∷ (l ++ c ∷ [])) (e.point o.place xs, Other) r k.LeftBracket (ap (λ z. o ∷ z) (sym same)) h refl (omega (arith, len, n2))
           (then_ok (λ x. postfix turns expr turns (x, Other)) (point_reads s few o.place c r h2 (omega (arith, len))))
       postfixed_law (grammar.this_proc t d n o c h h2 h3 h4 h5) r call le =
-          led t (d ∷ n ∷ o ∷ c ∷ r) (t ∷ d ∷ n ∷ o ∷ c ∷ []) (e.ThisProc t.place, Other) r k.KeywordTi refl h refl (omega arith) (then_ok (λ x. postfix turns expr turns (x, Other)) (process_reads t.place d n o c r true h2 h3 h4 h5))
+          led t (d ∷ n ∷ o ∷ c ∷ r) (t ∷ d ∷ n ∷ o ∷ c ∷ []) (e.ThisProc t.place, Other) r k.KeywordTi refl h refl (omega arith)
+          (then_ok (λ x. postfix turns expr turns (x, Other)) (process_reads t.place d n o c r true h2 h3 h4 h5))
       postfixed_law (grammar.num_procs t d n o c h h2 h3 h4 h5) r call le =
-          led t (d ∷ n ∷ o ∷ c ∷ r) (t ∷ d ∷ n ∷ o ∷ c ∷ []) (e.NumProcs t.place, Other) r k.KeywordTi refl h refl (omega arith) (then_ok (λ x. postfix turns expr turns (x, Other)) (process_reads t.place d n o c r false h2 h3 h4 h5))
+          led t (d ∷ n ∷ o ∷ c ∷ r) (t ∷ d ∷ n ∷ o ∷ c ∷ []) (e.NumProcs t.place, Other) r k.KeywordTi refl h refl (omega arith)
+          (then_ok (λ x. postfix turns expr turns (x, Other)) (process_reads t.place d n o c r false h2 h3 h4 h5))
       postfixed_law (grammar.select {ending = ending} {l = l} d t {name = name} {x = x} s h h2) r call le =
           let len = ap length (append_assoc l (d ∷ t ∷ []) r) in
-          after_dot l (x, ending) (e.Select t.place x name, Target) d (t ∷ []) r h (member_select x t name r h2 (call (ap is_name (last_append l d (t ∷ []) ∙ h2)))) (postfixed_law s (d ∷ t ∷ r) (uncalled d k.Dot l (t ∷ r) h refl) (omega (arith, len)))
+          after_dot l (x, ending) (e.Select t.place x name, Target) d (t ∷ []) r h
+          (member_select x t name r h2 (call (ap is_name (last_append l d (t ∷ []) ∙ h2))))
+          (postfixed_law s (d ∷ t ∷ r) (uncalled d k.Dot l (t ∷ r) h refl) (omega (arith, len)))
       postfixed_law (grammar.member {ending = ending} {l = l} {m = m} d t o c {name = name} {x = x} {xs = xs} s h h2 h3 q h4) r call le =
           let same = append_assoc m (c ∷ []) r in
           let len = ap length (append_assoc l (d ∷ t ∷ o ∷ (m ++ c ∷ [])) r) in
           let len2 = ap length same in
           let n2 = length-append l (d ∷ t ∷ o ∷ ((m ++ c ∷ []) ++ r)) in
-          after_dot l (x, ending) (e.member t.place x name xs, Call) d (t ∷ o ∷ (m ++ c ∷ [])) r h (ap (λ z. member turns expr x (t ∷ o ∷ z)) same ∙ member_call q x t o c name r h2 h3 h4 (omega (arith, len, len2, n2)))
+          after_dot l (x, ending) (e.member t.place x name xs, Call) d (t ∷ o ∷ (m ++ c ∷ [])) r h
+          (ap (λ z. member turns expr x (t ∷ o ∷ z)) same ∙ member_call q x t o c name r h2 h3 h4 (omega (arith, len, len2, n2)))
           (postfixed_law s (d ∷ t ∷ o ∷ ((m ++ c ∷ []) ++ r)) (uncalled d k.Dot l (t ∷ o ∷ ((m ++ c ∷ []) ++ r)) h refl) (omega (arith, len)))
       postfixed_law (grammar.index {ending = ending} {l = l} {m = m} o c {x = x} {xs = xs} s h q few h2) r call le =
           let same = append_assoc m (c ∷ []) r in
@@ -742,7 +807,8 @@ module _ (turns : ℕ) (expr : ℕ → Parser Exp)
           let loop = postfixed_law s r call le in
           loop.prefix ∙ ap dropped (postfix_stops loop.left (x, ending) r free (omega (arith, loop.enough)))
 
-      whole_law : {n : ℕ} {l : List Token} {x : Exp} → Whole n l x → (least : ℕ) → 1 ≤ least → least ≤ n → (r : List Token) → goes (kind r) ≡ false → NoCall l r → binds (kind r) ≤ n → length (l ++ r) ≤ turns → ClimbLeft least l x r
+      whole_law : {n : ℕ} {l : List Token} {x : Exp} → Whole n l x → (least : ℕ) → 1 ≤ least → least ≤ n → (r : List Token) → goes (kind r)
+          ≡ false → NoCall l r → binds (kind r) ≤ n → length (l ++ r) ≤ turns → ClimbLeft least l x r
       whole_law (grammar.operand {l = l} {x = x} p) least one above r free call bound le =
           (turns, omega (arith, length-append l r, prefixed_some p), level_turn least (l ++ r) ∙ then_ok (climb turns expr least turns) (prefixed_law p r free call le))
       whole_law (grammar.operation {a = a} {b = b} t {op = op} {x = x} {y = y} is up s q) least one above r free call within le =

@@ -43,7 +43,8 @@ base_reads (grammar.named t {name = name} h) r = base_turn t r (k.Name name) h
 
 -- ---- qualifiers
 
-pub qualifiers_read : {l : List Token} {qs : List Qualifier} → Qualified l qs → (m : ℕ) (found : List Qualifier) (r : List Token) → qualifier_of (kind r) ≡ None → length l < m → qualifiers m found (l ++ r) ≡ Ok (found ++ qs, r)
+pub qualifiers_read : {l : List Token} {qs : List Qualifier} → Qualified l qs → (m : ℕ) (found : List Qualifier) (r : List Token)
+    → qualifier_of (kind r) ≡ None → length l < m → qualifiers m found (l ++ r) ≡ Ok (found ++ qs, r)
 unfolding qualifiers
 qualifiers_read grammar.none zero found r free lt = absurd (omega arith)
 qualifiers_read grammar.none (suc m) found r free lt = ap (λ q. spec.qualifiers_if (qualifiers m) found q r) free ∙ ap (λ z. Ok (z, r)) (sym (append_nil found))
@@ -59,7 +60,8 @@ qualifiers_read (grammar.more {l = l} {qs = qs} t {word = word} is s) (suc m) fo
 grid_dimension_reads : (t : Token) (n : ℕ) (r : List Token) → t.kind ≡ k.Dim n → 1 ≤ n → n ≤ 3 → grid_dimension (t ∷ r) ≡ Ok (n, r)
 grid_dimension_reads t n r h low high = ap (λ q. spec.grid_dimension_by q (t ∷ r)) h ∙ ap (λ d. spec.dimension_if d (t ∷ r)) (dim_of_small n low high)
 
-pub grid_reads : {l : List Token} {qs : List Qualifier} → Qualified l qs → (turns : ℕ) (t c : Token) (n : ℕ) (r : List Token) → t.kind ≡ k.Dim n → 1 ≤ n → n ≤ 3 → c.kind ≡ k.RightBracket → qualifier_of (kind r) ≡ None → length l < turns
+pub grid_reads : {l : List Token} {qs : List Qualifier} → Qualified l qs → (turns : ℕ) (t c : Token) (n : ℕ) (r : List Token) → t.kind
+    ≡ k.Dim n → 1 ≤ n → n ≤ 3 → c.kind ≡ k.RightBracket → qualifier_of (kind r) ≡ None → length l < turns
     → grid turns (t ∷ c ∷ (l ++ r)) ≡ Ok (record { dim = n; qualifiers = qs }, r)
 unfolding grid
 grid_reads {l = l} {qs = qs} s turns t c n r ht low high hc free lt =
@@ -92,7 +94,8 @@ grids_read (grammar.more {l = l} {m = m} {qs = words} {gs = gs} o t c {n = d} ho
     ∙ ap (λ z. Ok (z, r)) (append_assoc found (g ∷ []) gs)
 
 -- the type of a field behind its base
-pub field_type_reads : {l m : List Token} {qs : List Qualifier} {gs : List GridTree} → Qualified l qs → Gridded m gs → length gs ≤ 3 → (turns : ℕ) (begin : Base) (r : List Token) → EndsType r → length (l ++ m) < turns
+pub field_type_reads : {l m : List Token} {qs : List Qualifier} {gs : List GridTree} → Qualified l qs → Gridded m gs → length gs ≤ 3
+    → (turns : ℕ) (begin : Base) (r : List Token) → EndsType r → length (l ++ m) < turns
     → field_type turns begin ((l ++ m) ++ r) ≡ Ok (record { base = begin; qualifiers = qs; grids = gs }, r)
 unfolding field_type
 field_type_reads {l = l} {m = m} {qs = qs} {gs = gs} s p few turns begin r free lt =

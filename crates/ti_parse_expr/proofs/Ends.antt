@@ -120,7 +120,17 @@ mutual
 
   range_ends : {l : List Token} {r : RangeTree} → Range l r → ends l ≡ 0
   range_ends (grammar.plain {l = l} {m = m} s a h c) = omega (arith, ends-append l (s ∷ m), ap end_of h, whole_ends a, whole_ends c)
-  range_ends (grammar.stepped {l = l} {m = m} {v = v} s t a h c h2 d) = omega (arith, ends-append l (s ∷ (m ++ t ∷ v)), ends-append m (t ∷ v), ap end_of h, ap end_of h2, whole_ends a, whole_ends c, whole_ends d)
+  range_ends (grammar.stepped {l = l} {m = m} {v = v} s t a h c h2 d) =
+      omega (
+        arith,
+        ends-append l (s ∷ (m ++ t ∷ v)),
+        ends-append m (t ∷ v),
+        ap end_of h,
+        ap end_of h2,
+        whole_ends a,
+        whole_ends c,
+        whole_ends d,
+      )
 
 pub phrase_ends : (f : Form) (l : List Token) (x : Exp) → Phrase f l x → ends l ≡ 0
 phrase_ends form.Whole l x s = whole_ends s

@@ -17,7 +17,8 @@ pub record Enough {A : Type 0} (p q : Parser A) : Type 0 where
 pub enough_pure : {A : Type 0} (x : A) → Enough (λ i. Ok (x, i)) (λ i. Ok (x, i))
 enough_pure x = record { same = λ l ended. refl }
 
-same_then : {A B : Type 0} (o o2 : Outcome A) (f g : A → Parser B) → (Ended o → o2 ≡ o) → ((x : A) (l : List Token) → Ended (f x l) → g x l ≡ f x l) → Ended (and_then o f) → and_then o2 g ≡ and_then o f
+same_then : {A B : Type 0} (o o2 : Outcome A) (f g : A → Parser B) → (Ended o → o2 ≡ o)
+    → ((x : A) (l : List Token) → Ended (f x l) → g x l ≡ f x l) → Ended (and_then o f) → and_then o2 g ≡ and_then o f
 same_then (Ok p) o2 f g first next ended = ap (λ z. and_then z g) (first tt) ∙ next p.0 p.1 ended
 same_then (Err (At r)) o2 f g first next ended = ap (λ z. and_then z g) (first tt)
 same_then (Err (Over r)) o2 f g first next ended = ap (λ z. and_then z g) (first tt)
@@ -37,5 +38,6 @@ one_less m m2 h = omega (arith, h)
 
 pub readers_enough : (turns more : ℕ) → turns ≤ more → Readers (λ A p q. Enough {A = A} p q) turns more
 readers_enough turns more le =
-    readers_related (λ A p q. Enough {A = A} p q) (λ n m. n ≤ m) (λ A x. enough_pure x) (λ A. record { same = λ l ended. refl }) (record { same = λ l ended. refl }) (λ A B p q f g first next. enough_then first next)
+    readers_related (λ A p q. Enough {A = A} p q) (λ n m. n ≤ m) (λ A x. enough_pure x) (λ A. record { same = λ l ended. refl })
+    (record { same = λ l ended. refl }) (λ A B p q f g first next. enough_then first next)
     (λ A f g each. by kind f g each) (λ A f g each. by place f g each) (λ A q m h is. record { same = λ l ended. absurd ended }) no_fewer one_less turns more le (omega (arith, le))

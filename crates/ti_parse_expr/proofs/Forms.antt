@@ -39,7 +39,8 @@ level_of form.Whole = 1
 level_of form.Mul = 10
 level_of form.Postfix = 11
 
-pub postfix_reads : (turns : ℕ) (ending : Ending) (l r : List Token) (x : Exp) → Postfixed ending l x → Stops 11 l r → length (l ++ r) < turns → operand turns (expr turns) (l ++ r) ≡ Ok ((x, ending), r)
+pub postfix_reads : (turns : ℕ) (ending : Ending) (l r : List Token) (x : Exp) → Postfixed ending l x → Stops 11 l r
+    → length (l ++ r) < turns → operand turns (expr turns) (l ++ r) ≡ Ok ((x, ending), r)
 postfix_reads turns ending l r x s stops lt =
     let loop = postfixed_law turns (expr turns) (expr_reads turns) (no_dimension turns) s r stops.call (omega arith) in
     loop.operand ∙ postfix_stops turns (expr turns) (expr_reads turns) loop.left (x, ending) r stops.operand (omega (arith, loop.enough))

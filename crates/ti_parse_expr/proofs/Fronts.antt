@@ -51,7 +51,8 @@ front_postfixed (grammar.point o c h s few h2) r = ap begins h
 front_postfixed (grammar.this_proc t d n o c h h2 h3 h4 h5) r = ap begins h
 front_postfixed (grammar.num_procs t d n o c h h2 h3 h4 h5) r = ap begins h
 front_postfixed (grammar.select {l = l} d t s h h2) r = ap (λ z. begins (kind z)) (append_assoc l (d ∷ t ∷ []) r) ∙ front_postfixed s (d ∷ t ∷ r)
-front_postfixed (grammar.member {l = l} {m = m} d t o c s h h2 h3 q h4) r = ap (λ z. begins (kind z)) (append_assoc l (d ∷ t ∷ o ∷ (m ++ c ∷ [])) r) ∙ front_postfixed s (d ∷ t ∷ o ∷ ((m ++ c ∷ []) ++ r))
+front_postfixed (grammar.member {l = l} {m = m} d t o c s h h2 h3 q h4) r =
+    ap (λ z. begins (kind z)) (append_assoc l (d ∷ t ∷ o ∷ (m ++ c ∷ [])) r) ∙ front_postfixed s (d ∷ t ∷ o ∷ ((m ++ c ∷ []) ++ r))
 front_postfixed (grammar.index {l = l} {m = m} o c s h q few h2) r = ap (λ z. begins (kind z)) (append_assoc l (o ∷ (m ++ c ∷ [])) r) ∙ front_postfixed s (o ∷ ((m ++ c ∷ []) ++ r))
 
 pub front_prefixed : {l : List Token} {x : Exp} → Prefixed l x → (r : List Token) → begins (kind (l ++ r)) ≡ true

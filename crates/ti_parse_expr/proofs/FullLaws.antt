@@ -27,7 +27,6 @@ use Rattle.ti_parse_expr.proofs.Enough.{readers_enough}
 use Rattle.ti_parse_expr.proofs.Ends.{phrase_ends, postfixed_ends}
 use Rattle.ti_parse_expr.proofs.Forms.{level_of, phrase_says, phrase_reads, postfix_reads, phrase_near, phrase_enough}
 use Rattle.ti_parse_expr.proofs.Within.{Reader, Laws, laws, held_to, held_reads, held_behind, suffix_behind}
-pub use Rattle.ti_parse_expr.proofs.Limits.{weights_long, limited_fits, limited_then}
 
 -- ---- the four readers
 
@@ -115,12 +114,14 @@ operand_says {n = n} l = operand_laws.says n l
 
 -- ---- completeness
 
-pub full_reads : (limits : Limits) (form : Form) (l r : List Token) (x : Exp) → Phrase form l x → Stops (level_of form) l r → full_to limits form (l ++ r) ≡ limited_to limits (weights l) (l ++ r) (Ok (x, r))
+pub full_reads : (limits : Limits) (form : Form) (l r : List Token) (x : Exp) → Phrase form l x → Stops (level_of form) l r
+    → full_to limits form (l ++ r) ≡ limited_to limits (weights l) (l ++ r) (Ok (x, r))
 full_reads limits form l r x s stops =
     let n = suc (length (l ++ r)) in
     held_reads limits 0 l r x (phrase n form (l ++ r)) (phrase_reads form n l r x s stops (omega arith))
 
-pub operand_reads : (limits : Limits) (ending : Ending) (l r : List Token) (x : Exp) → Postfixed ending l x → Stops 11 l r → operand_to limits (l ++ r) ≡ limited_to limits (weights l) (l ++ r) (Ok ((x, ending), r))
+pub operand_reads : (limits : Limits) (ending : Ending) (l r : List Token) (x : Exp) → Postfixed ending l x → Stops 11 l r
+    → operand_to limits (l ++ r) ≡ limited_to limits (weights l) (l ++ r) (Ok ((x, ending), r))
 operand_reads limits ending l r x s stops =
     let n = suc (length (l ++ r)) in
     held_reads limits 0 l r (x, ending) (operand n (expr n) (l ++ r)) (postfix_reads n ending l r x s stops (omega arith))
@@ -142,7 +143,8 @@ pub behind_name_is : (limits : Limits) (t : Token) (ts : List Token) (name : Lis
 behind_name_is limits t ts name h =
     let n = suc (suc (length ts)) in
     ap (held_to limits 0 (t ∷ ts)) (name_first n t ts name h)
-    ∙ held_behind limits 0 0 t ts (behind_name n t.place name ts) (ap (λ q. (if counts q then 1 else 0) + 0) h) (ap arity_behind h) (omega arith) (((readers_near t [] [] n n (omega arith)).behind_name t.place name).suffix ts)
+    ∙ held_behind limits 0 0 t ts (behind_name n t.place name ts) (ap (λ q. (if counts q then 1 else 0) + 0) h) (ap arity_behind h)
+    (omega arith) (((readers_near t [] [] n n (omega arith)).behind_name t.place name).suffix ts)
 
 pub behind_bracket_is : (limits : Limits) → 0 < limits.weight → (t o : Token) (ts : List Token) (name : List ℕ) → t.kind ≡ k.Name name → o.kind ≡ k.LeftBracket
     → operand_to limits (t ∷ o ∷ ts) ≡ behind_bracket_to limits o.place t.place name ts
@@ -150,7 +152,8 @@ behind_bracket_is limits some t o ts name h h2 =
     let n = suc (suc (length ts)) in
     let part : Suffix ts (behind_bracket n o.place t.place name ts) = ((readers_near t [] [] n n (omega arith)).behind_bracket o.place t.place name).suffix ts in
     ap (held_to limits 0 (t ∷ o ∷ ts)) (name_first (suc n) t (o ∷ ts) name h ∙ bracket_first n o ts t.place name h2)
-    ∙ held_behind limits 0 0 t (o ∷ ts) (behind_bracket n o.place t.place name ts) (ap (λ q. (if counts q then 1 else 0) + 0) h) (ap arity_behind h) (omega arith) (suffix_behind o ts (behind_bracket n o.place t.place name ts) part)
+    ∙ held_behind limits 0 0 t (o ∷ ts) (behind_bracket n o.place t.place name ts) (ap (λ q. (if counts q then 1 else 0) + 0) h)
+    (ap arity_behind h) (omega arith) (suffix_behind o ts (behind_bracket n o.place t.place name ts) part)
     ∙ held_behind limits 0 1 o ts (behind_bracket n o.place t.place name ts) (ap (λ q. (if counts q then 1 else 0) + 0) h2) (ap arity_behind h2) (omega (arith, some)) part
 
 -- ---- reading looks no further than the token that it refuses

@@ -33,15 +33,24 @@ module _ (t : Token) (C : List Token → Type 0) (suffix : (a : List Token) (u :
   prefixed_goes (grammar.unary {l = l} u {op = op} h s) c =
       let (w, y, p) = prefixed_goes s (suffix [] u l (prefixed_some s) c) in (w, e.Unary u.place op y, grammar.unary u h p)
   prefixed_goes (grammar.cast {l = l} {m = m} {ty = ty} o u h s h2 q) c =
-      let (w, y, p) = prefixed_goes q (suffix (o ∷ l) u m (prefixed_some q) c) in
-      (w, e.Cast o.place ty y, subst (λ z. Prefixed (o ∷ z) (e.Cast o.place ty y)) (sym (ap (λ z. z ++ w) (append_assoc l (u ∷ m) (t ∷ [])) ∙ append_assoc l (u ∷ (m ++ t ∷ [])) w)) (grammar.cast o u h s h2 p))
+      let (w, y, p) = prefixed_goes q (suffix (o ∷ l) u m (prefixed_some q) c) in (
+        w,
+        e.Cast o.place ty y,
+        subst (λ z. Prefixed (o ∷ z) (e.Cast o.place ty y))
+            (sym (ap (λ z. z ++ w) (append_assoc l (u ∷ m) (t ∷ [])) ∙ append_assoc l (u ∷ (m ++ t ∷ [])) w)) (grammar.cast o u h s h2 p),
+      )
   prefixed_goes (grammar.postfixed {ending = ending} {l = l} {x = x} s) c = let (w, y, (other, p)) = post ending l x s c in (w, y, grammar.postfixed p)
 
   whole_goes : {n : ℕ} {l : List Token} {x : Exp} → Whole n l x → C l → BeginsIn (Whole n) (l ++ t ∷ [])
   whole_goes (grammar.operand p) c = let (w, y, q) = prefixed_goes p c in (w, y, grammar.operand q)
   whole_goes {n = n} (grammar.operation {a = a} {b = b} u {op = op} {x = x} is up s q) c =
-      let (w, y, p) = whole_goes q (suffix a u b (whole_some q) c) in
-      (w, e.Binary u.place op x y, subst (λ z. Whole n z (e.Binary u.place op x y)) (sym (ap (λ z. z ++ w) (append_assoc a (u ∷ b) (t ∷ [])) ∙ append_assoc a (u ∷ (b ++ t ∷ [])) w)) (grammar.operation u is up s p))
+      let (w, y, p) = whole_goes q (suffix a u b (whole_some q) c) in (
+        w,
+        e.Binary u.place op x y,
+        subst (λ z. Whole n z (e.Binary u.place op x y))
+            (sym (ap (λ z. z ++ w) (append_assoc a (u ∷ b) (t ∷ [])) ∙ append_assoc a (u ∷ (b ++ t ∷ [])) w))
+            (grammar.operation u is up s p),
+      )
 
 -- ---- a dot and a bracket go on with any operand
 
@@ -57,8 +66,15 @@ bracket_post : (t : Token) → t.kind ≡ k.LeftBracket → (ending : Ending) (l
 bracket_post t h ending l x s =
     let i = token (k.Int (pos 0)) in
     let c = token k.RightBracket in
-    let xs : List Exp = e.Int i.place (pos 0) ∷ [] in
-    (i ∷ c ∷ [], e.index t.place x xs, (Target, subst (λ z. Postfixed Target z (e.index t.place x xs)) (sym (append_assoc l (t ∷ []) (i ∷ c ∷ []))) (grammar.index t c s h (grammar.last (whole_int 1)) (omega arith) refl)))
+    let xs : List Exp = e.Int i.place (pos 0) ∷ [] in (
+      i ∷ c ∷ [],
+      e.index t.place x xs,
+      (
+        Target,
+        subst (λ z. Postfixed Target z (e.index t.place x xs))
+            (sym (append_assoc l (t ∷ []) (i ∷ c ∷ []))) (grammar.index t c s h (grammar.last (whole_int 1)) (omega arith) refl),
+      ),
+    )
 
 goes_post : (t : Token) (q : TokenKind) → t.kind ≡ q → goes q ≡ true → (ending : Ending) (l : List Token) (x : Exp) → Postfixed ending l x → BeginsIn AnyPostfix (l ++ t ∷ [])
 goes_post t k.Dot h g ending l x s = dot_post t h ending l x s
@@ -95,8 +111,16 @@ call_post t h _ _ _ (grammar.point {l = l} o c h2 s few h3) named = absurd (unna
 call_post t h _ _ _ (grammar.this_proc u d n o c h2 h3 h4 h5 h6) named = absurd (unnamed (u ∷ d ∷ n ∷ o ∷ []) c k.RightParen h6 refl named)
 call_post t h _ _ _ (grammar.num_procs u d n o c h2 h3 h4 h5 h6) named = absurd (unnamed (u ∷ d ∷ n ∷ o ∷ []) c k.RightParen h6 refl named)
 call_post t h _ _ _ (grammar.select {l = l} d u {name = name} {x = x} s h2 h3) named =
-    let c = token k.RightParen in
-    (c ∷ [], e.member u.place x name [], (Call, subst (λ z. Postfixed Call z (e.member u.place x name [])) (sym (ap (λ z. z ++ c ∷ []) (append_assoc l (d ∷ u ∷ []) (t ∷ [])) ∙ append_assoc l (d ∷ u ∷ t ∷ []) (c ∷ []))) (grammar.member d u t c s h2 h3 h grammar.none refl)))
+    let c = token k.RightParen in (
+      c ∷ [],
+      e.member u.place x name [],
+      (
+        Call,
+        subst (λ z. Postfixed Call z (e.member u.place x name []))
+            (sym (ap (λ z. z ++ c ∷ []) (append_assoc l (d ∷ u ∷ []) (t ∷ [])) ∙ append_assoc l (d ∷ u ∷ t ∷ []) (c ∷ [])))
+            (grammar.member d u t c s h2 h3 h grammar.none refl),
+      ),
+    )
 call_post t h _ _ _ (grammar.member {l = l} {m = m} d u o c s h2 h3 h4 q h5) named =
     absurd (unnamed (l ++ d ∷ u ∷ o ∷ m) c k.RightParen h5 refl (subst Named (sym (append_assoc l (d ∷ u ∷ o ∷ m) (c ∷ []))) named))
 call_post t h _ _ _ (grammar.index {l = l} {m = m} o c s h2 q few h3) named = absurd (unnamed (l ++ o ∷ m) c k.RightBracket h3 refl (subst Named (sym (append_assoc l (o ∷ m) (c ∷ []))) named))
@@ -109,12 +133,18 @@ operator_behind n l x t op is le s =
     let y : Exp = e.Int i.place (pos 0) in
     (i ∷ [], e.Binary t.place op x y, subst (λ z. Whole n z (e.Binary t.place op x y)) (sym (append_assoc l (t ∷ []) (i ∷ []))) (grammar.operation t is le s (whole_int (strength op + 1))))
 
-operator_by : (n : ℕ) (a b : List Token) (x y : Exp) (u t : Token) (op2 op : BinaryOperator) → infix_of u.kind ≡ Some op2 → n ≤ strength op2 → Whole (strength op2) a x → Whole (strength op2 + 1) b y → infix_of t.kind ≡ Some op → n ≤ strength op
+operator_by : (n : ℕ) (a b : List Token) (x y : Exp) (u t : Token) (op2 op : BinaryOperator) → infix_of u.kind ≡ Some op2 → n ≤ strength op2
+    → Whole (strength op2) a x → Whole (strength op2 + 1) b y → infix_of t.kind ≡ Some op → n ≤ strength op
     → (strength op2 + 1 ≤ strength op → BeginsIn (Whole (strength op2 + 1)) (b ++ t ∷ [])) → (test : Bool) → nat_lt (strength op2) (strength op) ≡ test → BeginsIn (Whole n) ((a ++ u ∷ b) ++ t ∷ [])
 operator_by n a b x y u t op2 op is2 up s q is le rec true h =
     let tighter : strength op2 < strength op = ltb-true (strength op2) (strength op) h in
-    let (w, z, p) = rec (omega arith) in
-    (w, e.Binary u.place op2 x z, subst (λ v. Whole n v (e.Binary u.place op2 x z)) (sym (ap (λ v. v ++ w) (append_assoc a (u ∷ b) (t ∷ [])) ∙ append_assoc a (u ∷ (b ++ t ∷ [])) w)) (grammar.operation u is2 up s p))
+    let (w, z, p) = rec (omega arith) in (
+      w,
+      e.Binary u.place op2 x z,
+      subst (λ v. Whole n v (e.Binary u.place op2 x z))
+          (sym (ap (λ v. v ++ w) (append_assoc a (u ∷ b) (t ∷ [])) ∙ append_assoc a (u ∷ (b ++ t ∷ [])) w))
+          (grammar.operation u is2 up s p),
+    )
 operator_by n a b x y u t op2 op is2 up s q is le rec false h =
     let looser : strength op ≤ strength op2 = ltb-false (strength op2) (strength op) h in
     operator_behind n (a ++ u ∷ b) (e.Binary u.place op2 x y) t op is le (grammar.operation u is2 looser s q)
@@ -131,7 +161,8 @@ pub record Halts (l : List Token) (t : Token) : Type 0 where
   pub operand : goes t.kind ≡ false
   pub call : is_name (last_kind l) ≡ true → same_kind t.kind k.LeftParen ≡ false
 
-halts_if : {A : Type 0} (l : List Token) (t : Token) → (goes t.kind ≡ true → A) → (t.kind ≡ k.LeftParen → Named l → A) → (g c n : Bool) → goes t.kind ≡ g → same_kind t.kind k.LeftParen ≡ c → is_name (last_kind l) ≡ n → Halts l t ⊎ A
+halts_if : {A : Type 0} (l : List Token) (t : Token) → (goes t.kind ≡ true → A) → (t.kind ≡ k.LeftParen → Named l → A) → (g c n : Bool)
+    → goes t.kind ≡ g → same_kind t.kind k.LeftParen ≡ c → is_name (last_kind l) ≡ n → Halts l t ⊎ A
 halts_if l t on_goes on_call true c n h h2 h3 = inr (on_goes h)
 halts_if l t on_goes on_call false true true h h2 h3 = inr (on_call (paren_is t.kind h2) h3)
 halts_if l t on_goes on_call false true false h h2 h3 = inl (record { operand = h; call = λ named. let wrong : true ≡ false = sym named ∙ h3 in cc })
@@ -146,14 +177,16 @@ whole_halts {l = l} s t =
     halts_if l t (λ g. whole_goes t Any (λ a u l some _. tt) (λ ending l x p _. goes_post t t.kind refl g ending l x p) s tt)
     (λ h named. whole_goes t Named named_suffix (λ ending l x p named. call_post t h ending l x p named) s named) (goes t.kind) (same_kind t.kind k.LeftParen) (is_name (last_kind l)) refl refl refl
 
-stops_if : {n : ℕ} {l : List Token} {x : Exp} → Whole n l x → (t : Token) (r : List Token) → Halts l t → (op : BinaryOperator) → infix_of t.kind ≡ Some op → (test : Bool) → nat_lt (strength op) n ≡ test → Stops n l (t ∷ r) ⊎ BeginsIn (Whole n) (l ++ t ∷ [])
+stops_if : {n : ℕ} {l : List Token} {x : Exp} → Whole n l x → (t : Token) (r : List Token) → Halts l t → (op : BinaryOperator)
+    → infix_of t.kind ≡ Some op → (test : Bool) → nat_lt (strength op) n ≡ test → Stops n l (t ∷ r) ⊎ BeginsIn (Whole n) (l ++ t ∷ [])
 stops_if {n = n} s t r halts op is true h =
     let looser : strength op < n = ltb-true (strength op) n h in
     let same : binds t.kind ≡ strength op = ap bound is in
     inl (record { operand = halts.operand; call = halts.call; operators = omega arith })
 stops_if {n = n} s t r halts op is false h = inr (operator_goes s t op is (ltb-false (strength op) n h))
 
-stops_by : {n : ℕ} {l : List Token} {x : Exp} → 1 ≤ n → Whole n l x → (t : Token) (r : List Token) → Halts l t → (q : Option BinaryOperator) → infix_of t.kind ≡ q → Stops n l (t ∷ r) ⊎ BeginsIn (Whole n) (l ++ t ∷ [])
+stops_by : {n : ℕ} {l : List Token} {x : Exp} → 1 ≤ n → Whole n l x → (t : Token) (r : List Token) → Halts l t → (q : Option BinaryOperator)
+    → infix_of t.kind ≡ q → Stops n l (t ∷ r) ⊎ BeginsIn (Whole n) (l ++ t ∷ [])
 stops_by one s t r halts None is = let none : binds t.kind ≡ 0 = ap bound is in inl (record { operand = halts.operand; call = halts.call; operators = omega arith })
 stops_by {n = n} one s t r halts (Some op) is = stops_if s t r halts op is (nat_lt (strength op) n) refl
 

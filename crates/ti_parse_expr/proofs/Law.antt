@@ -105,7 +105,8 @@ want_by : {A : Type 0} {n m : ℕ} (q : TokenKind) (U : List Token → A → Typ
 want_by q U R is_q le (w, y, s) t ts k next_said true h = after_said le (next_said (is_q t.kind h))
 want_by q U R is_q le (w, y, s) t ts k next_said false h = refused_said (token q ∷ w, y, s)
 
-pub want_said : {A : Type 0} {n m : ℕ} {U : List Token → A → Type 0} {R : List Token → Type 0} {l : List Token} (q : TokenKind) → ((a : TokenKind) → same_kind a q ≡ true → a ≡ q) → same_kind k.End q ≡ false
+pub want_said : {A : Type 0} {n m : ℕ} {U : List Token → A → Type 0} {R : List Token → Type 0} {l : List Token} (q : TokenKind)
+    → ((a : TokenKind) → same_kind a q ≡ true → a ≡ q) → same_kind k.End q ≡ false
     → n ≤ suc m → BeginsIn U (token q ∷ []) → (k : Unit {0} → Parser A) → ((t : Token) (ts : List Token) → t.kind ≡ q → Said m (λ g y. U (t ∷ g) y) R ts (k tt ts))
     → Said n U R l (and_then (expect q l) k)
 want_said {n = n} {m = m} {U = U} {R = R} {l = l} q is_q not_end le (w, y, s) k next_said = go l

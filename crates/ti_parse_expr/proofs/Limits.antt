@@ -41,13 +41,15 @@ then_if true h o f = refl
 then_if false h o f = refl
 
 -- a step behind what is limited is limited
-pub limited_then : {A B : Type 0} (limits : Limits) (loads : List Load) (l : List Token) (x : A) (r : List Token) (f : A → Parser B) → and_then (limited_to limits loads l (Ok (x, r))) f ≡ limited_to limits loads l (f x r)
+pub limited_then : {A B : Type 0} (limits : Limits) (loads : List Load) (l : List Token) (x : A) (r : List Token) (f : A → Parser B)
+    → and_then (limited_to limits loads l (Ok (x, r))) f ≡ limited_to limits loads l (f x r)
 limited_then limits [] l x r f = refl
 limited_then limits (y ∷ loads) l x r f =
     then_if (above limits y) (Over l) (limited_to limits loads (next l) (Ok (x, r))) f ∙ ap (λ z. if above limits y then Err (Over l) else z) (limited_then limits loads (next l) x r f)
 
 -- a token that doesn't weigh too much
-pub below : {A : Type 0} (limits : Limits) (v : ℕ) (loads : List Load) (l : List Token) (out : Outcome A) → v ≤ limits.weight → limited_to limits (Weight v ∷ loads) l out ≡ limited_to limits loads (next l) out
+pub below : {A : Type 0} (limits : Limits) (v : ℕ) (loads : List Load) (l : List Token) (out : Outcome A) → v ≤ limits.weight
+    → limited_to limits (Weight v ∷ loads) l out ≡ limited_to limits loads (next l) out
 below limits v loads l out small = ap (λ c. if c then Err (Over l) else limited_to limits loads (next l) out) (le-ltb limits.weight v small)
 
 -- tokens that don't weigh too much
@@ -69,7 +71,8 @@ limited_heavy (suc n) w (x ∷ f) t h r out small above =
     below usual w (weights_behind n w (f ++ t ∷ h)) (x ∷ ((f ++ t ∷ h) ++ r)) out (omega (arith, small)) ∙ limited_heavy n w f t h r out small above
 limited_heavy zero w (x ∷ f) t h r out small above =
     let v : ℕ = (if counts x.kind then 1 else 0) + w in
-    below usual v (weights_behind (arity_behind x.kind) v (f ++ t ∷ h)) (x ∷ ((f ++ t ∷ h) ++ r)) out (omega (arith, small)) ∙ limited_heavy (arity_behind x.kind) v f t h r out (omega (arith, small)) (omega (arith, above))
+    below usual v (weights_behind (arity_behind x.kind) v (f ++ t ∷ h)) (x ∷ ((f ++ t ∷ h) ++ r)) out (omega (arith, small))
+    ∙ limited_heavy (arity_behind x.kind) v f t h r out (omega (arith, small)) (omega (arith, above))
 
 next_short : (l : List Token) → length (next l) ≤ length l
 next_short [] = omega arith
@@ -94,7 +97,8 @@ one_further : (n w n2 w2 : ℕ) (t : Token) (f : List Token) → ((g : List Toke
 one_further n w n2 w2 t f weighs (all_light small) = all_light (omega (arith, weighs f, small))
 one_further n w n2 w2 t f weighs (heavy g u h is small above) = heavy (t ∷ g) u h (ap (λ z. t ∷ z) is) (omega (arith, weighs g, small)) (omega (arith, weighs (g ++ u ∷ []), above))
 
-loaded_if : (w : ℕ) (t : Token) (f : List Token) → w ≤ most_weight → ((n v : ℕ) → v ≤ most_weight → Loaded n v f) → (c : Bool) → nat_lt most_weight ((if counts t.kind then 1 else 0) + w) ≡ c → Loaded 0 w (t ∷ f)
+loaded_if : (w : ℕ) (t : Token) (f : List Token) → w ≤ most_weight → ((n v : ℕ) → v ≤ most_weight → Loaded n v f) → (c : Bool)
+    → nat_lt most_weight ((if counts t.kind then 1 else 0) + w) ≡ c → Loaded 0 w (t ∷ f)
 loaded_if w t f small rec true h = heavy [] t f refl (omega (arith, small)) (omega (arith, ltb-true most_weight ((if counts t.kind then 1 else 0) + w) h))
 loaded_if w t f small rec false h =
     let v : ℕ = (if counts t.kind then 1 else 0) + w in

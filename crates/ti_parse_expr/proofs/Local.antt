@@ -67,7 +67,8 @@ module _ (t : Token) (w v : List Token) where
   suffix_then l (Err Spent) f s parts = tt
 
   -- where what is left in the end holds the token, it was left in the middle too
-  same_middle : {A B : Type 0} (x : A) (r : List Token) (out2 : Outcome A) (f f2 : A → Parser B) → Same (Ok (x, r)) out2 → Near (f x) (f2 x) → (o : Outcome B) → f x r ≡ o → (b : List Token) → r ≡ b ++ t ∷ w → Same o (and_then out2 f2)
+  same_middle : {A B : Type 0} (x : A) (r : List Token) (out2 : Outcome A) (f f2 : A → Parser B) → Same (Ok (x, r)) out2 → Near (f x) (f2 x)
+      → (o : Outcome B) → f x r ≡ o → (b : List Token) → r ≡ b ++ t ∷ w → Same o (and_then out2 f2)
   same_middle x r out2 f f2 s near o e b h =
       let moved : and_then out2 f2 ≡ f2 x (b ++ t ∷ v) = ap (λ z. and_then z f2) (s b h) in
       let same : Same (f x (b ++ t ∷ w)) (f2 x (b ++ t ∷ v)) = near.same b in
@@ -75,7 +76,8 @@ module _ (t : Token) (w v : List Token) where
       let here : Same o (f2 x (b ++ t ∷ v)) = subst (λ z. Same z (f2 x (b ++ t ∷ v))) e at in
       subst (λ z. Same o z) (sym moved) here
 
-  same_ok : {A B : Type 0} (x : A) (r : List Token) (out2 : Outcome A) (f f2 : A → Parser B) → Same (Ok (x, r)) out2 → Near (f x) (f2 x) → (o : Outcome B) → f x r ≡ o → Suffix r o → Same o (and_then out2 f2)
+  same_ok : {A B : Type 0} (x : A) (r : List Token) (out2 : Outcome A) (f f2 : A → Parser B) → Same (Ok (x, r)) out2 → Near (f x) (f2 x)
+      → (o : Outcome B) → f x r ≡ o → Suffix r o → Same o (and_then out2 f2)
   same_ok x r out2 f f2 s near (Ok q) e (g, is) = λ b h. same_middle x r out2 f f2 s near (Ok q) e (g ++ b) (is ∙ ap (λ z. g ++ z) h ∙ sym (append_assoc g b (t ∷ w))) b h
   same_ok x r out2 f f2 s near (Err (At r2)) e (g, is) = λ b h. same_middle x r out2 f f2 s near (Err (At r2)) e (g ++ b) (is ∙ ap (λ z. g ++ z) h ∙ sym (append_assoc g b (t ∷ w))) b h
   same_ok x r out2 f f2 s near (Err (Over r2)) e (g, is) = λ b h. same_middle x r out2 f f2 s near (Err (Over r2)) e (g ++ b) (is ∙ ap (λ z. g ++ z) h ∙ sym (append_assoc g b (t ∷ w))) b h
@@ -94,7 +96,8 @@ module _ (t : Token) (w v : List Token) where
   }
 
   -- what depends on the next token alone
-  pub near_by : {A X : Type 0} (look : List Token → X) {f g : X → Parser A} → ((b : List Token) → look (b ++ t ∷ w) ≡ look (b ++ t ∷ v)) → ((x : X) → Near (f x) (g x)) → Near (λ i. f (look i) i) (λ i. g (look i) i)
+  pub near_by : {A X : Type 0} (look : List Token → X) {f g : X → Parser A} → ((b : List Token) → look (b ++ t ∷ w) ≡ look (b ++ t ∷ v))
+      → ((x : X) → Near (f x) (g x)) → Near (λ i. f (look i) i) (λ i. g (look i) i)
   near_by look {f = f} {g = g} alike near = record {
     suffix = λ l. (near (look l)).suffix l;
     same = λ b. subst (λ x. Same (f (look (b ++ t ∷ w)) (b ++ t ∷ w)) (g x (b ++ t ∷ v))) (alike b) ((near (look (b ++ t ∷ w))).same b);
@@ -116,5 +119,6 @@ module _ (t : Token) (w v : List Token) where
 
   pub readers_near : (turns more : ℕ) → turns ≤ more → Readers (λ A p q. Near {A = A} p q) turns more
   readers_near turns more le =
-      readers_related (λ A p q. Near {A = A} p q) (λ n m. n ≤ m) (λ A x. near_pure x) (λ A. near_refuse) near_take (λ A B p q f g first next. near_then first next) (λ A f g each. near_by kind {f = f} {g = g} kind_alike each)
+      readers_related (λ A p q. Near {A = A} p q) (λ n m. n ≤ m) (λ A x. near_pure x) (λ A. near_refuse) near_take
+      (λ A B p q f g first next. near_then first next) (λ A f g each. near_by kind {f = f} {g = g} kind_alike each)
       (λ A f g each. near_by place {f = f} {g = g} place_alike each) (λ A q m h is. near_spent) no_fewer one_less turns more le (omega (arith, le))

@@ -94,7 +94,8 @@ module _ (f : Form) (weight : ℕ) (list : List Token) where
 abbrev refusal_at : Rule → Place → Refusal
 refusal_at rule place = record { rule = rule; place = place }
 
-pub only_tree : (list : List Token) (at : ℕ) (f : Form) (weight : ℕ) (answer : Result (Expr × ℕ × ℕ) ParseErr) → Answers list at f weight answer → (x : Exp) (size used : ℕ) → IsPhrase f weight (drop at list) x size used
+pub only_tree : (list : List Token) (at : ℕ) (f : Form) (weight : ℕ) (answer : Result (Expr × ℕ × ℕ) ParseErr)
+    → Answers list at f weight answer → (x : Exp) (size used : ℕ) → IsPhrase f weight (drop at list) x size used
     → GivesOnly answer x (at + size) used
 only_tree list at f weight (Ok p) (size2, is, h) x size used q =
     let (same, _) = same_run f weight (drop at list) h.run q.run h.after q.after h.is_run q.is_run in
@@ -102,7 +103,9 @@ only_tree list at f weight (Ok p) (size2, is, h) x size used q =
 only_tree list at f weight (Err (Refused r)) h x size used q = absurd (never_refused f weight (drop at list) r.rule r.place h x size used q)
 only_tree list at f weight (Err Memory) h x size used q = refl
 
-pub only_refusal : (list : List Token) (at : ℕ) (f : Form) (weight : ℕ) (answer : Result (Expr × ℕ × ℕ) ParseErr) → Answers list at f weight answer → (rule : Rule) (place : Place) → Refuses f weight (drop at list) rule place → RefusesOnly answer rule place
+pub only_refusal : (list : List Token) (at : ℕ) (f : Form) (weight : ℕ) (answer : Result (Expr × ℕ × ℕ) ParseErr)
+    → Answers list at f weight answer → (rule : Rule) (place : Place) → Refuses f weight (drop at list) rule place
+    → RefusesOnly answer rule place
 only_refusal list at f weight (Ok p) (size, is, h) rule place q = never_refused f weight (drop at list) rule place q (exp_of p.0) size p.2 h
 only_refusal list at f weight (Err (Refused r)) h rule place q =
     let (same, there) = one_refusal f weight (drop at list) r.rule r.place h rule place q in

@@ -69,7 +69,8 @@ pub data RangesClosed : List Token → List RangeTree → Type 0 where
 pub call_made : {l : List Token} {name : List ℕ} {xs : List Exp} (t o : Token) → t.kind ≡ k.Name name → o.kind ≡ k.LeftParen → ArgsClosed l xs → Postfixed Call (t ∷ o ∷ l) (e.call t.place name xs)
 call_made t o ht ho (args_closed c s hc) = grammar.call t o c ht ho s hc
 
-pub member_made : {ending : Ending} {a l : List Token} {left : Exp} {name : List ℕ} {xs : List Exp} (d t o : Token) → Postfixed ending a left → d.kind ≡ k.Dot → t.kind ≡ k.Name name → o.kind ≡ k.LeftParen
+pub member_made : {ending : Ending} {a l : List Token} {left : Exp} {name : List ℕ} {xs : List Exp} (d t o : Token)
+    → Postfixed ending a left → d.kind ≡ k.Dot → t.kind ≡ k.Name name → o.kind ≡ k.LeftParen
     → ArgsClosed l xs → Postfixed Call (a ++ d ∷ t ∷ o ∷ l) (e.member t.place left name xs)
 member_made d t o s hd ht ho (args_closed c q hc) = grammar.member d t o c s hd ht ho q hc
 

@@ -19,7 +19,11 @@ use Rattle.ti_parse_expr.specs.Mirrors.Input.{At, Spent, Parser, and_then, kind,
 use Rattle.ti_parse_expr.specs.Mirrors.Types as types
 use Rattle.ti_parse_expr.specs.Mirrors.Types.{dim_of, dimension, arity, base as type_base, qualifiers, grid, grids, field_type}
 use Rattle.ti_parse_expr.specs.Mirrors.Exprs as spec
-use Rattle.ti_parse_expr.specs.Mirrors.Exprs.{Operand, begins_type, is_dim, more_args, args, more_parts, parts_from, parts, range_from, more_ranges, ranges_from, bracket, process_name, process, named, member, index, postfix, group, operand, operation, climb, cast, cast_from, cast_from_grid, group_from, paren_name_bracket, paren_name, paren, unary, prefix, level, expr, behind_name, behind_bracket}
+use Rattle.ti_parse_expr.specs.Mirrors.Exprs.{Operand, begins_type, is_dim, more_args, args, more_parts, parts_from, parts, range_from}
+use Rattle.ti_parse_expr.specs.Mirrors.Exprs.{more_ranges, ranges_from, bracket, process_name, process, named, member, index, postfix}
+use Rattle.ti_parse_expr.specs.Mirrors.Exprs.{group, operand, operation, climb, cast, cast_from, cast_from_grid, group_from}
+use Rattle.ti_parse_expr.specs.Mirrors.Exprs.{paren_name_bracket, paren_name, paren, unary, prefix, level, expr, behind_name}
+use Rattle.ti_parse_expr.specs.Mirrors.Exprs.{behind_bracket}
 
 -- the readers with so many turns each
 pub record Readers (Q : (A : Type 0) → Parser A → Parser A → Type 0) (turns more : ℕ) : Type 0 where
@@ -79,7 +83,9 @@ module _ (Q : (A : Type 0) → Parser A → Parser A → Type 0) (T : ℕ → �
   -- a choice by the next token
   r_test : {A : Type 0} (test : TokenKind → Bool) {p1 q1 p2 q2 : Parser A} → R p1 q1 → R p2 q2
       → R (λ i. if◌then◌else◌ {A = Parser A} (test (kind i)) p1 p2 i) (λ i. if◌then◌else◌ {A = Parser A} (test (kind i)) q1 q2 i)
-  r_test {A = A} test {p1 = p1} {q1 = q1} {p2 = p2} {q2 = q2} n1 n2 = r_kind (λ a. if◌then◌else◌ {A = Parser A} (test a) p1 p2) (λ a. if◌then◌else◌ {A = Parser A} (test a) q1 q2) (λ a. r_if (test a) n1 n2)
+  r_test {A = A} test {p1 = p1} {q1 = q1} {p2 = p2} {q2 = q2} n1 n2 =
+      r_kind (λ a. if◌then◌else◌ {A = Parser A} (test a) p1 p2) (λ a. if◌then◌else◌ {A = Parser A} (test a) q1 q2)
+      (λ a. r_if (test a) n1 n2)
 
   r_sees : {A : Type 0} (q : TokenKind) {p1 q1 p2 q2 : Parser A} → R p1 q1 → R p2 q2
       → R (λ i. if◌then◌else◌ {A = Parser A} (sees q i) p1 p2 i) (λ i. if◌then◌else◌ {A = Parser A} (sees q i) q1 q2 i)
@@ -107,26 +113,34 @@ module _ (Q : (A : Type 0) → Parser A → Parser A → Type 0) (T : ℕ → �
   r_arity = r_then (r_expect k.Less) (λ _. r_then (r_kind (types.dimension_by) (types.dimension_by) r_dimension_by) (λ n. r_then (r_expect k.Greater) (λ _. r_pure n)))
 
   r_base_by : (q : TokenKind) → R (types.base_by q) (types.base_by q)
-  r_base_by k.KeywordInt = r_place (λ at i. and_then (take_token i) (λ _ j. Ok (b.Int at, j))) (λ at i. and_then (take_token i) (λ _ j. Ok (b.Int at, j))) (λ at. r_then r_take (λ _. r_pure (b.Int at)))
-  r_base_by k.KeywordLong = r_place (λ at i. and_then (take_token i) (λ _ j. Ok (b.Long at, j))) (λ at i. and_then (take_token i) (λ _ j. Ok (b.Long at, j))) (λ at. r_then r_take (λ _. r_pure (b.Long at)))
-  r_base_by k.KeywordBoolean = r_place (λ at i. and_then (take_token i) (λ _ j. Ok (b.Boolean at, j))) (λ at i. and_then (take_token i) (λ _ j. Ok (b.Boolean at, j))) (λ at. r_then r_take (λ _. r_pure (b.Boolean at)))
+  r_base_by k.KeywordInt = r_place (λ at i. and_then (take_token i) (λ _ j. Ok (b.Int at, j)))
+      (λ at i. and_then (take_token i) (λ _ j. Ok (b.Int at, j))) (λ at. r_then r_take (λ _. r_pure (b.Int at)))
+  r_base_by k.KeywordLong = r_place (λ at i. and_then (take_token i) (λ _ j. Ok (b.Long at, j)))
+      (λ at i. and_then (take_token i) (λ _ j. Ok (b.Long at, j))) (λ at. r_then r_take (λ _. r_pure (b.Long at)))
+  r_base_by k.KeywordBoolean = r_place (λ at i. and_then (take_token i) (λ _ j. Ok (b.Boolean at, j)))
+      (λ at i. and_then (take_token i) (λ _ j. Ok (b.Boolean at, j))) (λ at. r_then r_take (λ _. r_pure (b.Boolean at)))
   r_base_by k.KeywordPoint =
       r_place (λ at i. and_then (take_token i) (λ _ i. and_then (arity i) (λ n j. Ok (b.Point at n, j)))) (λ at i. and_then (take_token i) (λ _ i. and_then (arity i) (λ n j. Ok (b.Point at n, j))))
       (λ at. r_then r_take (λ _. r_then r_arity (λ n. r_pure (b.Point at n))))
   r_base_by k.KeywordRectDomain =
-      r_place (λ at i. and_then (take_token i) (λ _ i. and_then (arity i) (λ n j. Ok (b.RectDomain at n, j)))) (λ at i. and_then (take_token i) (λ _ i. and_then (arity i) (λ n j. Ok (b.RectDomain at n, j))))
+      r_place (λ at i. and_then (take_token i) (λ _ i. and_then (arity i) (λ n j. Ok (b.RectDomain at n, j))))
+      (λ at i. and_then (take_token i) (λ _ i. and_then (arity i) (λ n j. Ok (b.RectDomain at n, j))))
       (λ at. r_then r_take (λ _. r_then r_arity (λ n. r_pure (b.RectDomain at n))))
-  r_base_by (k.Name name) = r_place (λ at i. and_then (take_token i) (λ _ j. Ok (b.Named at name, j))) (λ at i. and_then (take_token i) (λ _ j. Ok (b.Named at name, j))) (λ at. r_then r_take (λ _. r_pure (b.Named at name)))
+  r_base_by (k.Name name) = r_place (λ at i. and_then (take_token i) (λ _ j. Ok (b.Named at name, j)))
+      (λ at i. and_then (take_token i) (λ _ j. Ok (b.Named at name, j))) (λ at. r_then r_take (λ _. r_pure (b.Named at name)))
   r_base_by _ = r_refuse
 
   pub r_base : R (type_base) (type_base)
   unfolding type_base
   r_base = r_kind (types.base_by) (types.base_by) r_base_by
 
-  r_qualifiers_if : (f g : List Qualifier → Parser (List Qualifier)) → ((found : List Qualifier) → R (f found) (g found)) → (found : List Qualifier) (q : Option QualifierWord) → R (types.qualifiers_if f found q) (types.qualifiers_if g found q)
+  r_qualifiers_if : (f g : List Qualifier → Parser (List Qualifier)) → ((found : List Qualifier) → R (f found) (g found))
+      → (found : List Qualifier) (q : Option QualifierWord) → R (types.qualifiers_if f found q) (types.qualifiers_if g found q)
   r_qualifiers_if f g more found None = r_pure found
   r_qualifiers_if f g more found (Some word) =
-      r_place (λ at i. and_then (take_token i) (λ _. f (found ++ record { word = word; place = at } ∷ []))) (λ at i. and_then (take_token i) (λ _. g (found ++ record { word = word; place = at } ∷ []))) (λ at. r_then r_take (λ _. more (found ++ record { word = word; place = at } ∷ [])))
+      r_place (λ at i. and_then (take_token i) (λ _. f (found ++ record { word = word; place = at } ∷ [])))
+      (λ at i. and_then (take_token i) (λ _. g (found ++ record { word = word; place = at } ∷ [])))
+      (λ at. r_then r_take (λ _. more (found ++ record { word = word; place = at } ∷ [])))
 
   pub r_qualifiers : (m m2 : ℕ) → T m m2 → (found : List Qualifier) → R (qualifiers m found) (qualifiers m2 found)
   unfolding qualifiers
@@ -143,7 +157,9 @@ module _ (Q : (A : Type 0) → Parser A → Parser A → Type 0) (T : ℕ → �
   module _ (turns more : ℕ) (most : T turns more) where
     pub r_grid : R (grid turns) (grid more)
     unfolding grid
-    r_grid = r_then (r_kind (types.grid_dimension_by) (types.grid_dimension_by) r_grid_dimension_by) (λ n. r_then (r_expect k.RightBracket) (λ _. r_then (r_qualifiers turns more most []) (λ qs. r_pure (record { dim = n; qualifiers = qs }))))
+    r_grid = r_then (r_kind (types.grid_dimension_by) (types.grid_dimension_by) r_grid_dimension_by)
+        (λ n. r_then (r_expect k.RightBracket) (λ _. r_then (r_qualifiers turns more most [])
+        (λ qs. r_pure (record { dim = n; qualifiers = qs }))))
 
     pub r_grids : (n : ℕ) (found : List GridTree) → R (grids turns n found) (grids more n found)
     unfolding grids
@@ -207,11 +223,14 @@ module _ (Q : (A : Type 0) → Parser A → Parser A → Type 0) (T : ℕ → �
       r_process_name : R (process_name) (process_name)
       unfolding process_name
       r_process_name =
-          r_kind process_name_by process_name_by (λ q. r_if (spells (codes "thisProc") q) (r_then r_take (λ _. r_pure true)) (r_if (spells (codes "numProcs") q) (r_then r_take (λ _. r_pure false)) r_refuse))
+          r_kind process_name_by process_name_by (λ q. r_if (spells (codes "thisProc") q) (r_then r_take (λ _. r_pure true))
+          (r_if (spells (codes "numProcs") q) (r_then r_take (λ _. r_pure false)) r_refuse))
 
       r_process : (at : Place) → R (process at) (process at)
       unfolding process
-      r_process at = r_then (r_expect k.Dot) (λ _. r_then r_process_name (λ is_this. r_then (r_expect k.LeftParen) (λ _. r_then (r_expect k.RightParen) (λ _. r_pure (if is_this then e.ThisProc at else e.NumProcs at)))))
+      r_process at = r_then (r_expect k.Dot) (λ _. r_then r_process_name
+          (λ is_this. r_then (r_expect k.LeftParen) (λ _. r_then (r_expect k.RightParen)
+          (λ _. r_pure (if is_this then e.ThisProc at else e.NumProcs at)))))
 
       r_named : (at : Place) (name : List ℕ) → R (named turns expr1 at name) (named more expr2 at name)
       unfolding named
@@ -219,7 +238,9 @@ module _ (Q : (A : Type 0) → Parser A → Parser A → Type 0) (T : ℕ → �
 
       abbrev member_at : ℕ → (ℕ → Parser Exp) → Exp → Place → Parser Operand
       member_at n expr_one left at i =
-          and_then (any_name i) (λ name i. if◌then◌else◌ {A = Parser Operand} (sees k.LeftParen i) (λ i. and_then (take_token i) (λ _ i. and_then (args n expr_one i) (λ xs j. Ok ((e.member at left name xs, Call), j)))) (λ i. Ok ((e.Select at left name, Target), i)) i)
+          and_then (any_name i) (λ name i. if◌then◌else◌ {A = Parser Operand} (sees k.LeftParen i)
+          (λ i. and_then (take_token i) (λ _ i. and_then (args n expr_one i) (λ xs j. Ok ((e.member at left name xs, Call), j))))
+          (λ i. Ok ((e.Select at left name, Target), i)) i)
 
       r_member : (left : Exp) → R (member turns expr1 left) (member more expr2 left)
       unfolding member
@@ -231,10 +252,13 @@ module _ (Q : (A : Type 0) → Parser A → Parser A → Type 0) (T : ℕ → �
       unfolding index
       r_index at left = r_then r_parts (λ xs. r_pure (e.index at left xs, Target))
 
-      r_postfix_by : (f g : Operand → Parser Operand) → ((x : Operand) → R (f x) (g x)) → (left : Operand) (q : TokenKind) → R (spec.postfix_by turns expr1 f left q) (spec.postfix_by more expr2 g left q)
+      r_postfix_by : (f g : Operand → Parser Operand) → ((x : Operand) → R (f x) (g x)) → (left : Operand) (q : TokenKind)
+          → R (spec.postfix_by turns expr1 f left q) (spec.postfix_by more expr2 g left q)
       r_postfix_by f g h left k.Dot = r_then (r_then r_take (λ _. r_member left.0)) h
       r_postfix_by f g h left k.LeftBracket =
-          r_place (λ at i. and_then (take_token i) (λ _ i. and_then (index turns expr1 at left.0 i) f)) (λ at i. and_then (take_token i) (λ _ i. and_then (index more expr2 at left.0 i) g)) (λ at. r_then r_take (λ _. r_then (r_index at left.0) h))
+          r_place (λ at i. and_then (take_token i) (λ _ i. and_then (index turns expr1 at left.0 i) f))
+          (λ at i. and_then (take_token i) (λ _ i. and_then (index more expr2 at left.0 i) g))
+          (λ at. r_then r_take (λ _. r_then (r_index at left.0) h))
       r_postfix_by f g h left _ = r_pure left
 
       r_postfix : (m m2 : ℕ) → T m m2 → (left : Operand) → R (postfix turns expr1 m left) (postfix more expr2 m2 left)
@@ -263,14 +287,17 @@ module _ (Q : (A : Type 0) → Parser A → Parser A → Type 0) (T : ℕ → �
       r_operand_by k.KeywordNull = r_literal (λ at. e.Null at)
       r_operand_by k.KeywordThis = r_literal (λ at. e.This at)
       r_operand_by (k.Name name) =
-          r_place (λ at i. and_then (take_token i) (λ _ i. and_then (named turns expr1 at name i) (postfix turns expr1 turns))) (λ at i. and_then (take_token i) (λ _ i. and_then (named more expr2 at name i) (postfix more expr2 more)))
+          r_place (λ at i. and_then (take_token i) (λ _ i. and_then (named turns expr1 at name i) (postfix turns expr1 turns)))
+          (λ at i. and_then (take_token i) (λ _ i. and_then (named more expr2 at name i) (postfix more expr2 more)))
           (λ at. r_then r_take (λ _. r_then (r_named at name) (r_postfix turns more most)))
       r_operand_by k.LeftParen = r_then r_take (λ _. r_group)
       r_operand_by k.LeftBracket =
-          r_place (λ at i. and_then (take_token i) (λ _ i. and_then (bracket turns expr1 at i) (λ x. postfix turns expr1 turns (x, Other)))) (λ at i. and_then (take_token i) (λ _ i. and_then (bracket more expr2 at i) (λ x. postfix more expr2 more (x, Other))))
+          r_place (λ at i. and_then (take_token i) (λ _ i. and_then (bracket turns expr1 at i) (λ x. postfix turns expr1 turns (x, Other))))
+          (λ at i. and_then (take_token i) (λ _ i. and_then (bracket more expr2 at i) (λ x. postfix more expr2 more (x, Other))))
           (λ at. r_then r_take (λ _. r_then (r_bracket at) (λ x. r_postfix turns more most (x, Other))))
       r_operand_by k.KeywordTi =
-          r_place (λ at i. and_then (take_token i) (λ _ i. and_then (process at i) (λ x. postfix turns expr1 turns (x, Other)))) (λ at i. and_then (take_token i) (λ _ i. and_then (process at i) (λ x. postfix more expr2 more (x, Other))))
+          r_place (λ at i. and_then (take_token i) (λ _ i. and_then (process at i) (λ x. postfix turns expr1 turns (x, Other))))
+          (λ at i. and_then (take_token i) (λ _ i. and_then (process at i) (λ x. postfix more expr2 more (x, Other))))
           (λ at. r_then r_take (λ _. r_then (r_process at) (λ x. r_postfix turns more most (x, Other))))
       r_operand_by _ = r_refuse
 
@@ -281,10 +308,13 @@ module _ (Q : (A : Type 0) → Parser A → Parser A → Type 0) (T : ℕ → �
       r_operation : (left : Exp) (op : BinaryOperator) → R (operation turns expr1 left op) (operation more expr2 left op)
       unfolding operation
       r_operation left op =
-          r_place (λ at i. and_then (take_token i) (λ _ i. and_then (expr1 (strength op + 1) i) (λ right j. Ok (e.Binary at op left right, j)))) (λ at i. and_then (take_token i) (λ _ i. and_then (expr2 (strength op + 1) i) (λ right j. Ok (e.Binary at op left right, j))))
+          r_place (λ at i. and_then (take_token i) (λ _ i. and_then (expr1 (strength op + 1) i)
+          (λ right j. Ok (e.Binary at op left right, j)))) (λ at i. and_then (take_token i)
+          (λ _ i. and_then (expr2 (strength op + 1) i) (λ right j. Ok (e.Binary at op left right, j))))
           (λ at. r_then r_take (λ _. r_then (r_expr (strength op + 1)) (λ right. r_pure (e.Binary at op left right))))
 
-      r_climb_by : (f g : Exp → Parser Exp) → ((x : Exp) → R (f x) (g x)) → (least : ℕ) (left : Exp) (q : Option BinaryOperator) → R (spec.climb_by turns expr1 f least left q) (spec.climb_by more expr2 g least left q)
+      r_climb_by : (f g : Exp → Parser Exp) → ((x : Exp) → R (f x) (g x)) → (least : ℕ) (left : Exp) (q : Option BinaryOperator)
+          → R (spec.climb_by turns expr1 f least left q) (spec.climb_by more expr2 g least left q)
       r_climb_by f g h least left None = r_pure left
       r_climb_by f g h least left (Some op) = r_if (nat_lt (strength op) least) (r_pure left) (r_then (r_operation left op) h)
 
@@ -310,11 +340,15 @@ module _ (Q : (A : Type 0) → Parser A → Parser A → Type 0) (T : ℕ → �
 
       r_group_from : (first : Operand) → R (group_from turns expr1 first) (group_from more expr2 first)
       unfolding group_from
-      r_group_from first = r_then (r_postfix turns more most first) (λ left. r_then (r_climb 1 turns more most left.0) (λ x. r_then (r_expect k.RightParen) (λ _. r_then (r_postfix turns more most (x, Other)) (λ y. r_pure y.0))))
+      r_group_from first = r_then (r_postfix turns more most first)
+          (λ left. r_then (r_climb 1 turns more most left.0) (λ x. r_then (r_expect k.RightParen)
+          (λ _. r_then (r_postfix turns more most (x, Other)) (λ y. r_pure y.0))))
 
       abbrev bracket_at : ℕ → (ℕ → Parser Exp) → Place → Place → List ℕ → Place → Parser Exp
       bracket_at n expr_one at name_at name at_bracket i =
-          and_then (take_token i) (λ _ i. if◌then◌else◌ {A = Parser Exp} (is_dim (kind i)) (cast_from_grid n expr_one at (b.Named name_at name)) (λ i. and_then (index n expr_one at_bracket (e.Name name_at name) i) (group_from n expr_one)) i)
+          and_then (take_token i) (λ _ i. if◌then◌else◌ {A = Parser Exp} (is_dim (kind i))
+          (cast_from_grid n expr_one at (b.Named name_at name)) (λ i. and_then (index n expr_one at_bracket (e.Name name_at name) i)
+          (group_from n expr_one)) i)
 
       r_paren_name_bracket : (at name_at : Place) (name : List ℕ) → R (paren_name_bracket turns expr1 at name_at name) (paren_name_bracket more expr2 at name_at name)
       unfolding paren_name_bracket
@@ -345,7 +379,8 @@ module _ (Q : (A : Type 0) → Parser A → Parser A → Type 0) (T : ℕ → �
 
       r_paren_by : (at : Place) (q : TokenKind) → R (spec.paren_by turns expr1 at q) (spec.paren_by more expr2 at q)
       r_paren_by at (k.Name name) =
-          r_place (λ z i. and_then (take_token i) (λ _. paren_name turns expr1 at z name)) (λ z i. and_then (take_token i) (λ _. paren_name more expr2 at z name)) (λ z. r_then r_take (λ _. r_paren_name at z name))
+          r_place (λ z i. and_then (take_token i) (λ _. paren_name turns expr1 at z name))
+          (λ z i. and_then (take_token i) (λ _. paren_name more expr2 at z name)) (λ z. r_then r_take (λ _. r_paren_name at z name))
       r_paren_by at q = r_paren_other at q
 
       r_paren : (at : Place) → R (paren turns expr1 at) (paren more expr2 at)
@@ -355,7 +390,8 @@ module _ (Q : (A : Type 0) → Parser A → Parser A → Type 0) (T : ℕ → �
       r_unary : (op : UnaryOperator) → R (unary turns expr1 op) (unary more expr2 op)
       unfolding unary
       r_unary op =
-          r_place (λ at i. and_then (take_token i) (λ _ i. and_then (expr1 11 i) (λ x j. Ok (e.Unary at op x, j)))) (λ at i. and_then (take_token i) (λ _ i. and_then (expr2 11 i) (λ x j. Ok (e.Unary at op x, j))))
+          r_place (λ at i. and_then (take_token i) (λ _ i. and_then (expr1 11 i) (λ x j. Ok (e.Unary at op x, j))))
+          (λ at i. and_then (take_token i) (λ _ i. and_then (expr2 11 i) (λ x j. Ok (e.Unary at op x, j))))
           (λ at. r_then r_take (λ _. r_then (r_expr 11) (λ x. r_pure (e.Unary at op x))))
 
       r_unary_or : (q : Option UnaryOperator) → R (spec.unary_or turns expr1 q) (spec.unary_or more expr2 q)
@@ -363,7 +399,8 @@ module _ (Q : (A : Type 0) → Parser A → Parser A → Type 0) (T : ℕ → �
       r_unary_or None = r_then r_operand (λ y. r_pure y.0)
 
       r_prefix_by : (q : TokenKind) → R (spec.prefix_by turns expr1 q) (spec.prefix_by more expr2 q)
-      r_prefix_by k.LeftParen = r_place (λ at i. and_then (take_token i) (λ _. paren turns expr1 at)) (λ at i. and_then (take_token i) (λ _. paren more expr2 at)) (λ at. r_then r_take (λ _. r_paren at))
+      r_prefix_by k.LeftParen = r_place (λ at i. and_then (take_token i) (λ _. paren turns expr1 at))
+          (λ at i. and_then (take_token i) (λ _. paren more expr2 at)) (λ at. r_then r_take (λ _. r_paren at))
       r_prefix_by q = r_unary_or (prefix_of q)
 
       r_level : (least : ℕ) → R (level turns expr1 least) (level more expr2 least)
@@ -382,7 +419,8 @@ module _ (Q : (A : Type 0) → Parser A → Parser A → Type 0) (T : ℕ → �
       let inner = expr_related turns more h in
       r_then (r_named turns more h (expr turns) (expr more) inner at name) (r_postfix turns more h (expr turns) (expr more) inner turns more h)
 
-  r_behind_bracket : (turns more : ℕ) → T turns more → T (suc turns) (suc more) → (bracket_at at : Place) (name : List ℕ) → R (behind_bracket turns bracket_at at name) (behind_bracket more bracket_at at name)
+  r_behind_bracket : (turns more : ℕ) → T turns more → T (suc turns) (suc more) → (bracket_at at : Place) (name : List ℕ)
+      → R (behind_bracket turns bracket_at at name) (behind_bracket more bracket_at at name)
   unfolding behind_bracket
   r_behind_bracket turns more h above bracket_at at name =
       let inner = expr_related (suc turns) (suc more) above in

@@ -37,7 +37,8 @@ one_less m m2 h = omega (arith, h)
 
 readers_shallow : (turns : ℕ) → Readers (λ A p q. Shallow {A = A} p q) turns turns
 readers_shallow turns =
-    readers_related (λ A p q. Shallow {A = A} p q) (λ n m. n ≡ m) (λ A x. record { is = λ l. tt }) (λ A. record { is = λ l. tt }) (record { is = λ l. tt }) (λ A B p q f g first next. both p q f g first next)
+    readers_related (λ A p q. Shallow {A = A} p q) (λ n m. n ≡ m) (λ A x. record { is = λ l. tt }) (λ A. record { is = λ l. tt })
+    (record { is = λ l. tt }) (λ A B p q f g first next. both p q f g first next)
     (λ A f g each. by kind f g each) (λ A f g each. by place f g each) (λ A q m h is. record { is = λ l. tt }) none_more one_less turns turns refl refl
 
 pub phrase_shallow : (f : Form) (turns : ℕ) (l : List Token) → IsShallow (phrase turns f l)

@@ -22,11 +22,16 @@ use Rattle.ti_syntax.specs.Spelling.Expressions as grammar
 use Rattle.ti_parse_expr.specs.Mirrors.Input.{At, Outcome, Parser, and_then, kind, next, sees, spells, expect, take_token, named_by}
 use Rattle.ti_parse_expr.specs.Mirrors.Types.{base as type_base, grid, grids, field_type}
 use Rattle.ti_parse_expr.specs.Mirrors.Exprs as spec
-use Rattle.ti_parse_expr.specs.Mirrors.Exprs.{Operand, begins_type, is_dim, more_args, args, more_parts, parts_from, parts, range_from, more_ranges, ranges_from, bracket, process_name, process, named, member, index, postfix, group, operand, operation, climb, cast, cast_from, cast_from_grid, group_from, paren_name_bracket, paren_name, paren, unary, prefix, level, expr}
+use Rattle.ti_parse_expr.specs.Mirrors.Exprs.{Operand, begins_type, is_dim, more_args, args, more_parts, parts_from, parts, range_from}
+use Rattle.ti_parse_expr.specs.Mirrors.Exprs.{more_ranges, ranges_from, bracket, process_name, process, named, member, index, postfix}
+use Rattle.ti_parse_expr.specs.Mirrors.Exprs.{group, operand, operation, climb, cast, cast_from, cast_from_grid, group_from}
+use Rattle.ti_parse_expr.specs.Mirrors.Exprs.{paren_name_bracket, paren_name, paren, unary, prefix, level, expr}
 use Rattle.ti_parse_expr.proofs.TokenKinds.{comma_is, paren_is, close_is, shut_is, dot_is, colon_is}
 use Rattle.ti_parse_expr.proofs.Law.{BeginsIn, Said, Any, then_said, after_said, as_said, done_said, want_said, last_said, refused_said, spent_said, if_said, append_nil, ended, token}
 use Rattle.ti_parse_expr.proofs.SoundTypes.{grid_says, grids_say, field_type_says, any_qualifiers, qualified_says, reserved_says, is_named, reserved_not_alone, qualified_not_alone, gridded_not_alone, gridded_append, MoreGrids, GridRest}
-use Rattle.ti_parse_expr.proofs.Phrases.{bound, binds, binds_small, strength_small, strength_some, spells_is, Post, ArgsClosed, args_closed, PartsClosed, parts_closed, RangesClosed, ranges_closed, call_made, member_made, index_made, point_made, rect_made, listed_snoc, ranges_snoc, weaken, whole_prefixed, prefixed_some}
+use Rattle.ti_parse_expr.proofs.Phrases.{bound, binds, binds_small, strength_small, strength_some, spells_is, Post, ArgsClosed, args_closed}
+use Rattle.ti_parse_expr.proofs.Phrases.{PartsClosed, parts_closed, RangesClosed, ranges_closed, call_made, member_made, index_made}
+use Rattle.ti_parse_expr.proofs.Phrases.{point_made, rect_made, listed_snoc, ranges_snoc, weaken, whole_prefixed, prefixed_some}
 
 -- ---- each list that is left can be gone on with
 
@@ -78,10 +83,18 @@ process_made t d n o c true ht hd hn ho hc = grammar.this_proc t d n o c ht hd h
 process_made t d n o c false ht hd hn ho hc = grammar.num_procs t d n o c ht hd hn ho hc
 
 process_begins : (t d : Token) → t.kind ≡ k.KeywordTi → d.kind ≡ k.Dot → BeginsIn (λ f x. Postfixed Other (t ∷ d ∷ f) x) []
-process_begins t d ht hd = (token (k.Name (codes "thisProc")) ∷ token k.LeftParen ∷ token k.RightParen ∷ [], e.ThisProc t.place, process_made t d (token (k.Name (codes "thisProc"))) (token k.LeftParen) (token k.RightParen) true ht hd refl refl refl)
+process_begins t d ht hd = (
+  token (k.Name (codes "thisProc")) ∷ token k.LeftParen ∷ token k.RightParen ∷ [],
+  e.ThisProc t.place,
+  process_made t d (token (k.Name (codes "thisProc"))) (token k.LeftParen) (token k.RightParen) true ht hd refl refl refl,
+)
 
 process_behind : (t d n : Token) (is_this : Bool) → t.kind ≡ k.KeywordTi → d.kind ≡ k.Dot → n.kind ≡ k.Name (process_word is_this) → BeginsIn (λ f x. Postfixed Other (t ∷ d ∷ n ∷ f) x) []
-process_behind t d n is_this ht hd hn = (token k.LeftParen ∷ token k.RightParen ∷ [], process_tree t.place is_this, process_made t d n (token k.LeftParen) (token k.RightParen) is_this ht hd hn refl refl)
+process_behind t d n is_this ht hd hn = (
+  token k.LeftParen ∷ token k.RightParen ∷ [],
+  process_tree t.place is_this,
+  process_made t d n (token k.LeftParen) (token k.RightParen) is_this ht hd hn refl refl,
+)
 
 abbrev rest_of_process : Place → Bool → Parser Exp
 rest_of_process at is_this i = and_then (expect k.LeftParen i) (λ _ i. and_then (expect k.RightParen i) (λ _ j. Ok (process_tree at is_this, j)))
@@ -89,17 +102,25 @@ rest_of_process at is_this i = and_then (expect k.LeftParen i) (λ _ i. and_then
 process_ends : {m : ℕ} (t d n : Token) (is_this : Bool) → t.kind ≡ k.KeywordTi → d.kind ≡ k.Dot → n.kind ≡ k.Name (process_word is_this) → (l : List Token)
     → Said m (λ f x. Postfixed Other (t ∷ d ∷ n ∷ f) x) Any l (rest_of_process t.place is_this l)
 process_ends {m = m} t d n is_this ht hd hn l =
-    want_said {m = m} k.LeftParen paren_is refl (omega arith) (token k.RightParen ∷ [], process_tree t.place is_this, process_made t d n (token k.LeftParen) (token k.RightParen) is_this ht hd hn refl refl) _
+    want_said {m = m} k.LeftParen paren_is refl (omega arith) (
+      token k.RightParen ∷ [],
+      process_tree t.place is_this,
+      process_made t d n (token k.LeftParen) (token k.RightParen) is_this ht hd hn refl refl,
+    ) _
     (λ o ts ho. last_said k.RightParen close_is refl (process_tree t.place is_this) (λ c hc. process_made t d n o c is_this ht hd hn ho hc))
 
-process_named_by : {m : ℕ} (t d n : Token) (ts : List Token) → t.kind ≡ k.KeywordTi → d.kind ≡ k.Dot → (is_this is_num : Bool) → spells (codes "thisProc") n.kind ≡ is_this → spells (codes "numProcs") n.kind ≡ is_num
+process_named_by : {m : ℕ} (t d n : Token) (ts : List Token) → t.kind ≡ k.KeywordTi → d.kind ≡ k.Dot → (is_this is_num : Bool)
+    → spells (codes "thisProc") n.kind ≡ is_this → spells (codes "numProcs") n.kind ≡ is_num
     → Said m (λ f x. Postfixed Other (t ∷ d ∷ f) x) Any (n ∷ ts)
-    (and_then (if◌then◌else◌ {A = Parser Bool} is_this (λ i. and_then (take_token i) (λ _ j. Ok (true, j))) (if◌then◌else◌ {A = Parser Bool} is_num (λ i. and_then (take_token i) (λ _ j. Ok (false, j))) (λ i. Err (At i))) (n ∷ ts)) (rest_of_process t.place))
+    (and_then (if◌then◌else◌ {A = Parser Bool} is_this (λ i. and_then (take_token i) (λ _ j. Ok (true, j)))
+    (if◌then◌else◌ {A = Parser Bool} is_num (λ i. and_then (take_token i) (λ _ j. Ok (false, j))) (λ i. Err (At i))) (n ∷ ts))
+    (rest_of_process t.place))
 process_named_by {m = m} t d n ts ht hd true is_num h h2 = after_said {m = m} (omega arith) (process_ends t d n true ht hd (spells_is (codes "thisProc") n.kind h) ts)
 process_named_by {m = m} t d n ts ht hd false true h h2 = after_said {m = m} (omega arith) (process_ends t d n false ht hd (spells_is (codes "numProcs") n.kind h2) ts)
 process_named_by t d n ts ht hd false false h h2 = refused_said (process_begins t d ht hd)
 
-process_named : {m : ℕ} (t d : Token) → t.kind ≡ k.KeywordTi → d.kind ≡ k.Dot → (l : List Token) → Said m (λ f x. Postfixed Other (t ∷ d ∷ f) x) Any l (and_then (process_name l) (rest_of_process t.place))
+process_named : {m : ℕ} (t d : Token) → t.kind ≡ k.KeywordTi → d.kind ≡ k.Dot → (l : List Token)
+    → Said m (λ f x. Postfixed Other (t ∷ d ∷ f) x) Any l (and_then (process_name l) (rest_of_process t.place))
 unfolding process_name
 process_named t d ht hd [] = refused_said (process_begins t d ht hd)
 process_named t d ht hd (n ∷ ts) = process_named_by t d n ts ht hd (spells (codes "thisProc") n.kind) (spells (codes "numProcs") n.kind) refl refl
@@ -120,7 +141,8 @@ module _ (turns : ℕ) (expr : ℕ → Parser Exp)
 
   after_arg : (m : ℕ) (found : List Exp) (rec : (x : Exp) (l : List Token) → Said m (More (found ++ x ∷ [])) Any l (more_args turns expr m (found ++ x ∷ []) l))
       (a : List Token) (x : Exp) → Whole 1 a x → (r : List Token)
-      → Said (suc m) (λ g y. More found (a ++ g) y) Any r (if◌then◌else◌ {A = Parser (List Exp)} (sees k.Comma r) (λ i. more_args turns expr m (found ++ x ∷ []) (next i)) (λ i. Ok (found ++ x ∷ [], i)) r)
+      → Said (suc m) (λ g y. More found (a ++ g) y) Any r (if◌then◌else◌ {A = Parser (List Exp)} (sees k.Comma r)
+      (λ i. more_args turns expr m (found ++ x ∷ []) (next i)) (λ i. Ok (found ++ x ∷ [], i)) r)
   after_arg m found rec a x w [] = done_said (last_arg found x a w) tt
   after_arg m found rec a x w (t ∷ ts) =
       if_said (same_kind t.kind k.Comma) _ _
@@ -160,14 +182,22 @@ module _ (turns : ℕ) (expr : ℕ → Parser Exp)
 
   -- ---- parts of brackets
 
-  more_parts_say : (n : ℕ) (a : List Token) (found : List Exp) → Listed a found → length found + n ≤ 3 → (l : List Token) → Said turns (λ f xs. Few 3 (a ++ f) xs) Any l (more_parts turns expr n found l)
+  more_parts_say : (n : ℕ) (a : List Token) (found : List Exp) → Listed a found → length found + n ≤ 3 → (l : List Token)
+      → Said turns (λ f xs. Few 3 (a ++ f) xs) Any l (more_parts turns expr n found l)
   unfolding more_parts
   more_parts_say zero a found s few l = done_said (ended Listed a found s, fits found 0 3 few) tt
   more_parts_say (suc n) a found s few [] = done_said (ended Listed a found s, fits found (suc n) 3 few) tt
   more_parts_say (suc n) a found s few (t ∷ ts) =
       if_said (same_kind t.kind k.Comma) _ _
       (λ h. after_said {m = turns} (omega arith)
-      (then_said {m = turns} {Q = Any} (λ f x q. omega arith) (λ f x q. ([], found ++ x ∷ [], (ended (λ z y. Listed (a ++ t ∷ z) y) f (found ++ x ∷ []) (listed_snoc t s (comma_is t.kind h) q), fits (found ++ x ∷ []) n 3 (snoc_length found x n 3 few)))) _ (inner_says turns (omega arith) ts)
+      (then_said {m = turns} {Q = Any} (λ f x q. omega arith) (λ f x q. (
+        [],
+        found ++ x ∷ [],
+        (
+          ended (λ z y. Listed (a ++ t ∷ z) y) f (found ++ x ∷ []) (listed_snoc t s (comma_is t.kind h) q),
+          fits (found ++ x ∷ []) n 3 (snoc_length found x n 3 few),
+        ),
+      )) _ (inner_says turns (omega arith) ts)
       (λ f r x q _. as_said {m = turns} (omega arith) (λ g y (p, some). (subst (λ z. Listed z y) (append_assoc a (t ∷ f) g) p, some)) (λ _ _. tt)
       (more_parts_say n (a ++ t ∷ f) (found ++ x ∷ []) (listed_snoc t s (comma_is t.kind h) q) (snoc_length found x n 3 few) r))))
       (λ _. done_said (ended Listed a found s, fits found (suc n) 3 few) tt)
@@ -196,7 +226,9 @@ module _ (turns : ℕ) (expr : ℕ → Parser Exp)
   after_high a f c low high s hc q [] = done_said (grammar.plain c s hc (ended (Whole 1) f high q)) tt
   after_high a f c low high s hc q (t ∷ ts) =
       if_said (same_kind t.kind k.Colon) _ _
-      (λ h. after_said {m = turns} (omega arith) (then_said {m = turns} {Q = Any} (λ g x p. omega arith) (λ g x p. ([], e.Stepped low high x, grammar.stepped c t s hc q (colon_is t.kind h) (ended (Whole 1) g x p))) _ (inner_says turns (omega arith) ts)
+      (λ h. after_said {m = turns} (omega arith) (then_said {m = turns} {Q = Any} (λ g x p. omega arith)
+      (λ g x p. ([], e.Stepped low high x, grammar.stepped c t s hc q (colon_is t.kind h) (ended (Whole 1) g x p))) _
+      (inner_says turns (omega arith) ts)
       (λ g r x p _. done_said (grammar.stepped c t s hc q (colon_is t.kind h) (ended (Whole 1) g x p)) tt)))
       (λ _. done_said (grammar.plain c s hc (ended (Whole 1) f high q)) tt)
 
@@ -211,7 +243,8 @@ module _ (turns : ℕ) (expr : ℕ → Parser Exp)
   range_begin : (f : List Token) (low : Exp) → Whole 1 f low → BeginsIn Range f
   range_begin f low s = (token k.Colon ∷ int_zero ∷ [], e.Plain low (e.Int int_zero.place (pos 0)), grammar.plain (token k.Colon) s refl (whole_int 1))
 
-  more_ranges_say : (n : ℕ) (a : List Token) (found : List RangeTree) → Ranges a found → length found + n ≤ 3 → (l : List Token) → Said turns (λ f rs. FewRanges 3 (a ++ f) rs) Any l (more_ranges turns expr n found l)
+  more_ranges_say : (n : ℕ) (a : List Token) (found : List RangeTree) → Ranges a found → length found + n ≤ 3 → (l : List Token)
+      → Said turns (λ f rs. FewRanges 3 (a ++ f) rs) Any l (more_ranges turns expr n found l)
   unfolding more_ranges
   more_ranges_say zero a found s few l = done_said (ended Ranges a found s, fits found 0 3 few) tt
   more_ranges_say (suc n) a found s few [] = done_said (ended Ranges a found s, fits found (suc n) 3 few) tt
@@ -219,9 +252,22 @@ module _ (turns : ℕ) (expr : ℕ → Parser Exp)
       if_said (same_kind t.kind k.Comma) _ _
       (λ h. after_said {m = turns} (omega arith)
       (then_said {m = turns} {Q = Any} (λ f x q. omega arith)
-      (λ f x q. let (w, r, p) = range_begin f x q in (w, found ++ r ∷ [], (ranges_snoc t s (comma_is t.kind h) p, fits (found ++ r ∷ []) n 3 (snoc_length found r n 3 few)))) _ (inner_says turns (omega arith) ts)
+      (λ f x q. let (w, r, p) = range_begin f x q in (
+        w,
+        found ++ r ∷ [],
+        (ranges_snoc t s (comma_is t.kind h) p, fits (found ++ r ∷ []) n 3 (snoc_length found r n 3 few)),
+      )) _
+      (inner_says turns (omega arith) ts)
       (λ f r low q _. then_said {m = turns} {S = λ g x. Range (f ++ g) x} {Q = Any} (λ g x p. omega arith)
-      (λ g x p. ([], found ++ x ∷ [], (ended (λ z y. Ranges (a ++ t ∷ (f ++ z)) y) g (found ++ x ∷ []) (ranges_snoc t s (comma_is t.kind h) p), fits (found ++ x ∷ []) n 3 (snoc_length found x n 3 few)))) _
+      (λ g x p. (
+        [],
+        found ++ x ∷ [],
+        (
+          ended (λ z y. Ranges (a ++ t ∷ (f ++ z)) y) g (found ++ x ∷ [])
+              (ranges_snoc t s (comma_is t.kind h) p),
+          fits (found ++ x ∷ []) n 3 (snoc_length found x n 3 few),
+        ),
+      )) _
       (range_from_says f low q r)
       (λ g r2 x p _. as_said {m = turns} (omega arith) (λ v y (p2, some). (subst (λ z. Ranges z y) (append_assoc a (t ∷ (f ++ g)) v ∙ ap (λ z. a ++ t ∷ z) (append_assoc f g v)) p2, some)) (λ _ _. tt)
       (more_ranges_say n (a ++ t ∷ (f ++ g)) (found ++ x ∷ []) (ranges_snoc t s (comma_is t.kind h) p) (snoc_length found x n 3 few) r2)))))
@@ -232,30 +278,51 @@ module _ (turns : ℕ) (expr : ℕ → Parser Exp)
   unfolding ranges_from
   ranges_from_say a low s l =
       then_said {m = turns} {S = λ f r. Range (a ++ f) r} {Q = Any} (λ f x q. omega arith)
-      (λ f x q. (token k.RightBracket ∷ [], x ∷ [], subst (λ z. RangesClosed z (x ∷ [])) (append_assoc a f (token k.RightBracket ∷ [])) (ranges_closed (token k.RightBracket) (grammar.last_range q) (omega arith) refl))) _ (range_from_says a low s l)
+      (λ f x q. (
+        token k.RightBracket ∷ [],
+        x ∷ [],
+        subst (λ z. RangesClosed z (x ∷ [])) (append_assoc a f (token k.RightBracket ∷ []))
+            (ranges_closed (token k.RightBracket) (grammar.last_range q) (omega arith) refl),
+      )) _ (range_from_says a low s l)
       (λ f r2 x q _. then_said {m = turns} {S = λ g rs. FewRanges 3 ((a ++ f) ++ g) rs} {Q = Any} (λ g rs p. omega arith)
-      (λ g rs (p, few). (token k.RightBracket ∷ [], rs, subst (λ z. RangesClosed z rs) (append_assoc (a ++ f) g (token k.RightBracket ∷ []) ∙ append_assoc a f (g ++ token k.RightBracket ∷ [])) (ranges_closed (token k.RightBracket) p few refl))) _
+      (λ g rs (p, few). (
+        token k.RightBracket ∷ [],
+        rs,
+        subst (λ z. RangesClosed z rs) (append_assoc (a ++ f) g (token k.RightBracket ∷ [])
+            ∙ append_assoc a f (g ++ token k.RightBracket ∷ [])) (ranges_closed (token k.RightBracket) p few refl),
+      )) _
       (more_ranges_say 2 (a ++ f) (x ∷ []) (grammar.last_range q) (omega arith) r2)
-      (λ g r3 rs (p, few) _. last_said k.RightBracket shut_is refl rs (λ c h. subst (λ z. RangesClosed z rs) (append_assoc (a ++ f) g (c ∷ []) ∙ append_assoc a f (g ++ c ∷ [])) (ranges_closed c p few h))))
+      (λ g r3 rs (p, few) _. last_said k.RightBracket shut_is refl rs
+      (λ c h. subst (λ z. RangesClosed z rs) (append_assoc (a ++ f) g (c ∷ []) ∙ append_assoc a f (g ++ c ∷ []))
+      (ranges_closed c p few h))))
 
   -- ---- literals in brackets
 
   points_say : (o : Token) → o.kind ≡ k.LeftBracket → (a : List Token) (first : Exp) → Whole 1 a first → (l : List Token)
       → Said turns (λ f x. Postfixed Other (o ∷ (a ++ f)) x) Any l (and_then (parts_from turns expr first l) (λ xs j. Ok (e.point o.place xs, j)))
   points_say o ho a first s l =
-      then_said {m = turns} {S = λ f xs. PartsClosed (a ++ f) xs} {Q = Any} (λ f x q. omega arith) (λ f xs q. ([], e.point o.place xs, ended (λ z y. Postfixed Other (o ∷ (a ++ z)) y) f (e.point o.place xs) (point_made o ho q))) _ (parts_from_says a first s l)
+      then_said {m = turns} {S = λ f xs. PartsClosed (a ++ f) xs} {Q = Any} (λ f x q. omega arith)
+      (λ f xs q. ([], e.point o.place xs, ended (λ z y. Postfixed Other (o ∷ (a ++ z)) y) f (e.point o.place xs) (point_made o ho q))) _
+      (parts_from_says a first s l)
       (λ f r xs q _. done_said (ended (λ z y. Postfixed Other (o ∷ (a ++ z)) y) f (e.point o.place xs) (point_made o ho q)) tt)
 
   rects_say : (o : Token) → o.kind ≡ k.LeftBracket → (a : List Token) (first : Exp) → Whole 1 a first → (l : List Token)
       → Said turns (λ f x. Postfixed Other (o ∷ (a ++ f)) x) Any l (and_then (ranges_from turns expr first l) (λ rs j. Ok (e.rect o.place rs, j)))
   rects_say o ho a first s l =
-      then_said {m = turns} {S = λ f rs. RangesClosed (a ++ f) rs} {Q = Any} (λ f x q. omega arith) (λ f rs q. ([], e.rect o.place rs, ended (λ z y. Postfixed Other (o ∷ (a ++ z)) y) f (e.rect o.place rs) (rect_made o ho q))) _ (ranges_from_say a first s l)
+      then_said {m = turns} {S = λ f rs. RangesClosed (a ++ f) rs} {Q = Any} (λ f x q. omega arith)
+      (λ f rs q. ([], e.rect o.place rs, ended (λ z y. Postfixed Other (o ∷ (a ++ z)) y) f (e.rect o.place rs) (rect_made o ho q))) _
+      (ranges_from_say a first s l)
       (λ f r rs q _. done_said (ended (λ z y. Postfixed Other (o ∷ (a ++ z)) y) f (e.rect o.place rs) (rect_made o ho q)) tt)
 
   bracket_says : (o : Token) → o.kind ≡ k.LeftBracket → (l : List Token) → Said turns (λ f x. Postfixed Other (o ∷ f) x) Any l (bracket turns expr o.place l)
   unfolding bracket
   bracket_says o ho l =
-      then_said {m = turns} {Q = Any} (λ f x q. omega arith) (λ f x s. (token k.RightBracket ∷ [], e.point o.place (x ∷ []), point_made o ho (parts_closed (token k.RightBracket) (grammar.last s) (omega arith) refl))) _ (inner_says turns (omega arith) l)
+      then_said {m = turns} {Q = Any} (λ f x q. omega arith) (λ f x s. (
+        token k.RightBracket ∷ [],
+        e.point o.place (x ∷ []),
+        point_made o ho (parts_closed (token k.RightBracket) (grammar.last s) (omega arith) refl),
+      )) _
+      (inner_says turns (omega arith) l)
       (λ f r first s _. if_said (sees k.Colon r) _ _ (λ _. rects_say o ho f first s r) (λ _. points_say o ho f first s r))
 
   -- ---- what begins with a name
@@ -273,11 +340,14 @@ module _ (turns : ℕ) (expr : ℕ → Parser Exp)
   -- after the dot and the name
   member_by : (a : List Token) (left : Operand) → Post a left → (d t : Token) (name : List ℕ) → d.kind ≡ k.Dot → t.kind ≡ k.Name name → (l : List Token)
       → Said turns (λ f x. Post (a ++ d ∷ t ∷ f) x) Any l
-      (if◌then◌else◌ {A = Parser Operand} (sees k.LeftParen l) (λ i. and_then (take_token i) (λ _ i. and_then (args turns expr i) (λ xs j. Ok ((e.member t.place left.0 name xs, Call), j)))) (λ i. Ok ((e.Select t.place left.0 name, Target), i)) l)
+      (if◌then◌else◌ {A = Parser Operand} (sees k.LeftParen l) (λ i. and_then (take_token i)
+      (λ _ i. and_then (args turns expr i) (λ xs j. Ok ((e.member t.place left.0 name xs, Call), j))))
+      (λ i. Ok ((e.Select t.place left.0 name, Target), i)) l)
   member_by a left s d t name hd ht [] = done_said (grammar.select d t s hd ht) tt
   member_by a left s d t name hd ht (o ∷ ts) =
       if_said (same_kind o.kind k.LeftParen) _ _
-      (λ h. after_said {m = turns} (omega arith) (call_says (λ f x. Post (a ++ d ∷ t ∷ o ∷ f) x) (λ xs. (e.member t.place left.0 name xs, Call)) ts (λ f xs q. member_made d t o s hd ht (paren_is o.kind h) q)))
+      (λ h. after_said {m = turns} (omega arith) (call_says (λ f x. Post (a ++ d ∷ t ∷ o ∷ f) x)
+      (λ xs. (e.member t.place left.0 name xs, Call)) ts (λ f xs q. member_made d t o s hd ht (paren_is o.kind h) q)))
       (λ _. done_said (grammar.select d t s hd ht) tt)
 
   member_begins : (a : List Token) (left : Operand) → Post a left → (d : Token) → d.kind ≡ k.Dot → BeginsIn (λ f x. Post (a ++ d ∷ f) x) []
@@ -285,7 +355,9 @@ module _ (turns : ℕ) (expr : ℕ → Parser Exp)
 
   member_name : (a : List Token) (left : Operand) → Post a left → (d t : Token) → d.kind ≡ k.Dot → (ts : List Token) (q : TokenKind) → t.kind ≡ q
       → Said turns (λ f x. Post (a ++ d ∷ f) x) Any (t ∷ ts)
-      (and_then (named_by q (t ∷ ts)) (λ name. λ l. if◌then◌else◌ {A = Parser Operand} (sees k.LeftParen l) (λ i. and_then (take_token i) (λ _ i. and_then (args turns expr i) (λ xs j. Ok ((e.member t.place left.0 name xs, Call), j)))) (λ i. Ok ((e.Select t.place left.0 name, Target), i)) l))
+      (and_then (named_by q (t ∷ ts)) (λ name. λ l. if◌then◌else◌ {A = Parser Operand} (sees k.LeftParen l)
+      (λ i. and_then (take_token i) (λ _ i. and_then (args turns expr i) (λ xs j. Ok ((e.member t.place left.0 name xs, Call), j))))
+      (λ i. Ok ((e.Select t.place left.0 name, Target), i)) l))
   member_name a left s d t hd ts (k.Name name) h = after_said {m = turns} (omega arith) (member_by a left s d t name hd h ts)
   member_name a left s d t hd ts _ h = refused_said (member_begins a left s d hd)
 
@@ -294,10 +366,17 @@ module _ (turns : ℕ) (expr : ℕ → Parser Exp)
   member_says a left s d hd [] = refused_said (member_begins a left s d hd)
   member_says a left s d hd (t ∷ ts) = member_name a left s d t hd ts t.kind refl
 
-  pub index_says : (a : List Token) (left : Operand) → Post a left → (o : Token) → o.kind ≡ k.LeftBracket → (l : List Token) → Said turns (λ f x. Post (a ++ o ∷ f) x) Any l (index turns expr o.place left.0 l)
+  pub index_says : (a : List Token) (left : Operand) → Post a left → (o : Token) → o.kind ≡ k.LeftBracket → (l : List Token)
+      → Said turns (λ f x. Post (a ++ o ∷ f) x) Any l (index turns expr o.place left.0 l)
   unfolding index
   index_says a left s o ho l =
-      then_said {m = turns} {S = PartsClosed} {Q = Any} (λ f x q. omega arith) (λ f xs q. ([], (e.index o.place left.0 xs, Target), ended (λ z y. Post (a ++ o ∷ z) y) f (e.index o.place left.0 xs, Target) (index_made o s ho q))) _ (parts_say l)
+      then_said {m = turns} {S = PartsClosed} {Q = Any} (λ f x q. omega arith)
+      (λ f xs q. (
+        [],
+        (e.index o.place left.0 xs, Target),
+        ended (λ z y. Post (a ++ o ∷ z) y) f (e.index o.place left.0 xs, Target)
+            (index_made o s ho q),
+      )) _ (parts_say l)
       (λ f r xs q _. done_said (ended (λ z y. Post (a ++ o ∷ z) y) f (e.index o.place left.0 xs, Target) (index_made o s ho q)) tt)
 
   postfix_by_says : (m : ℕ) → suc m ≤ turns → (rec : (a : List Token) (left : Operand) → Post a left → (l : List Token) → Said m (λ f x. Post (a ++ f) x) Any l (postfix turns expr m left l))
@@ -353,7 +432,8 @@ module _ (turns : ℕ) (expr : ℕ → Parser Exp)
   other_says : (t : Token) (ts : List Token) (out : Outcome Exp) → Said turns (λ f x. Postfixed Other (t ∷ f) x) Any ts out
       → Said (suc turns) Post Any (t ∷ ts) (and_then out (λ x. postfix turns expr turns (x, Other)))
   other_says t ts out said =
-      after_said {m = turns} (omega arith) (then_said {m = turns} {S = λ f x. Postfixed Other (t ∷ f) x} {Q = Any} (λ f x s. omega arith) (λ f x s. ([], (x, Other), ended (λ g y. Post (t ∷ g) y) f (x, Other) s)) _ said
+      after_said {m = turns} (omega arith) (then_said {m = turns} {S = λ f x. Postfixed Other (t ∷ f) x} {Q = Any} (λ f x s. omega arith)
+      (λ f x s. ([], (x, Other), ended (λ g y. Post (t ∷ g) y) f (x, Other) s)) _ said
       (λ f r x s _. postfix_says turns (omega arith) (t ∷ f) (x, Other) s r))
 
   operand_by_says : (t : Token) (ts : List Token) (q : TokenKind) → t.kind ≡ q → Said (suc turns) Post Any (t ∷ ts) (spec.operand_by turns expr q (t ∷ ts))
@@ -384,7 +464,13 @@ module _ (turns : ℕ) (expr : ℕ → Parser Exp)
       let some = strength_some op in
       let wa : Whole (strength op) a left = weaken le s in
       let made : (f : List Token) (x : Exp) → Whole (strength op + 1) f x → Whole (strength op) (a ++ t ∷ f) (e.Binary t.place op left x) = λ f x q. grammar.operation t is (omega arith) wa q in
-      then_said {m = turns} {Q = Below (strength op + 1)} (λ f x q. omega arith) (λ f x q. ([], e.Binary t.place op left x, ended (λ g y. Whole (strength op) (a ++ t ∷ g) y) f (e.Binary t.place op left x) (made f x q))) _
+      then_said {m = turns} {Q = Below (strength op + 1)} (λ f x q. omega arith)
+      (λ f x q. (
+        [],
+        e.Binary t.place op left x,
+        ended (λ g y. Whole (strength op) (a ++ t ∷ g) y) f (e.Binary t.place op left x)
+            (made f x q),
+      )) _
       (expr_says (strength op + 1) (omega arith) (omega arith) ts)
       (λ f r x q below. done_said (ended (λ g y. Whole (strength op) (a ++ t ∷ g) y) f (e.Binary t.place op left x) (made f x q)) (omega (arith, below)))
 
@@ -394,7 +480,9 @@ module _ (turns : ℕ) (expr : ℕ → Parser Exp)
 
   climb_if_says : (least : ℕ) → 1 ≤ least → (m : ℕ) → suc m ≤ turns → Climbs least m → (L : ℕ) → least ≤ L → (a : List Token) (left : Exp) → Whole L a left → (t : Token) (ts : List Token)
       → (op : BinaryOperator) → infix_of t.kind ≡ Some op → strength op ≤ L → (test : Bool) → nat_lt (strength op) least ≡ test
-      → Said (suc m) (λ f x. Whole least (a ++ f) x) (Below least) (t ∷ ts) (if◌then◌else◌ {A = Parser Exp} test (λ i. Ok (left, i)) (λ i. and_then (operation turns expr left op i) (climb turns expr least m)) (t ∷ ts))
+      → Said (suc m) (λ f x. Whole least (a ++ f) x) (Below least) (t ∷ ts)
+      (if◌then◌else◌ {A = Parser Exp} test (λ i. Ok (left, i)) (λ i. and_then (operation turns expr left op i)
+      (climb turns expr least m)) (t ∷ ts))
   climb_if_says least one m le rec L above a left s t ts op is bound_op true h =
       let low : strength op < least = ltb-true (strength op) least h in
       let same : binds t.kind ≡ strength op = ap bound is in
@@ -407,7 +495,8 @@ module _ (turns : ℕ) (expr : ℕ → Parser Exp)
       (as_said (omega arith) (λ g y q. q) (λ r q. q) (operation_says L a left s t ts op is bound_op))
       (λ f r x q below. as_said {m = m} (omega arith) (λ g y p. subst (λ z. Whole least z y) (append_assoc a (t ∷ f) g) p) (λ _ q. q) (rec (strength op) some (a ++ t ∷ f) x q r below)))
 
-  climb_by_says : (least : ℕ) → 1 ≤ least → (m : ℕ) → suc m ≤ turns → Climbs least m → (L : ℕ) → least ≤ L → (a : List Token) (left : Exp) → Whole L a left → (t : Token) (ts : List Token) → binds t.kind ≤ L
+  climb_by_says : (least : ℕ) → 1 ≤ least → (m : ℕ) → suc m ≤ turns → Climbs least m → (L : ℕ) → least ≤ L → (a : List Token) (left : Exp)
+      → Whole L a left → (t : Token) (ts : List Token) → binds t.kind ≤ L
       → (q : Option BinaryOperator) → infix_of t.kind ≡ q
       → Said (suc m) (λ f x. Whole least (a ++ f) x) (Below least) (t ∷ ts) (spec.climb_by turns expr (climb turns expr least m) least left q (t ∷ ts))
   climb_by_says least one m le rec L above a left s t ts within None is =
@@ -426,11 +515,22 @@ module _ (turns : ℕ) (expr : ℕ → Parser Exp)
 
   -- ---- casts, behind an opening parenthesis o
 
-  cast_says : (o : Token) (a : List Token) (ty : TypeTree) → o.kind ≡ k.LeftParen → CastType a ty → (l : List Token) → Said turns (λ f x. Prefixed (o ∷ (a ++ f)) x) Any l (cast turns expr o.place ty l)
+  cast_says : (o : Token) (a : List Token) (ty : TypeTree) → o.kind ≡ k.LeftParen → CastType a ty → (l : List Token)
+      → Said turns (λ f x. Prefixed (o ∷ (a ++ f)) x) Any l (cast turns expr o.place ty l)
   unfolding cast
   cast_says o a ty ho s l =
-      want_said {m = turns} k.RightParen close_is refl (omega arith) (int_zero ∷ [], e.Cast o.place ty (e.Int int_zero.place (pos 0)), grammar.cast o (token k.RightParen) ho s refl (grammar.postfixed postfixed_int)) _
-      (λ c ts hc. then_said {m = turns} {S = Prefixed} {Q = Any} (λ f x q. omega arith) (λ f x q. ([], e.Cast o.place ty x, ended (λ g y. Prefixed (o ∷ (a ++ c ∷ g)) y) f (e.Cast o.place ty x) (grammar.cast o c ho s hc q))) _
+      want_said {m = turns} k.RightParen close_is refl (omega arith) (
+        int_zero ∷ [],
+        e.Cast o.place ty (e.Int int_zero.place (pos 0)),
+        grammar.cast o (token k.RightParen) ho s refl (grammar.postfixed postfixed_int),
+      ) _
+      (λ c ts hc. then_said {m = turns} {S = Prefixed} {Q = Any} (λ f x q. omega arith)
+      (λ f x q. (
+        [],
+        e.Cast o.place ty x,
+        ended (λ g y. Prefixed (o ∷ (a ++ c ∷ g)) y) f (e.Cast o.place ty x)
+            (grammar.cast o c ho s hc q),
+      )) _
       (as_said (omega arith) (λ g y q. whole_prefixed q) (λ _ _. tt) (expr_says 11 (omega arith) (omega arith) ts))
       (λ f r x q _. done_said (ended (λ g y. Prefixed (o ∷ (a ++ c ∷ g)) y) f (e.Cast o.place ty x) (grammar.cast o c ho s hc q)) tt))
 
@@ -438,7 +538,8 @@ module _ (turns : ℕ) (expr : ℕ → Parser Exp)
   cast_begins o a ty ho s = (token k.RightParen ∷ int_zero ∷ [], e.Cast o.place ty (e.Int int_zero.place (pos 0)), grammar.cast o (token k.RightParen) ho s refl (grammar.postfixed postfixed_int))
 
   -- where what the type begins with, the tokens a, and its qualifiers are no name alone
-  cast_from_by : (o : Token) → o.kind ≡ k.LeftParen → (a : List Token) (begin : Base) (P : List _ → Type 0) → Based a begin → ((qs : List _) (gs : List GridTree) → P qs → is_name_alone begin qs gs ≡ false) → (l : List Token)
+  cast_from_by : (o : Token) → o.kind ≡ k.LeftParen → (a : List Token) (begin : Base) (P : List _ → Type 0) → Based a begin
+      → ((qs : List _) (gs : List GridTree) → P qs → is_name_alone begin qs gs ≡ false) → (l : List Token)
       → Said turns (λ f qs. types.Qualified f qs × P qs) Any l (Rattle.ti_parse_expr.specs.Mirrors.Types.qualifiers turns [] l)
       → Said turns (λ f x. Prefixed (o ∷ (a ++ f)) x) Any l (cast_from turns expr o.place begin l)
   unfolding cast_from
@@ -454,19 +555,22 @@ module _ (turns : ℕ) (expr : ℕ → Parser Exp)
   reserved_cast o ho t ts reserved =
       then_said {m = turns} {S = λ f x. Based f x × (is_named x ≡ false)} {Q = Any} (λ f x q. omega arith)
       (λ f x (q, plain). cast_begins o f (record { base = x; qualifiers = []; grids = [] }) ho
-      (types.cast_type (subst (λ z. FieldType z (record { base = x; qualifiers = []; grids = [] })) (append_nil f) (types.field_type q types.none types.none (omega arith))) (reserved_not_alone x [] [] plain))) _
+      (types.cast_type (subst (λ z. FieldType z (record { base = x; qualifiers = []; grids = [] })) (append_nil f)
+      (types.field_type q types.none types.none (omega arith))) (reserved_not_alone x [] [] plain))) _
       (reserved_says t ts reserved)
       (λ f r x (q, plain) _. cast_from_by o ho f x (λ qs. Unit {0}) q (λ qs gs _. reserved_not_alone x qs gs plain) r (any_qualifiers turns r))
 
   named_cast : (o : Token) → o.kind ≡ k.LeftParen → (t : Token) (name : List ℕ) → t.kind ≡ k.Name name → (q : Token) (ts : List Token) (word : QualifierWord) → qualifier_of q.kind ≡ Some word
       → Said turns (λ f x. Prefixed (o ∷ t ∷ f) x) Any (q ∷ ts) (cast_from turns expr o.place (b.Named t.place name) (q ∷ ts))
   named_cast o ho t name ht q ts word is =
-      cast_from_by o ho (t ∷ []) (b.Named t.place name) (λ qs. 0 < length qs) (types.named t ht) (λ qs gs some. qualified_not_alone (b.Named t.place name) qs gs some) (q ∷ ts) (qualified_says turns q ts word is)
+      cast_from_by o ho (t ∷ []) (b.Named t.place name) (λ qs. 0 < length qs) (types.named t ht)
+      (λ qs gs some. qualified_not_alone (b.Named t.place name) qs gs some) (q ∷ ts) (qualified_says turns q ts word is)
 
   abbrev grid_type : Token → List ℕ → List GridTree → TypeTree
   grid_type t name gs = record { base = b.Named t.place name; qualifiers = []; grids = gs }
 
-  grid_cast_type : (t c : Token) (name : List ℕ) (f : List Token) (g : GridTree) (ys gs : List GridTree) → t.kind ≡ k.Name name → Gridded (c ∷ f) (g ∷ ys) → gs ≡ g ∷ ys → length ys ≤ 2 → CastType (t ∷ c ∷ f) (grid_type t name gs)
+  grid_cast_type : (t c : Token) (name : List ℕ) (f : List Token) (g : GridTree) (ys gs : List GridTree) → t.kind ≡ k.Name name
+      → Gridded (c ∷ f) (g ∷ ys) → gs ≡ g ∷ ys → length ys ≤ 2 → CastType (t ∷ c ∷ f) (grid_type t name gs)
   grid_cast_type t c name f g ys gs ht s is few =
       types.cast_type (types.field_type (types.named t ht) types.none (subst (Gridded (c ∷ f)) (sym is) s) (omega (arith, few, ap length is)))
       (ap (is_name_alone (b.Named t.place name) []) is ∙ gridded_not_alone (b.Named t.place name) [] g ys)
@@ -505,15 +609,19 @@ module _ (turns : ℕ) (expr : ℕ → Parser Exp)
   moved o a f (w, y, p) = (w, y, subst (λ z. Prefixed (o ∷ z) y) (append_assoc a f w) p)
 
   -- behind its first operand, which the tokens a spell
-  group_from_says : (o : Token) → o.kind ≡ k.LeftParen → (a : List Token) (first : Operand) → Post a first → (l : List Token) → Said turns (λ f y. Prefixed (o ∷ (a ++ f)) y) Any l (group_from turns expr first l)
+  group_from_says : (o : Token) → o.kind ≡ k.LeftParen → (a : List Token) (first : Operand) → Post a first → (l : List Token)
+      → Said turns (λ f y. Prefixed (o ∷ (a ++ f)) y) Any l (group_from turns expr first l)
   unfolding group_from
   group_from_says o ho a first s l =
-      then_said {m = turns} {S = λ f x. Post (a ++ f) x} {Q = Any} (λ f x q. omega arith) (λ f x q. moved o a f (closed_so o ho (a ++ f) x.0 (grammar.operand (grammar.postfixed q)))) _ (postfix_says turns (omega arith) a first s l)
+      then_said {m = turns} {S = λ f x. Post (a ++ f) x} {Q = Any} (λ f x q. omega arith)
+      (λ f x q. moved o a f (closed_so o ho (a ++ f) x.0 (grammar.operand (grammar.postfixed q)))) _
+      (postfix_says turns (omega arith) a first s l)
       (λ f r left q _. let small = binds_small (kind r) in
       then_said {m = turns} {S = λ g x. Whole 1 ((a ++ f) ++ g) x} {Q = Below 1} (λ g x p. omega arith)
       (λ g x p. let (w, y, v) = closed_so o ho ((a ++ f) ++ g) x p in (w, y, subst (λ z. Prefixed (o ∷ z) y) (append_assoc (a ++ f) g w ∙ append_assoc a f (g ++ w)) v)) _
       (climb_says 1 (omega arith) turns (omega arith) 11 (omega arith) (a ++ f) left.0 (grammar.operand (grammar.postfixed q)) r (omega arith))
-      (λ g r2 x p _. as_said {m = turns} (omega arith) (λ h y v. subst (λ z. Prefixed (o ∷ z) y) (append_assoc (a ++ f) g h ∙ append_assoc a f (g ++ h)) v) (λ _ _. tt) (close_drop o ho ((a ++ f) ++ g) x p r2)))
+      (λ g r2 x p _. as_said {m = turns} (omega arith) (λ h y v. subst (λ z. Prefixed (o ∷ z) y) (append_assoc (a ++ f) g h
+      ∙ append_assoc a f (g ++ h)) v) (λ _ _. tt) (close_drop o ho ((a ++ f) ++ g) x p r2)))
 
   -- ---- behind o and the name t
 
@@ -526,7 +634,9 @@ module _ (turns : ℕ) (expr : ℕ → Parser Exp)
   indexed_group : (o t c : Token) (name : List ℕ) → o.kind ≡ k.LeftParen → t.kind ≡ k.Name name → c.kind ≡ k.LeftBracket → (l : List Token)
       → Said turns (λ f x. Prefixed (o ∷ t ∷ c ∷ f) x) Any l (and_then (index turns expr c.place (e.Name t.place name) l) (group_from turns expr))
   indexed_group o t c name ho ht hc l =
-      then_said {m = turns} {S = λ f x. Post (t ∷ c ∷ f) x} {Q = Any} (λ f x q. omega arith) (λ f x q. closed_so o ho (t ∷ c ∷ f) x.0 (grammar.operand (grammar.postfixed q))) _ (index_says (t ∷ []) (e.Name t.place name, Target) (grammar.name t ht) c hc l)
+      then_said {m = turns} {S = λ f x. Post (t ∷ c ∷ f) x} {Q = Any} (λ f x q. omega arith)
+      (λ f x q. closed_so o ho (t ∷ c ∷ f) x.0 (grammar.operand (grammar.postfixed q))) _
+      (index_says (t ∷ []) (e.Name t.place name, Target) (grammar.name t ht) c hc l)
       (λ f r x q _. group_from_says o ho (t ∷ c ∷ f) x q r)
 
   paren_bracket_says : (o t c : Token) (name : List ℕ) → o.kind ≡ k.LeftParen → t.kind ≡ k.Name name → c.kind ≡ k.LeftBracket → (ts : List Token)
@@ -554,7 +664,8 @@ module _ (turns : ℕ) (expr : ℕ → Parser Exp)
   paren_name_by_says o ho t name ht (c ∷ ts) k.LeftBracket h = paren_bracket_says o t c name ho ht h ts
   paren_name_by_says o ho t name ht l q h = cast_or_group o ho t name ht l q h
 
-  paren_name_says : (o : Token) → o.kind ≡ k.LeftParen → (t : Token) (name : List ℕ) → t.kind ≡ k.Name name → (l : List Token) → Said turns (λ f x. Prefixed (o ∷ t ∷ f) x) Any l (paren_name turns expr o.place t.place name l)
+  paren_name_says : (o : Token) → o.kind ≡ k.LeftParen → (t : Token) (name : List ℕ) → t.kind ≡ k.Name name → (l : List Token)
+      → Said turns (λ f x. Prefixed (o ∷ t ∷ f) x) Any l (paren_name turns expr o.place t.place name l)
   unfolding paren_name
   paren_name_says o ho t name ht l = paren_name_by_says o ho t name ht l (kind l) refl
 
@@ -568,7 +679,8 @@ module _ (turns : ℕ) (expr : ℕ → Parser Exp)
       (if◌then◌else◌ {A = Parser Exp} (begins_type q) (λ i. and_then (type_base i) (cast_from turns expr o.place)) (λ i. and_then (group turns expr i) (λ y j. Ok (y.0, j))) (t ∷ ts))
   type_or_group o ho t ts q h = if_said (begins_type q) _ _ (λ some. reserved_cast o ho t ts (ap begins_type h ∙ some)) (λ _. paren_plain o ho (t ∷ ts))
 
-  paren_by_says : (o : Token) → o.kind ≡ k.LeftParen → (t : Token) (ts : List Token) (q : TokenKind) → t.kind ≡ q → Said turns (λ f x. Prefixed (o ∷ f) x) Any (t ∷ ts) (spec.paren_by turns expr o.place q (t ∷ ts))
+  paren_by_says : (o : Token) → o.kind ≡ k.LeftParen → (t : Token) (ts : List Token) (q : TokenKind) → t.kind ≡ q
+      → Said turns (λ f x. Prefixed (o ∷ f) x) Any (t ∷ ts) (spec.paren_by turns expr o.place q (t ∷ ts))
   paren_by_says o ho t ts (k.Name name) h = after_said {m = turns} (omega arith) (paren_name_says o ho t name h ts)
   paren_by_says o ho t ts q h = type_or_group o ho t ts q h
 
@@ -582,7 +694,8 @@ module _ (turns : ℕ) (expr : ℕ → Parser Exp)
   unary_says : (t : Token) (ts : List Token) (op : UnaryOperator) → prefix_of t.kind ≡ Some op → Said (suc turns) Prefixed Any (t ∷ ts) (unary turns expr op (t ∷ ts))
   unfolding unary
   unary_says t ts op is =
-      after_said {m = turns} (omega arith) (then_said {m = turns} {S = Prefixed} {Q = Any} (λ f x s. omega arith) (λ f x s. ([], e.Unary t.place op x, ended (λ g y. Prefixed (t ∷ g) y) f (e.Unary t.place op x) (grammar.unary t is s))) _
+      after_said {m = turns} (omega arith) (then_said {m = turns} {S = Prefixed} {Q = Any} (λ f x s. omega arith)
+      (λ f x s. ([], e.Unary t.place op x, ended (λ g y. Prefixed (t ∷ g) y) f (e.Unary t.place op x) (grammar.unary t is s))) _
       (as_said (omega arith) (λ g y s. whole_prefixed s) (λ _ _. tt) (expr_says 11 (omega arith) (omega arith) ts))
       (λ f r x s _. done_said (ended (λ g y. Prefixed (t ∷ g) y) f (e.Unary t.place op x) (grammar.unary t is s)) tt))
 

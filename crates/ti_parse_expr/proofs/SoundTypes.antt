@@ -123,7 +123,11 @@ abbrev pub GridRest : Token → List Token → GridTree → Type 0
 GridRest o f g = Gridded (o ∷ f) (g ∷ [])
 
 grid_some : (o : Token) → o.kind ≡ k.LeftBracket → BeginsIn (GridRest o) []
-grid_some o ho = (token (k.Dim 1) ∷ token k.RightBracket ∷ [], record { dim = 1; qualifiers = [] }, grammar.more o (token (k.Dim 1)) (token k.RightBracket) ho refl (omega arith) (omega arith) refl grammar.none grammar.none)
+grid_some o ho = (
+  token (k.Dim 1) ∷ token k.RightBracket ∷ [],
+  record { dim = 1; qualifiers = [] },
+  grammar.more o (token (k.Dim 1)) (token k.RightBracket) ho refl (omega arith) (omega arith) refl grammar.none grammar.none,
+)
 
 grid_made : (o t c : Token) (n : ℕ) (f : List Token) (qs : List Qualifier) → o.kind ≡ k.LeftBracket → t.kind ≡ k.Dim n → 1 ≤ n → n ≤ 3 → c.kind ≡ k.RightBracket → Qualified f qs
     → GridRest o (t ∷ c ∷ (f ++ [])) (record { dim = n; qualifiers = qs })
@@ -141,11 +145,18 @@ module _ (turns : ℕ) where
       let ht : t.kind ≡ k.Dim n = hd ∙ ap k.Dim same in
       let more : 1 ≤ n = omega (arith, same, low) in
       let few : n ≤ 3 = omega (arith, same, high) in
-      after_said {m = turns} (omega arith) (want_said {m = turns} k.RightBracket shut_is refl (omega arith) ([], record { dim = n; qualifiers = [] }, grid_made o t (token k.RightBracket) n [] [] ho ht more few refl grammar.none) _
-      (λ c us hc. then_said {m = turns} {S = Qualified} {Q = Any} (λ f x s. omega arith) (λ f qs s. ([], record { dim = n; qualifiers = qs }, grid_made o t c n f qs ho ht more few hc s)) _ (all_qualifiers_say turns us)
+      after_said {m = turns} (omega arith) (want_said {m = turns} k.RightBracket shut_is refl (omega arith) (
+        [],
+        record { dim = n; qualifiers = [] },
+        grid_made o t (token k.RightBracket) n [] [] ho ht more few refl grammar.none,
+      ) _
+      (λ c us hc. then_said {m = turns} {S = Qualified} {Q = Any} (λ f x s. omega arith)
+      (λ f qs s. ([], record { dim = n; qualifiers = qs }, grid_made o t c n f qs ho ht more few hc s)) _
+      (all_qualifiers_say turns us)
       (λ f r qs s _. done_said (grid_made o t c n f qs ho ht more few hc s) tt)))
 
-  grid_dimension_by_says : (o t : Token) (ts : List Token) (q : TokenKind) → o.kind ≡ k.LeftBracket → t.kind ≡ q → Said turns (GridRest o) Any (t ∷ ts) (and_then (spec.grid_dimension_by q (t ∷ ts)) rest_of_grid)
+  grid_dimension_by_says : (o t : Token) (ts : List Token) (q : TokenKind) → o.kind ≡ k.LeftBracket → t.kind ≡ q
+      → Said turns (GridRest o) Any (t ∷ ts) (and_then (spec.grid_dimension_by q (t ∷ ts)) rest_of_grid)
   grid_dimension_by_says o t ts (k.Dim d) ho ht = grid_dimension_if_says o t ts d (dim_of (pos d)) ho ht refl
   grid_dimension_by_says o t ts _ ho h = refused_said (grid_some o ho)
 
@@ -170,11 +181,17 @@ one_more_grid : (n : ℕ) (found : List GridTree) (t : Token) (f : List Token) (
 one_more_grid n found t f g s = (g ∷ [], refl, ended (λ z x. Gridded (t ∷ z) x) f (g ∷ []) s, omega arith)
 
 module _ (turns : ℕ) where
-  grids_more : (n : ℕ) (found : List GridTree) (rec : (found : List GridTree) (l : List Token) → Said turns (MoreGrids n found) Any l (grids turns n found l)) (t : Token) → t.kind ≡ k.LeftBracket → (ts : List Token)
+  grids_more : (n : ℕ) (found : List GridTree) (rec : (found : List GridTree) (l : List Token)
+      → Said turns (MoreGrids n found) Any l (grids turns n found l)) (t : Token) → t.kind ≡ k.LeftBracket → (ts : List Token)
       → Said turns (λ f r. MoreGrids (suc n) found (t ∷ f) r) Any ts (and_then (grid turns ts) (λ g. grids turns n (found ++ g ∷ [])))
   grids_more n found rec t ht ts =
       then_said {m = turns} {S = GridRest t} {Q = Any} (λ f g s. omega arith) (λ f g s. ([], found ++ g ∷ [], one_more_grid n found t f g s)) _ (grid_says turns t ht ts)
-      (λ f r g s _. as_said {m = turns} (omega arith) (λ h y (ys, e, q, few). (g ∷ ys, e ∙ append_assoc found (g ∷ []) ys, gridded_append s q, omega (arith, few))) (λ _ _. tt) (rec (found ++ g ∷ []) r))
+      (λ f r g s _. as_said {m = turns} (omega arith) (λ h y (ys, e, q, few). (
+        g ∷ ys,
+        e ∙ append_assoc found (g ∷ []) ys,
+        gridded_append s q,
+        omega (arith, few),
+      )) (λ _ _. tt) (rec (found ++ g ∷ []) r))
 
   pub grids_say : (n : ℕ) (found : List GridTree) (l : List Token) → Said turns (MoreGrids n found) Any l (grids turns n found l)
   unfolding grids
@@ -192,7 +209,12 @@ module _ (turns : ℕ) where
       then_said {m = turns} {S = λ f qs. Qualified f qs × P qs} {Q = Any} (λ f x q. omega arith)
       (λ f qs (q, holds). ([], record { base = begin; qualifiers = qs; grids = [] }, (grammar.field_type s q grammar.none (omega arith), refl, holds))) _ said
       (λ f r qs (q, holds) _. then_said {m = turns} {S = MoreGrids 3 []} {Q = Any} (λ g x p. omega arith)
-      (λ g gs (ys, e, p, few). ([], record { base = begin; qualifiers = qs; grids = gs }, (grammar.field_type s q (ended Gridded g gs (subst (Gridded g) (sym e) p)) (omega (arith, few, ap length e)), refl, holds))) _ (grids_say 3 [] r)
+      (λ g gs (ys, e, p, few). (
+        [],
+        record { base = begin; qualifiers = qs; grids = gs },
+        (grammar.field_type s q (ended Gridded g gs (subst (Gridded g) (sym e) p)) (omega (arith, few, ap length e)), refl, holds),
+      )) _
+      (grids_say 3 [] r)
       (λ g r2 gs (ys, e, p, few) _. done_said (grammar.field_type s q (ended Gridded g gs (subst (Gridded g) (sym e) p)) (omega (arith, few, ap length e)), refl, holds) tt))
 
   -- qualifiers, whatever they are
@@ -205,9 +227,12 @@ qualified_if : (m : ℕ) (t : Token) (ts : List Token) (word : QualifierWord) �
 qualified_if m t ts word is None other = let wrong : None ≡ Some word = sym other ∙ is in cc
 qualified_if m t ts word is (Some w) other =
     let one : Qualifier = record { word = w; place = t.place } in
-    after_said {m = m} (omega arith) (as_said {m = m} (omega arith) (λ g y (ys, e, s). (subst (λ z. Qualified (t ∷ g) z) (sym e) (grammar.more t other s), omega (arith, ap length e))) (λ _ _. tt) (qualifiers_say m (one ∷ []) ts))
+    after_said {m = m} (omega arith) (as_said {m = m} (omega arith)
+    (λ g y (ys, e, s). (subst (λ z. Qualified (t ∷ g) z) (sym e) (grammar.more t other s), omega (arith, ap length e))) (λ _ _. tt)
+    (qualifiers_say m (one ∷ []) ts))
 
-pub qualified_says : (m : ℕ) (t : Token) (ts : List Token) (word : QualifierWord) → qualifier_of t.kind ≡ Some word → Said m (λ f qs. Qualified f qs × (0 < length qs)) Any (t ∷ ts) (qualifiers m [] (t ∷ ts))
+pub qualified_says : (m : ℕ) (t : Token) (ts : List Token) (word : QualifierWord) → qualifier_of t.kind ≡ Some word
+    → Said m (λ f qs. Qualified f qs × (0 < length qs)) Any (t ∷ ts) (qualifiers m [] (t ∷ ts))
 unfolding qualifiers
 qualified_says zero t ts word is = spent_said
 qualified_says (suc m) t ts word is = qualified_if m t ts word is (qualifier_of t.kind) refl

@@ -50,7 +50,8 @@ data Reaches (n w : ℕ) (l : List Token) (m : ℕ) : Type 0 where
   stop_at : (f : List Token) (t : Token) (r : List Token) → l ≡ f ++ t ∷ r → m ≡ suc (length f) → weigh_behind n f ≤ w → ends_expression t.kind ≡ true → Reaches n w l m
   heavy_at : (f : List Token) (t : Token) (r : List Token) → l ≡ f ++ t ∷ r → m ≡ suc (length f) → weigh_behind n f ≤ w → w < weigh_behind n (f ++ t ∷ []) → Reaches n w l m
 
-one_further : (n w n2 w2 own : ℕ) (t : Token) → ((f : List Token) → weigh_behind n (t ∷ f) ≡ own + weigh_behind n2 f) → w ≡ own + w2 → (l : List Token) (m : ℕ) → Reaches n2 w2 l m → Reaches n w (t ∷ l) (suc m)
+one_further : (n w n2 w2 own : ℕ) (t : Token) → ((f : List Token) → weigh_behind n (t ∷ f) ≡ own + weigh_behind n2 f) → w ≡ own + w2
+    → (l : List Token) (m : ℕ) → Reaches n2 w2 l m → Reaches n w (t ∷ l) (suc m)
 one_further n w n2 w2 own t weighs e l m (whole_list long light) = whole_list (ap suc long) (omega (arith, weighs l, e, light))
 one_further n w n2 w2 own t weighs e l m (stop_at f u r is long light ends) = stop_at (t ∷ f) u r (ap (λ z. t ∷ z) is) (ap suc long) (omega (arith, weighs f, e, light)) ends
 one_further n w n2 w2 own t weighs e l m (heavy_at f u r is long light above) =
@@ -59,7 +60,8 @@ one_further n w n2 w2 own t weighs e l m (heavy_at f u r is long light above) =
 own_weight : (t : Token) (c : Bool) → counts t.kind ≡ c → (f : List Token) → weigh_behind 0 (t ∷ f) ≡ (if c then 1 else 0) + weigh_behind (arity_behind t.kind) f
 own_weight t c h f = ap (λ z. (if z then 1 else 0) + weigh_behind (arity_behind t.kind) f) h
 
-weighed_reaches : (w : ℕ) (t : Token) (l : List Token) → ((n v : ℕ) → Reaches n v l (reach n v l)) → (c : Bool) → counts t.kind ≡ c → Reaches 0 w (t ∷ l) (suc (reach_by (λ a v. reach a v l) (weighed c (arity_behind t.kind) w)))
+weighed_reaches : (w : ℕ) (t : Token) (l : List Token) → ((n v : ℕ) → Reaches n v l (reach n v l)) → (c : Bool) → counts t.kind ≡ c
+    → Reaches 0 w (t ∷ l) (suc (reach_by (λ a v. reach a v l) (weighed c (arity_behind t.kind) w)))
 weighed_reaches zero t l rec true h = heavy_at [] t l refl refl (omega arith) (omega (arith, own_weight t true h []))
 weighed_reaches (suc w) t l rec true h = one_further 0 (suc w) (arity_behind t.kind) w 1 t (own_weight t true h) (omega arith) l (reach (arity_behind t.kind) w l) (rec (arity_behind t.kind) w)
 weighed_reaches w t l rec false h = one_further 0 w (arity_behind t.kind) w 0 t (own_weight t false h) (omega arith) l (reach (arity_behind t.kind) w l) (rec (arity_behind t.kind) w)
@@ -111,7 +113,16 @@ front_by weight w l m some all (whole_list long light) =
       light = omega (arith, light, all, ap weigh is, weigh_front 0 f (t ∷ []));
       stops = inl refl;
     }
-front_by weight w l m some all (stop_at f t r is long light ends) = record { before = f; last = t; rest = r; is = is; made = cut_made l f r t m is long; light = omega (arith, all, light); stops = inr (inl ends) }
+front_by weight w l m some all (stop_at f t r is long light ends) =
+    record {
+      before = f;
+      last = t;
+      rest = r;
+      is = is;
+      made = cut_made l f r t m is long;
+      light = omega (arith, all, light);
+      stops = inr (inl ends);
+    }
 front_by weight w l m some all (heavy_at f t r is long light above) =
     record { before = f; last = t; rest = r; is = is; made = cut_made l f r t m is long; light = omega (arith, all, light); stops = inr (inr (omega (arith, all, above))) }
 
@@ -141,7 +152,8 @@ unfolding reach
 front_small weight [] small = omega (arith, small)
 front_small weight (t ∷ l) small = front_light weight (t ∷ l) (take (reach 0 (most_weight - weight) (t ∷ l)) (t ∷ l)) (front_is weight (t ∷ l) small (omega arith))
 
-cut_stops : (l before rest : List Token) (last : Token) (heavy : Type 0) → EndsAtEnd l → l ≡ before ++ last ∷ rest → (rest ≡ []) ⊎ ((ends_expression last.kind ≡ true) ⊎ heavy) → (ends_expression last.kind ≡ true) ⊎ heavy
+cut_stops : (l before rest : List Token) (last : Token) (heavy : Type 0) → EndsAtEnd l → l ≡ before ++ last ∷ rest → (rest ≡ [])
+    ⊎ ((ends_expression last.kind ≡ true) ⊎ heavy) → (ends_expression last.kind ≡ true) ⊎ heavy
 cut_stops l before rest last heavy (fr, la, ends, h) is (inl none) =
     let all : l ≡ before ++ last ∷ [] = is ∙ ap (λ z. before ++ last ∷ z) none in
     inl (ap ends_expression (sym (last_append before last []) ∙ ap last_kind (sym all ∙ ends) ∙ last_append fr la [] ∙ h))

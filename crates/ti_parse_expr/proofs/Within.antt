@@ -112,7 +112,8 @@ module _ {A : Type 0} (weight : ℕ) (l f : List Token) (o : Outcome A) (all : l
   held_light : weight + weigh f ≤ most_weight → held weight l o ≡ o
   held_light small = held_is usual ∙ limited_light 0 weight f (rest_of o) o small
 
-  held_heavy : (g : List Token) (t : Token) (h : List Token) → f ≡ g ++ t ∷ h → weight + weigh g ≤ most_weight → most_weight < weight + weigh (g ++ t ∷ []) → held weight l o ≡ Err (Over (t ∷ (h ++ rest_of o)))
+  held_heavy : (g : List Token) (t : Token) (h : List Token) → f ≡ g ++ t ∷ h → weight + weigh g ≤ most_weight
+      → most_weight < weight + weigh (g ++ t ∷ []) → held weight l o ≡ Err (Over (t ∷ (h ++ rest_of o)))
   held_heavy g t h is small above = held_is usual ∙ ap (λ z. limited (weights_behind 0 weight z) (z ++ rest_of o) o) is ∙ limited_heavy 0 weight g t h (rest_of o) o small above
 
   -- where a front of what was taken is light, the limit comes behind it or not at all
@@ -127,7 +128,8 @@ module _ {A : Type 0} (weight : ℕ) (l f : List Token) (o : Outcome A) (all : l
       subst (λ z. length (rest_of z) ≤ length (g ++ r)) (sym e) (limited_short more (g ++ r) o (length (g ++ r)) (omega arith) (omega (arith, length-append g r)))
 
 -- a whole that is read
-pub held_reads : {A : Type 0} (limits : Limits) (weight : ℕ) (l r : List Token) (x : A) (o : Outcome A) → o ≡ Ok (x, r) → held_to limits weight (l ++ r) o ≡ limited_to limits (weights_behind 0 weight l) (l ++ r) (Ok (x, r))
+pub held_reads : {A : Type 0} (limits : Limits) (weight : ℕ) (l r : List Token) (x : A) (o : Outcome A) → o ≡ Ok (x, r)
+    → held_to limits weight (l ++ r) o ≡ limited_to limits (weights_behind 0 weight l) (l ++ r) (Ok (x, r))
 held_reads limits weight l r x o is =
     held_is weight (l ++ r) l o (ap (λ z. l ++ rest_of z) (sym is)) limits ∙ ap (λ z. limited_to limits (weights_behind 0 weight l) (l ++ rest_of z) z) is
 
@@ -138,7 +140,8 @@ suffix_behind t l (Err (Over r)) (f, e) = (t ∷ f, ap (λ z. t ∷ z) e)
 suffix_behind t l (Err Spent) h = tt
 
 -- a first token that doesn't weigh too much
-pub held_behind : {A : Type 0} (limits : Limits) (weight v : ℕ) (t : Token) (l : List Token) (o : Outcome A) → (if counts t.kind then 1 else 0) + weight ≡ v → arity_behind t.kind ≡ 0 → v ≤ limits.weight → Suffix l o
+pub held_behind : {A : Type 0} (limits : Limits) (weight v : ℕ) (t : Token) (l : List Token) (o : Outcome A)
+    → (if counts t.kind then 1 else 0) + weight ≡ v → arity_behind t.kind ≡ 0 → v ≤ limits.weight → Suffix l o
     → held_to limits weight (t ∷ l) o ≡ held_to limits v l o
 held_behind limits weight v t l o weighs plain small s =
     let (f, all) = front_taken l o s in
@@ -220,7 +223,9 @@ module _ {A : Type 0} (weight : ℕ) (small : weight ≤ most_weight) where
     deep_near : (f1 g1 f2 g2 : List Token) → first ≡ f1 ++ rest_of o1 → f1 ≡ b ++ t ∷ g1 → w ≡ g1 ++ rest_of o1 → second ≡ f2 ++ rest_of o2 → f2 ≡ b ++ t ∷ g2 → v ≡ g2 ++ rest_of o2
         → (g h : List Token) (u : Token) → b ++ t ∷ [] ≡ g ++ u ∷ h → weight + weigh g ≤ most_weight → most_weight < weight + weigh (g ++ u ∷ []) → Split g (u ∷ h) b t [] → HeldSame
     deep_near f1 g1 f2 g2 all1 is1 rest1 all2 is2 rest2 g h u is light above (stays c in_front ends) =
-        over_by u ((h ++ g1) ++ rest_of o1) ((h ++ g2) ++ rest_of o2) c (held_heavy weight first f1 o1 all1 g u (h ++ g1) (longer f1 g1 h g u is1 is) light above) (held_heavy weight second f2 o2 all2 g u (h ++ g2) (longer f2 g2 h g u is2 is) light above)
+        over_by u ((h ++ g1) ++ rest_of o1) ((h ++ g2) ++ rest_of o2) c
+        (held_heavy weight first f1 o1 all1 g u (h ++ g1) (longer f1 g1 h g u is1 is) light above)
+        (held_heavy weight second f2 o2 all2 g u (h ++ g2) (longer f2 g2 h g u is2 is) light above)
         (over_at u h c g1 (rest_of o1) w ends rest1) (over_at u h c g2 (rest_of o2) v ends rest2)
     deep_near f1 g1 f2 g2 all1 is1 rest1 all2 is2 rest2 g h u is light above (passes k in_front none) = absurd (omega (arith, ap length none, length-append k (u ∷ h)))
 
@@ -284,13 +289,15 @@ not_both false b n v h h2 never = refl
 passed_not : (weight : ℕ) (front left : List Token) → (length left ≡ 0 → most_weight < weight + weigh front → ⊥) → passed weight front (length left) ≡ false
 passed_not weight front left never = not_both (nat_lt (length left) 1) (nat_lt most_weight (weight + weigh front)) (length left) (weight + weigh front) refl refl never
 
-widened_put : {A : Type 0} (weight : ℕ) (l front : List Token) (o : Outcome A) → Ended o → passed weight front (length (rest_of o)) ≡ false → widened weight l front o ≡ put (drop (length front - length (rest_of o)) l) o
+widened_put : {A : Type 0} (weight : ℕ) (l front : List Token) (o : Outcome A) → Ended o → passed weight front (length (rest_of o)) ≡ false
+    → widened weight l front o ≡ put (drop (length front - length (rest_of o)) l) o
 widened_put {A = A} weight l front (Ok p) ended h = ap (λ b. if◌then◌else◌ {A = Outcome A} b (Err (Over (drop (length front - 1) l))) (Ok (p.0, drop (length front - length p.1) l))) h
 widened_put {A = A} weight l front (Err (At r)) ended h = ap (λ b. if◌then◌else◌ {A = Outcome A} b (Err (Over (drop (length front - 1) l))) (Err (At (drop (length front - length r) l)))) h
 widened_put {A = A} weight l front (Err (Over r)) ended h = ap (λ b. if◌then◌else◌ {A = Outcome A} b (Err (Over (drop (length front - 1) l))) (Err (Over (drop (length front - length r) l)))) h
 widened_put weight l front (Err Spent) ended h = absurd ended
 
-widened_over : {A : Type 0} (weight : ℕ) (l front : List Token) (o : Outcome A) → Ended o → passed weight front (length (rest_of o)) ≡ true → widened weight l front o ≡ Err (Over (drop (length front - 1) l))
+widened_over : {A : Type 0} (weight : ℕ) (l front : List Token) (o : Outcome A) → Ended o → passed weight front (length (rest_of o)) ≡ true
+    → widened weight l front o ≡ Err (Over (drop (length front - 1) l))
 widened_over {A = A} weight l front (Ok p) ended h = ap (λ b. if◌then◌else◌ {A = Outcome A} b (Err (Over (drop (length front - 1) l))) (Ok (p.0, drop (length front - length p.1) l))) h
 widened_over {A = A} weight l front (Err (At r)) ended h = ap (λ b. if◌then◌else◌ {A = Outcome A} b (Err (Over (drop (length front - 1) l))) (Err (At (drop (length front - length r) l)))) h
 widened_over {A = A} weight l front (Err (Over r)) ended h = ap (λ b. if◌then◌else◌ {A = Outcome A} b (Err (Over (drop (length front - 1) l))) (Err (Over (drop (length front - length r) l)))) h
@@ -381,12 +388,16 @@ module _ {A : Type 0} (S : List Token → A → Type 0) (raw : ℕ → Parser A)
         let light : weight + weigh g ≤ most_weight = omega (arith, at.light, ap weigh is, weigh_front 0 g c) in
         let e : reads l ≡ put r of_front = held_light weight l g of_list (whole_list ∙ ap (λ z. g ++ z) (sym left)) light ∙ moved in
         let few : length front - length (rest_of of_front) ≡ length g = omega (arith, ap length all, length-append g (rest_of of_front)) in
-        let there : drop (length front - length (rest_of of_front)) l ≡ r = ap (drop (length front - length (rest_of of_front))) whole_list ∙ drop_seam g r (length front - length (rest_of of_front)) few in
-        let no : passed weight front (length (rest_of of_front)) ≡ false = passed_not weight front (rest_of of_front) (λ none above. omega (arith, none, ap length rest, length-append c (at.last ∷ []))) in
+        let there : drop (length front - length (rest_of of_front)) l ≡ r = ap (drop (length front - length (rest_of of_front))) whole_list
+        ∙ drop_seam g r (length front - length (rest_of of_front)) few in
+        let no : passed weight front (length (rest_of of_front)) ≡ false =
+        passed_not weight front (rest_of of_front) (λ none above. omega (arith, none, ap length rest, length-append c (at.last ∷ [])))
+        in
         e ∙ sym (widened_put weight l front of_front front_ended no ∙ ap (λ z. put z of_front) there)
 
     -- the last token of the front was taken, and weighs too much
-    heavy_by : rest_of of_front ≡ [] → most_weight < weight + weigh front → (g : List Token) → l ≡ g ++ rest_of of_list → Split g (rest_of of_list) at.before at.last at.rest → reads l ≡ Err (Over (at.last ∷ at.rest))
+    heavy_by : rest_of of_front ≡ [] → most_weight < weight + weigh front → (g : List Token) → l ≡ g ++ rest_of of_list
+        → Split g (rest_of of_list) at.before at.last at.rest → reads l ≡ Err (Over (at.last ∷ at.rest))
     heavy_by none above g all (stays c is rest) =
         let e : rest_of of_front ≡ c ++ at.last ∷ [] = ap rest_of (same_put at.last at.rest [] of_list of_front list_ended to_front c rest) ∙ rest_put (c ++ at.last ∷ []) of_list list_ended in
         absurd (omega (arith, ap length none, ap length e, length-append c (at.last ∷ [])))
@@ -414,7 +425,9 @@ module _ {A : Type 0} (S : List Token → A → Type 0) (raw : ℕ → Parser A)
         let one : end_of at.last.kind ≡ 1 = ap (λ z. if z then 1 else 0) ends_it in
         omega (arith, reader.goes_on (front ++ w) x s, ends-append front w, ap ends at.made, ends-append at.before (at.last ∷ []), one)
 
-    light_same : rest_of of_front ≡ [] → weight + weigh front ≤ most_weight → (at.rest ≡ []) ⊎ ((ends_expression at.last.kind ≡ true) ⊎ (most_weight < weight + weigh (at.before ++ at.last ∷ []))) → reads l ≡ widened weight l front of_front
+    light_same : rest_of of_front ≡ [] → weight + weigh front ≤ most_weight → (at.rest ≡ [])
+        ⊎ ((ends_expression at.last.kind ≡ true) ⊎ (most_weight < weight + weigh (at.before ++ at.last ∷ []))) → reads l
+        ≡ widened weight l front of_front
     light_same none light (inl end) = all_same l front (at.is ∙ ap (λ z. at.before ++ at.last ∷ z) end ∙ sym at.made) none light
     light_same none light (inr (inl ends_it)) = absurd (no_end (begins_front none) ends_it)
     light_same none light (inr (inr above)) = absurd (omega (arith, light, above, ap weigh at.made))

@@ -39,7 +39,8 @@ pub record IsRun (f : Form) (list run : List Token) (after : Token) : Type 0 whe
 
 -- no token of the list weighs too much, where the weight is counted on from a number
 abbrev pub IsLight : ℕ → List Token → Type 0
-IsLight weight list = (front : List Token) (t : Token) (rest : List Token) → list ≡ front ++ t ∷ rest → weight + weigh (front ++ t ∷ []) ≤ most_weight
+IsLight weight list =
+    (front : List Token) (t : Token) (rest : List Token) → list ≡ front ++ t ∷ rest → weight + weigh (front ++ t ∷ []) ≤ most_weight
 
 -- the run is a phrase with this one tree and no token that weighs too much; behind it stands token `after` of the list
 pub record IsPhrase (f : Form) (weight : ℕ) (list : List Token) (x : Exp) (size used : ℕ) : Type 0 where

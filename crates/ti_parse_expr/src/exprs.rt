@@ -40,7 +40,8 @@ impl<F: Fn(Global, &mut Tokens<'_>, usize, u8) -> Result<Expr, Stop>> Grammar<F>
     #[tactic(auto, unfolding(crate::specs::Mirrors::Exprs::more_args))]
     fn more_args(&self, tokens: &mut Tokens<'_>) -> Result<Vec<Expr>, Stop>
         requires { Nests self.now.turns (F.pre self.now.expr) (F.post self.now.expr) }
-        ensures { ReadsAs exps_of (spec.more_args self.now.turns (spec.expr self.now.turns) self.now.turns [] tokens.old) result tokens.new }
+        ensures { ReadsAs exps_of (spec.more_args self.now.turns (spec.expr self.now.turns) self.now.turns [] tokens.old) result
+            tokens.new }
     {
         let mut found = Vec::with_capacity(self.alloc, 1)?;
         for _turn in 0..self.turns {
@@ -75,7 +76,8 @@ impl<F: Fn(Global, &mut Tokens<'_>, usize, u8) -> Result<Expr, Stop>> Grammar<F>
         found: Vec<Expr>,
     ) -> Result<Vec<Expr>, Stop>
         requires { Nests self.now.turns (F.pre self.now.expr) (F.post self.now.expr) }
-        ensures { ReadsAs exps_of (spec.more_parts self.now.turns (spec.expr self.now.turns) room (exps_of found) tokens.old) result tokens.new }
+        ensures { ReadsAs exps_of (spec.more_parts self.now.turns (spec.expr self.now.turns) room (exps_of found) tokens.old) result
+            tokens.new }
     {
         let mut found = found;
         for _turn in 0..room {
@@ -132,7 +134,8 @@ impl<F: Fn(Global, &mut Tokens<'_>, usize, u8) -> Result<Expr, Stop>> Grammar<F>
         found: Vec<Range>,
     ) -> Result<Vec<Range>, Stop>
         requires { Nests self.now.turns (F.pre self.now.expr) (F.post self.now.expr) }
-        ensures { ReadsAs ranges_of (spec.more_ranges self.now.turns (spec.expr self.now.turns) room (ranges_of found) tokens.old) result tokens.new }
+        ensures { ReadsAs ranges_of (spec.more_ranges self.now.turns (spec.expr self.now.turns) room (ranges_of found) tokens.old) result
+            tokens.new }
     {
         let mut found = found;
         for _turn in 0..room {
@@ -160,7 +163,7 @@ impl<F: Fn(Global, &mut Tokens<'_>, usize, u8) -> Result<Expr, Stop>> Grammar<F>
 
     // ---- a Postfix
 
-    #[tactic(auto, unfolding(crate::specs::Mirrors::Exprs::bracket), using(ti_syntax::proofs::Bridges::bridges))]
+    #[tactic(auto, unfolding(crate::specs::Mirrors::Exprs::bracket), using(ti_syntax::proofs::Lemmas::bridges))]
     fn bracket(&self, tokens: &mut Tokens<'_>, place: Place) -> Result<Expr, Stop>
         requires { Nests self.now.turns (F.pre self.now.expr) (F.post self.now.expr) }
         ensures { ReadsAs exp_of (spec.bracket self.now.turns (spec.expr self.now.turns) place tokens.old) result tokens.new }
@@ -174,7 +177,7 @@ impl<F: Fn(Global, &mut Tokens<'_>, usize, u8) -> Result<Expr, Stop>> Grammar<F>
     }
 
     /// What begins with a name, after the name.
-    #[tactic(auto, unfolding(crate::specs::Mirrors::Exprs::named), using(ti_syntax::proofs::Bridges::bridges))]
+    #[tactic(auto, unfolding(crate::specs::Mirrors::Exprs::named), using(ti_syntax::proofs::Lemmas::bridges))]
     pub fn named(
         &self,
         tokens: &mut Tokens<'_>,
@@ -198,7 +201,7 @@ impl<F: Fn(Global, &mut Tokens<'_>, usize, u8) -> Result<Expr, Stop>> Grammar<F>
         })
     }
 
-    #[tactic(auto, unfolding(crate::specs::Mirrors::Exprs::member), using(ti_syntax::proofs::Bridges::bridges))]
+    #[tactic(auto, unfolding(crate::specs::Mirrors::Exprs::member), using(ti_syntax::proofs::Lemmas::bridges))]
     fn member(&self, tokens: &mut Tokens<'_>, left: Expr) -> Result<Operand, Stop>
         requires { Nests self.now.turns (F.pre self.now.expr) (F.post self.now.expr) }
         ensures { ReadsAs operand_of (spec.member self.now.turns (spec.expr self.now.turns) (exp_of left) tokens.old) result tokens.new }
@@ -230,10 +233,11 @@ impl<F: Fn(Global, &mut Tokens<'_>, usize, u8) -> Result<Expr, Stop>> Grammar<F>
     }
 
     /// An index, after its `[`.
-    #[tactic(auto, unfolding(crate::specs::Mirrors::Exprs::index), using(ti_syntax::proofs::Bridges::bridges))]
+    #[tactic(auto, unfolding(crate::specs::Mirrors::Exprs::index), using(ti_syntax::proofs::Lemmas::bridges))]
     pub fn index(&self, tokens: &mut Tokens<'_>, place: Place, left: Expr) -> Result<Operand, Stop>
         requires { Nests self.now.turns (F.pre self.now.expr) (F.post self.now.expr) }
-        ensures { ReadsAs operand_of (spec.index self.now.turns (spec.expr self.now.turns) place (exp_of left) tokens.old) result tokens.new }
+        ensures { ReadsAs operand_of (spec.index self.now.turns (spec.expr self.now.turns) place (exp_of left) tokens.old) result
+            tokens.new }
     {
         let left = Box::new(self.alloc, left)?;
         let indices = self.parts(tokens)?;
@@ -256,7 +260,8 @@ impl<F: Fn(Global, &mut Tokens<'_>, usize, u8) -> Result<Expr, Stop>> Grammar<F>
         first: Operand,
     ) -> Result<Operand, Stop>
         requires { Nests self.now.turns (F.pre self.now.expr) (F.post self.now.expr) }
-        ensures { ReadsAs operand_of (spec.postfix self.now.turns (spec.expr self.now.turns) turns (operand_of first) tokens.old) result tokens.new }
+        ensures { ReadsAs operand_of (spec.postfix self.now.turns (spec.expr self.now.turns) turns (operand_of first) tokens.old) result
+            tokens.new }
     {
         let mut left = first;
         for _turn in 0..turns {
@@ -382,7 +387,8 @@ impl<F: Fn(Global, &mut Tokens<'_>, usize, u8) -> Result<Expr, Stop>> Grammar<F>
     #[tactic(auto, unfolding(crate::specs::Mirrors::Exprs::climb))]
     fn climb(&self, tokens: &mut Tokens<'_>, least: u8, first: Expr) -> Result<Expr, Stop>
         requires { Nests self.now.turns (F.pre self.now.expr) (F.post self.now.expr) }
-        ensures { ReadsAs exp_of (spec.climb self.now.turns (spec.expr self.now.turns) least self.now.turns (exp_of first) tokens.old) result tokens.new }
+        ensures { ReadsAs exp_of (spec.climb self.now.turns (spec.expr self.now.turns) least self.now.turns (exp_of first) tokens.old)
+            result tokens.new }
     {
         let mut left = first;
         for _turn in 0..self.turns {
@@ -441,7 +447,8 @@ impl<F: Fn(Global, &mut Tokens<'_>, usize, u8) -> Result<Expr, Stop>> Grammar<F>
     #[tactic(auto, unfolding(crate::specs::Mirrors::Exprs::group_from))]
     fn group_from(&self, tokens: &mut Tokens<'_>, first: Operand) -> Result<Expr, Stop>
         requires { Nests self.now.turns (F.pre self.now.expr) (F.post self.now.expr) }
-        ensures { ReadsAs exp_of (spec.group_from self.now.turns (spec.expr self.now.turns) (operand_of first) tokens.old) result tokens.new }
+        ensures { ReadsAs exp_of (spec.group_from self.now.turns (spec.expr self.now.turns) (operand_of first) tokens.old) result
+            tokens.new }
     {
         let left = self.postfix(tokens, self.turns, first)?;
         let expr = self.climb(tokens, 1, left.expr)?;
@@ -462,7 +469,8 @@ impl<F: Fn(Global, &mut Tokens<'_>, usize, u8) -> Result<Expr, Stop>> Grammar<F>
         name: Spelled,
     ) -> Result<Expr, Stop>
         requires { Nests self.now.turns (F.pre self.now.expr) (F.post self.now.expr) }
-        ensures { ReadsAs exp_of (spec.paren_name self.now.turns (spec.expr self.now.turns) place name_place name tokens.old) result tokens.new }
+        ensures { ReadsAs exp_of (spec.paren_name self.now.turns (spec.expr self.now.turns) place name_place name tokens.old) result
+            tokens.new }
     {
         if tokens.sees(TokenKind::LeftBracket) {
             return self.paren_name_bracket(tokens, place, name_place, name);
@@ -483,7 +491,8 @@ impl<F: Fn(Global, &mut Tokens<'_>, usize, u8) -> Result<Expr, Stop>> Grammar<F>
         name: Spelled,
     ) -> Result<Expr, Stop>
         requires { Nests self.now.turns (F.pre self.now.expr) (F.post self.now.expr) }
-        ensures { ReadsAs exp_of (spec.paren_name_bracket self.now.turns (spec.expr self.now.turns) place name_place name tokens.old) result tokens.new }
+        ensures { ReadsAs exp_of (spec.paren_name_bracket self.now.turns (spec.expr self.now.turns) place name_place name tokens.old) result
+            tokens.new }
     {
         let bracket_place = tokens.place();
         tokens.take();

@@ -66,7 +66,8 @@ fn refused(rule: Rule, place: Place) -> ParseErr
 /// The refusal of the last token of a front, which weighs too much.
 fn too_heavy(front: &[Token]) -> ParseErr
     requires { 0 < length front.now }
-    ensures { (before : List TokenSeen) (last : TokenSeen) → front.now ≡ before ++ last ∷ [] → result ≡ ParseErr.Refused (record { rule = Rule.G2; place = last.place }) }
+    ensures { (before : List TokenSeen) (last : TokenSeen) → front.now ≡ before ++ last ∷ [] → result
+        ≡ ParseErr.Refused (record { rule = Rule.G2; place = last.place }) }
 {
     refused(Rule::G2, last_place(front))
 }
@@ -123,8 +124,10 @@ pub fn parse_expr(
     requires ended { EndsAtEnd toks.now }
     ensures answer { Answers toks.now at form weight result }
     // Nothing else is answered to tokens that have a tree, or a refusal.
-    ensures only_tree { (tree : Exp) (size used : ℕ) → IsPhrase form weight (drop at toks.now) tree size used → GivesOnly result tree (at + size) used }
-    ensures only_refusal { (rule : RuleSeen) (place : PlaceSeen) → Refuses form weight (drop at toks.now) rule place → RefusesOnly result rule place }
+    ensures only_tree { (tree : Exp) (size used : ℕ) → IsPhrase form weight (drop at toks.now) tree size used
+        → GivesOnly result tree (at + size) used }
+    ensures only_refusal { (rule : RuleSeen) (place : PlaceSeen) → Refuses form weight (drop at toks.now) rule place
+        → RefusesOnly result rule place }
 {
     read_phrase(alloc, toks, at, form, weight)
 }

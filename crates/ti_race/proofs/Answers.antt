@@ -24,8 +24,7 @@ use Rattle.ti_lang.specs.Meaning.RegionsOf.{is_made, is_gone}
 use Rattle.ti_lang.specs.Meaning.RegionUse.{is_in_use}
 use Rattle.ti_lang.specs.Meaning.HeapOf.{grid_of, new_id, view_id, last_written, zero_of, cell_value, cost_of, cost_of_making, region_made_in, most_cells}
 use Rattle.ti_lang.specs.Meaning.HeapAnswers.{Outcome, Answers, Faults, Impossible, where_some, possible_if, faults_if, answers_value, makes, places, at_point, views, leaves_delete, departs, heap_answer}
-use Rattle.ti_align.proofs.Vars.{true_false}
-use Rattle.ti_align.proofs.Operating.{none_some, some_same}
+use Rattle.ti_align.proofs.Lemmas.{true_false, none_some, some_same}
 use Rattle.ti_lang.specs.Meaning.Races.{cell_used}
 use Rattle.ti_race.proofs.Courses.{Course, Moves, Alike, fronts, earlier, moved, all_come}
 use Rattle.ti_race.proofs.Own.{GoesOn, arrival_on, arrival_like, arrivals_like, departures_like}
@@ -81,7 +80,8 @@ level a d h = omega arith
 
 -- ---- one entry of the kept history, and the same process behind another history
 
-module _ (p : NumberedProgram) (n : ℕ) (kept : History) (whole : Course p n kept) (like : Alike kept) (free : NoRace kept) (before : List Entry) (e : Entry) (k : History) (stands : kept ≡ before ++ e ∷ k)
+module _ (p : NumberedProgram) (n : ℕ) (kept : History) (whole : Course p n kept) (like : Alike kept) (free : NoRace kept)
+    (before : List Entry) (e : Entry) (k : History) (stands : kept ≡ before ++ e ∷ k)
     (h : History) (course : Course p n h) (on : (j : ℕ) → GoesOn j h kept) (on_k : (j : ℕ) → GoesOn j k kept) (same : entries_of e.proc h ≡ entries_of e.proc k) where
   abbrev i : ℕ
   i = e.proc
@@ -163,7 +163,9 @@ module _ (p : NumberedProgram) (n : ℕ) (kept : History) (whole : Course p n ke
           let z : arrival_at who (arrivals i k) h ≡ Some w.0 = ap (λ m. arrival_at who m h) (sym (arrivals_like i h k same)) ∙ w.1 in
           let arrival : w.0 ≡ u.0 =
           some_same w.0 u.0 (sym (arrival_on who (arrivals i k) h kept w.0 (on who) z) ∙ arrival_on who (arrivals i k) k kept u.0 (on_k who) u.1) in
-          some_same y x (sym b ∙ ap (option_and_then (λ (q : Arrival). value_in q.deposit)) w.1 ∙ ap (λ (q : Arrival). value_in q.deposit) arrival ∙ sym (ap (option_and_then (λ (q : Arrival). value_in q.deposit)) u.1) ∙ a)
+          some_same y x (sym b ∙ ap (option_and_then (λ (q : Arrival). value_in q.deposit)) w.1
+          ∙ ap (λ (q : Arrival). value_in q.deposit) arrival ∙ sym (ap (option_and_then (λ (q : Arrival). value_in q.deposit)) u.1)
+          ∙ a)
 
   last_like : last_arrival i h ≡ last_arrival i k
   last_like = arrival_like i (arrivals i h) h k same ∙ ap (λ m. arrival_at i m k) (arrivals_like i h k same)
@@ -171,12 +173,15 @@ module _ (p : NumberedProgram) (n : ℕ) (kept : History) (whole : Course p n ke
   -- ---- the answer, where the first to leave a delete finds that the region isn't in use
 
   abbrev pub DeletesFree : Type 0
-  DeletesFree = (r : ℕ) (a : Arrival) → e.act ≡ act.Depart → last_arrival i k ≡ Some a → a.kind ≡ coll.DeleteRegion → a.arg ≡ Some r → (not (was_left (round_of i h) h) && is_in_use p r (round_of i h) h) ≡ false
+  DeletesFree = (r : ℕ) (a : Arrival) → e.act ≡ act.Depart → last_arrival i k ≡ Some a → a.kind ≡ coll.DeleteRegion → a.arg ≡ Some r
+      → (not (was_left (round_of i h) h) && is_in_use p r (round_of i h) h) ≡ false
 
   module _ (deletes : DeletesFree) where
-    leaves_like : (x : Answer) (arg : Option ℕ) (a : Arrival) → e.act ≡ act.Depart → last_arrival i k ≡ Some a → a.kind ≡ coll.DeleteRegion → a.arg ≡ arg → Same x (leaves_delete p k (round_of i k) arg) (leaves_delete p h (round_of i h) arg)
+    leaves_like : (x : Answer) (arg : Option ℕ) (a : Arrival) → e.act ≡ act.Depart → last_arrival i k ≡ Some a → a.kind ≡ coll.DeleteRegion
+        → a.arg ≡ arg → Same x (leaves_delete p k (round_of i k) arg) (leaves_delete p h (round_of i h) arg)
     leaves_like x None a d l kind z q w = absurd (no_answer x q)
-    leaves_like x (Some r) a d l kind z q w = ap (λ b. faults_if b fault.RegionInUse (Answers Done)) (deletes r a d l kind z) ∙ done (not (was_left (round_of i k) k) && is_in_use p r (round_of i k) k) q
+    leaves_like x (Some r) a d l kind z q w = ap (λ b. faults_if b fault.RegionInUse (Answers Done)) (deletes r a d l kind z)
+        ∙ done (not (was_left (round_of i k) k) && is_in_use p r (round_of i k) k) q
       where
         done : (b : Bool) → faults_if b fault.RegionInUse (Answers Done) ≡ Answers x → Answers Done ≡ Answers x
         done true z = absurd (no_fault _ x z)
@@ -185,7 +190,9 @@ module _ (p : NumberedProgram) (n : ℕ) (kept : History) (whole : Course p n ke
     departs_like : (x : Answer) (kind : CollKind) (a : Arrival) → e.act ≡ act.Depart → last_arrival i k ≡ Some a → a.kind ≡ kind → Same x (departs p k i kind a.arg) (departs p h i kind a.arg)
     departs_like x coll.Barrier a d l z = equal x _ _ refl
     departs_like x coll.Exchange a d l z = equal x _ _ refl
-    departs_like x coll.Broadcast a d l z = some_both x a.arg a.arg _ _ (λ root other y w. subst (λ m. Same x (answers_value (given i root k)) (answers_value (given i m h))) (some_same root other (sym y ∙ w)) (given_like x root))
+    departs_like x coll.Broadcast a d l z = some_both x a.arg a.arg _ _
+        (λ root other y w. subst (λ m. Same x (answers_value (given i root k)) (answers_value (given i m h)))
+        (some_same root other (sym y ∙ w)) (given_like x root))
     departs_like x coll.MakeRegion a d l z = equal x _ _ (ap (λ (es : List Entry). Answers (Val (v.Region (count_by (λ (y : Entry). makes_region y.act) es)))) same)
     departs_like x coll.DeleteRegion a d l z = leaves_like x a.arg a d l z refl
 
@@ -206,7 +213,9 @@ module _ (p : NumberedProgram) (n : ℕ) (kept : History) (whole : Course p n ke
         let one : a ≡ b = grid_like grid a b y w in
         let used : cell_used e.act k ≡ Some (cell_of a at) = ap (λ q. cell_used q k) z ∙ ap (option_map (λ (g : Grid). cell_of g at)) y in
         subst (λ (g : Grid). Same x (at_point a at (answers_value (cell_value p (cell_of a at) k))) (at_point g at (answers_value (cell_value p (cell_of g at) h)))) one
-        (possible_same x (at.dim == a.domain.dim) (at.dim == a.domain.dim) _ _ (faults_same x (not (is_in a.domain at)) (not (is_in a.domain at)) fault.Bounds _ _ refl (read_like s x (cell_of a at) used))))
+        (possible_same x (at.dim == a.domain.dim) (at.dim == a.domain.dim) _ _
+        (faults_same x (not (is_in a.domain at)) (not (is_in a.domain at)) fault.Bounds _ _ refl
+        (read_like s x (cell_of a at) used))))
     answer_with x (act.PutElem grid at value) z =
         some_both x (grid_of grid k) (grid_of grid h) _ _ (λ a b y w. equal x _ _ (ap (λ (g : Grid). at_point g at (Answers Done)) (sym (grid_like grid a b y w))))
     answer_with x (act.MakeView grid how) z =
@@ -214,13 +223,17 @@ module _ (p : NumberedProgram) (n : ℕ) (kept : History) (whole : Course p n ke
         some_both x (grid_of grid k) (grid_of grid h) _ _ (λ a b y w.
         subst (λ (g : Grid). Same x (possible_if (suits how a.domain) (views (view_fault how a.domain) (makes p k i (act.MakeView grid how) (v.Grid (Some (view_id i grid k))))))
         (possible_if (suits how g.domain) (views (view_fault how g.domain) (makes p h i (act.MakeView grid how) (v.Grid (Some (view_id i grid h))))))) (grid_like grid a b y w)
-        (possible_same x (suits how a.domain) (suits how a.domain) _ _ (views_same x (view_fault how a.domain) _ _ (makes_like s x (act.MakeView grid how) _ _ (ap (λ (id : Id). v.Grid (Some id)) (view_like s grid))))))
+        (possible_same x (suits how a.domain) (suits how a.domain) _ _
+        (views_same x (view_fault how a.domain) _ _ (makes_like s x (act.MakeView grid how) _ _
+        (ap (λ (id : Id). v.Grid (Some id)) (view_like s grid))))))
     answer_with x (act.DomainOf grid) z =
         some_both x (grid_of grid k) (grid_of grid h) _ _ (λ a b y w. equal x _ _ (ap (λ (g : Grid). Answers (Val (v.Rc g.domain))) (sym (grid_like grid a b y w))))
     answer_with x (act.Print l value) z = equal x _ _ refl
     answer_with x (act.Arrive coll.DeleteRegion arg d) z =
         let s = ap is_departure z in
-        some_both x arg arg _ _ (λ r q y w. subst (λ m. Same x (possible_if (is_made r k) (faults_if (is_gone r k) fault.RegionGone (Answers Done))) (possible_if (is_made m h) (faults_if (is_gone m h) fault.RegionGone (Answers Done)))) (some_same r q (sym y ∙ w))
+        some_both x arg arg _ _ (λ r q y w. subst (λ m. Same x (possible_if (is_made r k)
+        (faults_if (is_gone r k) fault.RegionGone (Answers Done)))
+        (possible_if (is_made m h) (faults_if (is_gone m h) fault.RegionGone (Answers Done)))) (some_same r q (sym y ∙ w))
         (possible_same x (is_made r k) (is_made r h) _ _ (faults_same x (is_gone r k) (is_gone r h) fault.RegionGone _ _ (gone_like s r) (equal x _ _ refl))))
     answer_with x (act.Arrive coll.Barrier arg d) z = equal x _ _ refl
     answer_with x (act.Arrive coll.Broadcast arg d) z = equal x _ _ refl

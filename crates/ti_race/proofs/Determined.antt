@@ -16,15 +16,10 @@ use Rattle.ti_lang.specs.Meaning.HeapAnswers.{Outcome, Answers, Impossible, heap
 use Rattle.ti_lang.specs.Meaning.HeapAnswers as heap
 use Rattle.ti_lang.specs.Meaning.Runs.{World, IsReady, CanTake, IsRun, AllEnded, entry_with, entry_of}
 use Rattle.ti_lang.specs.Meaning.Runs as run
-use Rattle.ti_lang.proofs.MeaningLaws.Steps.{next_same, after_same}
-use Rattle.ti_lang.proofs.MeaningLaws.Running.{taker, history_grows, some_entry, fronts}
+use Rattle.ti_lang.proofs.Lemmas.{next_same, after_same, taker, history_grows, some_entry, fronts}
 use Rattle.ti_align.specs.Alignment.{ArrivalsAgree}
-use Rattle.ti_align.proofs.Vars.{true_false, or_false}
-use Rattle.ti_align.proofs.Operating.{or_either, or_one}
-use Rattle.ti_align.proofs.Arrived.{back}
-use Rattle.ti_align.proofs.Entries.{own, other}
-use Rattle.ti_align.proofs.Running.{none_entry}
-use Rattle.ti_align.proofs.Rounds.{acts_as, depart_answered, depart_is}
+use Rattle.ti_align.proofs.Lemmas.{true_false, or_false, or_either, or_one, back, own, other, none_entry, acts_as, depart_answered}
+use Rattle.ti_align.proofs.Lemmas.{depart_is}
 use Rattle.ti_lang.specs.Meaning.Races.{races}
 use Rattle.ti_lang.specs.Meaning.Determinacy.{Determines}
 use Rattle.ti_race.proofs.Courses.{Course, Alike, left_back}
@@ -90,7 +85,8 @@ last_taken s es all e (run.more {es = before} {i = i} {e = last} ran t y) z =
 end_back : (i : ℕ) (es : List Entry) → has_end i (history_of es) ≡ has_end i es
 end_back i [] = refl
 end_back i (e ∷ es) =
-    ap (has_end i) (reverse-append (e ∷ []) es) ∙ end_both (reverse es) (e ∷ []) ∙ ap (λ b. b || has_end i (e ∷ [])) (end_back i es) ∙ or_swap (has_end i es) (has_end i (e ∷ [])) ∙ sym (end_both (e ∷ []) es)
+    ap (has_end i) (reverse-append (e ∷ []) es) ∙ end_both (reverse es) (e ∷ []) ∙ ap (λ b. b || has_end i (e ∷ [])) (end_back i es)
+    ∙ or_swap (has_end i es) (has_end i (e ∷ [])) ∙ sym (end_both (e ∷ []) es)
   where
     end_both : (es ds : List Entry) → has_end i (es ++ ds) ≡ (has_end i es || has_end i ds)
     end_both es ds =
@@ -249,7 +245,9 @@ module _ (s : Setting) (kept : List Entry) (ran : IsRun s kept) (agree : Arrival
 
           unended : (on i).0 ≡ [] → ⊥
           unended y =
-              true_false (sym (ended i t.within) ∙ sym (end_back i kept) ∙ ap (list_any (λ (x : Entry). is_end x.act)) ((on i).1 ∙ ap (λ xs. xs ++ entries_of i (history_of es)) y) ∙ end_back i es ∙ t.unended)
+              true_false (sym (ended i t.within) ∙ sym (end_back i kept)
+              ∙ ap (list_any (λ (x : Entry). is_end x.act)) ((on i).1 ∙ ap (λ xs. xs ++ entries_of i (history_of es)) y)
+              ∙ end_back i es ∙ t.unended)
 
           go : ((on i).0 ≡ []) ⊎ ((ys : List Entry) × (y : Entry) × ((on i).0 ≡ ys ++ y ∷ [])) → GoesOn j (e ∷ history_of es) h
           go (inl y) = absurd (unended y)

@@ -8,13 +8,12 @@ use Rattle.ti_base.specs.declared.action.Action.{Action}
 use Rattle.ti_base.specs.declared.action.Action.TheVariants as act
 use Rattle.ti_base.specs.declared.entry.Entry.{Entry}
 use Rattle.ti_base.specs.Cells.{Cell, Field, Element, same_cell, Grid, cell_of}
-use Rattle.ti_base.proofs.DomainLaws.{same_self}
+use Rattle.ti_base.proofs.Lemmas.{same_self}
 use Rattle.ti_lang.specs.Program.Classes.{NumberedProgram}
 use Rattle.ti_lang.specs.Meaning.Histories.{History, history_of, departures}
 use Rattle.ti_lang.specs.Meaning.HeapOf.{grid_of, written_by, written_to}
-use Rattle.ti_align.proofs.Vars.{true_false, or_false, or_right}
-use Rattle.ti_align.proofs.Operating.{none_some}
-use Rattle.ti_align.proofs.Heaping as heaping
+use Rattle.ti_align.proofs.Lemmas.{true_false, or_false, or_right, none_some}
+use Rattle.ti_align.proofs.Lemmas as heaping
 use Rattle.ti_lang.specs.Meaning.Races.{is_put, cell_used, Access, access_of, added, accesses, race, races_among, races}
 use Rattle.ti_race.proofs.Lists.{Member, Mark}
 use Rattle.ti_race.proofs.Courses.{Course, none, more}
@@ -139,7 +138,8 @@ module _ (p : NumberedProgram) (n : ℕ) (kept : History) (whole : Course p n ke
   wrote all (more {h = h} {e = e} course mv) on m z =
       by (with_cases (written p n kept whole c e) e.proc (departures e.proc h) (marks p n kept whole c h) m z) (λ y. wrote h course (λ j. on_earlier j e h kept (on j)) m y)
     where
-      by : Member m (marks p n kept whole c h) ⊎ ((value : Value) × (written p n kept whole c e ≡ Some value) × (m.owner ≡ e.proc) × (m.phase ≡ departures e.proc h)) → (Member m (marks p n kept whole c h) → Wrote h m) → Wrote (e ∷ h) m
+      by : Member m (marks p n kept whole c h) ⊎ ((value : Value) × (written p n kept whole c e ≡ Some value) × (m.owner ≡ e.proc)
+          × (m.phase ≡ departures e.proc h)) → (Member m (marks p n kept whole c h) → Wrote h m) → Wrote (e ∷ h) m
       by (inl y) ih =
           let w = ih y in
           record { access = w.access; there = member_added (access_of e h) (accesses h) w.access w.there; owner = w.owner; phase = w.phase; cell = w.cell; writes = w.writes }
@@ -166,7 +166,8 @@ module _ (p : NumberedProgram) (n : ℕ) (kept : History) (whole : Course p n ke
         sym u.owner ∙ one_owner u.access w.access c (free u.access w.access u.there w.there) (u.phase ∙ z ∙ sym w.phase) u.cell w.cell (or_right _ _ w.writes) ∙ w.owner
 
     -- where a process uses the cell, no other one writes it in the same phase
-    pub alone : (before : List Entry) (e : Entry) (k : History) → kept ≡ before ++ e ∷ k → cell_used e.act k ≡ Some c → (m : Mark) → Member m (marks p n kept whole c kept) → m.phase ≡ departures e.proc k → m.owner ≡ e.proc
+    pub alone : (before : List Entry) (e : Entry) (k : History) → kept ≡ before ++ e ∷ k → cell_used e.act k ≡ Some c → (m : Mark)
+        → Member m (marks p n kept whole c kept) → m.phase ≡ departures e.proc k → m.owner ≡ e.proc
     alone before e k z u m a y =
         let w = wrote kept whole self_on m a in
         let own = access_to e k c in

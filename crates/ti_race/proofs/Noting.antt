@@ -74,7 +74,9 @@ spot_same (PointOf a p) (FieldOf u g) k = cc
 spot_same (PointOf a p) (CellOf n j) k = cc
 
 pub name_self : (a : Name) → same_name a a ≡ true
-name_self a = ap₂ (λ x y. x && y) (eq-eqb a.maker a.maker refl) (ap₂ (λ x y. x && y) (eq-eqb a.serial a.serial refl) (ap₂ (λ x y. x && y) (eq-eqb a.owner a.owner refl) (eq-eqb a.region a.region refl)))
+name_self a = ap₂ (λ x y. x && y) (eq-eqb a.maker a.maker refl)
+    (ap₂ (λ x y. x && y) (eq-eqb a.serial a.serial refl) (ap₂ (λ x y. x && y) (eq-eqb a.owner a.owner refl)
+    (eq-eqb a.region a.region refl)))
 
 pub at_self : (p : At) → (p.dim == p.dim && (int_eq p.x1 p.x1 && (int_eq p.x2 p.x2 && int_eq p.x3 p.x3))) ≡ true
 at_self p = ap₂ (λ x y. x && y) (eq-eqb p.dim p.dim refl) (ap₂ (λ x y. x && y) (int_eq_equiv.refl p.x1) (ap₂ (λ x y. x && y) (int_eq_equiv.refl p.x2) (int_eq_equiv.refl p.x3)))
@@ -145,7 +147,8 @@ clash_writing u k (w ∷ us) = ap₂ (λ a b. a || b) one (clash_writing u k us)
     one : clash u w ≡ (same_key (key_of w) (key_of u) && not (w.proc == u.proc))
     one =
         ap (λ b. not (u.proc == w.proc) && u.phase == w.phase && same_spot u.spot w.spot && (b || w.writes)) k
-        ∙ ap₂ (λ a b. not a && b && same_spot u.spot w.spot && true) (turned u.proc w.proc) (turned u.phase w.phase) ∙ ap (λ b. not (w.proc == u.proc) && w.phase == u.phase && b && true) (spot_turned u.spot w.spot)
+        ∙ ap₂ (λ a b. not a && b && same_spot u.spot w.spot && true) (turned u.proc w.proc) (turned u.phase w.phase)
+        ∙ ap (λ b. not (w.proc == u.proc) && w.phase == u.phase && b && true) (spot_turned u.spot w.spot)
         ∙ order (not (w.proc == u.proc)) (w.phase == u.phase) (same_spot w.spot u.spot)
       where
         order : (a b c : Bool) → (a && b && c && true) ≡ (c && b && a)
@@ -165,7 +168,8 @@ clash_reading u k (w ∷ us) = ap₂ (λ a b. a || b) one (clash_reading u k us)
     one : clash u w ≡ (same_key (key_of w) (key_of u) && (w.writes && not (w.proc == u.proc)))
     one =
         ap (λ b. not (u.proc == w.proc) && u.phase == w.phase && same_spot u.spot w.spot && (b || w.writes)) k
-        ∙ ap₂ (λ a b. not a && b && same_spot u.spot w.spot && w.writes) (turned u.proc w.proc) (turned u.phase w.phase) ∙ ap (λ b. not (w.proc == u.proc) && w.phase == u.phase && b && w.writes) (spot_turned u.spot w.spot)
+        ∙ ap₂ (λ a b. not a && b && same_spot u.spot w.spot && w.writes) (turned u.proc w.proc) (turned u.phase w.phase)
+        ∙ ap (λ b. not (w.proc == u.proc) && w.phase == u.phase && b && w.writes) (spot_turned u.spot w.spot)
         ∙ order (not (w.proc == u.proc)) (w.phase == u.phase) (same_spot w.spot u.spot) w.writes
       where
         order : (a b c d : Bool) → (a && b && c && d) ≡ (c && b && (d && a))

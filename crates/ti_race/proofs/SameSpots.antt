@@ -14,7 +14,7 @@ use Rattle.ti_base.specs.declared.value.Id.{Id}
 use Rattle.ti_base.specs.PointSets.{same_number, same_point}
 use Rattle.ti_base.specs.Rects.{points_of}
 use Rattle.ti_base.specs.Cells.{same_id}
-use Rattle.ti_base.proofs.DomainLaws.{number_from, number_self, same_from, same_self}
+use Rattle.ti_base.proofs.Lemmas.{number_from, number_self, same_from, same_self}
 use Rattle.ti_lang.specs.Meaning.Histories.{History, history_of}
 use Rattle.ti_lang.specs.Meaning.Spots as told
 use Rattle.ti_lang.specs.Meaning.Spots.{uses, clashes_among, races_told, race_line, races_text}
@@ -234,4 +234,5 @@ pub report_like : (es : List Entry) (us : List Use) → HasUses (history_of es) 
     → races_text es ≡ report_of us
 report_like es us has all =
     ap (λ (ns : List ℕ). codes "races " ++ decimal (length ns) ++ 10 ∷ flat_map (λ n. race_line n (slice_get es n)) ns) (sym (races_like es us has))
-    ∙ ap₂ (λ (n : ℕ) (text : List ℕ). codes "races " ++ decimal n ++ 10 ∷ text) (length-map (racing_in us) (λ (u : Use). u.number)) (lines_like es (racing_in us) (All-filter (λ u. list_any (clash u) us) (IsListed es) us all))
+    ∙ ap₂ (λ (n : ℕ) (text : List ℕ). codes "races " ++ decimal n ++ 10 ∷ text) (length-map (racing_in us) (λ (u : Use). u.number))
+    (lines_like es (racing_in us) (All-filter (λ u. list_any (clash u) us) (IsListed es) us all))

@@ -48,7 +48,8 @@ one_dim a h = not_true (nat_lt 1 a) (λ z. never a (ltb-true 1 a z) h)
 pub restricted : (r : Rect) (old new : Layout) → r.dim ≡ old.dom.dim → IsRect old.dom → IsSeen (Restrict r) old new → SeenIf (Restrict r) old (Some new)
 restricted r old new d f s = (ap (λ b. b && true) (dims_same r.dim old.dom.dim d), s, f)
 
-pub by_result : (how : ViewHow) (old : Layout) (res : Result Layout FaultKind) (o : Option Layout) → o ≡ result_ok res → result_err res ≡ view_fault how old.dom → suits how old.dom ≡ true → IfOk res (λ new. IsSeen how old new) → IsRect old.dom → SeenIf how old o
+pub by_result : (how : ViewHow) (old : Layout) (res : Result Layout FaultKind) (o : Option Layout) → o ≡ result_ok res → result_err res
+    ≡ view_fault how old.dom → suits how old.dom ≡ true → IfOk res (λ new. IsSeen how old new) → IsRect old.dom → SeenIf how old o
 by_result how old (Ok new) o z e t s f = subst (SeenIf how old) (sym z) (ap₂ (λ a b. a && b) t (sym (ap no_fault e)), s, f)
 by_result how old (Err kind) o z e t s f = subst (SeenIf how old) (sym z) (ap₂ (λ a b. a && b) t (sym (ap no_fault e)))
 
@@ -64,7 +65,8 @@ keeps_none how whole g b k s =
     subst (KeepsView whole None) (sym (if_false _ _ _ (ap (λ d. suits how d && no_fault (view_fault how d)) (sym k.domain) ∙ s))) tt
 
 pub keeps_some : (how : ViewHow) (whole : Rect) (g : Lying) (b : Block) (new : Layout) → Keeps whole g b → SeenIf how g.view (Some new)
-    → ((p : Point) → is_in (view_domain how g.view.dom) p ≡ true → is_in g.view.dom (seen_point how p) ≡ true) → KeepsView whole (Some (record { number = g.number; view = new })) (viewed_told how (Some b))
+    → ((p : Point) → is_in (view_domain how g.view.dom) p ≡ true → is_in g.view.dom (seen_point how p) ≡ true)
+    → KeepsView whole (Some (record { number = g.number; view = new })) (viewed_told how (Some b))
 keeps_some how whole g b new k s inside =
     subst (KeepsView whole (Some (record { number = g.number; view = new }))) (sym (if_true _ _ _ (ap (λ d. suits how d && no_fault (view_fault how d)) (sym k.domain) ∙ s.0)))
     (record {

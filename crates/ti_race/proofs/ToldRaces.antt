@@ -34,14 +34,12 @@ use Rattle.ti_lang.specs.Meaning.NextStep.{IsNext}
 use Rattle.ti_lang.specs.Meaning.Runs.{IsRun, entry_with, entry_of}
 use Rattle.ti_lang.specs.Meaning.Runs as run
 use Rattle.ti_lang.specs.Meaning.HeapAnswers as heap
-use Rattle.ti_lang.proofs.MeaningLaws.Things.{some_then, possible_then, placed, made_once}
-use Rattle.ti_lang.proofs.MeaningLaws.Running.{run_answered, history_grows}
-use Rattle.ti_align.proofs.Vars.{true_false, and_left, and_right, if_true, if_false}
-use Rattle.ti_align.proofs.Operating.{none_some, some_same}
-use Rattle.ti_align.proofs.Heaping as heaping
+use Rattle.ti_lang.proofs.Lemmas.{some_then, possible_then, placed, made_once, run_answered, history_grows}
+use Rattle.ti_align.proofs.Lemmas.{true_false, and_left, and_right, if_true, if_false, none_some, some_same}
+use Rattle.ti_align.proofs.Lemmas as heaping
 use Rattle.ti_align.specs.Formed.{IsFormedView, IsFormedAction, ActionsFormed}
 use Rattle.ti_base.specs.Forms.{is_view}
-use Rattle.ti_base.proofs.FormLaws.{is_point_decides, is_rect_decides}
+use Rattle.ti_base.proofs.Lemmas.{is_point_decides, is_rect_decides}
 use Rattle.ti_lang.specs.Meaning.Races.{is_put, phase_of, cell_used, Access, added, accesses, race, races}
 use Rattle.ti_lang.specs.Meaning.Spots.{Made, Spot, FieldOf, ElementOf, same_spot, makes_object, makes_grid, object_told, Block, no_fault, viewed_told, grid_from, is_block, grid_told, object_thing, element_spot, spot_used, Use, uses, clash, races_told}
 use Rattle.ti_race.proofs.Answers.{some_zero}
@@ -121,7 +119,8 @@ viewed_some : (how : ViewHow) (o : Option Block) (b : Block) → viewed_told how
 viewed_some how None b z = absurd (none_some b z)
 viewed_some how (Some x) b z = by (suits how x.grid.domain && no_fault (view_fault how x.grid.domain)) z
   where
-    by : (t : Bool) → (if t then Some (record { number = x.number; grid = view how x.grid }) else None) ≡ Some b → (y : Block) × (◌≡◌ {A = Option Block} (Some x) (Some y)) × (b.number ≡ y.number) × (b.grid.block ≡ y.grid.block)
+    by : (t : Bool) → (if t then Some (record { number = x.number; grid = view how x.grid }) else None) ≡ Some b → (y : Block)
+        × (◌≡◌ {A = Option Block} (Some x) (Some y)) × (b.number ≡ y.number) × (b.grid.block ≡ y.grid.block)
     by true z =
         let same = some_same (record { number = x.number; grid = view how x.grid }) b z in
         (x, refl, sym (ap (λ (q : Block). q.number) same), sym (ap (λ (q : Block). q.grid.block) same))
@@ -135,7 +134,9 @@ grid_at : (id : Id) (b : Block) (h : History) → grid_told id h ≡ Some b → 
 grid_at id b [] z = absurd (none_some b z)
 grid_at id b (e ∷ h) z = by (makes_grid e.act && is_grid id e.answer) refl (λ i x y. grid_at i x h y)
   where
-    at : e.act ≡ e.act → (makes_grid e.act && is_grid id e.answer) ≡ true → ((i : Id) (x : Block) → grid_told i h ≡ Some x → MadeAt x.number x.grid.block h) → (a : Action) → e.act ≡ a → grid_from id (length h) a (λ viewed. grid_told viewed h) ≡ Some b → MadeAt b.number b.grid.block (e ∷ h)
+    at : e.act ≡ e.act → (makes_grid e.act && is_grid id e.answer) ≡ true
+        → ((i : Id) (x : Block) → grid_told i h ≡ Some x → MadeAt x.number x.grid.block h) → (a : Action) → e.act ≡ a
+        → grid_from id (length h) a (λ viewed. grid_told viewed h) ≡ Some b → MadeAt b.number b.grid.block (e ∷ h)
     at _ k ih (act.NewGrid zero domain region) q z =
         let y = where_some (is_block domain) (Some (record { number = length h; grid = whole_grid id zero domain })) b z in
         let same = some_same (record { number = length h; grid = whole_grid id zero domain }) b y in
@@ -173,7 +174,8 @@ object_there : (id : Id) (c : ℕ) (h : History) → class_of id h ≡ Some c �
 object_there id c [] z = absurd (none_some c z)
 object_there id c (e ∷ h) z = by (makes_object e.act && is_object id e.answer) refl (is_making e.act && is_object id e.answer) refl (λ y. object_there id c h y)
   where
-    by : (t : Bool) → (makes_object e.act && is_object id e.answer) ≡ t → (b : Bool) → (is_making e.act && is_object id e.answer) ≡ b → (class_of id h ≡ Some c → (n : ℕ) × (object_told id h ≡ Some n)) → (n : ℕ) × (object_told id (e ∷ h) ≡ Some n)
+    by : (t : Bool) → (makes_object e.act && is_object id e.answer) ≡ t → (b : Bool) → (is_making e.act && is_object id e.answer) ≡ b
+        → (class_of id h ≡ Some c → (n : ℕ) × (object_told id h ≡ Some n)) → (n : ℕ) × (object_told id (e ∷ h) ≡ Some n)
     by true k b l ih = (length h, if_true _ _ _ k)
     by false k true l ih =
         absurd (true_false (sym (ap₂ (λ x y. x && y) (some_object e.act c (sym (if_true _ _ _ l) ∙ z)) (and_right (is_making e.act) _ l)) ∙ k))
@@ -197,11 +199,14 @@ formed_view (Translate by) f = (is_point_decides by).1 f
 formed_view (Slice k j) f = refl
 
 -- a block that was made is one, where its domain is in its form: it would have been too large for its process
-block_is : (p : NumberedProgram) (h : History) (i : ℕ) (zero : Zero) (domain : Rect) (region : ℕ) (r : Answer) → IsRect domain → heap_answer p h i (act.NewGrid zero domain region) ≡ Answers r → is_block domain ≡ true
+block_is : (p : NumberedProgram) (h : History) (i : ℕ) (zero : Zero) (domain : Rect) (region : ℕ) (r : Answer) → IsRect domain
+    → heap_answer p h i (act.NewGrid zero domain region) ≡ Answers r → is_block domain ≡ true
 block_is p h i zero domain region r f z =
     let a = possible_then _ (places region h (makes p h i (act.NewGrid zero domain region) (v.Grid (Some (new_id i region h))))) r z in
     let b = placed region h (makes p h i (act.NewGrid zero domain region) (v.Grid (Some (new_id i region h)))) r a.1 in
-    let k = ltb-false most_cells (cost_of p i h + (1 + size_of domain)) (not_faulted (nat_lt most_cells (cost_of p i h + (1 + size_of domain))) HeapFull (Answers (Val (v.Grid (Some (new_id i region h))))) r b) in
+    let k = ltb-false most_cells (cost_of p i h + (1 + size_of domain))
+    (not_faulted (nat_lt most_cells (cost_of p i h + (1 + size_of domain))) HeapFull
+    (Answers (Val (v.Grid (Some (new_id i region h))))) r b) in
     ap₂ (λ x y. x && y) ((is_rect_decides domain).1 f) (le-leb (size_of domain) most_cells (below_it (cost_of p i h) (size_of domain) most_cells k))
   where
     below_it : (c n m : ℕ) → c + (1 + n) ≤ m → n ≤ m
@@ -214,10 +219,12 @@ grid_there p (e ∷ h) (more a said) f id g z = by (makes_grid e.act && is_grid 
     Ih : Type 0
     Ih = (i : Id) (x : Grid) → grid_of i h ≡ Some x → (n : ℕ) × (grid_told i h ≡ Some (record { number = n; grid = x }))
 
-    made : Ih → (c : Action) → e.act ≡ c → grid_made id c (λ viewed. grid_of viewed h) ≡ Some g → (n : ℕ) × (grid_from id (length h) c (λ viewed. grid_told viewed h) ≡ Some (record { number = n; grid = g }))
+    made : Ih → (c : Action) → e.act ≡ c → grid_made id c (λ viewed. grid_of viewed h) ≡ Some g → (n : ℕ)
+        × (grid_from id (length h) c (λ viewed. grid_told viewed h) ≡ Some (record { number = n; grid = g }))
     made ih (act.NewGrid zero domain region) k y = (
       length h,
-      if_true _ _ _ (block_is p h e.proc zero domain region e.answer (subst IsFormedAction k f.0) (sym (ap (heap_answer p h e.proc) k) ∙ said)) ∙ ap (λ (q : Grid). Some (record { number = length h; grid = q })) (some_same _ g y),
+      if_true _ _ _ (block_is p h e.proc zero domain region e.answer (subst IsFormedAction k f.0) (sym (ap (heap_answer p h e.proc) k)
+          ∙ said)) ∙ ap (λ (q : Grid). Some (record { number = length h; grid = q })) (some_same _ g y),
     )
     made ih (act.MakeView viewed how) k y =
         let x = mapped how (grid_of viewed h) g y in
@@ -226,8 +233,11 @@ grid_there p (e ∷ h) (more a said) f id g z = by (makes_grid e.act && is_grid 
         let one : s.0 ≡ x.0 = some_same s.0 x.0 (sym s.1 ∙ x.1) in
         let fits = possible_then _ _ e.answer s.2 in
         let suit : suits how x.0.domain ≡ true = ap (λ (q : Grid). suits how q.domain) (sym one) ∙ fits.0 in
-        let fine : no_fault (view_fault how x.0.domain) ≡ true = ap (λ (q : Grid). no_fault (view_fault how q.domain)) (sym one) ∙ views_none _ _ e.answer fits.1 in
-        (t.0, if_true _ _ _ (formed_view how (subst IsFormedAction k f.0)) ∙ ap (viewed_told how) t.1 ∙ if_true _ _ _ (ap₂ (λ a b. a && b) suit fine) ∙ ap (λ (q : Grid). Some (record { number = t.0; grid = q })) x.2)
+        let fine : no_fault (view_fault how x.0.domain) ≡ true = ap (λ (q : Grid). no_fault (view_fault how q.domain)) (sym one) ∙ views_none _ _ e.answer fits.1 in (
+          t.0,
+          if_true _ _ _ (formed_view how (subst IsFormedAction k f.0)) ∙ ap (viewed_told how) t.1
+              ∙ if_true _ _ _ (ap₂ (λ a b. a && b) suit fine) ∙ ap (λ (q : Grid). Some (record { number = t.0; grid = q })) x.2,
+        )
     made ih (act.GetField o f) k y = absurd (none_some g y)
     made ih (act.PutField o f v) k y = absurd (none_some g y)
     made ih (act.NewObj c r) k y = absurd (none_some g y)
@@ -241,7 +251,8 @@ grid_there p (e ∷ h) (more a said) f id g z = by (makes_grid e.act && is_grid 
     made ih act.End k y = absurd (none_some g y)
     made ih (act.Fault kind) k y = absurd (none_some g y)
 
-    by : (t : Bool) → (makes_grid e.act && is_grid id e.answer) ≡ t → (b : Bool) → (is_making e.act && is_grid id e.answer) ≡ b → Ih → (n : ℕ) × (grid_told id (e ∷ h) ≡ Some (record { number = n; grid = g }))
+    by : (t : Bool) → (makes_grid e.act && is_grid id e.answer) ≡ t → (b : Bool) → (is_making e.act && is_grid id e.answer) ≡ b → Ih
+        → (n : ℕ) × (grid_told id (e ∷ h) ≡ Some (record { number = n; grid = g }))
     by true k true l ih = let r = made ih e.act refl (sym (if_true _ _ _ l) ∙ z) in (r.0, if_true _ _ _ k ∙ r.1)
     by true k false l ih =
         absurd (true_false (sym (ap₂ (λ x y. x && y) (making_grid e.act (and_left (makes_grid e.act) _ k)) (and_right (makes_grid e.act) _ k)) ∙ l))
@@ -264,7 +275,9 @@ spot_with n (Element block at) = ElementOf (Made n) at
 abbrev BothUsed : Action → History → Type 0
 BothUsed a h = (c : Cell) × (n : ℕ) × (cell_used a h ≡ Some c) × (spot_used a h ≡ Some (spot_with n c)) × MadeAt n (thing_of c) h
 
-some_class : (p : NumberedProgram) (o : Option ℕ) (field : ℕ) (x : Value) → option_and_then (λ zeros. option_map zero_value (slice_get zeros field)) (option_and_then (zeros_of_class p) o) ≡ Some x → (c : ℕ) × (o ≡ Some c)
+some_class : (p : NumberedProgram) (o : Option ℕ) (field : ℕ) (x : Value)
+    → option_and_then (λ zeros. option_map zero_value (slice_get zeros field)) (option_and_then (zeros_of_class p) o) ≡ Some x → (c : ℕ)
+    × (o ≡ Some c)
 some_class p None field x z = absurd (none_some x z)
 some_class p (Some c) field x z = (c, refl)
 
@@ -380,7 +393,8 @@ thing_like p whole an m n a b x y =
         field_id : (a b : Id) → Field a 0 ≡ Field b 0 → a ≡ b
         field_id a b z = cc
 
-cell_like : (p : NumberedProgram) (whole : History) → IsAnswered p whole → (m n : ℕ) (c d : Cell) → MadeAt m (thing_of c) whole → MadeAt n (thing_of d) whole → same_spot (spot_with m c) (spot_with n d) ≡ same_cell c d
+cell_like : (p : NumberedProgram) (whole : History) → IsAnswered p whole → (m n : ℕ) (c d : Cell) → MadeAt m (thing_of c) whole
+    → MadeAt n (thing_of d) whole → same_spot (spot_with m c) (spot_with n d) ≡ same_cell c d
 cell_like p whole an m n (Field a f) (Field b g) x y = ap (λ t. t && f == g) (thing_like p whole an m n a b x y)
 cell_like p whole an m n (Element a q) (Element b r) x y = ap (λ t. t && same_point q r) (thing_like p whole an m n a b x y)
 cell_like p whole an m n (Field a f) (Element b r) x y = refl

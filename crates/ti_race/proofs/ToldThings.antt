@@ -22,7 +22,7 @@ use Rattle.ti_base.specs.Cells.{same_id, suits, view, view_fault, whole_grid}
 use Rattle.ti_lang.specs.Meaning.Histories.{History, is_departure, departures}
 use Rattle.ti_lang.specs.Meaning.HeapOf.{is_grid}
 use Rattle.ti_lang.specs.Meaning.Spots.{Block, no_fault, viewed_told, is_block, makes_grid, grid_from, grid_told}
-use Rattle.ti_lang.proofs.MeaningLaws.NewThings.{same_name}
+use Rattle.ti_lang.proofs.Lemmas.{same_name}
 use Rattle.ti_rect.specs.Views.{IsView}
 use Rattle.ti_grid.specs.declared.layout.Layout.{Layout}
 use Rattle.ti_grid.specs.Views.{IsWhole}
@@ -103,7 +103,12 @@ block_lies e h number id zero domain view counted made small same whole =
     (sym (if_true (is_block domain) (Some (record { number = number; grid = whole_grid id zero domain })) None small)) (
       domain,
       if_true (number == length h) (block_made e.act) (whole_at number h) (eq-eqb number (length h) counted) ∙ made,
-      record { number = refl; domain = same; cells = λ p inside. subst (λ (r : Rect). Rattle.ti_grid.specs.Views.cell_number view p ≡ Rattle.ti_grid.specs.Views.place_in (Rattle.ti_base.specs.Rects.points_of r) p) same (whole p) },
+      record {
+        number = refl;
+        domain = same;
+        cells = λ p inside. subst (λ (r : Rect). Rattle.ti_grid.specs.Views.cell_number view p
+            ≡ Rattle.ti_grid.specs.Views.place_in (Rattle.ti_base.specs.Rects.points_of r) p) same (whole p);
+      },
     )
 
 pub no_block_lies : (h : History) (id : Id) (number : ℕ) (zero : Zero) (domain : Rect) → is_block domain ≡ false → Lies h None (block_told id number zero domain)
@@ -123,7 +128,8 @@ on_err (Err e) p = p
 -- ---- the table of grids
 
 same_self : (a : Id) → same_id a a ≡ true
-same_self a = ap₂ (λ x y. x && y) (ap₂ (λ x y. x && y) (ap₂ (λ x y. x && y) (eq-eqb a.maker a.maker refl) (eq-eqb a.serial a.serial refl)) (eq-eqb a.owner a.owner refl)) (eq-eqb a.region a.region refl)
+same_self a = ap₂ (λ x y. x && y) (ap₂ (λ x y. x && y) (ap₂ (λ x y. x && y) (eq-eqb a.maker a.maker refl) (eq-eqb a.serial a.serial refl))
+    (eq-eqb a.owner a.owner refl)) (eq-eqb a.region a.region refl)
 
 key_back : (a b : Id) → name_key a ≡ name_key b → a ≡ b
 key_back a b e = λ i. record { maker = (e i).maker; serial = (e i).serial; owner = (e i).owner; region = (e i).region }
@@ -191,7 +197,10 @@ grids_more m n e h made lying makes names u lies told id = by ((name_eq.ghosts).
         (subst (Lies (e ∷ h) lying) (sym (if_true (makes_grid e.act && is_grid id e.answer) (grid_from id (length h) e.act (λ w. grid_told w h)) (grid_told id h) test))
         (subst (λ (k : Id). Lies (e ∷ h) lying (grid_from k (length h) e.act (λ w. grid_told w h))) same lies))
     by false z =
-        let other : (makes_grid e.act && is_grid id e.answer) ≡ false = ap₂ (λ a b. a && b) makes (named id made e.answer names ∙ not_true (same_id id made) (λ k. true_false (sym (ap (λ (x : Id). (name_eq.ghosts).eq (name_key made) (name_key x)) (same_name id made k) ∙ keys.name_self (name_key made)) ∙ z))) in
+        let other : (makes_grid e.act && is_grid id e.answer) ≡ false =
+        ap₂ (λ a b. a && b) makes (named id made e.answer names ∙ not_true (same_id id made)
+        (λ k. true_false (sym (ap (λ (x : Id). (name_eq.ghosts).eq (name_key made) (name_key x)) (same_name id made k)
+        ∙ keys.name_self (name_key made)) ∙ z))) in
         subst (λ (l : Option (Option Lying)). Lies (e ∷ h) (lying_in l) (grid_told id (e ∷ h))) (sym (u.2 (name_key id) z)) (grids_stay e h id _ other (told id))
 
 -- ---- phases

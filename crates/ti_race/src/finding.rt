@@ -47,7 +47,8 @@ pub fn races(
     entries: &[Entry],
 ) -> Result<Vec<u32>, Memory>
     requires is_run { IsRun (record { program = program_of p.now.parts; procs = procs; fuel = fuel }) entries.now }
-    requires formed { (es : List Listed) → IsRun (record { program = program_of p.now.parts; procs = procs; fuel = fuel }) es → ActionsFormed (record { program = program_of p.now.parts; procs = procs; fuel = fuel }) es }
+    requires formed { (es : List Listed) → IsRun (record { program = program_of p.now.parts; procs = procs; fuel = fuel }) es
+        → ActionsFormed (record { program = program_of p.now.parts; procs = procs; fuel = fuel }) es }
     ensures { IfOk result (λ numbers. numbers.items ≡ race_numbers entries.now) }
 {
     races_are_told();

@@ -30,5 +30,6 @@ pub fn determinate(p: &Program, procs: u32, fuel: u32, entries: &[Entry])
 /// in a cell exactly where the entries that made what they use and the place in it are the same. What the
 /// processes hand in is to be in its one form, as in every run of a checked program.
 pub fn races_are_told()
-    ensures { (s : Setting) (es : List Listed) → IsRun s es → ((ds : List Listed) → IsRun s ds → ActionsFormed s ds) → races es ≡ races_told es }
+    ensures { (s : Setting) (es : List Listed) → IsRun s es → ((ds : List Listed) → IsRun s ds → ActionsFormed s ds) → races es
+        ≡ races_told es }
 {}

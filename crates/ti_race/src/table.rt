@@ -73,8 +73,10 @@ fn noted(seen: Option<Seen>, u: Use) -> Seen
 
 /// Notes one use more, and answers where in the table.
 fn note(table: &mut Table, u: Use) -> Result<usize, Memory>
-    ensures users { OnOk result ((key : Key) (i : ℕ) → others (users_in (get same_key table.new key)) i ≡ (others (users_in (get same_key table.old key)) i || (same_key (key_of u) key && not (u.proc == i)))) }
-    ensures writers { OnOk result ((key : Key) (i : ℕ) → others (writers_in (get same_key table.new key)) i ≡ (others (writers_in (get same_key table.old key)) i || (same_key (key_of u) key && (u.writes && not (u.proc == i))))) }
+    ensures users { OnOk result ((key : Key) (i : ℕ) → others (users_in (get same_key table.new key)) i
+        ≡ (others (users_in (get same_key table.old key)) i || (same_key (key_of u) key && not (u.proc == i)))) }
+    ensures writers { OnOk result ((key : Key) (i : ℕ) → others (writers_in (get same_key table.new key)) i
+        ≡ (others (writers_in (get same_key table.old key)) i || (same_key (key_of u) key && (u.writes && not (u.proc == i))))) }
 {
     let key = (u.spot, u.phase);
     let seen = table.get(&key).copied();

@@ -65,7 +65,8 @@ fn cell_in(view: &View, at: Point) -> Option<u64>
 
 // An element of a grid that lies so.
 fn element_in(lying: &Lying, name: Name, at: Point) -> Spot
-    ensures { (h : History) (id : Named) (b : Block) → name ≡ name_key id → Lies h (Some lying.now) (Some b) → IsSpot h result (spec.element_spot id at (Some b)) }
+    ensures { (h : History) (id : Named) (b : Block) → name ≡ name_key id → Lies h (Some lying.now) (Some b)
+        → IsSpot h result (spec.element_spot id at (Some b)) }
 {
     match cell_in(&lying.view, at) {
         Some(cell) => Spot::CellOf(lying.number, cell),
@@ -150,7 +151,8 @@ impl Told {
 
     // The object of this name.
     fn thing(&self, id: Id) -> Thing
-        ensures { (h : History) → Tells self.now h → IsSpot h (Spot.FieldOf result 0) (spec.FieldOf (spec.object_thing id (spec.object_told id h)) 0) }
+        ensures { (h : History) → Tells self.now h → IsSpot h (Spot.FieldOf result 0)
+            (spec.FieldOf (spec.object_thing id (spec.object_told id h)) 0) }
     {
         let name = name_of(id);
         match self.objects.get(&name).copied() {
@@ -229,7 +231,8 @@ impl Told {
 
     // How the grid lies that an action makes under this name.
     fn grid_made(&self, action: Action, id: Id) -> Option<Lying>
-        ensures { (e : Listed) (h : History) → self.now.count ≡ length h → TellsGrids self.now h → e.act ≡ action → Lies (e ∷ h) result (spec.grid_from id (length h) action (λ v. spec.grid_told v h)) }
+        ensures { (e : Listed) (h : History) → self.now.count ≡ length h → TellsGrids self.now h → e.act ≡ action
+            → Lies (e ∷ h) result (spec.grid_from id (length h) action (λ v. spec.grid_told v h)) }
     {
         match action {
             Action::NewGrid { dom, .. } => block_of(self.count, id, &dom),
@@ -240,7 +243,8 @@ impl Told {
 
     // Notes the object that an entry makes.
     fn note_object(&mut self, e: &Entry) -> Result<(), Memory>
-        ensures objects { OnOk result ((h : History) → self.old.count ≡ length h → TellsObjects self.old h → TellsObjects self.new (e.now ∷ h)) }
+        ensures objects { OnOk result ((h : History) → self.old.count ≡ length h → TellsObjects self.old h
+            → TellsObjects self.new (e.now ∷ h)) }
         ensures kept { OnErr result ((h : History) → TellsObjects self.old h → TellsObjects self.new h) }
         ensures silent { spec.makes_object e.now.act ≡ false → self.new ≡ self.old }
         ensures rest { self.new ≡ record self.old { objects = self.new.objects } }

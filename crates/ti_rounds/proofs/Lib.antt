@@ -1,2 +1,3 @@
-pub mod InStep
-pub mod KeptCourses
+mod InStep
+mod KeptCourses
+pub mod Lemmas

@@ -27,7 +27,8 @@ course_at courses p = slice_index_or courses p no_course
 
 -- what is kept of a course
 abbrev pub seat_of : Course → Seat
-seat_of c = record { arrivals = length c.arrivals; departures = c.departures; latest = slice_get c.arrivals 0; before = slice_get c.arrivals 1 }
+seat_of c =
+    record { arrivals = length c.arrivals; departures = c.departures; latest = slice_get c.arrivals 0; before = slice_get c.arrivals 1 }
 
 -- this is kept of these courses
 abbrev pub Keeps : List Seat → List Course → Type 0

@@ -15,8 +15,7 @@ use Rattle.ti_lang.specs.Meaning.Steps.{Step, To, At, Ends, Faults, step}
 use Rattle.ti_lang.specs.Meaning.NextStep.{Reaches, here, later, shown, Settles, IsNext, After, none, more}
 use Rattle.ti_lang.specs.Meaning.Histories.{arrivals, answers_of}
 use Rattle.ti_lang.specs.Meaning.Runs.{World, CanTake, IsReady}
-use Rattle.ti_lang.proofs.MeaningLaws.Steps.{settled_same, settles_at, next_same, after_same}
-use Rattle.ti_lang.proofs.MeaningLaws.Running.{solo_run}
+use Rattle.ti_lang.proofs.Lemmas.{settled_same, settles_at, next_same, after_same, solo_run}
 use Rattle.ti_lang.specs.Program.Types.{ValueType}
 use Rattle.ti_align.specs.SinglePart.{single_part}
 use Rattle.ti_align.specs.Given.{given_by}

@@ -22,8 +22,7 @@ use Rattle.ti_lang.specs.Meaning.HeapAnswers.{Outcome, Answers, Impossible, heap
 use Rattle.ti_lang.specs.Meaning.HeapAnswers as heap
 use Rattle.ti_lang.specs.Meaning.Runs.{World, IsReady, entry_with, entry_of, CanTake, IsSolo}
 use Rattle.ti_lang.specs.Meaning.Runs as r
-use Rattle.ti_lang.proofs.MeaningLaws.Requests.{no_end_asked}
-use Rattle.ti_lang.proofs.MeaningLaws.Steps.{next_same, after_same}
+use Rattle.ti_lang.proofs.Lemmas.{no_end_asked, next_same, after_same}
 use Rattle.ti_rows.specs.Simulation.{settle_by, settle, most_silent, Slot, slots, have_arrived, is_ready, Taking, Waits, Takes, Unknown, by_outcome, by_request, by_step, takes, Turn, Taken, Untold, put_before, first_of, turn, run_by, run_from, solo}
 use Rattle.ti_rows.specs.Simulation as sim
 
@@ -287,7 +286,9 @@ step_taking s es x l g w u (Ends at) q reach stands =
       refl,
       λ f. (
         refl,
-        subst (λ rs. After (begin s x.number) rs x.process) (sym (answers_more x.number es e ∙ ap (λ rs. answers_of x.number es ++ rs) (no_answer (x.number == x.number) e refl) ∙ append-nil (answers_of x.number es))) w.1,
+        subst (λ rs. After (begin s x.number) rs x.process) (sym (answers_more x.number es e
+            ∙ ap (λ rs. answers_of x.number es ++ rs) (no_answer (x.number == x.number) e refl) ∙ append-nil (answers_of x.number es)))
+            w.1,
         end_own x.number es e own ∙ ends (has_end x.number es),
       ),
     )

@@ -11,7 +11,7 @@ use Rattle.ti_lang.specs.Meaning.Steps.{Step, To, At, Ends, Faults}
 use Rattle.ti_align.specs.declared.slices.SliceStep.{SliceStep}
 use Rattle.ti_align.specs.declared.slices.SliceStep.TheVariants as answer
 use Rattle.ti_align.specs.Slice.{judged, deleted_by, slice_step, at_fault, Comes, silent, stands, arrives, leaves, unfit, ends, faults, ended, faulted, SliceAnswers}
-use Rattle.ti_align.proofs.Deciding.{fits_wanted, fits_decides}
+use Rattle.ti_align.proofs.Lemmas.{fits_wanted, fits_decides}
 
 -- from a process, where these regions are gone, so many outcomes are taken, and these are left
 abbrev Going : Type 0
@@ -60,19 +60,22 @@ none_some x e = absurd (no e)
 some_same : (x y : SliceStep) → Some x ≡ Some y → x ≡ y
 some_same x y e = cc
 
-told_fit : (go : Going) → Tells go → (p : Process) (gone : List ℕ) (k : ℕ) (r : Answer) (rest : List Answer) (q : Request) (next : Answer → Process) (x : SliceStep) → judged gone (slice_step p) ≡ At q next → q.action ≡ act.Depart
+told_fit : (go : Going) → Tells go → (p : Process) (gone : List ℕ) (k : ℕ) (r : Answer) (rest : List Answer) (q : Request) (next : Answer
+    → Process) (x : SliceStep) → judged gone (slice_step p) ≡ At q next → q.action ≡ act.Depart
     → (b : Bool) → fits_wanted q.wanted r ≡ b → by_fit go p gone k r rest next b ≡ Some x → Comes p gone k (r ∷ rest) x
 told_fit go t p gone k r rest q next x e a true f h = leaves e a ((fits_decides q.wanted r).0 f) (t (next r) (deleted_by p.wait ++ gone) (k + 1) rest x h)
 told_fit go t p gone k r rest q next x e a false f h = subst (Comes p gone k (r ∷ rest)) (some_same _ _ h) (unfit e a (not_from_Decides _ (fits_decides q.wanted r) f))
 
-told_action : (go : Going) → Tells go → (p : Process) (gone : List ℕ) (k : ℕ) (rs : List Answer) (q : Request) (next : Answer → Process) (a : Action) (x : SliceStep) → judged gone (slice_step p) ≡ At q next → q.action ≡ a
+told_action : (go : Going) → Tells go → (p : Process) (gone : List ℕ) (k : ℕ) (rs : List Answer) (q : Request) (next : Answer → Process)
+    (a : Action) (x : SliceStep) → judged gone (slice_step p) ≡ At q next → q.action ≡ a
     → by_action go p gone k rs q next a ≡ Some x → Comes p gone k rs x
 told_action go t p gone k [] q next (act.Arrive kind arg given) x e a h = subst (Comes p gone k []) (some_same _ _ h) (stands e a)
 told_action go t p gone k (r ∷ rest) q next (act.Arrive kind arg given) x e a h = arrives e a (t (next Done) gone k (r ∷ rest) x h)
 told_action go t p gone k (r ∷ rest) q next act.Depart x e a h = told_fit go t p gone k r rest q next x e a (fits_wanted q.wanted r) refl h
 told_action go t p gone k rs q next a x e f h = none_some x h
 
-told_step : (go : Going) → Tells go → (p : Process) (gone : List ℕ) (k : ℕ) (rs : List Answer) (st : Step) (x : SliceStep) → judged gone (slice_step p) ≡ st → by_step go p gone k rs st ≡ Some x → Comes p gone k rs x
+told_step : (go : Going) → Tells go → (p : Process) (gone : List ℕ) (k : ℕ) (rs : List Answer) (st : Step) (x : SliceStep)
+    → judged gone (slice_step p) ≡ st → by_step go p gone k rs st ≡ Some x → Comes p gone k rs x
 told_step go t p gone k rs (To q) x e h = silent e (t q gone k rs x h)
 told_step go t p gone k rs (At q next) x e h = told_action go t p gone k rs q next q.action x e refl h
 told_step go t p gone k [] (Ends place) x e h = subst (Comes p gone k []) (some_same _ _ h) (ends e)

@@ -11,7 +11,7 @@ use Rattle.ti_base.specs.declared.entry.Next.TheVariants as next
 use Rattle.ti_lang.specs.Typing.BuiltIn.{built_in}
 use Rattle.ti_lang.specs.Typing.Declared.{named_field_type, instance_method}
 use Rattle.ti_lang.specs.Meaning.Runs.{CanTake, IsRun}
-use Rattle.ti_lang.proofs.MeaningLaws.Running.{decided, solo_run}
+use Rattle.ti_lang.proofs.Lemmas.{decided, solo_run}
 use Rattle.ti_rows.specs.Texts.{pl}
 use Rattle.ti_rows.specs.Simulation.{solo}
 use Rattle.ti_rows.specs.Refuted.Entries as entries

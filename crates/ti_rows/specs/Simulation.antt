@@ -59,8 +59,10 @@ pub data Taking : Type 0 where
 
 -- the entry of an action with its outcome
 abbrev pub by_outcome : Slot → Request → (Answer → Process) → Outcome → Taking
-by_outcome x request go (Answers r) = Takes (record x { process = go r }) (record { proc = x.number; place = request.place; act = request.action; answer = r })
-by_outcome x request go (heap.Faults kind) = Takes x (record { proc = x.number; place = request.place; act = act.Fault kind; answer = Done })
+by_outcome x request go (Answers r) =
+    Takes (record x { process = go r }) (record { proc = x.number; place = request.place; act = request.action; answer = r })
+by_outcome x request go (heap.Faults kind) =
+    Takes x (record { proc = x.number; place = request.place; act = act.Fault kind; answer = Done })
 by_outcome x request go Impossible = Waits
 
 -- the entry of an action, if it is ready

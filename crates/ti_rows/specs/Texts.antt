@@ -64,7 +64,17 @@ static_word = record { word = word.Static; place = pl 1 1 } ∷ []
 -- a method of a class with these words, single or not
 abbrev pub method_of : List Modifier → Bool → ℕ → NumberedResult → ℕ → NumberedParams → List NumberedStm → Place → NumberedMethod
 method_of words is_single class result name params body end =
-    record { class = class; modifiers = words; is_single = is_single; result = result; place = pl 1 1; name = name; params = params; body = body; end = end }
+    record {
+      class = class;
+      modifiers = words;
+      is_single = is_single;
+      result = result;
+      place = pl 1 1;
+      name = name;
+      params = params;
+      body = body;
+      end = end;
+    }
 
 -- an instance method
 abbrev pub instance_method : ℕ → NumberedResult → ℕ → NumberedParams → List NumberedStm → Place → NumberedMethod
@@ -83,13 +93,25 @@ single_method class result name params body end = method_of static_word true cla
 -- the members of the language, and then names
 abbrev pub names_with : List (List ℕ) → List (List ℕ)
 names_with names =
-    codes "size" ∷ codes "min" ∷ codes "max" ∷ codes "contains" ∷ codes "domain" ∷ codes "restrict" ∷ codes "translate" ∷ codes "slice" ∷ codes "copy" ∷ codes "exchange" ∷ codes "delete" ∷ names
+    codes "size" ∷ codes "min" ∷ codes "max" ∷ codes "contains" ∷ codes "domain" ∷ codes "restrict" ∷ codes "translate" ∷ codes "slice"
+    ∷ codes "copy" ∷ codes "exchange" ∷ codes "delete" ∷ names
 
 -- a run of so many processes with so many ticks, of a program with these classes, methods, of which one is `main`, names and literals
 abbrev pub text : ℕ → ℕ → List NumberedClass → List NumberedMethod → ℕ → List (List ℕ) → List (List ℕ) → Setting
 text procs fuel classes methods main names literals =
-    record { procs = procs; fuel = fuel; program = record { classes = classes; methods = methods; main = main; names = names_with names; literals = literals } }
+    record {
+      procs = procs;
+      fuel = fuel;
+      program = record {
+        classes = classes;
+        methods = methods;
+        main = main;
+        names = names_with names;
+        literals = literals;
+      };
+    }
 
 -- a program of `main` alone, which ends at a place
 abbrev pub alone : ℕ → ℕ → List (List ℕ) → List NumberedStm → Place → Setting
-alone procs fuel literals body end = text procs fuel (class_of [] ∷ []) (single_method 0 c.Void 11 c.Words body end ∷ []) 0 (codes "main" ∷ []) literals
+alone procs fuel literals body end =
+    text procs fuel (class_of [] ∷ []) (single_method 0 c.Void 11 c.Words body end ∷ []) 0 (codes "main" ∷ []) literals

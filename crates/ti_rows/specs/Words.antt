@@ -48,8 +48,19 @@ param_with at type = record { place = at; ty = type }
 -- a method of a class and a name, at its name, which ends at a place
 abbrev pub method_with : ℕ → List Modifier → NumberedResult → Place → ℕ → NumberedParams → List NumberedStm → Place → NumberedMethod
 method_with class words result at name params body end =
-    record { class = class; modifiers = words; is_single = is_single words; result = result; place = at; name = name; params = params; body = body; end = end }
+    record {
+      class = class;
+      modifiers = words;
+      is_single = is_single words;
+      result = result;
+      place = at;
+      name = name;
+      params = params;
+      body = body;
+      end = end;
+    }
 
 -- a program of classes and methods, of which one is `main`, with names behind those of the language and without string literals
 abbrev pub program_of : List NumberedClass → List NumberedMethod → ℕ → List (List ℕ) → NumberedProgram
-program_of classes methods main names = record { classes = classes; methods = methods; main = main; names = names_with names; literals = [] }
+program_of classes methods main names =
+    record { classes = classes; methods = methods; main = main; names = names_with names; literals = [] }

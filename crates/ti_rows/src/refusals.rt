@@ -42,7 +42,8 @@ pub fn types()
     ensures a_static_field { Refuses types.a_static_field Y7 (pl 1 11) }
     ensures a_break_outside_a_loop { Refuses types.a_break_outside_a_loop Y8 (pl 1 62) }
     ensures a_global_reference_for_a_local_one { Refuses types.a_global_reference_for_a_local_one Q1 (pl 1 101) }
-    ensures a_local_field_written_through_a_global_reference { Refuses types.a_local_field_written_through_a_global_reference Q2 (pl 1 110) }
+    ensures a_local_field_written_through_a_global_reference { Refuses types.a_local_field_written_through_a_global_reference Q2
+        (pl 1 110) }
     ensures a_copy_of_local_elements { Refuses types.a_copy_of_local_elements Q2 (pl 1 119) }
     ensures an_exchange_into_local_elements { Refuses types.an_exchange_into_local_elements Q3 (pl 1 134) }
     ensures types_come_before_single_values { Refuses types.types_come_before_single_values Y2 (pl 1 112) }

@@ -102,7 +102,8 @@ pub fn collectives()
     ensures a_break_under_a_single_condition { Prints collectives_rows.a_break_under_a_single_condition (codes "3\n3\n") }
     ensures a_broadcast_decides_a_loop { Prints collectives_rows.a_broadcast_decides_a_loop (codes "0\n0\n0\n") }
     ensures a_broadcast_of_a_reference { Prints collectives_rows.a_broadcast_of_a_reference (codes "false\ntrue\n") }
-    ensures a_broadcast_of_a_foreach_variable { Prints collectives_rows.a_broadcast_of_a_foreach_variable (codes "[1,0]\n[1,0]\n[1,1]\n[1,1]\n") }
+    ensures a_broadcast_of_a_foreach_variable { Prints collectives_rows.a_broadcast_of_a_foreach_variable
+        (codes "[1,0]\n[1,0]\n[1,1]\n[1,1]\n") }
     ensures a_barrier_in_a_foreach { Prints collectives_rows.a_barrier_in_a_foreach [] }
     ensures a_root_that_is_no_process { FaultsBehind collectives_rows.a_root_that_is_no_process [] BadRoot 0 (pl 1 77) }
     ensures an_exchange { Prints collectives_rows.an_exchange (codes "10\n0\n") }

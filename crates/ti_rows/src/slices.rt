@@ -19,23 +19,35 @@ pub fn collectives()
     ensures barriers_end { SliceAnswers collectives_rows.barriers (Done ∷ []) Ended }
     ensures barriers_with_one_too_many { SliceAnswers collectives_rows.barriers (Done ∷ Done ∷ []) (Unfit 1) }
     ensures barriers_with_a_value { SliceAnswers collectives_rows.barriers (Val (v.Bool true) ∷ []) (Unfit 0) }
-    ensures a_break_under_a_single_condition { SliceAnswers collectives_rows.a_break_under_a_single_condition (Done ∷ Done ∷ []) (At Barrier (pl 1 98) None) }
-    ensures a_break_under_a_single_condition_ends { SliceAnswers collectives_rows.a_break_under_a_single_condition (Done ∷ Done ∷ Done ∷ []) Ended }
+    ensures a_break_under_a_single_condition { SliceAnswers collectives_rows.a_break_under_a_single_condition (Done ∷ Done ∷ [])
+        (At Barrier (pl 1 98) None) }
+    ensures a_break_under_a_single_condition_ends { SliceAnswers collectives_rows.a_break_under_a_single_condition
+        (Done ∷ Done ∷ Done ∷ []) Ended }
     ensures a_broadcast_decides_a_loop { SliceAnswers collectives_rows.a_broadcast_decides_a_loop [] (At Broadcast (pl 1 77) (Some 1)) }
-    ensures a_broadcast_decides_a_loop_behind_six { SliceAnswers collectives_rows.a_broadcast_decides_a_loop (Val (v.Int (pos 6)) ∷ []) (At Barrier (pl 1 132) None) }
-    ensures a_broadcast_decides_a_loop_to_its_end { SliceAnswers collectives_rows.a_broadcast_decides_a_loop (Val (v.Int (pos 6)) ∷ Done ∷ Done ∷ Done ∷ []) Ended }
-    ensures a_broadcast_decides_a_loop_behind_zero { SliceAnswers collectives_rows.a_broadcast_decides_a_loop (Val (v.Int (pos 0)) ∷ []) Ended }
+    ensures a_broadcast_decides_a_loop_behind_six { SliceAnswers collectives_rows.a_broadcast_decides_a_loop (Val (v.Int (pos 6)) ∷ [])
+        (At Barrier (pl 1 132) None) }
+    ensures a_broadcast_decides_a_loop_to_its_end { SliceAnswers collectives_rows.a_broadcast_decides_a_loop
+        (Val (v.Int (pos 6)) ∷ Done ∷ Done ∷ Done ∷ []) Ended }
+    ensures a_broadcast_decides_a_loop_behind_zero { SliceAnswers collectives_rows.a_broadcast_decides_a_loop
+        (Val (v.Int (pos 0)) ∷ []) Ended }
     ensures a_broadcast_without_a_value { SliceAnswers collectives_rows.a_broadcast_decides_a_loop (Done ∷ []) (Unfit 0) }
     ensures a_broadcast_of_another_type { SliceAnswers collectives_rows.a_broadcast_decides_a_loop (Val (v.Long (pos 6)) ∷ []) (Unfit 0) }
-    ensures a_broadcast_out_of_range { SliceAnswers collectives_rows.a_broadcast_decides_a_loop (Val (v.Int (pos 2147483648)) ∷ []) (Unfit 0) }
-    ensures a_broadcast_decides_how_many_come { SliceAnswers collectives_rows.a_broadcast_decides_a_loop (Val (v.Int (pos 2)) ∷ Done ∷ Done ∷ []) (Unfit 2) }
+    ensures a_broadcast_out_of_range { SliceAnswers collectives_rows.a_broadcast_decides_a_loop (Val (v.Int (pos 2147483648)) ∷ [])
+        (Unfit 0) }
+    ensures a_broadcast_decides_how_many_come { SliceAnswers collectives_rows.a_broadcast_decides_a_loop
+        (Val (v.Int (pos 2)) ∷ Done ∷ Done ∷ []) (Unfit 2) }
     ensures a_broadcast_of_a_reference { SliceAnswers collectives_rows.a_broadcast_of_a_reference [] (At Broadcast (pl 1 102) (Some 1)) }
     ensures a_broadcast_of_null { SliceAnswers collectives_rows.a_broadcast_of_a_reference (Val (v.Obj None) ∷ []) Ended }
-    ensures a_broadcast_of_a_grid_for_an_object { SliceAnswers collectives_rows.a_broadcast_of_a_reference (Val (v.Grid None) ∷ []) (Unfit 0) }
-    ensures a_broadcast_of_a_foreach_variable { SliceAnswers collectives_rows.a_broadcast_of_a_foreach_variable [] (At Broadcast (pl 1 115) (Some 1)) }
-    ensures a_broadcast_in_the_next_turn { SliceAnswers collectives_rows.a_broadcast_of_a_foreach_variable (Val (v.Pt (two 1 0)) ∷ []) (At Broadcast (pl 1 115) (Some 1)) }
-    ensures a_broadcast_of_a_foreach_variable_ends { SliceAnswers collectives_rows.a_broadcast_of_a_foreach_variable (Val (v.Pt (two 1 0)) ∷ Val (v.Pt (two 1 1)) ∷ []) Ended }
-    ensures a_broadcast_of_another_dimension { SliceAnswers collectives_rows.a_broadcast_of_a_foreach_variable (Val (v.Pt (record (two 1 0) { dim = 1 })) ∷ []) (Unfit 0) }
+    ensures a_broadcast_of_a_grid_for_an_object { SliceAnswers collectives_rows.a_broadcast_of_a_reference (Val (v.Grid None) ∷ [])
+        (Unfit 0) }
+    ensures a_broadcast_of_a_foreach_variable { SliceAnswers collectives_rows.a_broadcast_of_a_foreach_variable []
+        (At Broadcast (pl 1 115) (Some 1)) }
+    ensures a_broadcast_in_the_next_turn { SliceAnswers collectives_rows.a_broadcast_of_a_foreach_variable (Val (v.Pt (two 1 0)) ∷ [])
+        (At Broadcast (pl 1 115) (Some 1)) }
+    ensures a_broadcast_of_a_foreach_variable_ends { SliceAnswers collectives_rows.a_broadcast_of_a_foreach_variable
+        (Val (v.Pt (two 1 0)) ∷ Val (v.Pt (two 1 1)) ∷ []) Ended }
+    ensures a_broadcast_of_another_dimension { SliceAnswers collectives_rows.a_broadcast_of_a_foreach_variable
+        (Val (v.Pt (record (two 1 0) { dim = 1 })) ∷ []) (Unfit 0) }
     ensures a_barrier_in_a_foreach { SliceAnswers collectives_rows.a_barrier_in_a_foreach (Done ∷ Done ∷ []) (At Barrier (pl 1 98) None) }
     ensures a_barrier_in_a_foreach_ends { SliceAnswers collectives_rows.a_barrier_in_a_foreach (Done ∷ Done ∷ Done ∷ []) Ended }
     ensures a_root_that_is_no_process { SliceAnswers collectives_rows.a_root_that_is_no_process [] (Faults BadRoot (pl 1 77)) }
@@ -49,13 +61,18 @@ pub fn collectives()
 /// Shared regions.
 pub fn regions()
     ensures a_region_is_made { SliceAnswers regions_rows.a_region_is_deleted [] (At MakeRegion (pl 1 105) None) }
-    ensures a_region_is_deleted { SliceAnswers regions_rows.a_region_is_deleted (Val (v.Region 1) ∷ []) (At DeleteRegion (pl 1 208) (Some 1)) }
+    ensures a_region_is_deleted { SliceAnswers regions_rows.a_region_is_deleted (Val (v.Region 1) ∷ [])
+        (At DeleteRegion (pl 1 208) (Some 1)) }
     ensures a_region_was_deleted { SliceAnswers regions_rows.a_region_is_deleted (Val (v.Region 1) ∷ Done ∷ []) Ended }
     ensures a_second_region { SliceAnswers regions_rows.two_regions (Val (v.Region 1) ∷ []) (At MakeRegion (pl 1 130) None) }
-    ensures the_first_region_is_deleted { SliceAnswers regions_rows.two_regions (Val (v.Region 1) ∷ Val (v.Region 2) ∷ []) (At DeleteRegion (pl 1 169) (Some 1)) }
-    ensures a_region_deleted_once { SliceAnswers regions_rows.a_region_deleted_twice (Val (v.Region 1) ∷ []) (At DeleteRegion (pl 1 182) (Some 1)) }
-    ensures a_region_deleted_twice { SliceAnswers regions_rows.a_region_deleted_twice (Val (v.Region 1) ∷ Done ∷ []) (Faults RegionGone (pl 1 206)) }
-    ensures an_outcome_behind_a_gone_region { SliceAnswers regions_rows.a_region_deleted_twice (Val (v.Region 1) ∷ Done ∷ Done ∷ []) (Unfit 2) }
+    ensures the_first_region_is_deleted { SliceAnswers regions_rows.two_regions (Val (v.Region 1) ∷ Val (v.Region 2) ∷ [])
+        (At DeleteRegion (pl 1 169) (Some 1)) }
+    ensures a_region_deleted_once { SliceAnswers regions_rows.a_region_deleted_twice (Val (v.Region 1) ∷ [])
+        (At DeleteRegion (pl 1 182) (Some 1)) }
+    ensures a_region_deleted_twice { SliceAnswers regions_rows.a_region_deleted_twice (Val (v.Region 1) ∷ Done ∷ [])
+        (Faults RegionGone (pl 1 206)) }
+    ensures an_outcome_behind_a_gone_region { SliceAnswers regions_rows.a_region_deleted_twice (Val (v.Region 1) ∷ Done ∷ Done ∷ [])
+        (Unfit 2) }
 {}
 
 /// Calls, and programs without collectives.

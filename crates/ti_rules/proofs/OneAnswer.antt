@@ -57,9 +57,11 @@ one_refusal known text r s (of_tokens {tokens = tokens} {misfit = misfit} {place
     let same = known.one_list text tokens others has.tokenized other_has.tokenized in
     let found = known.one_misfit others (Some (misfit, place)) (Some (another, elsewhere)) (subst (λ (list : List Token). IsGrammarRefusal list (Some (misfit, place))) same is) other in
     ap refusal_at (same_Some (misfit, place) (another, elsewhere) found)
-one_refusal known text r s (of_tokens {tokens = tokens} {misfit = misfit} {place = place} has is) (of_tree {tree = tree} has_tree other) = absurd (tree_or_misfit known text tree tokens (misfit, place) has_tree has is)
+one_refusal known text r s (of_tokens {tokens = tokens} {misfit = misfit} {place = place} has is) (of_tree {tree = tree} has_tree other) =
+    absurd (tree_or_misfit known text tree tokens (misfit, place) has_tree has is)
 one_refusal known text r s (of_tree has is) (of_bytes other) = absurd (tokens_or_bytes known text has.tokens s has.has_tokens other)
-one_refusal known text r s (of_tree {tree = tree} has_tree is) (of_tokens {tokens = tokens} {misfit = misfit} {place = place} has other) = absurd (tree_or_misfit known text tree tokens (misfit, place) has_tree has other)
+one_refusal known text r s (of_tree {tree = tree} has_tree is) (of_tokens {tokens = tokens} {misfit = misfit} {place = place} has other) =
+    absurd (tree_or_misfit known text tree tokens (misfit, place) has_tree has other)
 one_refusal known text r s (of_tree {tree = tree} has is) (of_tree {tree = another} other_has other) =
     one_tree_refusal known another r s (subst (λ (t : TextTree). IsTreeRefusal t r) (one_tree_of known text tree another has other_has) is) other
 

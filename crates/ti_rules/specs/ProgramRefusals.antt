@@ -10,7 +10,8 @@ use Rattle.ti_rules.specs.SingleRules.{single_refusals}
 -- the first refusal by the rules of types and qualifiers, or, where there is none, by those of single values
 pub data IsProgramRefusal (p : NumberedProgram) : Refusal → Type 0 where
   of_types : {refusal : Refusal} → IsFirstRefusal (Contains (type_refusals p)) refusal → IsProgramRefusal p refusal
-  of_single : {refusal : Refusal} → type_refusals p ≡ [] → IsFirstRefusal (Contains (single_refusals p)) refusal → IsProgramRefusal p refusal
+  of_single : {refusal : Refusal} → type_refusals p ≡ [] → IsFirstRefusal (Contains (single_refusals p)) refusal
+      → IsProgramRefusal p refusal
 
 -- no rule of types, qualifiers and single values is broken
 pub record BreaksNothing (p : NumberedProgram) : Type 0 where

@@ -25,7 +25,8 @@ HasNone broken = (refusal : Refusal) → broken refusal → ⊥
 -- the refusal of a tree: by the rules of names, or, where none of them is broken, that of its program
 pub data IsTreeRefusal (tree : TextTree) : Refusal → Type 0 where
   of_names : {refusal : Refusal} → IsFirstRefusal (BreaksNames tree) refusal → IsTreeRefusal tree refusal
-  of_program : {program : NumberedProgram} {refusal : Refusal} → HasNone (BreaksNames tree) → Numbers tree program → IsProgramRefusal program refusal → IsTreeRefusal tree refusal
+  of_program : {program : NumberedProgram} {refusal : Refusal} → HasNone (BreaksNames tree) → Numbers tree program
+      → IsProgramRefusal program refusal → IsTreeRefusal tree refusal
 
 -- ---- texts
 
@@ -49,7 +50,8 @@ rule_of_misfit TooDeep = G2
 -- the refusal of a text
 pub data IsRefusal (text : List ℕ) : Refusal → Type 0 where
   of_bytes : {refusal : Refusal} → IsLexicalRefusal text refusal → IsRefusal text refusal
-  of_tokens : {tokens : List Token} {misfit : Misfit} {place : Place} → HasTokens text tokens → IsGrammarRefusal tokens (Some (misfit, place))
+  of_tokens : {tokens : List Token} {misfit : Misfit} {place : Place} → HasTokens text tokens
+      → IsGrammarRefusal tokens (Some (misfit, place))
       → IsRefusal text (record { rule = rule_of_misfit misfit; place = place })
   of_tree : {tree : TextTree} {refusal : Refusal} → HasTree text tree → IsTreeRefusal tree refusal → IsRefusal text refusal
 

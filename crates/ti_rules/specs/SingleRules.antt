@@ -40,13 +40,15 @@ is_plain_condition p around c = option_map_or (is_plain_part p around) c false
 
 -- a statement has global effects
 abbrev pub has_effects : NumberedProgram → Around → NumberedStm → Bool
-has_effects p around x = has_global_effects (return_acts p around.method) (unwrap_or around.jump_has false) (doings p (this_of around.method) x)
+has_effects p around x =
+    has_global_effects (return_acts p around.method) (unwrap_or around.jump_has false) (doings p (this_of around.method) x)
 
 -- ---- calls
 
 -- plain arguments for single parameters
 abbrev pub argument_refusals : NumberedProgram → Around → List NumberedParam → NumberedExps → List Refusal
-argument_refusals p around (w ∷ params) (x.MoreExp e rest) = refused_if (w.ty.is_single && is_plain_part p around e) S5 (place_of_numbered e) ++ argument_refusals p around params rest
+argument_refusals p around (w ∷ params) (x.MoreExp e rest) =
+    refused_if (w.ty.is_single && is_plain_part p around e) S5 (place_of_numbered e) ++ argument_refusals p around params rest
 argument_refusals p around _ _ = []
 
 -- the same for what stands between the parentheses of a method
@@ -65,12 +67,15 @@ is_delete _ = false
 
 -- a member form that deletes a plain region
 abbrev pub delete_refusals : NumberedProgram → Around → Place → NumberedExp → ℕ → List Refusal
-delete_refusals p around at a name = refused_if (is_delete (member_called p (this_of around.method) a name) && is_plain_part p around a) S8 at
+delete_refusals p around at a name =
+    refused_if (is_delete (member_called p (this_of around.method) a name) && is_plain_part p around a) S8 at
 
 -- an expression that stands whole: a right side, or a statement
 abbrev pub whole_refusals : NumberedProgram → Around → NumberedExp → List Refusal
-whole_refusals p around (x.Call at method args) = call_refusals p around (called_method p (this_of around.method) (x.Call at method args)) args
-whole_refusals p around (x.OwnCall at method args) = call_refusals p around (called_method p (this_of around.method) (x.OwnCall at method args)) args
+whole_refusals p around (x.Call at method args) =
+    call_refusals p around (called_method p (this_of around.method) (x.Call at method args)) args
+whole_refusals p around (x.OwnCall at method args) =
+    call_refusals p around (called_method p (this_of around.method) (x.OwnCall at method args)) args
 whole_refusals p around (x.Member at a name args) =
     call_refusals p around (called_method p (this_of around.method) (x.Member at a name args)) args ++ delete_refusals p around at a name
 whole_refusals p around e = []
@@ -131,7 +136,8 @@ result_refusals is_single (c.Typed t) = if is_single then [] else flat_map word_
 
 -- what is wrong in a method
 abbrev pub method_single_refusals : NumberedProgram → NumberedMethod → List Refusal
-method_single_refusals p m = (effect_refusals p m ++ result_refusals m.is_single m.result) ++ flat_map (standing_single_refusals p) (standing_in_method p m)
+method_single_refusals p m =
+    (effect_refusals p m ++ result_refusals m.is_single m.result) ++ flat_map (standing_single_refusals p) (standing_in_method p m)
 
 -- ---- programs
 

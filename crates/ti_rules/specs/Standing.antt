@@ -60,11 +60,13 @@ with_point variables number is_single (Some n) = variables ++ record { number = 
 
 -- the variables in the body of a foreach: its own is single exactly where its domain is
 abbrev pub variables_inside : NumberedProgram → ScopeContents → ℕ → NumberedExp → List ScopeVariable
-variables_inside p s number domain = with_point s.variables number (is_single_part p s.this_class (singles_in s) domain) (option_and_then domain_dim (operand_type p s domain))
+variables_inside p s number domain = with_point s.variables number (is_single_part p s.this_class (singles_in s) domain)
+    (option_and_then domain_dim (operand_type p s domain))
 
 -- in the body of a foreach
 abbrev pub in_foreach : NumberedProgram → Around → ℕ → NumberedExp → NumberedStm → Around
-in_foreach p around number domain body = record (in_loop p around st.NoStm body) { variables = variables_inside p (scope_of around) number domain }
+in_foreach p around number domain body =
+    record (in_loop p around st.NoStm body) { variables = variables_inside p (scope_of around) number domain }
 
 -- ---- the statements in a statement
 
@@ -79,7 +81,8 @@ abbrev mutual
   inside p around (st.For at first c update body) =
       stands around (st.For at first c update body)
       ∷ (inside_maybe p around first ++ (inside_maybe p around update ++ inside p (in_loop p around update body) body))
-  inside p around (st.Foreach at number domain body) = stands around (st.Foreach at number domain body) ∷ inside p (in_foreach p around number domain body) body
+  inside p around (st.Foreach at number domain body) =
+      stands around (st.Foreach at number domain body) ∷ inside p (in_foreach p around number domain body) body
   inside p around x = stands around x ∷ []
 
   -- those of a statement, if there is one

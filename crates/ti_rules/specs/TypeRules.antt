@@ -38,7 +38,8 @@ params_refusals is_single (c.Params params) = flat_map (λ (x : NumberedParam). 
 -- the words of a method before its body
 abbrev pub head_refusals : NumberedMethod → List Refusal
 head_refusals m =
-    ((repeated_modifiers [] m.modifiers ++ flat_map (method_modifier_refusals (is_static_method m)) m.modifiers) ++ result_refusals m.result) ++ params_refusals m.is_single m.params
+    ((repeated_modifiers [] m.modifiers ++ flat_map (method_modifier_refusals (is_static_method m)) m.modifiers)
+    ++ result_refusals m.result) ++ params_refusals m.is_single m.params
 
 -- a `return`
 abbrev pub is_return : NumberedStm → Bool

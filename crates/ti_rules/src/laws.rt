@@ -15,13 +15,15 @@ ghost use Rattle.ti_rules.specs.Mirrors.ProgramRefusal.{program_refusal};
 
 /// An expression whose names mean something, and in which no rule of types is broken, has a type.
 pub fn typed_where_unbroken()
-    ensures { (p : NumberedProgram) (s : ScopeContents) (e : NumberedExp) → IsKnown p s e → exp_refusals p s e ≡ [] → IsThere (typed p s e) }
+    ensures { (p : NumberedProgram) (s : ScopeContents) (e : NumberedExp) → IsKnown p s e → exp_refusals p s e ≡ []
+        → IsThere (typed p s e) }
 {}
 
 /// Where a program breaks no rule, no statement that stands in it does.
 pub fn checked_standing()
     ensures types { (p : NumberedProgram) (x : Standing) → BreaksNothing p → Contains (standing_in p) x → standing_refusals p x ≡ [] }
-    ensures single { (p : NumberedProgram) (x : Standing) → BreaksNothing p → Contains (standing_in p) x → standing_single_refusals p x ≡ [] }
+    ensures single { (p : NumberedProgram) (x : Standing) → BreaksNothing p → Contains (standing_in p) x → standing_single_refusals p x
+        ≡ [] }
 {}
 
 /// A program breaks no rule, or has one first refusal, and never both; the one that is found is the first.

@@ -30,12 +30,12 @@ use Rattle.ti_code.specs.contracts.instr.Instr as instr
 use Rattle.ti_code.specs.contracts.instr.Member as member
 use Rattle.ti_code.specs.contracts.instr.OneOperand as one_operand
 use Rattle.ti_code.specs.contracts.instr.Operation as operation
-use Rattle.ti_machine.proofs.Sending.{process_send}
-use Rattle.ti_store.proofs.Crossing.{action_send, place_send, store_send}
+use Rattle.ti_machine.proofs.Lemmas.{process_send}
+use Rattle.ti_store.proofs.Lemmas.{action_send, place_send, store_send}
 use Rattle.ti_store.specs.contracts.store.Store as store
 use Rattle.ti_store.specs.declared.store.Store.{Store}
 use Rattle.ti_store.specs.declared.terms.Terms as terms
-use Rattle.ti_turnstile.proofs.Crossing as of_turnstile
+use Rattle.ti_turnstile.proofs.Lemmas as of_turnstile
 use Rattle.ti_turnstile.specs.contracts.turnstile.Turnstile as turnstile
 use Rattle.ti_turnstile.specs.declared.kept.Kept as kept
 use Rattle.ti_runtime.specs.contracts.mate.Mate as mate
@@ -109,7 +109,9 @@ module _ (J : RattleType) (g : terms.Ghosts J.Denot) (b : by_code.Ghosts J.Denot
 
   module _ (R G : RattleType) (ℓ₁ ℓ₂ ℓ₃ ℓ₄ ℓ₅ : Lifetime) (κ₁ κ₂ κ₃ κ₄ κ₅ : Lft) where
     abbrev pub captures : List RattleType
-    captures = ShrRef ℓ₁ κ₁ (param 2 R) ∷ heap.the_row ∷ ShrRef ℓ₂ κ₂ code.the_row ∷ ShrRef ℓ₃ κ₃ (param 3 G) ∷ ShrRef ℓ₄ κ₄ (turnstile.the_row (store.the_row J g) entry.the_row k) ∷ ShrRef ℓ₅ κ₅ flag.the_row ∷ vec.the_row (mate.the_row J k g b) heap.the_row heap_impl.ghosts ∷ []
+    captures = ShrRef ℓ₁ κ₁ (param 2 R) ∷ heap.the_row ∷ ShrRef ℓ₂ κ₂ code.the_row ∷ ShrRef ℓ₃ κ₃ (param 3 G) ∷ ShrRef ℓ₄ κ₄
+        (turnstile.the_row (store.the_row J g) entry.the_row k) ∷ ShrRef ℓ₅ κ₅ flag.the_row ∷ vec.the_row
+        (mate.the_row J k g b) heap.the_row heap_impl.ghosts ∷ []
 
     pub job_send : (ν : Sym) → IsSync (param 2 R) → IsSync (param 3 G) → IsSend (TupleAt ν captures)
     job_send ν r q =

@@ -12,7 +12,8 @@ use Rattle.ti_runtime.specs.Mirrors.Team.{StandsAt, Seated, MayRun}
 use Rattle.ti_runtime.proofs.Following.{OneNext, begins_on, begins_seated}
 
 -- of new passes the last, and those before it
-pub last_pass : {V I : Type 0} {g : _} (turnstile : TableId) (all xs : List (Pass V I g)) (p : Pass V I g) → all ≡ xs ++ p ∷ [] → AreNew turnstile all → (turnstile_of p ≡ turnstile) × (number_of p ≡ length xs) × (seen_by p ≡ []) × AreNew turnstile xs
+pub last_pass : {V I : Type 0} {g : _} (turnstile : TableId) (all xs : List (Pass V I g)) (p : Pass V I g) → all ≡ xs ++ p ∷ []
+    → AreNew turnstile all → (turnstile_of p ≡ turnstile) × (number_of p ≡ length xs) × (seen_by p ≡ []) × AreNew turnstile xs
 last_pass turnstile all xs p is new =
     let new' = subst (AreNew turnstile) is new in
     let last = new' (length xs) p (at_last xs p (length xs) refl) in
@@ -29,6 +30,7 @@ pub begins_here : (code here : Code) (s : Setting) (procs fuel i : ℕ) → MayR
 begins_here code here s procs fuel i may is p f l =
     subst (λ (x : Code × (ℕ × ℕ)). GoesOn (unbegun_at x.0 x.1.0 x.1.1 i)) (λ j. (sym is j, (sym p j, sym f j))) (begins_on code s may.follows may.within i l)
 
-pub seated_here : (code here : Code) (s : Setting) (procs fuel i : ℕ) → MayRun code s → here ≡ code → procs ≡ s.procs → fuel ≡ s.fuel → i < s.procs → OneNext → (seat : Seat) → StandsAt (unbegun_at here procs fuel i) seat → seat.ended ≡ false → Seated code s [] i seat
+pub seated_here : (code here : Code) (s : Setting) (procs fuel i : ℕ) → MayRun code s → here ≡ code → procs ≡ s.procs → fuel ≡ s.fuel
+    → i < s.procs → OneNext → (seat : Seat) → StandsAt (unbegun_at here procs fuel i) seat → seat.ended ≡ false → Seated code s [] i seat
 seated_here code here s procs fuel i may is p f l one seat y e =
     begins_seated code s may.follows may.within i l one seat (subst (λ (x : Code × (ℕ × ℕ)). StandsAt (unbegun_at x.0 x.1.0 x.1.1 i) seat) (λ j. (is j, (p j, f j))) y) e

@@ -46,7 +46,8 @@ no_more : (n : ℕ) → 0 ≤ n
 no_more n = omega arith
 
 -- a run that can go on is taken up with process 0
-pub starts : (code : Code) (s : Setting) (es : List Entry) (seats : List Seat) → IsRun s es → has_fault es ≡ false → length seats ≡ s.procs → AllSeated code s es seats → Stands code s es seats (record { at = 0; waiting = 0 })
+pub starts : (code : Code) (s : Setting) (es : List Entry) (seats : List Seat) → IsRun s es → has_fault es ≡ false → length seats ≡ s.procs
+    → AllSeated code s es seats → Stands code s es seats (record { at = 0; waiting = 0 })
 starts code s es seats so_far goes_on count seated = record {
   run = so_far;
   goes_on = goes_on;
@@ -93,7 +94,8 @@ wants code s before es seats x = record {
 }
 
 -- nobody is left to be tried, so nobody can go on, and all have their end
-pub ends : (code : Code) (s : Setting) (before es : List Entry) (seats : List Seat) (c : Cursor) → (IsSolo s before → IsSolo s es) → Stands code s es seats c → length seats ≤ c.at → NoneStuck s es → CameTo code s before es seats how.Ended
+pub ends : (code : Code) (s : Setting) (before es : List Entry) (seats : List Seat) (c : Cursor) → (IsSolo s before → IsSolo s es)
+    → Stands code s es seats c → length seats ≤ c.at → NoneStuck s es → CameTo code s before es seats how.Ended
 ends code s before es seats c solo x past unstuck =
     let all : AllEnded s es = unstuck x.goes_on (λ i e t. rest_takes_none s es i e (x.points.before i (tried i s.procs (length seats) c.at t.within x.count past)) t) in
     record {
@@ -125,14 +127,16 @@ unbegun code s workers end l m e = record {
 
 -- one number more
 pub finished_on : (seats : List Seat) (done : List ℕ) (n k : ℕ) (seat : Seat) → n < length seats → length done ≡ length seats → seat ≡ get_or seats n seat → HasFinished seat.process k
-    → ((d : Seat) (i : ℕ) → i < n → HasFinished (get_or seats i d).process (get_or done i 0)) → (d : Seat) (i : ℕ) → i < n + 1 → HasFinished (get_or seats i d).process (get_or (slice_set done n k) i 0)
+    → ((d : Seat) (i : ℕ) → i < n → HasFinished (get_or seats i d).process (get_or done i 0)) → (d : Seat) (i : ℕ) → i < n + 1
+    → HasFinished (get_or seats i d).process (get_or (slice_set done n k) i 0)
 finished_on seats done n k seat inside even is one before d i l = by (n == i) refl
   where
     by : (b : Bool) → (n == i) ≡ b → HasFinished (get_or seats i d).process (get_or (slice_set done n k) i 0)
     by true h =
         let here : get_or seats n d ≡ seat = get_or_default seats n d seat inside ∙ sym is in
         let there = subst (λ j. HasFinished seat.process j) (sym (get_or-set_same done n k 0 (omega arith))) one in
-        subst (λ j. HasFinished (get_or seats j d).process (get_or (slice_set done n k) j 0)) (eqb-true n i h) (subst (λ (x : Seat). HasFinished x.process (get_or (slice_set done n k) n 0)) (sym here) there)
+        subst (λ j. HasFinished (get_or seats j d).process (get_or (slice_set done n k) j 0)) (eqb-true n i h)
+        (subst (λ (x : Seat). HasFinished x.process (get_or (slice_set done n k) n 0)) (sym here) there)
     by false h =
         let apart = eqb-false n i h in
         subst (λ j. HasFinished (get_or seats i d).process j) (sym (get_or-set_other done n i k 0 (λ e. apart (sym e)))) (before d i (omega (arith, apart)))
@@ -152,7 +156,8 @@ done_is code s es seats done count told even each = record { count = even ∙ co
         let d = some_seat seats i inside in
         subst (λ t. HasFinished t n) (told d i inside) (subst (λ k. HasFinished (get_or seats i d).process k) (get_or_from_slice_get done i n 0 z) (each d i inside))
 
-pub ran : (code : Code) (s : Setting) (workers : ℕ) (end : RunEnd) (before es : List Entry) (seats : List Seat) → end.history.items ≡ es → CameTo code s before es seats end.how → (workers ≡ 1 → before ≡ []) → length end.done.items ≡ length seats
+pub ran : (code : Code) (s : Setting) (workers : ℕ) (end : RunEnd) (before es : List Entry) (seats : List Seat) → end.history.items ≡ es
+    → CameTo code s before es seats end.how → (workers ≡ 1 → before ≡ []) → length end.done.items ≡ length seats
     → ((d : Seat) (i : ℕ) → i < length seats → HasFinished (get_or seats i d).process (get_or end.done.items i 0)) → Ran code s workers end
 ran code s workers end before es seats is x first even each =
     let y = subst (λ xs. CameTo code s before xs seats end.how) (sym is) x in

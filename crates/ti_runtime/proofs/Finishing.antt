@@ -5,12 +5,12 @@ use Rattle.std.specs.List.{list_all}
 use Rattle.ti_base.specs.declared.action.Action.{Action}
 use Rattle.ti_base.specs.declared.action.Action.TheVariants as act
 use Rattle.ti_base.specs.declared.entry.Entry.{Entry}
-use Rattle.ti_heap.proofs.Lists.{get_last}
+use Rattle.ti_heap.proofs.Lemmas.{get_last}
 use Rattle.ti_lang.specs.Meaning.Processes.{Setting}
 use Rattle.ti_lang.specs.Meaning.Histories.{is_end, is_fault, has_end, has_fault}
 use Rattle.ti_lang.specs.Meaning.Runs.{IsRun, none, more, AllEnded}
-use Rattle.ti_lang.proofs.MeaningLaws.Running.{taker}
-use Rattle.ti_store.proofs.OneMore.{fault_more}
+use Rattle.ti_lang.proofs.Lemmas.{taker}
+use Rattle.ti_store.proofs.Lemmas.{fault_more}
 use Rattle.ti_code.specs.Programs.{Code}
 use Rattle.ti_runtime.specs.declared.cursor.Cursor.{Cursor}
 use Rattle.ti_runtime.specs.declared.seat.Seat.{Seat}

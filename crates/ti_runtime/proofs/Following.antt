@@ -11,8 +11,7 @@ use Rattle.ti_lang.specs.Meaning.Processes.{Setting, Process, begin}
 use Rattle.ti_lang.specs.Meaning.NextStep.{IsNext, After, none, more}
 use Rattle.ti_lang.specs.Meaning.Histories.{is_answered, answers_of, has_end}
 use Rattle.ti_lang.specs.Meaning.Runs.{World}
-use Rattle.ti_lang.proofs.MeaningLaws.Running.{goes_on}
-use Rattle.ti_lang.proofs.MeaningLaws.Total.{next_some}
+use Rattle.ti_lang.proofs.Lemmas.{goes_on, next_some}
 use Rattle.ti_align.specs.Answering.{AnswersFit}
 use Rattle.ti_code.specs.Programs.{Code}
 use Rattle.ti_code.specs.Follows.{Fit, Follows}

@@ -37,7 +37,9 @@ items_logged : (k : ℕ) (es : List Entry) → entries_in (items_of k (log_of es
 items_logged k [] = refl
 items_logged k (e ∷ es) = by (items_logged k es) (e.proc == k)
   where
-    by : entries_in (items_of k (log_of es)) ≡ entries_of k es → (b : Bool) → entries_in (cond b ((e.proc, e) ∷ items_of k (log_of es)) (items_of k (log_of es))) ≡ cond b (e ∷ entries_of k es) (entries_of k es)
+    by : entries_in (items_of k (log_of es)) ≡ entries_of k es → (b : Bool)
+        → entries_in (cond b ((e.proc, e) ∷ items_of k (log_of es)) (items_of k (log_of es)))
+        ≡ cond b (e ∷ entries_of k es) (entries_of k es)
     by rest true = ap (λ xs. e ∷ xs) rest
     by rest false = rest
 
@@ -116,12 +118,15 @@ module _ (code : Code) (s : Setting) (st : StoreState) (i : ℕ) (old : Seat) (m
           ∙ end_more i st.entries (record { proc = i; place = place_of old; act = action_of old; answer = answer }) refl
           ∙ or_neither (has_end i st.entries) (is_end (action_of old)) (y.ended ∙ u) (answered_act y.there old.next y.is_next e).0
           ∙ sym (kept ∙ u);
-      told = ap (λ (t : Standing). record t { asks = false }) heard ∙ subst (λ v. told_more old.process answer ≡ standing_of code v new.entries i) same (told_behind code st opened run i inside old here u answer new d e);
+      told = ap (λ (t : Standing). record t { asks = false }) heard
+          ∙ subst (λ v. told_more old.process answer ≡ standing_of code v new.entries i) same
+          (told_behind code st opened run i inside old here u answer new d e);
       seated = λ w. cc;
     }
 
 -- it stands where it stood
-pub seated_refused : (code : Code) (s : Setting) (st new : StoreState) (i : ℕ) (seat : Seat) (why : ActErr) → IsRefused st i (place_of seat) (action_of seat) why new → Seated code s st.entries i seat → Seated code s new.entries i seat
+pub seated_refused : (code : Code) (s : Setting) (st new : StoreState) (i : ℕ) (seat : Seat) (why : ActErr)
+    → IsRefused st i (place_of seat) (action_of seat) why new → Seated code s st.entries i seat → Seated code s new.entries i seat
 seated_refused code s st new i seat (err.Faulted kind) r y =
     let e = fault_entry i (place_of seat) kind in
     subst (λ es. Seated code s es i seat) (sym (ap (λ (x : StoreState). x.entries) r.1))
@@ -137,7 +142,8 @@ seated_refused code s st new i seat err.Memory r y = subst (λ es. Seated code s
 -- ---- what a pass tells
 
 -- the process stands in the store's entries where it stands in those that its pass has seen
-pub seated_inside : (code : Code) (s : Setting) (es : List Entry) (k i : ℕ) (seen : List (ℕ × Entry)) (seat : Seat) → k ≡ i → IsLegal (log_of es) k seen → Seated code s (entries_in seen) i seat → Seated code s es i seat
+pub seated_inside : (code : Code) (s : Setting) (es : List Entry) (k i : ℕ) (seen : List (ℕ × Entry)) (seat : Seat) → k ≡ i
+    → IsLegal (log_of es) k seen → Seated code s (entries_in seen) i seat → Seated code s es i seat
 seated_inside code s es k i seen seat same legal y =
     let own : entries_of i es ≡ entries_of i (entries_in seen) = subst (λ k. entries_of k es ≡ entries_of k (entries_in seen)) same (own_known es k seen legal) in
     seated_still code s (entries_in seen) es i seat own y
@@ -145,13 +151,15 @@ seated_inside code s es k i seen seat same legal y =
 pub ended_inside : (es : List Entry) (k i : ℕ) (seen : List (ℕ × Entry)) (b : Bool) → k ≡ i → IsLegal (log_of es) k seen → has_end i (entries_in seen) ≡ b → has_end i es ≡ b
 ended_inside es k i seen b same legal h = ap (λ own. list_any (λ (e : Entry). is_end e.act) own) (subst (λ k. entries_of k es ≡ entries_of k (entries_in seen)) same (own_known es k seen legal)) ∙ h
 
-pub told_inside : (code : Code) (s : Setting) (es : List Entry) (k i : ℕ) (seen : List (ℕ × Entry)) (seat : Seat) → k ≡ i → IsLegal (log_of es) k seen → IsTold code s (entries_in seen) i seat → IsTold code s es i seat
+pub told_inside : (code : Code) (s : Setting) (es : List Entry) (k i : ℕ) (seen : List (ℕ × Entry)) (seat : Seat) → k ≡ i
+    → IsLegal (log_of es) k seen → IsTold code s (entries_in seen) i seat → IsTold code s es i seat
 told_inside code s es k i seen seat same legal h =
     let own : entries_of i es ≡ entries_of i (entries_in seen) = subst (λ k. entries_of k es ≡ entries_of k (entries_in seen)) same (own_known es k seen legal) in
     h ∙ ap (λ own. record (standing_of code s es i) { told = map (λ (e : Entry). e.answer) (filter is_answered own) }) (sym own)
 
 -- and the other way round, once the pass has seen them all
-pub stays_seen : (code : Code) (s : Setting) (es : List Entry) (i : ℕ) (seen : List (ℕ × Entry)) (seat : Seat) (wants : Bool) → seen ≡ log_of es → Stays code s es i seat wants → Stays code s (entries_in seen) i seat wants
+pub stays_seen : (code : Code) (s : Setting) (es : List Entry) (i : ℕ) (seen : List (ℕ × Entry)) (seat : Seat) (wants : Bool) → seen
+    ≡ log_of es → Stays code s es i seat wants → Stays code s (entries_in seen) i seat wants
 stays_seen code s es i seen seat wants h y = subst (λ xs. Stays code s xs i seat wants) (sym (ap entries_in h ∙ logged_back es)) y
 
 pub stays_well : (code : Code) (s : Setting) (es : List Entry) (i : ℕ) (seat : Seat) → Seated code s es i seat → Stays code s es i seat false

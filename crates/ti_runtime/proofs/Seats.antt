@@ -14,15 +14,13 @@ use Rattle.ti_lang.specs.Meaning.Steps.{Step, To, At, Ends, Faults, step}
 use Rattle.ti_lang.specs.Meaning.NextStep.{shown, IsNext, After}
 use Rattle.ti_lang.specs.Meaning.Histories.{is_end, is_fault, is_arrival, is_answered, entries_of, answers_of, has_end, has_fault}
 use Rattle.ti_lang.specs.Meaning.Runs.{World, IsReady, CanTake, IsRun, more}
-use Rattle.ti_lang.proofs.MeaningLaws.Limits.{within}
-use Rattle.ti_lang.proofs.MeaningLaws.Requests.{no_end_asked}
+use Rattle.ti_lang.proofs.Lemmas.{within, no_end_asked}
 use Rattle.ti_align.specs.Answering.{AnswersFit}
-use Rattle.ti_align.proofs.Paying.{after_pays}
-use Rattle.ti_align.proofs.Vars.{or_right}
+use Rattle.ti_align.proofs.Lemmas.{after_pays, or_right}
 use Rattle.ti_store.specs.Conditions as store
 use Rattle.ti_store.specs.Stores.{StoreState, setting_of, next_of, Becomes, fault_entry, IsDone, IsRefused}
 use Rattle.ti_store.specs.declared.act_err.ActErr.TheVariants as err
-use Rattle.ti_store.proofs.Running.{next_acts}
+use Rattle.ti_store.proofs.Lemmas.{next_acts}
 use Rattle.ti_code.specs.Programs.{Code}
 use Rattle.ti_machine.specs.Standing.{Standing, HasNext, is_act}
 use Rattle.ti_machine.specs.Standing as machine

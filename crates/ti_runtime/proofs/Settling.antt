@@ -25,7 +25,8 @@ none_more (x ∷ xs) h zero = h 0
 none_more (x ∷ xs) h (suc i) = none_more xs (λ j. h (suc j)) i
 
 -- one pass more of the turnstile
-pub one_back : {V : Type 0} {g : Ghosts V Entry} (turnstile : TableId) (all ps : List (Pass V Entry g)) (p : Pass V Entry g) → all ≡ ps ++ p ∷ [] → AreOf turnstile ps → turnstile_of p ≡ turnstile → AreOf turnstile all
+pub one_back : {V : Type 0} {g : Ghosts V Entry} (turnstile : TableId) (all ps : List (Pass V Entry g)) (p : Pass V Entry g) → all ≡ ps
+    ++ p ∷ [] → AreOf turnstile ps → turnstile_of p ≡ turnstile → AreOf turnstile all
 one_back {V = V} {g = g} turnstile all ps p is h same = rw is (added ps h)
   where
     added : (ps : List (Pass V Entry g)) → AreOf turnstile ps → AreOf turnstile (ps ++ p ∷ [])
@@ -72,12 +73,14 @@ module _ {V : Type 0} {g : Ghosts V Entry} (code : Code) (s : Setting) where
   known_left k seat a b (x ∷ xs) p f (inl h) = inl (h.0, stays_weaker code s (entries_in (seen_by x)) k seat a b f h.1)
   known_left k seat a b (x ∷ xs) p f (inr h) = inr (known_left k seat a b xs p f h)
 
-  known_right : (k : ℕ) (seat : Seat) (b : Bool) (ps : List (Pass V Entry g)) (p : Pass V Entry g) → number_of p ≡ k → Stays code s (entries_in (seen_by p)) k seat b → IsKnown code s k seat b (ps ++ p ∷ [])
+  known_right : (k : ℕ) (seat : Seat) (b : Bool) (ps : List (Pass V Entry g)) (p : Pass V Entry g) → number_of p ≡ k
+      → Stays code s (entries_in (seen_by p)) k seat b → IsKnown code s k seat b (ps ++ p ∷ [])
   known_right k seat b [] p e y = inl (e, y)
   known_right k seat b (x ∷ xs) p e y = inr (known_right k seat b xs p e y)
 
   -- one more came back
-  pub back_on : (places : List (Option Seat)) (count : length places ≡ s.procs) (number : ℕ) (inside : number < s.procs) (seat : Seat) (ps : List (Pass V Entry g)) (p : Pass V Entry g) (a b : Bool) → (b ≡ false → a ≡ false) → number_of p ≡ number
+  pub back_on : (places : List (Option Seat)) (count : length places ≡ s.procs) (number : ℕ) (inside : number < s.procs) (seat : Seat)
+      (ps : List (Pass V Entry g)) (p : Pass V Entry g) (a b : Bool) → (b ≡ false → a ≡ false) → number_of p ≡ number
       → Stays code s (entries_in (seen_by p)) number seat b → IsBack code s places ps a → IsBack code s (after s places count number inside seat) (ps ++ p ∷ []) b
   back_on places count number inside seat ps p a b f e y back k x l is = elim (ℕ_discrete k number) as (λ _. IsKnown code s k x b (ps ++ p ∷ [])) [
     | yes same ↦
@@ -88,11 +91,13 @@ module _ {V : Type 0} {g : Ghosts V Entry} (code : Code) (s : Setting) where
   ]
 
   -- so it is behind one turn of the loop
-  pub all_back : (places : List (Option Seat)) (count : length places ≡ s.procs) (number : ℕ) (inside : number < s.procs) (seat : Seat) (ps pushed : List (Pass V Entry g)) (p : Pass V Entry g) (a b c : Bool) (last : ℕ) → last ≡ s.procs → pushed ≡ ps ++ p ∷ []
+  pub all_back : (places : List (Option Seat)) (count : length places ≡ s.procs) (number : ℕ) (inside : number < s.procs) (seat : Seat)
+      (ps pushed : List (Pass V Entry g)) (p : Pass V Entry g) (a b c : Bool) (last : ℕ) → last ≡ s.procs → pushed ≡ ps ++ p ∷ []
       → c ≡ (a || b) → number_of p ≡ number → Stays code s (entries_in (seen_by p)) number seat b → ArePlaced s.procs places ps → IsBack code s places ps a
       → ArePlaced s.procs (slice_set places (last - 1 - number) (Some seat)) pushed × IsBack code s (slice_set places (last - 1 - number) (Some seat)) pushed c
   all_back places count number inside seat ps pushed p a b c last last_is pushed_is either same stays placed back =
-      subst (λ (x : ℕ × List (Pass V Entry g)). ArePlaced s.procs (slice_set places (x.0 - 1 - number) (Some seat)) x.1 × IsBack code s (slice_set places (x.0 - 1 - number) (Some seat)) x.1 c) (λ i. (sym last_is i, sym pushed_is i)) (
+      subst (λ (x : ℕ × List (Pass V Entry g)). ArePlaced s.procs (slice_set places (x.0 - 1 - number) (Some seat)) x.1
+      × IsBack code s (slice_set places (x.0 - 1 - number) (Some seat)) x.1 c) (λ i. (sym last_is i, sym pushed_is i)) (
         placed_on s places count number inside seat ps p same placed,
         back_on places count number inside seat ps p a c (either_first a b c either) same (stays_weaker code s (entries_in (seen_by p)) number seat b c (either_second a b c either) stays) back,
       )
@@ -147,7 +152,9 @@ order_on all old left seats more seat is more_is count same each d k l = elim (�
       each d k below ∙ ap Some (sym (ap (λ xs. get_or xs k d) more_is ∙ get_or_append_left seats (seat ∷ []) d k below))
 ]
 
-pub left_same : (all old left : List (Option Seat)) (last : Option Seat) → old ≡ left ++ last ∷ [] → ((i : ℕ) → i < length old → get_or old i None ≡ get_or all i None) → (i : ℕ) → i < length left → get_or left i None ≡ get_or all i None
+pub left_same : (all old left : List (Option Seat)) (last : Option Seat) → old ≡ left ++ last ∷ []
+    → ((i : ℕ) → i < length old → get_or old i None ≡ get_or all i None) → (i : ℕ) → i < length left → get_or left i None
+    ≡ get_or all i None
 left_same all old left last is same i l =
     let inside : i < length old = omega (arith, ap length is, length-append left (last ∷ []), l) in
     sym (ap (λ xs. get_or xs i None) is ∙ get_or_append_left left (last ∷ []) None i l) ∙ same i inside

@@ -9,13 +9,13 @@ use Rattle.ti_base.specs.declared.entry.Entry.{Entry}
 use Rattle.ti_lang.specs.Meaning.Processes.{Setting}
 use Rattle.ti_lang.specs.Meaning.Histories.{is_end, is_fault, is_arrival, is_answered, entries_of, has_end, has_fault}
 use Rattle.ti_lang.specs.Meaning.Runs.{IsRun, IsSolo, more}
-use Rattle.ti_lang.proofs.MeaningLaws.Running.{taker}
+use Rattle.ti_lang.proofs.Lemmas.{taker}
 use Rattle.ti_align.specs.Alignment.{OfEveryRun}
 use Rattle.ti_align.specs.Stopping.{RoundsBalance}
-use Rattle.ti_align.proofs.Vars.{or_right}
+use Rattle.ti_align.proofs.Lemmas.{or_right}
 use Rattle.ti_store.specs.Conditions.{IsWithin}
 use Rattle.ti_store.specs.Stores.{StoreState, setting_of}
-use Rattle.ti_store.proofs.OneMore.{fault_more}
+use Rattle.ti_store.proofs.Lemmas.{fault_more}
 use Rattle.ti_code.specs.Programs.{Code}
 use Rattle.ti_runtime.specs.declared.cursor.Cursor.{Cursor}
 use Rattle.ti_runtime.specs.declared.cursor.Turn.{Turn}
@@ -251,7 +251,8 @@ module _ (code : Code) (s : Setting) (es : List Entry) (seats : List Seat) (c : 
       subst (λ xs. StandsOn code s es seats c xs (slice_set seats c.at new) d) (sym e)
       (subst (λ xs. StandsOn code s es seats c es xs d) (sym (ap (slice_set seats c.at) (same ∙ is) ∙ set_same seats c.at old)) (still d p l))
 
-  pub turned : RoundsBalance s es → (all : List Entry) (new : Seat) (t : Turn) → TurnLeaves code s es c.at old all new (Ok t) → StandsOn code s es seats c all (slice_set seats c.at new) (cursor_after c t)
+  pub turned : RoundsBalance s es → (all : List Entry) (new : Seat) (t : Turn) → TurnLeaves code s es c.at old all new (Ok t)
+      → StandsOn code s es seats c all (slice_set seats c.at new) (cursor_after c t)
   turned balance all new turn.Arrived g = onward all new true (cursor_after c turn.Arrived) g (points_arrived s es c x.points inside x.run balance all g.takes g.arrives_is)
   turned balance all new turn.Went g = onward all new false (cursor_after c turn.Went) g (points_went s es c x.points inside all g.takes g.arrives_is)
   turned balance all new turn.Ended g = rested all new (cursor_after c turn.Ended) g.0 g.1 (points_ended s es c x.points inside g.2) (one_further c.at)

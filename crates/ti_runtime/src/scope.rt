@@ -89,7 +89,9 @@ pub fn run_groups<J: Terms + ByCode + Send + Sync, R: Threads + Wait + Sync, G: 
         thread::scope_env(),
         rt,
         |scope| -> Result<Vec<Mate<J>>, Memory>
-            requires { (code.now ≡ J.code) × MayRun J.code J.setting × All (λ v. All (AllOf (identity_of turnstile.now)) v.items) groups.items × (sum_by (λ v. length v.items) groups.items ≡ procs) × (length groups.items ≤ length flags.now) }
+            requires { (code.now ≡ J.code) × MayRun J.code J.setting × All
+                (λ v. All (AllOf (identity_of turnstile.now)) v.items) groups.items × (sum_by (λ v. length v.items) groups.items ≡ procs)
+                × (length groups.items ≤ length flags.now) }
             ensures { IfOk result (λ ms. All (AllOf (identity_of turnstile.entry.now)) ms.items × (length ms.items ≡ procs)) }
         {
             in_scope(

@@ -66,7 +66,14 @@ impl Seat {
         requires number { number < 2 ^ 31 }
         requires procs { procs < 2 ^ 31 }
         requires goes { GoesOn (record { code = code.now; procs = procs; fuel = fuel; number = number; told = []; asks = false }) }
-        ensures stands { IfOk result (λ seat. StandsAt (record { code = code.now; procs = procs; fuel = fuel; number = number; told = []; asks = false }) seat) }
+        ensures stands { IfOk result (λ seat. StandsAt (record {
+          code = code.now;
+          procs = procs;
+          fuel = fuel;
+          number = number;
+          told = [];
+          asks = false;
+        }) seat) }
         ensures unended { IfOk result (λ seat. seat.ended ≡ false) }
     {
         let mut process = Proc::start(alloc, code, number, procs, fuel)?;

@@ -116,7 +116,8 @@ fn in_order(mut places: Vec<Option<Seat>>, mut seats: Vec<Seat>) -> Vec<Seat>
     requires empty { seats.items ≡ [] }
     requires room { vec_len places ≤ vec_capacity seats }
     ensures count { length result.items ≡ length places.items }
-    ensures each { (d : OneSeat) (k : ℕ) → k < length result.items → slice_index_or places.items (length places.items - 1 - k) None ≡ Some (slice_index_or result.items k d) }
+    ensures each { (d : OneSeat) (k : ℕ) → k < length result.items → slice_index_or places.items (length places.items - 1 - k) None
+        ≡ Some (slice_index_or result.items k d) }
 {
     while let Some(place) = places.pop() {
         match place {

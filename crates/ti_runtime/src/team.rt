@@ -29,7 +29,8 @@ impl Team {
     pub fn begin(alloc: Global, code: &Code, procs: u32, fuel: u32) -> Result<Team, Memory>
         requires within { IsWithin procs fuel }
         requires follows { (program : NumberedProgram) × Follows code.now program }
-        ensures { IfOk result (λ team. (program : NumberedProgram) → Follows code.now program → Stands code.now (record { program = program; procs = procs; fuel = fuel }) [] team.seats.items team.cursor) }
+        ensures { IfOk result (λ team. (program : NumberedProgram) → Follows code.now program
+            → Stands code.now (record { program = program; procs = procs; fuel = fuel }) [] team.seats.items team.cursor) }
     {
         has_one_next();
         let mut seats = Vec::with_capacity(alloc, procs as usize)?;
@@ -69,7 +70,8 @@ impl Team {
     pub fn finished(&self, mut done: Vec<u64>) -> Vec<u64>
         requires { length done.items ≡ length self.now.seats.items }
         ensures count { length result.items ≡ length self.now.seats.items }
-        ensures each { (d : OneSeat) (i : ℕ) → i < length self.now.seats.items → HasFinished (slice_index_or self.now.seats.items i d).process (slice_index_or result.items i 0) }
+        ensures each { (d : OneSeat) (i : ℕ) → i < length self.now.seats.items
+            → HasFinished (slice_index_or self.now.seats.items i d).process (slice_index_or result.items i 0) }
     {
         for n in 0..self.seats.len() {
             done[n] = self.seats[n].process.finished();

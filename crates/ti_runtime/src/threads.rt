@@ -71,7 +71,8 @@ fn start<'s, E, J: Terms + ByCode + Send + Sync, R: Threads + Wait + Sync, G: Ga
     requires code { code.now ≡ J.code }
     requires may { MayRun J.code J.setting }
     requires group { All (AllOf (identity_of turnstile.now)) group.items }
-    ensures ok { IfOk result (λ h. (identity_of h.promise.turnstile.now ≡ identity_of turnstile.now) × (h.promise.count ≡ length group.items)) }
+    ensures ok { IfOk result (λ h. (identity_of h.promise.turnstile.now ≡ identity_of turnstile.now)
+        × (h.promise.count ≡ length group.items)) }
     ensures err { IfErr result (λ ms. All (AllOf (identity_of turnstile.now)) ms.items × (length ms.items ≡ length group.items)) }
 {
     let count = group.len();
@@ -129,7 +130,8 @@ pub fn start_one<'s, E, J: Terms + ByCode + Send + Sync, R: Threads + Wait + Syn
     requires place { vec_len handles.old < vec_capacity handles.old }
     ensures mine { All (AllOf (identity_of turnstile.now)) mine.new.items }
     ensures handles { All (λ h. identity_of h.promise.turnstile.now ≡ identity_of turnstile.now) handles.new.items }
-    ensures count { length mine.new.items + sum_by (λ h. h.promise.count) handles.new.items ≡ length mine.old.items + sum_by (λ h. h.promise.count) handles.old.items + length group.items }
+    ensures count { length mine.new.items + sum_by (λ h. h.promise.count) handles.new.items
+        ≡ length mine.old.items + sum_by (λ h. h.promise.count) handles.old.items + length group.items }
     ensures more { length handles.new.items ≤ length handles.old.items + 1 }
     ensures place { vec_capacity handles.new ≡ vec_capacity handles.old }
     ensures room { vec_capacity mine.old ≤ vec_capacity mine.new }

@@ -12,7 +12,7 @@ use Rattle.ti_rules.specs.Refusals.{refused_if}
 use Rattle.ti_rules.specs.Mirrors.First.{sooner, first_of}
 use Rattle.ti_rules.specs.Standing.{Around}
 use Rattle.ti_rules.specs.SingleRules.{is_plain_part, argument_refusals}
-use Rattle.ti_rules.proofs.First.{first_append, sooner_assoc, sooner_none}
+use Rattle.ti_rules.proofs.Lemmas.{first_append, sooner_assoc, sooner_none}
 use Rattle.ti_single.proofs.Together.{drop_next}
 
 pub none_sooner : (a : Option Refusal) → a ≡ sooner None a
@@ -27,14 +27,16 @@ arguments_from p around params args i = argument_refusals p around (map numbered
 abbrev pub argument_refused : NumberedProgram → Around → Param → Expr → List Refusal
 argument_refused p around w e = refused_if ((numbered_param_of w).ty.is_single && is_plain_part p around (expression_of e)) S5 (place_of_numbered (expression_of e))
 
-pub argument_step : (p : NumberedProgram) (around : Around) (params : List Param) (args : List Expr) (i : ℕ) (w : Param) (e : Expr) (whole found next : Option Refusal) → i < length params → i < length args
+pub argument_step : (p : NumberedProgram) (around : Around) (params : List Param) (args : List Expr) (i : ℕ) (w : Param) (e : Expr)
+    (whole found next : Option Refusal) → i < length params → i < length args
     → w ≡ get_or params i w → e ≡ get_or args i e → whole ≡ sooner found (first_of (arguments_from p around params args i)) → next ≡ sooner found (first_of (argument_refused p around w e))
     → whole ≡ sooner next (first_of (arguments_from p around params args (i + 1)))
 argument_step p around params args i w e whole found next lt_params lt_args is_w is_e is is_next =
     let rest = arguments_from p around params args (i + 1) in
     is
     ∙ ap (λ l. sooner found (first_of (argument_refusals p around (map numbered_param_of l) (numbered_exps (map expression_of (drop i args)))))) (drop_next params i w lt_params)
-    ∙ ap (λ l. sooner found (first_of (argument_refusals p around (map numbered_param_of (get_or params i w ∷ drop (i + 1) params)) (numbered_exps (map expression_of l))))) (drop_next args i e lt_args)
+    ∙ ap (λ l. sooner found (first_of (argument_refusals p around (map numbered_param_of (get_or params i w ∷ drop (i + 1) params))
+    (numbered_exps (map expression_of l))))) (drop_next args i e lt_args)
     ∙ ap (λ z. sooner found (first_of (argument_refused p around z (get_or args i e) ++ rest))) (sym is_w)
     ∙ ap (λ z. sooner found (first_of (argument_refused p around w z ++ rest))) (sym is_e)
     ∙ ap (sooner found) (first_append (argument_refused p around w e) rest)
@@ -50,12 +52,14 @@ no_argument p around [] = refl
 no_argument p around (w ∷ ws) = refl
 
 -- where there are no more parameters
-pub params_end : (p : NumberedProgram) (around : Around) (params : List Param) (args : List Expr) (i : ℕ) (whole found : Option Refusal) → length params ≤ i → whole ≡ sooner found (first_of (arguments_from p around params args i)) → found ≡ whole
+pub params_end : (p : NumberedProgram) (around : Around) (params : List Param) (args : List Expr) (i : ℕ) (whole found : Option Refusal)
+    → length params ≤ i → whole ≡ sooner found (first_of (arguments_from p around params args i)) → found ≡ whole
 params_end p around params args i whole found le is =
     sym (is ∙ ap (λ l. sooner found (first_of (argument_refusals p around (map numbered_param_of l) (numbered_exps (map expression_of (drop i args)))))) (drop_all i params le) ∙ sooner_nil found)
 
 -- where there are no more arguments
-pub args_end : (p : NumberedProgram) (around : Around) (params : List Param) (args : List Expr) (i : ℕ) (whole found : Option Refusal) → length args ≤ i → whole ≡ sooner found (first_of (arguments_from p around params args i)) → found ≡ whole
+pub args_end : (p : NumberedProgram) (around : Around) (params : List Param) (args : List Expr) (i : ℕ) (whole found : Option Refusal)
+    → length args ≤ i → whole ≡ sooner found (first_of (arguments_from p around params args i)) → found ≡ whole
 args_end p around params args i whole found le is =
     sym (is ∙ ap (λ l. sooner found (first_of (argument_refusals p around (map numbered_param_of (drop i params)) (numbered_exps (map expression_of l))))) (drop_all i args le)
     ∙ ap (λ l. sooner found (first_of l)) (no_argument p around (map numbered_param_of (drop i params))) ∙ sooner_nil found)

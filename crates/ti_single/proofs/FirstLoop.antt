@@ -32,7 +32,8 @@ mutual
   in_one p at around (st.For place first c update body) =
       let others = inside p (in_loop p around update body) body in
       ap (λ o. if same_place at place then Some (st.For place first c update body) else o)
-      (first_append at (inside_maybe p around first) (inside_maybe p around update ++ others) (loop_in_maybe at first) (option_or (loop_in_maybe at update) (loop_in at body)) (in_maybe p at around first)
+      (first_append at (inside_maybe p around first) (inside_maybe p around update ++ others) (loop_in_maybe at first)
+      (option_or (loop_in_maybe at update) (loop_in at body)) (in_maybe p at around first)
       (first_append at (inside_maybe p around update) others (loop_in_maybe at update) (loop_in at body) (in_maybe p at around update) (in_one p at (in_loop p around update body) body)))
   in_one p at around (st.Foreach place variable domain body) =
       ap (λ o. if same_place at place then Some (st.Foreach place variable domain body) else o) (in_one p at (in_foreach p around variable domain body) body)

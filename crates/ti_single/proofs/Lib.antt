@@ -1,5 +1,6 @@
-pub mod Arguments
-pub mod FirstLoop
-pub mod Parts
-pub mod Sites
-pub mod Together
+mod Arguments
+mod FirstLoop
+mod Parts
+mod Sites
+mod Together
+pub mod Lemmas

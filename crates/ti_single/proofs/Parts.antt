@@ -26,11 +26,13 @@ three : (t b c t' b' c' r : Bool) → r ≡ t && (b && c) → t ≡ t' → b ≡
 three t b c t' b' c' r is is_t is_b is_c = is ∙ ap (λ z. z && (b && c)) is_t ∙ ap (λ z. t' && (z && c)) is_b ∙ ap (λ z. t' && (b' && z)) is_c
 
 -- an index
-pub index_single : (p : NumberedProgram) (this : Option ℕ) (singles : ℕ → Bool) (at : Place) (a : NumberedExp) (xs : NumberedExps) (t b c r : Bool) → r ≡ t && (b && c) → t ≡ is_point (type_in_text p this a)
+pub index_single : (p : NumberedProgram) (this : Option ℕ) (singles : ℕ → Bool) (at : Place) (a : NumberedExp) (xs : NumberedExps)
+    (t b c r : Bool) → r ≡ t && (b && c) → t ≡ is_point (type_in_text p this a)
     → b ≡ is_single_part p this singles a → c ≡ are_single p this singles xs → r ≡ is_single_part p this singles (x.Index at a xs)
 index_single p this singles at a xs t b c r is is_t is_b is_c = three t b c _ _ _ r is is_t is_b is_c
 
 -- a member of a domain
-pub member_single : (p : NumberedProgram) (this : Option ℕ) (singles : ℕ → Bool) (at : Place) (a : NumberedExp) (name : ℕ) (xs : NumberedExps) (t b c r : Bool) → r ≡ t && (b && c) → t ≡ tells_of_domain (member_called p this a name)
+pub member_single : (p : NumberedProgram) (this : Option ℕ) (singles : ℕ → Bool) (at : Place) (a : NumberedExp) (name : ℕ)
+    (xs : NumberedExps) (t b c r : Bool) → r ≡ t && (b && c) → t ≡ tells_of_domain (member_called p this a name)
     → b ≡ is_single_part p this singles a → c ≡ are_single p this singles xs → r ≡ is_single_part p this singles (x.Member at a name xs)
 member_single p this singles at a name xs t b c r is is_t is_b is_c = three t b c _ _ _ r is is_t is_b is_c

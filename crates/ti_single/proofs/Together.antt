@@ -49,18 +49,22 @@ doings_end p this xs i found whole le is = sym (is ∙ ap (λ l. together found 
 -- ---- in a method
 
 -- in a loop without an update
-pub in_loop_alone : (p : NumberedProgram) (m : NumberedMethod) (this : Option ℕ) (body x : NumberedStm) (d : Doings) → this ≡ this_of m → d ≡ doings p this body → doings_in_loop p m x ≡ doings p (this_of m) body → d ≡ doings_in_loop p m x
+pub in_loop_alone : (p : NumberedProgram) (m : NumberedMethod) (this : Option ℕ) (body x : NumberedStm) (d : Doings) → this ≡ this_of m → d
+    ≡ doings p this body → doings_in_loop p m x ≡ doings p (this_of m) body → d ≡ doings_in_loop p m x
 in_loop_alone p m this body x d is_this is is_loop = is ∙ ap (λ th. doings p th body) is_this ∙ sym is_loop
 
 -- in a loop with one
-pub in_loop_updated : (p : NumberedProgram) (m : NumberedMethod) (this : Option ℕ) (update body x : NumberedStm) (u b d : Doings) → this ≡ this_of m → d ≡ together u b → u ≡ doings p this update → b ≡ doings p this body
+pub in_loop_updated : (p : NumberedProgram) (m : NumberedMethod) (this : Option ℕ) (update body x : NumberedStm) (u b d : Doings) → this
+    ≡ this_of m → d ≡ together u b → u ≡ doings p this update → b ≡ doings p this body
     → doings_in_loop p m x ≡ together (doings p (this_of m) update) (doings p (this_of m) body) → d ≡ doings_in_loop p m x
 in_loop_updated p m this update body x u b d is_this is is_u is_b is_loop =
     is ∙ ap (λ a. together a b) is_u ∙ ap (together (doings p this update)) is_b ∙ ap (λ th. together (doings p th update) (doings p th body)) is_this ∙ sym is_loop
 
 -- a statement of a method
-pub effects_in : (p : NumberedProgram) (at : Whereabouts) (x : NumberedStm) (m : NumberedMethod) (this : Option ℕ) (return_has jump_has has : Bool) (d : Doings) → Some m ≡ slice_get p.methods at.method
-    → return_has ≡ return_acts p m → jump_has ≡ jump_acts_at p m at.innermost_loop → this ≡ this_of m → d ≡ doings p this x → has ≡ has_global_effects return_has jump_has d → has ≡ has_effects_at p at x
+pub effects_in : (p : NumberedProgram) (at : Whereabouts) (x : NumberedStm) (m : NumberedMethod) (this : Option ℕ)
+    (return_has jump_has has : Bool) (d : Doings) → Some m ≡ slice_get p.methods at.method
+    → return_has ≡ return_acts p m → jump_has ≡ jump_acts_at p m at.innermost_loop → this ≡ this_of m → d ≡ doings p this x → has
+    ≡ has_global_effects return_has jump_has d → has ≡ has_effects_at p at x
 effects_in p at x m this return_has jump_has has d is_m is_return is_jump is_this is_d is =
     is ∙ ap (λ r. has_global_effects r jump_has d) is_return ∙ ap (λ j. has_global_effects (return_acts p m) j d) is_jump
     ∙ ap (has_global_effects (return_acts p m) (jump_acts_at p m at.innermost_loop)) (is_d ∙ ap (λ th. doings p th x) is_this)

@@ -46,4 +46,5 @@ jump_acts_at p m (Some at) = option_map_or (λ (x : NumberedStm). jump_acts (ret
 -- a statement has global effects where it is in a method and, perhaps, in a loop of it; in no method it has none
 abbrev pub has_effects_at : NumberedProgram → Whereabouts → NumberedStm → Bool
 has_effects_at p at x =
-    option_map_or (λ (m : NumberedMethod). has_global_effects (return_acts p m) (jump_acts_at p m at.innermost_loop) (doings p (this_of m) x)) (slice_get p.methods at.method) false
+    option_map_or (λ (m : NumberedMethod). has_global_effects (return_acts p m) (jump_acts_at p m at.innermost_loop)
+    (doings p (this_of m) x)) (slice_get p.methods at.method) false

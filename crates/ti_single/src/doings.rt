@@ -100,7 +100,7 @@ fn is_collective(b: Option<BuiltIn>) -> bool
 }
 
 // A member of the language that is a collective.
-#[tactic(auto, using(ti_lang::proofs::ProgramBridges::program_bridges))]
+#[tactic(auto, using(ti_lang::proofs::Lemmas::program_bridges))]
 fn is_collective_call(p: &Program, this: Option<u32>, e: &Expr) -> bool
     ensures { result ≡ is_collective_call (program_of p.now.parts) this (expression_of e.now) }
 {
@@ -157,7 +157,7 @@ pub fn doings_of_statements(p: &Program, this: Option<u32>, xs: &[Stmt]) -> Doin
 
 /// What a statement does, with all statements in it, in a method with `this` of a class, or with none.
 #[cycle(doings)]
-#[tactic(auto, using(ti_lang::proofs::ProgramBridges::program_bridges))]
+#[tactic(auto, using(ti_lang::proofs::Lemmas::program_bridges))]
 pub fn doings_of_statement(p: &Program, this: Option<u32>, x: &Stmt) -> Doings
     ensures { doings_of result ≡ doings (program_of p.now.parts) this (statement_of x.now) }
 {

@@ -13,7 +13,8 @@ use ti_base::Place;
 use ti_lang::program::{Method, Program, Stmt};
 
 fn either<'a>(a: Option<&'a Stmt>, b: Option<&'a Stmt>) -> Option<&'a Stmt>
-    ensures { option_map (λ y. statement_of y.now) result ≡ option_or (option_map (λ y. statement_of y.now) a.entry) (option_map (λ y. statement_of y.now) b.entry) }
+    ensures { option_map (λ y. statement_of y.now) result ≡ option_or (option_map (λ y. statement_of y.now) a.entry)
+        (option_map (λ y. statement_of y.now) b.entry) }
 {
     match a {
         Some(x) => Some(x),
@@ -36,7 +37,7 @@ pub fn loop_in_all<'a>(at: Place, xs: &'a [Stmt]) -> Option<&'a Stmt>
 
 // The loop in a statement whose word stands at a place.
 #[cycle(loops)]
-#[tactic(auto, using(ti_lang::proofs::ProgramBridges::program_bridges))]
+#[tactic(auto, using(ti_lang::proofs::Lemmas::program_bridges))]
 fn loop_in<'a>(at: Place, x: &'a Stmt) -> Option<&'a Stmt>
     ensures { option_map (λ y. statement_of y.now) result ≡ loop_in at (statement_of x.now) }
 {

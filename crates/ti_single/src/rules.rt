@@ -50,7 +50,8 @@ fn is_delete(b: Option<BuiltIn>) -> bool
 impl<'a> SingleSite<'a> {
     /// Whether an expression inside another one, or a condition, is single.
     pub fn is_single_inside(self, e: &Expr) -> bool
-        ensures { result ≡ is_single_part (program_at self.entry) (this_of (around_of self.entry).method) (singles_in (scope_at self.entry)) (expression_of e.now) }
+        ensures { result ≡ is_single_part (program_at self.entry) (this_of (around_of self.entry).method) (singles_in (scope_at self.entry))
+            (expression_of e.now) }
     {
         is_single_part(self.program, self.scope, e)
     }
@@ -85,7 +86,8 @@ impl<'a> SingleSite<'a> {
 
     // Whether a statement that does so much has global effects.
     fn has_effects(self, own: Doings) -> bool
-        ensures { result ≡ has_global_effects (return_acts (program_at self.entry) (around_of self.entry).method) (unwrap_or (around_of self.entry).jump_has false) (doings_of own) }
+        ensures { result ≡ has_global_effects (return_acts (program_at self.entry) (around_of self.entry).method)
+            (unwrap_or (around_of self.entry).jump_has false) (doings_of own) }
     {
         has_global_effects(self.return_has, or_false(self.jump_has), own)
     }
@@ -99,7 +101,8 @@ impl<'a> SingleSite<'a> {
 
     // A plain argument for a single parameter.
     fn argument(self, param: &Param, e: &Expr) -> Option<Refusal>
-        ensures { result ≡ first_of (refused_at ((numbered_param_of param.now).ty.is_single && is_plain_part (program_at self.entry) (around_of self.entry) (expression_of e.now)) S5 (place_of_numbered (expression_of e.now))) }
+        ensures { result ≡ first_of (refused_at ((numbered_param_of param.now).ty.is_single && is_plain_part (program_at self.entry)
+            (around_of self.entry) (expression_of e.now)) S5 (place_of_numbered (expression_of e.now))) }
     {
         refused_if(
             param.ty.single && self.is_plain_part(e),
@@ -109,7 +112,8 @@ impl<'a> SingleSite<'a> {
     }
 
     fn arguments(self, params: &[Param], args: &[Expr]) -> Option<Refusal>
-        ensures { result ≡ first_of (argument_refusals (program_at self.entry) (around_of self.entry) (map numbered_param_of params.now) (numbered_exps (map expression_of args.now))) }
+        ensures { result ≡ first_of (argument_refusals (program_at self.entry) (around_of self.entry) (map numbered_param_of params.now)
+            (numbered_exps (map expression_of args.now))) }
     {
         let mut found = None;
         for i in 0..args.len() {
@@ -126,7 +130,8 @@ impl<'a> SingleSite<'a> {
     // A call of the method, if there is one.
     #[tactic(auto, unfolding(ti_rules::specs::Mirrors::First::first_of))]
     fn call(self, m: Option<&Method>, args: &[Expr]) -> Option<Refusal>
-        ensures { result ≡ first_of (call_refusals (program_at self.entry) (around_of self.entry) (option_map (λ m. numbered_method_of m.now) m.entry) (numbered_exps (map expression_of args.now))) }
+        ensures { result ≡ first_of (call_refusals (program_at self.entry) (around_of self.entry)
+            (option_map (λ m. numbered_method_of m.now) m.entry) (numbered_exps (map expression_of args.now))) }
     {
         match m {
             Some(m) => match &m.params {
@@ -138,7 +143,8 @@ impl<'a> SingleSite<'a> {
     }
 
     fn is_deleting(self, receiver: &Expr, name: u32) -> bool
-        ensures { result ≡ is_delete (member_called (program_at self.entry) (this_of (around_of self.entry).method) (expression_of receiver.now) name) }
+        ensures { result ≡ is_delete (member_called (program_at self.entry) (this_of (around_of self.entry).method)
+            (expression_of receiver.now) name) }
     {
         let this = self.this();
         let member = member_called(&self.program.parts, this, receiver, name);
@@ -147,14 +153,15 @@ impl<'a> SingleSite<'a> {
 
     // A member form that deletes a plain region.
     fn delete(self, place: Place, receiver: &Expr, name: u32) -> Option<Refusal>
-        ensures { result ≡ first_of (delete_refusals (program_at self.entry) (around_of self.entry) place (expression_of receiver.now) name) }
+        ensures { result ≡ first_of (delete_refusals (program_at self.entry) (around_of self.entry) place
+            (expression_of receiver.now) name) }
     {
         let plain = self.is_deleting(receiver, name) && self.is_plain_part(receiver);
         refused_if(plain, Rule::S8, place)
     }
 
     // An expression that stands whole: a right side, or a statement.
-    #[tactic(auto, unfolding(ti_rules::specs::Mirrors::First::first_of), using(ti_lang::proofs::ProgramBridges::program_bridges))]
+    #[tactic(auto, unfolding(ti_rules::specs::Mirrors::First::first_of), using(ti_lang::proofs::Lemmas::program_bridges))]
     fn whole(self, e: &Expr) -> Option<Refusal>
         ensures { result ≡ first_of (whole_refusals (program_at self.entry) (around_of self.entry) (expression_of e.now)) }
     {
@@ -199,17 +206,21 @@ impl<'a> SingleSite<'a> {
 
     // ---- statements
 
-    #[tactic(auto, using(ti_rules::proofs::First::firsts))]
+    #[tactic(auto, using(ti_rules::proofs::Lemmas::firsts))]
     fn declare_single(self, place: Place, ty: &TypeUse, value: &Init) -> Option<Refusal>
-        ensures { result ≡ first_of (initial_refusals (program_at self.entry) (around_of self.entry) (initial_of value.now) ++ refused_at ((type_use_of ty.now).is_single && is_plain_initial (program_at self.entry) (around_of self.entry) (initial_of value.now)) S4 place) }
+        ensures { result ≡ first_of (initial_refusals (program_at self.entry) (around_of self.entry) (initial_of value.now)
+            ++ refused_at ((type_use_of ty.now).is_single && is_plain_initial (program_at self.entry) (around_of self.entry)
+            (initial_of value.now)) S4 place) }
     {
         let plain = refused_if(ty.single && self.is_plain_initial(value), Rule::S4, place);
         sooner(self.whole_initial(value), plain)
     }
 
-    #[tactic(auto, using(ti_rules::proofs::First::firsts))]
+    #[tactic(auto, using(ti_rules::proofs::Lemmas::firsts))]
     fn assign_single(self, place: Place, target: &Expr, value: &Init) -> Option<Refusal>
-        ensures { result ≡ first_of (initial_refusals (program_at self.entry) (around_of self.entry) (initial_of value.now) ++ refused_at (is_single_target (expression_of target.now) && is_plain_initial (program_at self.entry) (around_of self.entry) (initial_of value.now)) S4 place) }
+        ensures { result ≡ first_of (initial_refusals (program_at self.entry) (around_of self.entry) (initial_of value.now)
+            ++ refused_at (is_single_target (expression_of target.now) && is_plain_initial (program_at self.entry) (around_of self.entry)
+            (initial_of value.now)) S4 place) }
     {
         let plain = is_single_target(target) && self.is_plain_initial(value);
         sooner(
@@ -218,16 +229,20 @@ impl<'a> SingleSite<'a> {
         )
     }
 
-    #[tactic(auto, using(ti_rules::proofs::First::firsts))]
+    #[tactic(auto, using(ti_rules::proofs::Lemmas::firsts))]
     fn update_single(self, place: Place, target: &Expr, e: &Expr) -> Option<Refusal>
-        ensures { result ≡ first_of (whole_refusals (program_at self.entry) (around_of self.entry) (expression_of e.now) ++ refused_at (is_single_target (expression_of target.now) && is_plain (program_at self.entry) (around_of self.entry) (expression_of e.now)) S4 place) }
+        ensures { result ≡ first_of (whole_refusals (program_at self.entry) (around_of self.entry) (expression_of e.now)
+            ++ refused_at (is_single_target (expression_of target.now) && is_plain (program_at self.entry) (around_of self.entry)
+            (expression_of e.now)) S4 place) }
     {
         let plain = is_single_target(target) && self.is_plain(e);
         sooner(self.whole(e), refused_if(plain, Rule::S4, place))
     }
 
     fn branch(self, place: Place, own: Doings, condition: &Expr) -> Option<Refusal>
-        ensures { result ≡ first_of (refused_at (has_global_effects (return_acts (program_at self.entry) (around_of self.entry).method) (unwrap_or (around_of self.entry).jump_has false) (doings_of own) && is_plain_part (program_at self.entry) (around_of self.entry) (expression_of condition.now)) S1 place) }
+        ensures { result ≡ first_of (refused_at (has_global_effects (return_acts (program_at self.entry) (around_of self.entry).method)
+            (unwrap_or (around_of self.entry).jump_has false) (doings_of own) && is_plain_part (program_at self.entry)
+            (around_of self.entry) (expression_of condition.now)) S1 place) }
     {
         refused_if(
             self.has_effects(own) && self.is_plain_part(condition),
@@ -237,7 +252,9 @@ impl<'a> SingleSite<'a> {
     }
 
     fn looping(self, rule: Rule, place: Place, inside: Doings, condition: &Expr) -> Option<Refusal>
-        ensures { result ≡ first_of (refused_at (jump_acts (return_acts (program_at self.entry) (around_of self.entry).method) (doings_of inside) && is_plain_part (program_at self.entry) (around_of self.entry) (expression_of condition.now)) rule place) }
+        ensures { result ≡ first_of (refused_at (jump_acts (return_acts (program_at self.entry) (around_of self.entry).method)
+            (doings_of inside) && is_plain_part (program_at self.entry) (around_of self.entry) (expression_of condition.now)) rule
+            place) }
     {
         refused_if(
             self.loop_acts(inside) && self.is_plain_part(condition),
@@ -265,7 +282,7 @@ impl<'a> SingleSite<'a> {
         }
     }
 
-    #[tactic(auto, using(ti_rules::proofs::First::firsts))]
+    #[tactic(auto, using(ti_rules::proofs::Lemmas::firsts))]
     fn for_single(
         self,
         place: Place,
@@ -273,7 +290,10 @@ impl<'a> SingleSite<'a> {
         condition: &Option<Expr>,
         update: &Option<Box<Stmt>>,
     ) -> Option<Refusal>
-        ensures { result ≡ first_of (refused_at (jump_acts (return_acts (program_at self.entry) (around_of self.entry).method) (doings_of inside) && is_plain_condition (program_at self.entry) (around_of self.entry) (maybe_of expression_of condition.now)) S2 place ++ refused_at (doings_of_maybe (program_at self.entry) (this_of (around_of self.entry).method) (maybe_in update.now)).jumps S2 place) }
+        ensures { result ≡ first_of (refused_at (jump_acts (return_acts (program_at self.entry) (around_of self.entry).method)
+            (doings_of inside) && is_plain_condition (program_at self.entry) (around_of self.entry)
+            (maybe_of expression_of condition.now)) S2 place ++ refused_at
+            (doings_of_maybe (program_at self.entry) (this_of (around_of self.entry).method) (maybe_in update.now)).jumps S2 place) }
     {
         let plain = self.loop_acts(inside) && self.is_plain_condition(condition);
         let jumps = self.update_jumps(update);
@@ -285,7 +305,8 @@ impl<'a> SingleSite<'a> {
 
     #[tactic(auto, unfolding(ti_rules::specs::Mirrors::First::first_of))]
     fn return_single(self, place: Place, value: &Option<Expr>) -> Option<Refusal>
-        ensures { result ≡ first_of (return_refusals (program_at self.entry) (around_of self.entry) place (maybe_of expression_of value.now)) }
+        ensures { result ≡ first_of (return_refusals (program_at self.entry) (around_of self.entry) place
+            (maybe_of expression_of value.now)) }
     {
         match value {
             Some(e) => refused_if(
@@ -299,7 +320,7 @@ impl<'a> SingleSite<'a> {
 
     /// What counts of the rules of single values that a statement breaks, apart from those that the statements in it break. What it
     /// does is known, and so is what its update and its body do where it is a loop.
-    #[tactic(auto, unfolding(ti_rules::specs::Mirrors::First::first_of), using(ti_lang::proofs::ProgramBridges::program_bridges))]
+    #[tactic(auto, unfolding(ti_rules::specs::Mirrors::First::first_of), using(ti_lang::proofs::Lemmas::program_bridges))]
     pub fn refusal(self, x: &Stmt, own: Doings, inside: Doings) -> Option<Refusal>
         requires own { doings_of own ≡ doings (program_at self) (this_of (around_of self).method) (statement_of x.now) }
         requires inside { doings_of inside ≡ doings_in_loop (program_at self) (around_of self).method (statement_of x.now) }

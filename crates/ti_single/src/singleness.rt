@@ -40,7 +40,7 @@ fn is_single_variable(scope: &Scope, v: &Variable) -> bool
 }
 
 /// Whether the target of an assignment is a single variable. A foreach variable is none.
-#[tactic(auto, using(ti_lang::proofs::ProgramBridges::program_bridges))]
+#[tactic(auto, using(ti_lang::proofs::Lemmas::program_bridges))]
 pub fn is_single_target(e: &Expr) -> bool
     ensures { result ≡ is_single_target (expression_of e.now) }
 {
@@ -79,7 +79,8 @@ fn all_hold(a: bool, b: bool, c: bool) -> bool
 
 #[cycle(single)]
 fn are_single(p: &Program, scope: &Scope, xs: &[Expr]) -> bool
-    ensures { result ≡ are_single (program_of p.now.parts) scope.now.this (singles_in (contents_of scope.now)) (numbered_exps (map expression_of xs.now)) }
+    ensures { result ≡ are_single (program_of p.now.parts) scope.now.this (singles_in (contents_of scope.now))
+        (numbered_exps (map expression_of xs.now)) }
 {
     for x in xs {
         if !is_single_part(p, scope, x) {
@@ -107,7 +108,8 @@ fn is_single_range(p: &Program, scope: &Scope, range: &Range) -> bool
 
 #[cycle(single)]
 fn are_single_ranges(p: &Program, scope: &Scope, ranges: &[Range]) -> bool
-    ensures { result ≡ are_single_ranges (program_of p.now.parts) scope.now.this (singles_in (contents_of scope.now)) (numbered_ranges (map bound_of ranges.now)) }
+    ensures { result ≡ are_single_ranges (program_of p.now.parts) scope.now.this (singles_in (contents_of scope.now))
+        (numbered_ranges (map bound_of ranges.now)) }
 {
     for range in ranges {
         if !is_single_range(p, scope, range) {
@@ -120,7 +122,7 @@ fn are_single_ranges(p: &Program, scope: &Scope, ranges: &[Range]) -> bool
 /// Whether an expression inside another one, or a condition, is single in a scope: its value is the same
 /// in all processes. A call of a declared method is plain there.
 #[cycle(single)]
-#[tactic(auto, using(ti_lang::proofs::ProgramBridges::program_bridges))]
+#[tactic(auto, using(ti_lang::proofs::Lemmas::program_bridges))]
 pub fn is_single_part(p: &Program, scope: &Scope, e: &Expr) -> bool
     ensures { result ≡ is_single_part (program_of p.now.parts) scope.now.this (singles_in (contents_of scope.now)) (expression_of e.now) }
 {

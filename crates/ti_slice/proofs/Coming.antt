@@ -11,18 +11,11 @@ use Rattle.ti_lang.specs.Program.Views.{program_of}
 use Rattle.ti_lang.specs.Meaning.Asking.{Request, request}
 use Rattle.ti_lang.specs.Meaning.Processes.{Setting, Wait, Process}
 use Rattle.ti_lang.specs.Meaning.Steps.{To, At, Faults, spends, handed, value_asked}
-use Rattle.ti_lang.proofs.MeaningLaws.Total.{Fitting, Falls, weight}
+use Rattle.ti_lang.proofs.Lemmas.{Fitting, Falls, weight}
 use Rattle.ti_align.specs.Slice.{slice_step, slice_steps}
-use Rattle.ti_align.proofs.Slice.{slice, Silent, Arrival, Departure, State, move_of}
+use Rattle.ti_align.proofs.Lemmas.{slice, Silent, Arrival, Departure, State, move_of, checked_fine, FineMethods, MovesAt, GoesOn, IsBare}
+use Rattle.ti_align.proofs.Lemmas.{Sliced, Slices, slices, begin_sliced, rests, none_wait, slice_falls, if_true, if_false}
 use Rattle.ti_rules.specs.declared.checked.Checked.{Checked}
-use Rattle.ti_align.proofs.Checked.{checked_fine}
-use Rattle.ti_align.proofs.Fitting.{FineMethods}
-use Rattle.ti_align.proofs.Stepping.{MovesAt, GoesOn}
-use Rattle.ti_align.proofs.Sliced.{IsBare, Sliced, Slices, slices, begin_sliced}
-use Rattle.ti_align.proofs.Pacing.{rests}
-use Rattle.ti_align.proofs.Slicing.{none_wait}
-use Rattle.ti_align.proofs.Finishing.{slice_falls}
-use Rattle.ti_align.proofs.Vars.{if_true, if_false}
 use Rattle.ti_slice.specs.Mirrors.Answer.{Free, begins, goes, leaves, IsFree, IsArrival}
 
 -- a process of the slice that waits nowhere
@@ -103,7 +96,8 @@ free_runs c p f x = runs x.0 (subst (λ (d : NumberedProgram). FineMethods d d.m
 pub goes_free : (c : NumberedProgram) (p q : Process) → slice_step p ≡ To q → IsFree c p → IsFree c q
 goes_free c p q e x = (x.0, x.1, goes x.2 e)
 
-pub leaves_free : (c : NumberedProgram) (p : Process) (request leave : Request) (go back : Answer → Process) (r : Answer) → slice_step p ≡ At request go → slice_step (go Done) ≡ At leave back → IsFree c p → IsFree c (back r)
+pub leaves_free : (c : NumberedProgram) (p : Process) (request leave : Request) (go back : Answer → Process) (r : Answer) → slice_step p
+    ≡ At request go → slice_step (go Done) ≡ At leave back → IsFree c p → IsFree c (back r)
 leaves_free c p request leave go back r e d x = (x.0, x.1, leaves x.2 e d)
 
 -- a checked program is one of which the slice makes sense

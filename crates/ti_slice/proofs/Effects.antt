@@ -24,13 +24,14 @@ use Rattle.ti_moves.specs.Moves.{method_at}
 use Rattle.ti_exec.specs.declared.process.Call.{Call}
 use Rattle.ti_exec.specs.Marks.{is_mark}
 use Rattle.ti_exec.specs.States.{IsAtHand, site_of, here, left_in}
-use Rattle.ti_exec.proofs.Works.{left_within}
+use Rattle.ti_exec.proofs.Lemmas.{left_within}
 use Rattle.ti_slice.proofs.Spots.{none_inside}
 use Rattle.ti_slice.specs.Mirrors.FirstWork.{first_acts}
 
 -- ---- loops
 
-pub foreach_has : (p : NumberedProgram) (m : NumberedMethod) (this : Option ℕ) (x body : NumberedStm) (d : Doings) (has : Bool) → has ≡ jump_acts (return_acts p m) d → d ≡ doings p this x → this ≡ this_of m → x ≡ body
+pub foreach_has : (p : NumberedProgram) (m : NumberedMethod) (this : Option ℕ) (x body : NumberedStm) (d : Doings) (has : Bool) → has
+    ≡ jump_acts (return_acts p m) d → d ≡ doings p this x → this ≡ this_of m → x ≡ body
     → has ≡ loop_acts p m NoStm body
 foreach_has p m this x body d has is is_d is_this is_x =
     is ∙ ap (jump_acts (return_acts p m)) (is_d ∙ ap (λ t. doings p t x) is_this ∙ ap (doings p (this_of m)) is_x)
@@ -114,12 +115,14 @@ level_before site body xs n d h k =
 abbrev pub SameJump : NumberedProgram → NumberedMethod → NumberedStms → List Level → List Level → Type 0
 SameJump p m body xs ys = (site : Site) → jump_at p m (rest_of site body (reverse xs)) ≡ jump_at p m (rest_of site body (reverse ys))
 
-pub jump_found : (p : NumberedProgram) (m : NumberedMethod) (body : NumberedStms) (xs : List Level) (n : ℕ) (d : Level) (has : Bool) (x : NumberedStm) → 1 < n → n ≤ length xs → x ≡ inside body (reverse (take (n - 1) xs))
+pub jump_found : (p : NumberedProgram) (m : NumberedMethod) (body : NumberedStms) (xs : List Level) (n : ℕ) (d : Level) (has : Bool)
+    (x : NumberedStm) → 1 < n → n ≤ length xs → x ≡ inside body (reverse (take (n - 1) xs))
     → ((site : Site) (ws : List Work) → jump_at p m (work_of site x (get_or xs (n - 1) d).todo ++ ws) ≡ Some has) → SameJump p m body xs (take n xs)
     → (site : Site) → has ≡ unwrap_or (jump_at p m (rest_of site body (reverse xs))) false
 jump_found p m body xs n d has x h k is acts same site =
     let ws = rest_of site body (reverse (take (n - 1) xs)) in
-    sym (ap (λ o. unwrap_or o false) (same site ∙ ap (jump_at p m) (level_before site body xs n d h k) ∙ ap (λ y. jump_at p m (work_of site y (get_or xs (n - 1) d).todo ++ ws)) (sym is) ∙ acts site ws))
+    sym (ap (λ o. unwrap_or o false) (same site ∙ ap (jump_at p m) (level_before site body xs n d h k)
+    ∙ ap (λ y. jump_at p m (work_of site y (get_or xs (n - 1) d).todo ++ ws)) (sym is) ∙ acts site ws))
 
 pub jump_further : (p : NumberedProgram) (m : NumberedMethod) (body : NumberedStms) (xs : List Level) (n : ℕ) (d : Level) → 1 < n → n ≤ length xs → is_mark (get_or xs (n - 1) d).todo ≡ false
     → SameJump p m body xs (take n xs) → SameJump p m body xs (take (n - 1) xs)
@@ -133,7 +136,8 @@ outermost p m body [] (suc n) h site = refl
 outermost p m body (x ∷ xs) (suc zero) h site = no_mark_in_body p m body x.todo
 outermost p m body (x ∷ xs) (suc (suc n)) h site = absurd (omega arith)
 
-pub jump_nowhere : (p : NumberedProgram) (m : NumberedMethod) (body : NumberedStms) (xs : List Level) (n : ℕ) → n ≤ 1 → SameJump p m body xs (take n xs) → (site : Site) → false ≡ unwrap_or (jump_at p m (rest_of site body (reverse xs))) false
+pub jump_nowhere : (p : NumberedProgram) (m : NumberedMethod) (body : NumberedStms) (xs : List Level) (n : ℕ) → n ≤ 1
+    → SameJump p m body xs (take n xs) → (site : Site) → false ≡ unwrap_or (jump_at p m (rest_of site body (reverse xs))) false
 jump_nowhere p m body xs n h same site = sym (ap (λ o. unwrap_or o false) (same site ∙ outermost p m body xs n h site))
 
 -- ---- what is at hand
@@ -163,18 +167,21 @@ behind_end site x t after is e = (Behind (loop_of x), ap (work_of site x) is ∙
 
 -- ---- the effects of the first piece
 
-pub list_acts : (p : NumberedProgram) (m : NumberedMethod) (site : Site) (x : NumberedStm) (n : ℕ) (ws : List Work) → length (list_in x) ≤ n → first_acts p m (work_of site x (todo.From n) ++ ws) ≡ work_acts p m ws (Do x)
+pub list_acts : (p : NumberedProgram) (m : NumberedMethod) (site : Site) (x : NumberedStm) (n : ℕ) (ws : List Work) → length (list_in x) ≤ n
+    → first_acts p m (work_of site x (todo.From n) ++ ws) ≡ work_acts p m ws (Do x)
 list_acts p m site x n ws h = ap (λ us. first_acts p m (us ++ ws)) (block_done site x n h)
 
 -- that of a statement, from what it does
-pub statement_has : (p : NumberedProgram) (m : NumberedMethod) (this : Option ℕ) (x : NumberedStm) (d : Doings) (ws : List Work) (loop has : Bool) → d ≡ doings p this x → this ≡ this_of m → loop ≡ jump_acts (return_acts p m) d
+pub statement_has : (p : NumberedProgram) (m : NumberedMethod) (this : Option ℕ) (x : NumberedStm) (d : Doings) (ws : List Work)
+    (loop has : Bool) → d ≡ doings p this x → this ≡ this_of m → loop ≡ jump_acts (return_acts p m) d
     → has ≡ (loop || (d.jumps && unwrap_or (jump_at p m ws) false)) → has ≡ work_acts p m ws (Do x)
 statement_has p m this x d ws loop has is_d is_this is_loop is =
     is ∙ ap (λ b. b || (d.jumps && unwrap_or (jump_at p m ws) false)) is_loop
     ∙ ap (has_global_effects (return_acts p m) (unwrap_or (jump_at p m ws) false)) (is_d ∙ ap (λ t. doings p t x) is_this)
 
 -- that of a `foreach`
-pub each_acts : (p : NumberedProgram) (m : NumberedMethod) (has : Bool) (x : NumberedStm) (t : Todo) (variable : ℕ) (domain : Box Held Global) (last : Option Point) → t ≡ todo.Each variable domain last
+pub each_acts : (p : NumberedProgram) (m : NumberedMethod) (has : Bool) (x : NumberedStm) (t : Todo) (variable : ℕ)
+    (domain : Box Held Global) (last : Option Point) → t ≡ todo.Each variable domain last
     → ((v : ℕ) (points : List Point) → has ≡ loop_effects p m (foreach_of x v points)) → (site : Site) (ws : List Work) → has ≡ first_acts p m (work_of site x t ++ ws)
 each_acts p m has x t variable domain last is acts site ws =
     acts variable (points_above domain.value last) ∙ sym (ap (λ u. first_acts p m (work_of site x u ++ ws)) is)
@@ -185,7 +192,8 @@ turn_acts p m has x t variable domain at is acts site ws =
     acts variable (at.point ∷ points_above domain.value (Some at.point)) ∙ sym (ap (λ u. first_acts p m (work_of site x u ++ ws)) is)
 
 -- a statement that isn't there has none
-nothing_acts : (p : NumberedProgram) (m : NumberedMethod) (site : Site) (t : Todo) (levels : ℕ) (ws : List Work) → 0 < levels → IsAtHand s.Empty levels t → first_acts p m (work_of site s.Empty t ++ ws) ≡ false
+nothing_acts : (p : NumberedProgram) (m : NumberedMethod) (site : Site) (t : Todo) (levels : ℕ) (ws : List Work) → 0 < levels
+    → IsAtHand s.Empty levels t → first_acts p m (work_of site s.Empty t ++ ws) ≡ false
 nothing_acts p m site todo.Here levels ws h a = refl
 nothing_acts p m site todo.Inside levels ws h a = absurd (omega arith)
 nothing_acts p m site (todo.From n) levels ws h a = list_acts p m site s.Empty n ws a
@@ -210,7 +218,8 @@ acts_in_call p f t m x has is_m is_x h acts procs w ws e =
     ∙ ap (first_acts p n) (sym (left_within site _ f.levels.items t h) ∙ e)
 
 -- without a statement there
-pub nothing_there : (p : NumberedProgram) (f : Call) (t : Todo) → s.Empty ≡ here p f → 0 < length f.levels.items → IsAtHand (here p f) (length f.levels.items) t → (procs : ℕ) (w : Work) (ws : List Work)
+pub nothing_there : (p : NumberedProgram) (f : Call) (t : Todo) → s.Empty ≡ here p f → 0 < length f.levels.items
+    → IsAtHand (here p f) (length f.levels.items) t → (procs : ℕ) (w : Work) (ws : List Work)
     → left_in p procs f t ≡ w ∷ ws → false ≡ work_acts p (method_at p f.method) ws w
 nothing_there p f t is h a procs w ws e =
     let at : IsAtHand s.Empty (length f.levels.items) t = rw is a in

@@ -25,8 +25,7 @@ use Rattle.ti_lang.specs.Meaning.NextStep.{shown}
 use Rattle.ti_align.specs.declared.slices.SliceStep.{SliceStep}
 use Rattle.ti_align.specs.declared.slices.SliceStep.TheVariants as answer
 use Rattle.ti_align.specs.Slice.{slice_steps, slice_step, deletes_one, judged, deleted_by, at_fault, Comes, silent, stands, arrives, leaves, unfit, ends, faults, ended, faulted, SliceAnswers}
-use Rattle.ti_align.proofs.Vars.{if_true, if_false}
-use Rattle.ti_align.proofs.Fitting.{FineMethods}
+use Rattle.ti_align.proofs.Lemmas.{if_true, if_false, FineMethods}
 use Rattle.ti_moves.specs.declared.moves.Meeting.{Meeting}
 use Rattle.ti_moves.specs.Moves.{wait_of, expected, type_received}
 use Rattle.ti_exec.specs.declared.process.Mode.{Mode}
@@ -35,8 +34,7 @@ use Rattle.ti_exec.specs.declared.process.Pending.{Pending}
 use Rattle.ti_exec.specs.declared.process.Pending.TheVariants as pend
 use Rattle.ti_exec.specs.declared.process.Walker.{Walker}
 use Rattle.ti_exec.specs.States.{process_of, env_in, here, wait_in, mode_behind, told, Stands}
-use Rattle.ti_exec.proofs.Advances.{moved, with_room}
-use Rattle.ti_exec.proofs.Asked.{left_behind, handed_on}
+use Rattle.ti_exec.proofs.Lemmas.{moved, with_room, left_behind, handed_on}
 use Rattle.ti_slice.specs.declared.answer.Slice.{Slice}
 use Rattle.ti_slice.specs.declared.stands.Stand.{Stand}
 use Rattle.ti_slice.specs.declared.stands.Stand.TheVariants as stand
@@ -58,18 +56,21 @@ shown_at : (p q : Place) (a b : Action) → Some (next.Act p a) ≡ Some (next.A
 shown_at p q a b e = (cc, cc)
 
 -- it asks for nothing but arrivals
-pub asks_arrival : (c : NumberedProgram) (p : Process) (at : Place) (a : Action) (makes : Answer → Process) → FineMethods c c.methods → IsFree c p → Stands (slice_step p) (next.Act at a) makes → IsArrival a
+pub asks_arrival : (c : NumberedProgram) (p : Process) (at : Place) (a : Action) (makes : Answer → Process) → FineMethods c c.methods
+    → IsFree c p → Stands (slice_step p) (next.Act at a) makes → IsArrival a
 asks_arrival c p at a makes f i s =
     let shows : Some (next.Act s.request.place s.request.action) ≡ Some (next.Act at a) = sym (ap shown s.is) ∙ s.shows in
     subst IsArrival (shown_at s.request.place at s.request.action a shows).1 (free_arrives c p s.request s.go f i s.is).arrival
 
 -- the same where the process is spelled in another way
-pub stands_as : (c : NumberedProgram) (mid new : Walker) (at : Place) (a : Action) (makes : Answer → Process) → process_of c new ≡ process_of c mid → Stands (slice_step (process_of c mid)) (next.Act at a) makes
+pub stands_as : (c : NumberedProgram) (mid new : Walker) (at : Place) (a : Action) (makes : Answer → Process) → process_of c new
+    ≡ process_of c mid → Stands (slice_step (process_of c mid)) (next.Act at a) makes
     → Stands (slice_step (process_of c new)) (next.Act at a) makes
 stands_as c mid new at a makes e s = subst (λ (p : Process). Stands (slice_step p) (next.Act at a) makes) (sym e) s
 
 -- at the delete of a region that is gone
-pub stands_gone : (c : NumberedProgram) (w : Walker) (gone : List ℕ) (at : Place) (a : Action) (pending : Pending) → Stands (slice_step (process_of c w)) (next.Act at a) (told c w pending) → deletes_one gone a ≡ true
+pub stands_gone : (c : NumberedProgram) (w : Walker) (gone : List ℕ) (at : Place) (a : Action) (pending : Pending)
+    → Stands (slice_step (process_of c w)) (next.Act at a) (told c w pending) → deletes_one gone a ≡ true
     → judged gone (slice_step (process_of c w)) ≡ Faults RegionGone at
 stands_gone c w gone at a pending s d =
     let shows : Some (next.Act s.request.place s.request.action) ≡ Some (next.Act at a) = sym (ap shown s.is) ∙ s.shows in
@@ -94,7 +95,8 @@ stands_there c w gone at kind arg given pending s d =
     }
 
 -- it has gone on up to there
-pub goes_there : (c : NumberedProgram) (old mid new : Walker) (gone : List ℕ) (s : Stand) → IsFree c (process_of c mid) → Leads (process_of c old) (process_of c mid) → process_of c new ≡ process_of c mid → IsStand c new gone s
+pub goes_there : (c : NumberedProgram) (old mid new : Walker) (gone : List ℕ) (s : Stand) → IsFree c (process_of c mid)
+    → Leads (process_of c old) (process_of c mid) → process_of c new ≡ process_of c mid → IsStand c new gone s
     → GoesOn c old gone s new
 goes_there c old mid new gone s f l e i =
     record { free = subst (IsFree c) (sym e) f; leads = subst (Leads (process_of c old)) (sym e) l; stands = i }
@@ -105,14 +107,16 @@ step_of c mid new s e h = ap slice_step e ∙ h
 
 -- ---- room for an answer
 
-pub told_with_room : (c : NumberedProgram) (w : Walker) (v : Vec Answer Global) (pending : Pending) (r : Answer) → v.items ≡ w.answers.items → told c (record w { answers = v }) pending r ≡ told c w pending r
+pub told_with_room : (c : NumberedProgram) (w : Walker) (v : Vec Answer Global) (pending : Pending) (r : Answer) → v.items ≡ w.answers.items
+    → told c (record w { answers = v }) pending r ≡ told c w pending r
 told_with_room c w v pend.Pushed r e = ap (λ (p : Process). spends (answered p r)) (with_room c w v e)
 told_with_room c w v (pend.Arrived m) r e = ap spends (moved c w w.spent w.mode v m [])
 told_with_room c w v pend.Left r e = ap spends (moved c w w.spent w.mode v (mode_behind w.mode r) [])
 
 -- ---- arrivals
 
-arriving : (c : NumberedProgram) (w : Walker) (gone : List ℕ) (kind : CollKind) (arg : Option ℕ) (at : Place) (pending : Pending) (a : Arrives c w gone kind arg at pending) → judged gone (slice_step (process_of c w)) ≡ At a.request a.go
+arriving : (c : NumberedProgram) (w : Walker) (gone : List ℕ) (kind : CollKind) (arg : Option ℕ) (at : Place) (pending : Pending)
+    (a : Arrives c w gone kind arg at pending) → judged gone (slice_step (process_of c w)) ≡ At a.request a.go
 arriving c w gone kind arg at pending a = ap (judged gone) a.is ∙ if_false (deletes_one gone a.request.action) _ _ a.stays
 
 -- a tick is left for it
@@ -127,7 +131,8 @@ waiting_by c w x (mode.Receives h) e = cc
 waiting_by c w x mode.Ended e = cc
 
 -- behind it the slice waits
-pub arrival_waits : (c : NumberedProgram) (w v : Walker) (gone : List ℕ) (kind : CollKind) (arg : Option ℕ) (at : Place) (pending : Pending) → FineMethods c c.methods → IsFree c (process_of c w) → Arrives c w gone kind arg at pending
+pub arrival_waits : (c : NumberedProgram) (w v : Walker) (gone : List ℕ) (kind : CollKind) (arg : Option ℕ) (at : Place) (pending : Pending)
+    → FineMethods c c.methods → IsFree c (process_of c w) → Arrives c w gone kind arg at pending
     → process_of c v ≡ told c w pending Done → IsWaiting v.mode
 arrival_waits c w v gone kind arg at pending f i a e =
     let x = free_arrives c (process_of c w) a.request a.go f i a.is in
@@ -144,7 +149,8 @@ fits_as wanted r (Ok true) holds fails = holds refl
 fits_as wanted r (Ok false) holds fails = λ f. not_true (fails f)
 fits_as wanted r (Err e) holds fails = tt
 
-pub fits_expected : (c : NumberedProgram) (w : Walker) (m : Meeting) (r : Answer) (env : Env) (x : NumberedStm) (g : Result Bool Memory) → w.mode ≡ mode.Expects m → env ≡ env_in c w → type_received env x ≡ type_received env (here c w.top)
+pub fits_expected : (c : NumberedProgram) (w : Walker) (m : Meeting) (r : Answer) (env : Env) (x : NumberedStm) (g : Result Bool Memory)
+    → w.mode ≡ mode.Expects m → env ≡ env_in c w → type_received env x ≡ type_received env (here c w.top)
     → IfOk g (λ b. IsTrue b → FitsWanted (expected env x m).wanted r) → IfOk g (λ b. FitsWanted (expected env x m).wanted r → IsTrue b) → IfOk g (λ b. Fits (wanted_of (wait_in c w w.mode)) r b)
 fits_expected c w m r env x g e i t holds fails =
     let same : ValueOf (type_received env x) ≡ wanted_of (wait_in c w w.mode) =
@@ -194,7 +200,8 @@ module _ (c : NumberedProgram) (old : Slice) (i : IsWaiting old.walker.mode) whe
       unfit (ap (judged old.gone.items) (lies t)) refl (subst (λ (w : Option Wait). FitsWanted (wanted_of w) r → ⊥) d.waits f)
 
   -- it leaves
-  pub leaving : (r : Answer) (new : Slice) → old.walker.spent < old.walker.fuel → Fits (wanted_of (wait_in c old.walker old.walker.mode)) r true → process_of c new.walker ≡ told c old.walker pend.Left r
+  pub leaving : (r : Answer) (new : Slice) → old.walker.spent < old.walker.fuel
+      → Fits (wanted_of (wait_in c old.walker old.walker.mode)) r true → process_of c new.walker ≡ told c old.walker pend.Left r
       → new.gone.items ≡ deleted_by (wait_in c old.walker old.walker.mode) ++ old.gone.items → Leaves c old r new
   leaving r new t f e g = record {
     request = asks;
@@ -212,7 +219,8 @@ module _ (c : NumberedProgram) (old : Slice) (i : IsWaiting old.walker.mode) whe
 pub gone_as : (c : NumberedProgram) (old new : Walker) (given gone : List ℕ) (found s : Stand) → given ≡ gone → found ≡ s → GoesOn c old given found new → GoesOn c old gone s new
 gone_as c old new given gone found s e f g = subst (λ (t : Stand). GoesOn c old gone t new) f (subst (λ (rs : List ℕ). GoesOn c old rs found new) e g)
 
-module _ (c : NumberedProgram) (old mid : Slice) (w : Walker) (kind : CollKind) (arg : Option ℕ) (at : Place) (pending : Pending) (g : GoesOn c old.walker old.gone.items (stand.Arrives kind arg at pending) w)
+module _ (c : NumberedProgram) (old mid : Slice) (w : Walker) (kind : CollKind) (arg : Option ℕ) (at : Place) (pending : Pending)
+    (g : GoesOn c old.walker old.gone.items (stand.Arrives kind arg at pending) w)
     (heard : process_of c mid.walker ≡ told c w pending Done) (same : mid.gone.items ≡ old.gone.items) where
   a : Arrives c w old.gone.items kind arg at pending
   a = g.stands
@@ -223,7 +231,9 @@ module _ (c : NumberedProgram) (old mid : Slice) (w : Walker) (kind : CollKind) 
   before : (k : ℕ) (r : Answer) (rest : List Answer) (x : SliceStep) → Comes (process_of c mid.walker) mid.gone.items k (r ∷ rest) x → Comes (process_of c old.walker) old.gone.items k (r ∷ rest) x
   before k r rest x z =
       g.leads old.gone.items k (r ∷ rest) x
-      (arrives (arriving c w old.gone.items kind arg at pending a) a.arrival (subst (λ (gone : List ℕ). Comes (a.go Done) gone k (r ∷ rest) x) same (subst (λ (p : Process). Comes p mid.gone.items k (r ∷ rest) x) there z)))
+      (arrives (arriving c w old.gone.items kind arg at pending a) a.arrival
+      (subst (λ (gone : List ℕ). Comes (a.go Done) gone k (r ∷ rest) x) same
+      (subst (λ (p : Process). Comes p mid.gone.items k (r ∷ rest) x) there z)))
 
   -- it leaves the next collective
   met : (r : Answer) (new : Slice) → Leaves c mid r new → Meets c old r new true
@@ -243,12 +253,14 @@ module _ (c : NumberedProgram) (old mid : Slice) (w : Walker) (kind : CollKind) 
 pub meets_end : (c : NumberedProgram) (old new : Slice) (w : Walker) (r : Answer) → GoesOn c old.walker old.gone.items stand.Ends w → Meets c old r new false
 meets_end c old new w r g k rest = g.leads old.gone.items k (r ∷ rest) (answer.Unfit k) (ended g.stands.1)
 
-pub meets_fault : (c : NumberedProgram) (old new : Slice) (w : Walker) (kind : FaultKind) (at : Place) (r : Answer) → GoesOn c old.walker old.gone.items (stand.Fails kind at) w → Meets c old r new false
+pub meets_fault : (c : NumberedProgram) (old new : Slice) (w : Walker) (kind : FaultKind) (at : Place) (r : Answer)
+    → GoesOn c old.walker old.gone.items (stand.Fails kind at) w → Meets c old r new false
 meets_fault c old new w kind at r g k rest = g.leads old.gone.items k (r ∷ rest) (answer.Unfit k) (faulted g.stands)
 
 -- ---- where no outcome is left
 
-pub comes_there : (c : NumberedProgram) (old : Slice) (w : Walker) (kind : CollKind) (arg : Option ℕ) (at : Place) (pending : Pending) → GoesOn c old.walker old.gone.items (stand.Arrives kind arg at pending) w → (k : ℕ)
+pub comes_there : (c : NumberedProgram) (old : Slice) (w : Walker) (kind : CollKind) (arg : Option ℕ) (at : Place) (pending : Pending)
+    → GoesOn c old.walker old.gone.items (stand.Arrives kind arg at pending) w → (k : ℕ)
     → Comes (process_of c old.walker) old.gone.items k [] (answer.At kind at arg)
 comes_there c old w kind arg at pending g k =
     let a : Arrives c w old.gone.items kind arg at pending = g.stands in
@@ -258,7 +270,9 @@ comes_there c old w kind arg at pending g k =
 pub comes_end : (c : NumberedProgram) (old : Slice) (w : Walker) → GoesOn c old.walker old.gone.items stand.Ends w → (k : ℕ) → Comes (process_of c old.walker) old.gone.items k [] answer.Ended
 comes_end c old w g k = g.leads old.gone.items k [] answer.Ended (ends g.stands.1)
 
-pub comes_fault : (c : NumberedProgram) (old : Slice) (w : Walker) (kind : FaultKind) (at : Place) → GoesOn c old.walker old.gone.items (stand.Fails kind at) w → (k : ℕ) → Comes (process_of c old.walker) old.gone.items k [] (at_fault kind at)
+pub comes_fault : (c : NumberedProgram) (old : Slice) (w : Walker) (kind : FaultKind) (at : Place)
+    → GoesOn c old.walker old.gone.items (stand.Fails kind at) w → (k : ℕ)
+    → Comes (process_of c old.walker) old.gone.items k [] (at_fault kind at)
 comes_fault c old w kind at g k = g.leads old.gone.items k [] (at_fault kind at) (faults g.stands)
 
 -- the same as the code says it
@@ -269,7 +283,8 @@ comes_ok c old g x e h = subst (λ (z : Result SliceStep Memory). IfOk z (λ y. 
 -- ---- outcomes
 
 -- all of them are left before the first step
-pub begins_all : (n : Setting) (s : Slice) (outcomes : List Answer) (x : SliceStep) → process_of n.program s.walker ≡ begin n 0 → s.gone.items ≡ [] → Comes (process_of n.program s.walker) s.gone.items 0 outcomes x → SliceAnswers n outcomes x
+pub begins_all : (n : Setting) (s : Slice) (outcomes : List Answer) (x : SliceStep) → process_of n.program s.walker ≡ begin n 0
+    → s.gone.items ≡ [] → Comes (process_of n.program s.walker) s.gone.items 0 outcomes x → SliceAnswers n outcomes x
 begins_all n s outcomes x e g z =
     subst (λ (p : Process). Comes p [] 0 outcomes x) e (subst (λ (gone : List ℕ). Comes (process_of n.program s.walker) gone 0 outcomes x) g z)
 
@@ -288,12 +303,14 @@ takes_on n s new outcomes k d h leads m x z =
 
 -- or none
 pub takes_none : (n : Setting) (s new : Slice) (outcomes : List Answer) (k : ℕ) (d : Answer) → k < length outcomes
-    → ((x : SliceStep) → Comes (process_of n.program s.walker) s.gone.items k (drop k outcomes) x → SliceAnswers n outcomes x) → Meets n.program s (get_or outcomes k d) new false → SliceAnswers n outcomes (answer.Unfit k)
+    → ((x : SliceStep) → Comes (process_of n.program s.walker) s.gone.items k (drop k outcomes) x → SliceAnswers n outcomes x)
+    → Meets n.program s (get_or outcomes k d) new false → SliceAnswers n outcomes (answer.Unfit k)
 takes_none n s new outcomes k d h leads m =
     leads (answer.Unfit k) (subst (λ (rs : List Answer). Comes (process_of n.program s.walker) s.gone.items k rs (answer.Unfit k)) (sym (drop_at outcomes k d h)) (m k (drop (k + 1) outcomes)))
 
 -- all are taken
-pub taken_all : (n : Setting) (s : Slice) (outcomes : List Answer) (k : ℕ) → length outcomes ≤ k → ((x : SliceStep) → Comes (process_of n.program s.walker) s.gone.items k (drop k outcomes) x → SliceAnswers n outcomes x)
+pub taken_all : (n : Setting) (s : Slice) (outcomes : List Answer) (k : ℕ) → length outcomes ≤ k
+    → ((x : SliceStep) → Comes (process_of n.program s.walker) s.gone.items k (drop k outcomes) x → SliceAnswers n outcomes x)
     → (x : SliceStep) → ((k : ℕ) → Comes (process_of n.program s.walker) s.gone.items k [] x) → SliceAnswers n outcomes x
 taken_all n s outcomes k h leads x z =
     leads x (subst (λ (rs : List Answer). Comes (process_of n.program s.walker) s.gone.items k rs x) (sym (drop_of_length-le outcomes h)) (z k))

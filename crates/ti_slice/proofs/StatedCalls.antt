@@ -17,10 +17,9 @@ use Rattle.ti_align.specs.SinglePart.{is_single_declared}
 use Rattle.ti_align.specs.Slice.{single_bound}
 use Rattle.ti_eval.specs.declared.stop.Stop.{Stop}
 use Rattle.ti_eval.specs.Comes.{Stops}
-use Rattle.ti_eval.proofs.Steps.{then_stops}
-use Rattle.ti_eval.proofs.Evaluating.{exps_at, no_exps}
+use Rattle.ti_eval.proofs.Lemmas.{then_stops, exps_at, no_exps}
 use Rattle.ti_moves.specs.Arguments.{given}
-use Rattle.ti_moves.proofs.Calling.{from_params, variable_at}
+use Rattle.ti_moves.proofs.Lemmas.{from_params, variable_at}
 use Rattle.ti_slice.specs.Mirrors.SingleCalls.{single_found}
 
 -- ---- one parameter and its argument
@@ -60,7 +59,8 @@ params_at params i d h =
 
 both_at : (E : Env) (params : List Param) (args : List Expr) (i : ℕ) (d : Param) (e : Expr) (found : List Variable) (left : List Answer) → i < length params → i < length args
     → single_bound E (from_params i (drop i params)) (exps (drop i args)) found left
-    ≡ followed (single_found E (variable_at i (get_or params i d)) (expression_of (get_or args i e)) found left) (λ ws. single_bound E (from_params (i + 1) (drop (i + 1) params)) (exps (drop (i + 1) args)) ws)
+    ≡ followed (single_found E (variable_at i (get_or params i d)) (expression_of (get_or args i e)) found left)
+    (λ ws. single_bound E (from_params (i + 1) (drop (i + 1) params)) (exps (drop (i + 1) args)) ws)
 both_at E params args i d e found left h k =
     ap (λ ps. single_bound E ps (exps (drop i args)) found left) (params_at params i d h)
     ∙ ap (λ xs. single_bound E (variable_at i (get_or params i d) ∷ from_params (i + 1) (drop (i + 1) params)) xs found left) (exps_at args i e k)

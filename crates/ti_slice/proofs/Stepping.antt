@@ -9,7 +9,7 @@ use Rattle.ti_lang.specs.Meaning.Performing.{performed}
 use Rattle.ti_lang.specs.Meaning.Moves.{Returns}
 use Rattle.ti_lang.specs.Meaning.Steps.{Step, To, step, valued, moves}
 use Rattle.ti_align.specs.Slice.{work_acts, is_single_receiver, single_statement, single_performed, slice_works, slice_runs, slice_steps, slice_step}
-use Rattle.ti_align.proofs.Vars.{if_true, if_false}
+use Rattle.ti_align.proofs.Lemmas.{if_true, if_false}
 use Rattle.ti_eval.specs.declared.frame.Todo.{Todo}
 use Rattle.ti_eval.specs.declared.frame.Todo.TheVariants as todo
 use Rattle.ti_eval.specs.Frames.{slots_of, work_of}
@@ -22,9 +22,7 @@ use Rattle.ti_exec.specs.declared.process.Turn.{Turn}
 use Rattle.ti_exec.specs.declared.process.Walker.{Walker}
 use Rattle.ti_exec.specs.States.{IsStep, IsTurn, IsAtHand, AtHandIn, IsSettled, IsWalking, IsReceiving, IsBegun, site_of, body_of, env_in, process_of, top_of, below_of, left_in, rest, here, frames_in, wait_in}
 use Rattle.ti_exec.specs.Walking.{done_with}
-use Rattle.ti_exec.proofs.Asked.{waits_at, expects_at}
-use Rattle.ti_exec.proofs.Begun.{left_here, block_done}
-use Rattle.ti_exec.proofs.Works.{walks_at, receives_at, none_left, left_inside}
+use Rattle.ti_exec.proofs.Lemmas.{waits_at, expects_at, left_here, block_done, walks_at, receives_at, none_left, left_inside}
 use Rattle.ti_slice.specs.Mirrors.Step.{IsSliceTurn, Acts, ActsIn}
 
 -- ---- in general
@@ -47,7 +45,9 @@ slice_walks_at c w t ws m e =
 
 -- and with a value on its way
 slice_receives_at : (c : NumberedProgram) (w : Walker) (h : Held) → w.mode ≡ mode.Receives h
-    → slice_step (process_of c w) ≡ slice_works (process_of c w) (top_of c w (Receive (receiver_of (here c w.top)) h ∷ rest c w.team.procs w.top)) (below_of c w) (Receive (receiver_of (here c w.top)) h ∷ rest c w.team.procs w.top)
+    → slice_step (process_of c w) ≡ slice_works (process_of c w) (top_of c w
+    (Receive (receiver_of (here c w.top)) h ∷ rest c w.team.procs w.top)) (below_of c w)
+    (Receive (receiver_of (here c w.top)) h ∷ rest c w.team.procs w.top)
 slice_receives_at c w h m =
     ap (λ (n : Mode). slice_steps (process_of c w) (wait_in c w n)) m
     ∙ ap (λ (n : Mode). slice_runs (process_of c w) (frames_in c w n)) m
@@ -81,25 +81,29 @@ first_left c w t f h = left_here c w t h ∙ ap (λ (ws : List Work). ws ++ rest
 -- ---- work with effects
 
 -- the step at it
-acting : (c : NumberedProgram) (w : Walker) (t : Todo) (x : Work) (ws : List Work) → w.mode ≡ mode.Walks t → left_in c w.team.procs w.top t ≡ x ∷ ws → work_acts c (method_at c w.top.method) ws x ≡ true → w.answers.items ≡ []
+acting : (c : NumberedProgram) (w : Walker) (t : Todo) (x : Work) (ws : List Work) → w.mode ≡ mode.Walks t → left_in c w.team.procs w.top t
+    ≡ x ∷ ws → work_acts c (method_at c w.top.method) ws x ≡ true → w.answers.items ≡ []
     → slice_step (process_of c w)
     ≡ valued (process_of c w) (single_performed (env_of (process_of c w) (top_of c w (x ∷ ws)) ws) x w.answers.items) (moves (process_of c w) (top_of c w (x ∷ ws)) (below_of c w) ws)
 acting c w t x ws m e a n =
     slice_walks_at c w t (x ∷ ws) m e
     ∙ if_true (work_acts c (method_at c w.top.method) ws x) _ _ a
-    ∙ ap (λ (found : List Answer). valued (process_of c w) (single_performed (env_of (process_of c w) (top_of c w (x ∷ ws)) ws) x found) (moves (process_of c w) (top_of c w (x ∷ ws)) (below_of c w) ws)) (sym n)
+    ∙ ap (λ (found : List Answer). valued (process_of c w) (single_performed (env_of (process_of c w) (top_of c w (x ∷ ws)) ws) x found)
+    (moves (process_of c w) (top_of c w (x ∷ ws)) (below_of c w) ws)) (sym n)
 
 -- that at a statement
 pub stating : (c : NumberedProgram) (w : Walker) → 0 < length w.top.levels.items → w.mode ≡ mode.Walks todo.Here → ActsIn c w w.mode → w.answers.items ≡ []
     → slice_step (process_of c w)
-    ≡ valued (process_of c w) (single_statement (env_in c w) (here c w.top) w.answers.items) (moves (process_of c w) (top_of c w (Do (here c w.top) ∷ rest c w.team.procs w.top)) (below_of c w) (rest c w.team.procs w.top))
+    ≡ valued (process_of c w) (single_statement (env_in c w) (here c w.top) w.answers.items)
+    (moves (process_of c w) (top_of c w (Do (here c w.top) ∷ rest c w.team.procs w.top)) (below_of c w) (rest c w.team.procs w.top))
 stating c w h m a n =
     let e : left_in c w.team.procs w.top todo.Here ≡ Do (here c w.top) ∷ rest c w.team.procs w.top = left_here c w todo.Here h in
     let acts : Acts c w todo.Here = subst (ActsIn c w) m a in
     acting c w todo.Here (Do (here c w.top)) (rest c w.team.procs w.top) m e (acts _ _ e) n
 
 -- that at what is left of a statement that has begun is the step of a process
-begun_step : (c : NumberedProgram) (w : Walker) (t : Todo) → 0 < length w.top.levels.items → w.mode ≡ mode.Walks t → IsAtHand (here c w.top) (length w.top.levels.items) t → IsBegun (mode.Walks t) → Acts c w t → w.answers.items ≡ []
+begun_step : (c : NumberedProgram) (w : Walker) (t : Todo) → 0 < length w.top.levels.items → w.mode ≡ mode.Walks t
+    → IsAtHand (here c w.top) (length w.top.levels.items) t → IsBegun (mode.Walks t) → Acts c w t → w.answers.items ≡ []
     → slice_step (process_of c w) ≡ step (process_of c w)
 begun_step c w t h m s b a n =
     let f : First c w t = first c w t h s in
@@ -110,7 +114,8 @@ begun_step c w t h m s b a n =
     ∙ sym (walks_at c w t (f.work ∷ ws) m e)
 
 -- and so is its turn
-begun_by : (c : NumberedProgram) (w new : Walker) (r : Turn) (m : Mode) → w.mode ≡ m → 0 < length w.top.levels.items → AtHandIn c w.top m → IsBegun m → ActsIn c w m → w.answers.items ≡ [] → IsTurn c w r new → IsSliceTurn c w r new
+begun_by : (c : NumberedProgram) (w new : Walker) (r : Turn) (m : Mode) → w.mode ≡ m → 0 < length w.top.levels.items → AtHandIn c w.top m
+    → IsBegun m → ActsIn c w m → w.answers.items ≡ [] → IsTurn c w r new → IsSliceTurn c w r new
 begun_by c w new r (mode.Walks t) m h s b a n i = slice_turn_at c w new _ r (begun_step c w t h m s b a n) i
 begun_by c w new r (mode.Receives v) m h s b a n i = absurd b
 begun_by c w new r (mode.Waits meeting t) m h s b a n i = absurd b
@@ -133,14 +138,16 @@ begun_unless c w t h m s n = subst IsBegun (sym m) (by t (subst (AtHandIn c w.to
     by (todo.Copying copy last) s n = tt
     by (todo.Taking grid next) s n = tt
 
-pub begun_turn : (c : NumberedProgram) (w new : Walker) (r : Turn) → 0 < length w.top.levels.items → IsSettled c w → IsBegun w.mode → ActsIn c w w.mode → w.answers.items ≡ [] → IsTurn c w r new → IsSliceTurn c w r new
+pub begun_turn : (c : NumberedProgram) (w new : Walker) (r : Turn) → 0 < length w.top.levels.items → IsSettled c w → IsBegun w.mode
+    → ActsIn c w w.mode → w.answers.items ≡ [] → IsTurn c w r new → IsSliceTurn c w r new
 begun_turn c w new r h s b a n i = begun_by c w new r w.mode refl h s b a n i
 
 -- ---- work without effects
 
 -- it is left out
 pub passing : (c : NumberedProgram) (w new : Walker) (t left : Todo) (x : Work) → 0 < length w.top.levels.items → w.mode ≡ mode.Walks t
-    → ((ws : List Work) → left_in c w.team.procs w.top t ≡ x ∷ ws → work_acts c (method_at c w.top.method) ws x ≡ false) → work_of (site_of c w.team.procs w.top) (here c w.top) t ≡ x ∷ work_of (site_of c w.team.procs w.top) (here c w.top) left
+    → ((ws : List Work) → left_in c w.team.procs w.top t ≡ x ∷ ws → work_acts c (method_at c w.top.method) ws x ≡ false)
+    → work_of (site_of c w.team.procs w.top) (here c w.top) t ≡ x ∷ work_of (site_of c w.team.procs w.top) (here c w.top) left
     → process_of c new ≡ done_with c w (slots_of w.top.variables.slots.items) (left_in c w.team.procs w.top left) → slice_step (process_of c w) ≡ To (process_of c new)
 passing c w new t left x h m a l d =
     let ws : List Work = left_in c w.team.procs w.top left in
@@ -166,14 +173,16 @@ slice_ends_at c w new t i e s h = ends_by c w new t w.mode refl i e s h
 -- ---- values on their way
 
 -- to a single variable
-taken_by : (c : NumberedProgram) (w new : Walker) (r : Turn) (m : Mode) → w.mode ≡ m → IsReceiving m → is_single_receiver (receiver_of (here c w.top)) ≡ true → w.answers.items ≡ [] → IsTurn c w r new → IsSliceTurn c w r new
+taken_by : (c : NumberedProgram) (w new : Walker) (r : Turn) (m : Mode) → w.mode ≡ m → IsReceiving m
+    → is_single_receiver (receiver_of (here c w.top)) ≡ true → w.answers.items ≡ [] → IsTurn c w r new → IsSliceTurn c w r new
 taken_by c w new r (mode.Receives v) m i a n h =
     let x : Work = Receive (receiver_of (here c w.top)) v in
     let ws : List Work = rest c w.team.procs w.top in
     slice_turn_at c w new _ r
     (slice_receives_at c w v m
     ∙ if_true (is_single_receiver (receiver_of (here c w.top))) _ _ a
-    ∙ ap (λ (found : List Answer). valued (process_of c w) (performed (env_of (process_of c w) (top_of c w (x ∷ ws)) ws) x found) (moves (process_of c w) (top_of c w (x ∷ ws)) (below_of c w) ws)) (sym n)
+    ∙ ap (λ (found : List Answer). valued (process_of c w) (performed (env_of (process_of c w) (top_of c w (x ∷ ws)) ws) x found)
+    (moves (process_of c w) (top_of c w (x ∷ ws)) (below_of c w) ws)) (sym n)
     ∙ sym (receives_at c w v m))
     h
 taken_by c w new r (mode.Walks t) m i a n h = absurd i
@@ -181,7 +190,8 @@ taken_by c w new r (mode.Waits meeting d) m i a n h = absurd i
 taken_by c w new r (mode.Expects meeting) m i a n h = absurd i
 taken_by c w new r mode.Ended m i a n h = absurd i
 
-pub taken : (c : NumberedProgram) (w new : Walker) (r : Turn) → IsReceiving w.mode → is_single_receiver (receiver_of (here c w.top)) ≡ true → w.answers.items ≡ [] → IsTurn c w r new → IsSliceTurn c w r new
+pub taken : (c : NumberedProgram) (w new : Walker) (r : Turn) → IsReceiving w.mode → is_single_receiver (receiver_of (here c w.top)) ≡ true
+    → w.answers.items ≡ [] → IsTurn c w r new → IsSliceTurn c w r new
 taken c w new r i a n h = taken_by c w new r w.mode refl i a n h
 
 -- to none

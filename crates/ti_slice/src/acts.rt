@@ -56,7 +56,8 @@ fn body_of(x: &Stmt) -> Option<&Stmt>
 
 // Whether a `foreach` has effects.
 fn foreach_acts(p: &Program, m: &Method, x: &Stmt) -> bool
-    ensures { (variable : ℕ) (points : List Point) → result ≡ loop_effects (program_of p.now.parts) (numbered_method_of m.now) (foreach_of (statement_of x.now) variable points) }
+    ensures { (variable : ℕ) (points : List Point) → result ≡ loop_effects (program_of p.now.parts) (numbered_method_of m.now)
+        (foreach_of (statement_of x.now) variable points) }
 {
     match body_of(x) {
         Some(body) => acts_in_loop(p, m, doings_of_statement(p, this_of(m), body)),
@@ -69,7 +70,8 @@ fn foreach_acts(p: &Program, m: &Method, x: &Stmt) -> bool
 // Whether a jump to the mark with which what is left of a statement begins has an effect.
 fn mark_acts(p: &Program, m: &Method, x: Option<&Stmt>, t: &Todo) -> bool
     requires { is_mark_spec t.now ≡ true }
-    ensures { (site : Site) (ws : List Work) → jump_at (program_of p.now.parts) (numbered_method_of m.now) (work_of site (stm_seen x.entry) t.now ++ ws) ≡ Some result }
+    ensures { (site : Site) (ws : List Work) → jump_at (program_of p.now.parts) (numbered_method_of m.now)
+        (work_of site (stm_seen x.entry) t.now ++ ws) ≡ Some result }
 {
     match x {
         Some(x) => match t {
@@ -83,7 +85,8 @@ fn mark_acts(p: &Program, m: &Method, x: Option<&Stmt>, t: &Todo) -> bool
 
 // Whether a jump to the innermost mark behind a statement has an effect.
 fn jump_acts(p: &Program, m: &Method, levels: &[Level]) -> bool
-    ensures { (site : Site) → result ≡ unwrap_or (jump_at (program_of p.now.parts) (numbered_method_of m.now) (rest_of site (numbered_stms (numbered_method_of m.now).body) (reverse levels.now))) false }
+    ensures { (site : Site) → result ≡ unwrap_or (jump_at (program_of p.now.parts) (numbered_method_of m.now)
+        (rest_of site (numbered_stms (numbered_method_of m.now).body) (reverse levels.now))) false }
 {
     let mut n = levels.len();
     while n > 1 {
@@ -100,7 +103,8 @@ fn jump_acts(p: &Program, m: &Method, levels: &[Level]) -> bool
 
 // Whether a statement has global effects inside these levels.
 fn statement_acts(p: &Program, m: &Method, levels: &[Level], x: &Stmt) -> bool
-    ensures { (site : Site) → result ≡ work_acts_spec (program_of p.now.parts) (numbered_method_of m.now) (rest_of site (numbered_stms (numbered_method_of m.now).body) (reverse levels.now)) (Do (statement_of x.now)) }
+    ensures { (site : Site) → result ≡ work_acts_spec (program_of p.now.parts) (numbered_method_of m.now)
+        (rest_of site (numbered_stms (numbered_method_of m.now).body) (reverse levels.now)) (Do (statement_of x.now)) }
 {
     let d = doings_of_statement(p, this_of(m), x);
     acts_in_loop(p, m, d) || d.jumps && jump_acts(p, m, levels)
@@ -110,7 +114,8 @@ fn statement_acts(p: &Program, m: &Method, levels: &[Level], x: &Stmt) -> bool
 fn acts_at(p: &Program, m: &Method, levels: &[Level], x: &Stmt, t: &Todo) -> bool
     requires inner { 0 < length levels.now }
     requires at_hand { IsAtHand (statement_of x.now) (length levels.now) t.now }
-    ensures { (site : Site) → result ≡ first_acts (program_of p.now.parts) (numbered_method_of m.now) (work_of site (statement_of x.now) t.now ++ rest_of site (numbered_stms (numbered_method_of m.now).body) (reverse levels.now)) }
+    ensures { (site : Site) → result ≡ first_acts (program_of p.now.parts) (numbered_method_of m.now)
+        (work_of site (statement_of x.now) t.now ++ rest_of site (numbered_stms (numbered_method_of m.now).body) (reverse levels.now)) }
 {
     match t {
         Todo::Here => statement_acts(p, m, levels, x),
@@ -130,7 +135,8 @@ fn acts_at(p: &Program, m: &Method, levels: &[Level], x: &Stmt, t: &Todo) -> boo
 pub(crate) fn work_acts(c: &Checked, call: &Call, todo: &Todo) -> bool
     requires inner { 0 < length call.now.levels.items }
     requires at_hand { IsAtHand (here (program_of c.now.program.parts) call.now) (length call.now.levels.items) todo.now }
-    ensures { (procs : ℕ) (w : Work) (ws : List Work) → left_in (program_of c.now.program.parts) procs call.now todo.now ≡ w ∷ ws → result ≡ work_acts_spec (program_of c.now.program.parts) (method_at (program_of c.now.program.parts) call.now.method) ws w }
+    ensures { (procs : ℕ) (w : Work) (ws : List Work) → left_in (program_of c.now.program.parts) procs call.now todo.now ≡ w ∷ ws → result
+        ≡ work_acts_spec (program_of c.now.program.parts) (method_at (program_of c.now.program.parts) call.now.method) ws w }
 {
     match method(&c.program.parts, call.method) {
         Some(m) => match call.stands(&c.program.parts) {
@@ -143,7 +149,8 @@ pub(crate) fn work_acts(c: &Checked, call: &Call, todo: &Todo) -> bool
 
 /// What is left of a statement behind its first piece of work, where that is at hand inside so many levels.
 pub(crate) fn past(x: Option<&Stmt>, todo: &Todo) -> Todo
-    ensures { (site : Site) (levels : ℕ) → 0 < levels → IsAtHand (stm_seen x.entry) levels todo.now → (w : Work) × (work_of site (stm_seen x.entry) todo.now ≡ w ∷ work_of site (stm_seen x.entry) result) }
+    ensures { (site : Site) (levels : ℕ) → 0 < levels → IsAtHand (stm_seen x.entry) levels todo.now → (w : Work)
+        × (work_of site (stm_seen x.entry) todo.now ≡ w ∷ work_of site (stm_seen x.entry) result) }
 {
     match todo {
         Todo::Before => behind_loop(x),

@@ -101,7 +101,8 @@ impl Slice {
     // Before its first step.
     fn begin(alloc: Global, c: &Checked, procs: u32, fuel: u32) -> Slice
         requires { procs < 2 ^ 31 }
-        ensures process { process_of (program_of c.now.program.parts) result.walker ≡ begin (record { program = program_of c.now.program.parts; procs = procs; fuel = fuel }) 0 }
+        ensures process { process_of (program_of c.now.program.parts) result.walker
+            ≡ begin (record { program = program_of c.now.program.parts; procs = procs; fuel = fuel }) 0 }
         ensures gone { result.gone.items ≡ [] }
     {
         let team = Team { number: 0, procs };
@@ -116,7 +117,8 @@ impl Slice {
         requires form { IsFormedAnswer outcome.now }
         requires tick { self.old.walker.spent < self.old.walker.fuel }
         ensures told { OnOk result ((c : NumberedProgram) → process_of c self.new.walker ≡ told c self.old.walker Left outcome.now) }
-        ensures gone { OnOk result ((c : NumberedProgram) → self.new.gone.items ≡ deleted_by (wait_in c self.old.walker self.old.walker.mode) ++ self.old.gone.items) }
+        ensures gone { OnOk result ((c : NumberedProgram) → self.new.gone.items
+            ≡ deleted_by (wait_in c self.old.walker self.old.walker.mode) ++ self.old.gone.items) }
     {
         match deleted(&self.walker.mode) {
             Some(region) => self.gone.insert(0, region)?,
@@ -159,7 +161,8 @@ impl Slice {
     // What it comes to where no outcome is left.
     fn comes_to(&mut self, alloc: Global, c: &Checked) -> Result<SliceStep, Memory>
         requires { IsFree (program_of c.now.program.parts) (process_of (program_of c.now.program.parts) self.old.walker) }
-        ensures { IfOk result (λ x. (k : ℕ) → Comes (process_of (program_of c.now.program.parts) self.old.walker) self.old.gone.items k [] x) }
+        ensures { IfOk result (λ x. (k : ℕ) → Comes (process_of (program_of c.now.program.parts) self.old.walker) self.old.gone.items k []
+            x) }
     {
         match goes_on(&mut self.walker, alloc, c, &self.gone)? {
             Stand::Arrives(kind, arg, place, _) => Ok(SliceStep::At(kind, place, arg)),
@@ -191,7 +194,8 @@ pub fn slice_next(
     outcomes: &[Answer],
 ) -> Result<SliceStep, Memory>
     requires procs { procs < 2 ^ 31 }
-    ensures { IfOk result (λ x. SliceAnswers (record { program = program_of c.now.program.parts; procs = procs; fuel = fuel }) outcomes.now x) }
+    ensures { IfOk result (λ x. SliceAnswers (record { program = program_of c.now.program.parts; procs = procs; fuel = fuel }) outcomes.now
+        x) }
 {
     let mut slice = Slice::begin(alloc, c, procs, fuel);
     for (k, outcome) in outcomes.iter().enumerate() {

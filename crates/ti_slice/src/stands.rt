@@ -54,7 +54,8 @@ fn deletes_gone(gone: &[u32], kind: CollKind, arg: Option<u32>) -> bool
 // Where it stands at an arrival: that at a delete of a region that is gone is a fault.
 fn stand_at(w: &Walker, gone: &[u32], asking: Box<Asking>) -> Stand
     requires { IsArrival asking.value.action }
-    ensures { (c : NumberedProgram) → Stands (slice_step_spec (process_of c w.now)) (Act asking.value.place asking.value.action) (told c w.now asking.value.pending) → IsStand c w.now gone.now result }
+    ensures { (c : NumberedProgram) → Stands (slice_step_spec (process_of c w.now)) (Act asking.value.place asking.value.action)
+        (told c w.now asking.value.pending) → IsStand c w.now gone.now result }
 {
     let Asking {
         place,

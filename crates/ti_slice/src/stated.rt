@@ -76,12 +76,13 @@ fn gives_single(m: Option<&Method>) -> bool
 // ---- arguments
 
 // One more parameter, behind its argument.
-#[tactic(auto, using(ti_eval::proofs::Steps::steps, ti_eval::proofs::Slots::one_more))]
+#[tactic(auto, using(ti_eval::proofs::Lemmas::steps, ti_eval::proofs::Lemmas::one_more))]
 fn found_from<'a>(
     found: Vec<Slot>,
     got: Result<(Slot, &'a [Told]), Stop>,
 ) -> Result<(Vec<Slot>, &'a [Told]), Stop>
-    ensures { (m : Got Named) → ComesAs slot_of got.entry m → ComesAs (λ (v : Row Kept Heap). slots_of v.items) result (followed m (λ w. gives (w ∷ slots_of found.items))) }
+    ensures { (m : Got Named) → ComesAs slot_of got.entry m → ComesAs (λ (v : Row Kept Heap). slots_of v.items) result
+        (followed m (λ w. gives (w ∷ slots_of found.items))) }
 {
     match got {
         Ok((slot, answers)) => {
@@ -103,7 +104,9 @@ fn found_with<'a>(
     found: Vec<Slot>,
     answers: &'a [Told],
 ) -> Result<(Vec<Slot>, &'a [Told]), Stop>
-    ensures { ComesAs (λ (v : Row Kept Heap). slots_of v.items) result (single_found (env_of env.now) (record { number = number; declared = Typed param.now.ty.single (value_type_of param.now.ty.ty) }) (expression_of x.now) (slots_of found.items) answers.now) }
+    ensures { ComesAs (λ (v : Row Kept Heap). slots_of v.items) result
+        (single_found (env_of env.now) (record { number = number; declared = Typed param.now.ty.single (value_type_of param.now.ty.ty) })
+        (expression_of x.now) (slots_of found.items) answers.now) }
 {
     if param.ty.single {
         found_from(found, argument(alloc, env, number, param, x, answers))
@@ -120,7 +123,9 @@ fn bind<'a>(
     args: &[Expr],
     answers: &'a [Told],
 ) -> Result<(Vec<Slot>, &'a [Told]), Stop>
-    ensures { ComesAs (λ (v : Row Kept Heap). slots_of v.items) result (slice.single_bound (env_of env.now) (parameters_from 0 (map numbered_param_of params.now)) (numbered_exps (map expression_of args.now)) [] answers.now) }
+    ensures { ComesAs (λ (v : Row Kept Heap). slots_of v.items) result
+        (slice.single_bound (env_of env.now) (parameters_from 0 (map numbered_param_of params.now))
+        (numbered_exps (map expression_of args.now)) [] answers.now) }
 {
     let mut found = Vec::new(alloc);
     let mut left = answers;
@@ -154,13 +159,15 @@ fn params_in<'p>(m: Option<&'p Method>) -> &'p [Param]
 // ---- calls
 
 // The call, behind its single parameters.
-#[tactic(auto, using(ti_eval::proofs::Steps::steps))]
+#[tactic(auto, using(ti_eval::proofs::Lemmas::steps))]
 fn calls_with<'a, 'c>(
     at: Place,
     method: usize,
     got: Result<(Vec<Slot>, &'a [Told]), Stop>,
 ) -> Result<(Move<'c>, &'a [Told]), Stop>
-    ensures { (env : Where) (x : NumberedStm) (m : Got (List Named)) → ComesAs (λ (v : Row Kept Heap). slots_of v.items) got.entry m → ComesAs (move_of env x) result (followed m (λ parameters. gives (move.Calls at (method_at env.program method) None parameters (receiver_of x)))) }
+    ensures { (env : Where) (x : NumberedStm) (m : Got (List Named)) → ComesAs (λ (v : Row Kept Heap). slots_of v.items) got.entry m
+        → ComesAs (move_of env x) result (followed m (λ parameters. gives
+        (move.Calls at (method_at env.program method) None parameters (receiver_of x)))) }
 {
     match got {
         Ok((parameters, answers)) => {
@@ -185,7 +192,9 @@ fn calls<'a, 'c>(
     args: &[Expr],
     answers: &'a [Told],
 ) -> Result<(Move<'c>, &'a [Told]), Stop>
-    ensures { (object : Option NumberedExp) (x : NumberedStm) → ComesAs (move_of (env_of env.now) x) result (slice.single_calling (env_of env.now) (receiver_of x) (made_call at object (numbered_exps (map expression_of args.now)) (method_at (program_of env.now.program.now) number)) answers.now) }
+    ensures { (object : Option NumberedExp) (x : NumberedStm) → ComesAs (move_of (env_of env.now) x) result
+        (slice.single_calling (env_of env.now) (receiver_of x) (made_call at object (numbered_exps (map expression_of args.now))
+        (method_at (program_of env.now.program.now) number)) answers.now) }
 {
     let params = params_in(method(env.program, number));
     calls_with(at, number, bind(alloc, env, params, args, answers))
@@ -199,7 +208,8 @@ fn call_of<'a, 'c>(
     e: &Expr,
     answers: &'a [Told],
 ) -> Option<Result<(Move<'c>, &'a [Told]), Stop>>
-    ensures { (x : NumberedStm) → SingleCallComes (env_of env.now) x answers.now result (call_by (expression_of e.now) (Some (method_at (program_of env.now.program.now) number))) }
+    ensures { (x : NumberedStm) → SingleCallComes (env_of env.now) x answers.now result
+        (call_by (expression_of e.now) (Some (method_at (program_of env.now.program.now) number))) }
 {
     match e {
         Expr::Call { place, args, .. } => Some(calls(alloc, env, *place, number, args, answers)),
@@ -234,7 +244,8 @@ fn received<'a, 'c>(
     right: Right,
     answers: &'a [Told],
 ) -> Result<(Move<'c>, &'a [Told]), Stop>
-    ensures { ComesAs (move_of (env_of env.now) (statement_of s.now)) result (single_received (env_of env.now) (receiver_of (statement_of s.now)) (right_seen (env_of env.now) right.entry) answers.now) }
+    ensures { ComesAs (move_of (env_of env.now) (statement_of s.now)) result
+        (single_received (env_of env.now) (receiver_of (statement_of s.now)) (right_seen (env_of env.now) right.entry) answers.now) }
 {
     let receiver = receiver_at(Some(s));
     if is_single_receiver(receiver) {
@@ -252,7 +263,9 @@ fn valued<'a, 'c>(
     e: &Expr,
     answers: &'a [Told],
 ) -> Result<(Move<'c>, &'a [Told]), Stop>
-    ensures { ComesAs (move_of (env_of env.now) (statement_of s.now)) result (slice.single_value (env_of env.now) (receiver_of (statement_of s.now)) (expression_of e.now) (called (env_of env.now) (expression_of e.now)) answers.now) }
+    ensures { ComesAs (move_of (env_of env.now) (statement_of s.now)) result
+        (slice.single_value (env_of env.now) (receiver_of (statement_of s.now)) (expression_of e.now)
+        (called (env_of env.now) (expression_of e.now)) answers.now) }
 {
     match call(alloc, env, e, answers) {
         Some(came) => came,
@@ -267,19 +280,28 @@ fn step<'a, 'c>(
     s: &'c Stmt,
     answers: &'a [Told],
 ) -> Result<(Move<'c>, &'a [Told]), Stop>
-    ensures { (at : At) → ComesAs (move_of (env_of env.now) (statement_of s.now)) result (slice.single_value (env_of env.now) (receiver_of (statement_of s.now)) (exp.Int at (pos 1)) None answers.now) }
+    ensures { (at : At) → ComesAs (move_of (env_of env.now) (statement_of s.now)) result
+        (slice.single_value (env_of env.now) (receiver_of (statement_of s.now)) (exp.Int at (pos 1)) None answers.now) }
 {
     let one = Held::plain(Value::Int(1));
     received(alloc, env, s, Right::Known(&one), answers)
 }
 
 // The arrival at a broadcast, behind the number of its root.
-#[tactic(auto, using(ti_eval::proofs::Steps::steps))]
+#[tactic(auto, using(ti_eval::proofs::Lemmas::steps))]
 fn broadcast_from<'a, 'c>(
     at: Place,
     got: Result<(u32, &'a [Told]), Stop>,
 ) -> Result<(Move<'c>, &'a [Told]), Stop>
-    ensures { (env : Where) (x : NumberedStm) (m : Got ℕ) → Comes got.entry m → ComesAs (move_of env x) result (followed m (λ root. slice.arriving (record { place = at; kind = coll.Broadcast; arg = Some root; wanted = ValueOf (type_received env x); receiver = receiver_of x }))) }
+    ensures { (env : Where) (x : NumberedStm) (m : Got ℕ) → Comes got.entry m
+        → ComesAs (move_of env x) result (followed m (λ root. slice.arriving
+        (record {
+          place = at;
+          kind = coll.Broadcast;
+          arg = Some root;
+          wanted = ValueOf (type_received env x);
+          receiver = receiver_of x;
+        }))) }
 {
     match got {
         Ok((root, answers)) => {
@@ -301,7 +323,7 @@ fn broadcast_from<'a, 'c>(
 }
 
 // The statement waits for the value of the root of a broadcast; what it gives is left out.
-#[tactic(auto, using(ti_eval::proofs::Steps::steps))]
+#[tactic(auto, using(ti_eval::proofs::Lemmas::steps))]
 fn broadcast<'a, 'c>(
     alloc: Global,
     env: &Env,
@@ -309,7 +331,9 @@ fn broadcast<'a, 'c>(
     root: &Expr,
     answers: &'a [Told],
 ) -> Result<(Move<'c>, &'a [Told]), Stop>
-    ensures { (x : NumberedStm) (value : NumberedExp) → type_received (env_of env.now) x ≡ type_here (env_of env.now) value → ComesAs (move_of (env_of env.now) x) result (slice.single_broadcast (env_of env.now) (receiver_of x) at value (expression_of root.now) answers.now) }
+    ensures { (x : NumberedStm) (value : NumberedExp) → type_received (env_of env.now) x ≡ type_here (env_of env.now) value
+        → ComesAs (move_of (env_of env.now) x) result (slice.single_broadcast (env_of env.now) (receiver_of x) at value
+        (expression_of root.now) answers.now) }
 {
     match evaluate(alloc, env, root, answers) {
         Ok((h, answers)) => broadcast_from(at, root_among(env.team.procs, at, &h, answers)),
@@ -326,7 +350,8 @@ fn initialized<'a, 'c>(
     answers: &'a [Told],
 ) -> Result<(Move<'c>, &'a [Told]), Stop>
     requires { type_received (env_of env.now) (statement_of s.now) ≡ type_given (env_of env.now) (initial_of value.now) }
-    ensures { ComesAs (move_of (env_of env.now) (statement_of s.now)) result (slice.single_initial (env_of env.now) (receiver_of (statement_of s.now)) (initial_of value.now) answers.now) }
+    ensures { ComesAs (move_of (env_of env.now) (statement_of s.now)) result
+        (slice.single_initial (env_of env.now) (receiver_of (statement_of s.now)) (initial_of value.now) answers.now) }
 {
     match value {
         Init::Value(e) => valued(alloc, env, s, e, answers),
@@ -377,7 +402,9 @@ fn member_alone<'a, 'c>(
     name: u32,
     answers: &'a [Told],
 ) -> Result<(Move<'c>, &'a [Told]), Stop>
-    ensures { (x : NumberedStm) → ComesAs (move_of (env_of env.now) x) result (slice.single_member (env_of env.now) at (expression_of receiver.now) (member_called (env_of env.now).program (this_of (env_of env.now).method) (expression_of receiver.now) name) answers.now) }
+    ensures { (x : NumberedStm) → ComesAs (move_of (env_of env.now) x) result
+        (slice.single_member (env_of env.now) at (expression_of receiver.now)
+        (member_called (env_of env.now).program (this_of (env_of env.now).method) (expression_of receiver.now) name) answers.now) }
 {
     match called_member(env, receiver, name) {
         Some(member) => match member {
@@ -390,14 +417,15 @@ fn member_alone<'a, 'c>(
 }
 
 // An expression that is no call of a declared method.
-#[tactic(auto, using(ti_lang::proofs::ProgramBridges::program_bridges))]
+#[tactic(auto, using(ti_lang::proofs::Lemmas::program_bridges))]
 fn alone_uncalled<'a, 'c>(
     alloc: Global,
     env: &Env,
     e: &Expr,
     answers: &'a [Told],
 ) -> Result<(Move<'c>, &'a [Told]), Stop>
-    ensures { (x : NumberedStm) → ComesAs (move_of (env_of env.now) x) result (slice.single_alone (env_of env.now) (expression_of e.now) None answers.now) }
+    ensures { (x : NumberedStm) → ComesAs (move_of (env_of env.now) x) result
+        (slice.single_alone (env_of env.now) (expression_of e.now) None answers.now) }
 {
     match e {
         Expr::Member {
@@ -417,7 +445,8 @@ fn alone<'a, 'c>(
     e: &Expr,
     answers: &'a [Told],
 ) -> Result<(Move<'c>, &'a [Told]), Stop>
-    ensures { ComesAs (move_of (env_of env.now) (stm.Call (expression_of e.now))) result (slice.single_alone (env_of env.now) (expression_of e.now) (called (env_of env.now) (expression_of e.now)) answers.now) }
+    ensures { ComesAs (move_of (env_of env.now) (stm.Call (expression_of e.now))) result
+        (slice.single_alone (env_of env.now) (expression_of e.now) (called (env_of env.now) (expression_of e.now)) answers.now) }
 {
     match call(alloc, env, e, answers) {
         Some(came) => came,
@@ -435,7 +464,8 @@ fn returned<'a, 'c>(
     value: &Option<Expr>,
     answers: &'a [Told],
 ) -> Result<(Move<'c>, &'a [Told]), Stop>
-    ensures { (x : NumberedStm) → ComesAs (move_of (env_of env.now) x) result (slice.single_return (env_of env.now) at (maybe_of expression_of value.now) answers.now) }
+    ensures { (x : NumberedStm) → ComesAs (move_of (env_of env.now) x) result
+        (slice.single_return (env_of env.now) at (maybe_of expression_of value.now) answers.now) }
 {
     if gives_single(env.method) {
         returns(alloc, env, at, value, answers)
@@ -451,7 +481,8 @@ fn present<'a, 'c>(
     s: &'c Stmt,
     answers: &'a [Told],
 ) -> Result<(Move<'c>, &'a [Told]), Stop>
-    ensures { ComesAs (move_of (env_of env.now) (statement_of s.now)) result (slice.single_statement (env_of env.now) (statement_of s.now) answers.now) }
+    ensures { ComesAs (move_of (env_of env.now) (statement_of s.now)) result
+        (slice.single_statement (env_of env.now) (statement_of s.now) answers.now) }
 {
     match s {
         Stmt::Declare { value, .. } => initialized(alloc, env, s, value, answers),
@@ -471,7 +502,8 @@ pub fn single_statement<'a, 'c>(
     x: Option<&'c Stmt>,
     answers: &'a [Told],
 ) -> Result<(Move<'c>, &'a [Told]), Stop>
-    ensures { ComesAs (move_of (env_of env.now) (stm_seen x.entry)) result (slice.single_statement (env_of env.now) (stm_seen x.entry) answers.now) }
+    ensures { ComesAs (move_of (env_of env.now) (stm_seen x.entry)) result
+        (slice.single_statement (env_of env.now) (stm_seen x.entry) answers.now) }
 {
     match x {
         Some(s) => present(alloc, env, s, answers),

@@ -28,7 +28,8 @@ fn stated<'a, 'c>(
     c: &'c Parts,
 ) -> Result<(Move<'c>, &'a [Told]), Stop>
     requires { 0 < length w.now.top.levels.items }
-    ensures { ComesAs (move_of (env_in (program_of c.now) w.now) (here (program_of c.now) w.now.top)) result (single_statement_spec (env_in (program_of c.now) w.now) (here (program_of c.now) w.now.top) w.now.answers.items) }
+    ensures { ComesAs (move_of (env_in (program_of c.now) w.now) (here (program_of c.now) w.now.top)) result
+        (single_statement_spec (env_in (program_of c.now) w.now) (here (program_of c.now) w.now.top) w.now.answers.items) }
 {
     single_statement(alloc, &w.env(c), w.top.stands(c), &w.answers)
 }

@@ -21,7 +21,8 @@ use ti_moves::{body_of, statement_at};
 
 // How many dimensions the domain of a `foreach` has, where these are those of the loops around it.
 fn dims_of_domain(env: &Env, dims: &[ForeachDims], x: Option<&Stmt>) -> usize
-    ensures { result ≡ dim_of_type (type_at (program_of env.now.program.now) (this_of (method_seen env.now.method)) (dims_in (reverse dims.now)) (domain_in (stm_seen x.entry))) }
+    ensures { result ≡ dim_of_type (type_at (program_of env.now.program.now) (this_of (method_seen env.now.method))
+        (dims_in (reverse dims.now)) (domain_in (stm_seen x.entry))) }
 {
     match x {
         Some(s) => match s {

@@ -1,25 +1,26 @@
-pub mod Beginning
-pub mod Counting
-pub mod Counts
-pub mod Courses
-pub mod Crossing
-pub mod Deleting
-pub mod Deposits
-pub mod Doing
-pub mod Forgetting
-pub mod Forming
-pub mod HeapSteps
-pub mod Lockstep
-pub mod Logging
-pub mod Meeting
-pub mod Names
-pub mod NewThings
-pub mod OneMore
-pub mod Placing
-pub mod Referring
-pub mod RegionRounds
-pub mod Replies
-pub mod Running
-pub mod Stepping
-pub mod Ticks
-pub mod Using
+mod Beginning
+mod Counting
+mod Counts
+mod Courses
+mod Crossing
+mod Deleting
+mod Deposits
+mod Doing
+mod Forgetting
+mod Forming
+mod HeapSteps
+mod Lockstep
+mod Logging
+mod Meeting
+mod Names
+mod NewThings
+mod OneMore
+mod Placing
+mod Referring
+mod RegionRounds
+mod Replies
+mod Running
+mod Stepping
+mod Ticks
+mod Using
+pub mod Lemmas

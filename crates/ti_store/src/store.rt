@@ -78,7 +78,11 @@ impl<J: Terms> Store<J> {
     pub fn new(alloc: Global, c: &Checked, procs: u32, fuel: u32) -> Result<Self, Memory>
         requires within { IsWithin procs fuel }
         requires terms { record { program = program_of c.now.program.parts; procs = procs; fuel = fuel } ≡ J.setting }
-        ensures setting { IfOk result (λ s. setting_of s ≡ record { program = program_of c.now.program.parts; procs = procs; fuel = fuel }) }
+        ensures setting { IfOk result (λ s. setting_of s ≡ record {
+          program = program_of c.now.program.parts;
+          procs = procs;
+          fuel = fuel;
+        }) }
         ensures entries { IfOk result (λ s. s.entries ≡ []) }
         ensures halted { IfOk result (λ s. s.halted ≡ false) }
     {

@@ -1,1 +1,2 @@
-pub mod Bridges
+mod Bridges
+pub mod Lemmas

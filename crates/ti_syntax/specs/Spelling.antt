@@ -51,7 +51,8 @@ IsAbove (Some (Weight n)) = most_weight < n
 
 -- in every tree whose list begins with this front and this token, the token has a level or a weight above the limit
 abbrev pub IsTooDeep : List Token → Token → Type 0
-IsTooDeep front t = (more : List Token) (tree : TextTree) (text : Spells (front ++ t ∷ more) tree) → IsAbove (slice_get (loads_of text) (length front))
+IsTooDeep front t =
+    (more : List Token) (tree : TextTree) (text : Spells (front ++ t ∷ more) tree) → IsAbove (slice_get (loads_of text) (length front))
 
 -- no token of the list is too deep
 abbrev pub IsShallow : List Token → Type 0
@@ -65,9 +66,11 @@ pub data Misfit : Type 0 where
 -- the token behind this front of the list shows what is wrong with it
 pub data ShowsMisfit : Misfit → List Token → Token → Type 0 where
   -- the first token such that the tokens up to and including it begin no text
-  unexpected : {front : List Token} {t : Token} → BeginsText front → (BeginsText (front ++ t ∷ []) → ⊥) → IsShallow front → ShowsMisfit Unexpected front t
+  unexpected : {front : List Token} {t : Token} → BeginsText front → (BeginsText (front ++ t ∷ []) → ⊥) → IsShallow front
+      → ShowsMisfit Unexpected front t
   -- the first token before that which is too deep
-  too_deep : {front : List Token} {t : Token} → BeginsText (front ++ t ∷ []) → IsTooDeep front t → IsShallow front → ShowsMisfit TooDeep front t
+  too_deep : {front : List Token} {t : Token} → BeginsText (front ++ t ∷ []) → IsTooDeep front t → IsShallow front
+      → ShowsMisfit TooDeep front t
 
 -- what is wrong with a list of tokens, and the place of the token that shows it: nothing exactly where the list spells a tree
 -- and none of its tokens is too deep

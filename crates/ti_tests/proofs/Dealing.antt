@@ -10,7 +10,8 @@ use Rattle.ti_turnstile.specs.Turnstiles.{turnstile_of, number_of, seen_by, AreN
 
 module _ {V I : Type 0} {g : _} (turnstile : TableId) where
   -- the last of new passes, and those before it
-  pub last_pass : (all xs : List (Pass V I g)) (p : Pass V I g) → all ≡ xs ++ p ∷ [] → AreNew turnstile all → (turnstile_of p ≡ turnstile) × (number_of p ≡ length xs) × (seen_by p ≡ []) × AreNew turnstile xs
+  pub last_pass : (all xs : List (Pass V I g)) (p : Pass V I g) → all ≡ xs ++ p ∷ [] → AreNew turnstile all → (turnstile_of p ≡ turnstile)
+      × (number_of p ≡ length xs) × (seen_by p ≡ []) × AreNew turnstile xs
   last_pass all xs p is new =
       let new' = subst (AreNew turnstile) is new in
       let last = new' (length xs) p (at_last xs p (length xs) refl) in

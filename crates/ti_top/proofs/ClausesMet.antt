@@ -36,7 +36,9 @@ use Rattle.ti_top.specs.Mirrors.Leaving.{LeavesOut}
 use Rattle.ti_top.specs.Run.{HasFile, Runs, HasCode, Verifies, Infers, HasHistory, run_of, fault_entry, EndsWithFault}
 use Rattle.ti_top.specs.Mirrors.Work.{kept_in, RanNothing, Ran, WasRefused, WasChecked, WasCoded, WasInferred, RunTextSays, CheckTextSays, CodeTextSays, InferTextSays, TextSays, FileSays, FileDone, SeedDone, TraceDone, WorkSays, work_of, DidNothing}
 use Rattle.ti_top.specs.Call.{most_read, Call, IsCommand, IsNoCommand, file_in, file_of, SinkRose, ErrRose, Yields, WantsReport}
-use Rattle.ti_top.specs.Clauses.{IsAcceptedIn, IsRefusalIn, InfersMarks, IsReadWhole, IsWholeIn, HasText, ReadsText, MakesText, GetsText, RefusesExactly, KeepsRun, RunsCode, CountsInstructions, WhereAccepted, WhereRun, WritesAll, WritesOutput, IsAlignedRun, IsDeterminate, EndsRun, NothingFailed, IsComplete, MeetsBesideErr, Says, before_err, Meets}
+use Rattle.ti_top.specs.Clauses.{IsAcceptedIn, IsRefusalIn, InfersMarks, IsReadWhole, IsWholeIn, HasText, ReadsText, MakesText, GetsText}
+use Rattle.ti_top.specs.Clauses.{RefusesExactly, KeepsRun, RunsCode, CountsInstructions, WhereAccepted, WhereRun, WritesAll, WritesOutput}
+use Rattle.ti_top.specs.Clauses.{IsAlignedRun, IsDeterminate, EndsRun, NothingFailed, IsComplete, MeetsBesideErr, Says, before_err, Meets}
 use Rattle.ti_top.specs.Traces.{IsWrongTrace, VerifiesTrace, TraceDecides}
 use Rattle.ti_top.specs.Inference.{marks_text}
 use Rattle.ti_top.specs.Mirrors.Compiling.{HasNoProgram}
@@ -77,7 +79,9 @@ nothing_of_unbegun Verify run runs cut = absurd runs
 nothing_of_unbegun Infer run runs cut = absurd runs
 
 -- where nothing was written, the status owes nothing, and an empty history isn't complete
-output_nothing : (c : Call) → (c.status ≡ 0 → WhereAccepted c (λ job program. output job program c.history (wanted job c.watchers) ≡ [])) → (c.status ≡ 2 → WhereAccepted c (λ job program. ⊥)) → (c.status ≡ 6 → WhereRun c (λ job program. IsCompleteRun (run_of program job) [] → ⊥)) → RanNothing c.out c.out_after (kept_in c) → WritesOutput c
+output_nothing : (c : Call) → (c.status ≡ 0 → WhereAccepted c (λ job program. output job program c.history (wanted job c.watchers) ≡ []))
+    → (c.status ≡ 2 → WhereAccepted c (λ job program. ⊥)) → (c.status ≡ 6
+    → WhereRun c (λ job program. IsCompleteRun (run_of program job) [] → ⊥)) → RanNothing c.out c.out_after (kept_in c) → WritesOutput c
 output_nothing c done_of_none not_faulted not_complete x =
     let same : c.out_after.taken ≡ c.out.taken = ap (λ s. s.taken) x.unwritten in
     let grew_none : c.out_after.taken ≡ c.out.taken ++ [] = same ∙ sym (append-nil c.out.taken) in
@@ -97,7 +101,8 @@ output_nothing c done_of_none not_faulted not_complete x =
         few = [];
         others = wanted job c.watchers;
         first = refl;
-        grew = grew_none ∙ ap (λ t. c.out.taken ++ t) (sym (ap (λ h. output job program h []) x.no_entry ∙ nothing_of_unbegun job.mode (run_of program job) mode (not_complete is job command mode program has)));
+        grew = grew_none ∙ ap (λ t. c.out.taken ++ t) (sym (ap (λ h. output job program h []) x.no_entry
+            ∙ nothing_of_unbegun job.mode (run_of program job) mode (not_complete is job command mode program has)));
         none_of_cut = λ _. refl;
         not_all = λ complete. absurd (not_complete is job command mode program has (subst (λ h. IsCompleteRun (run_of program job) h) x.no_entry complete));
       };
@@ -356,7 +361,9 @@ clauses_cant_read job c some named from cause x = record {
   run = run_nothing job c x.no_entry;
   code = no_code job c x.no_code (λ is. absurd (never CantRead c 0 from (λ e. omega arith) (λ e. omega arith) is)) (λ is. absurd (never CantRead c 2 from (λ e. omega arith) (λ e. omega arith) is));
   count = no_count job c x.no_count (λ is. absurd (never CantRead c 0 from (λ e. omega arith) (λ e. omega arith) is)) (λ is. absurd (never CantRead c 2 from (λ e. omega arith) (λ e. omega arith) is));
-  output = output_nothing c (λ is. absurd (never CantRead c 0 from (λ e. omega arith) (λ e. omega arith) is)) (λ is. absurd (never CantRead c 2 from (λ e. omega arith) (λ e. omega arith) is)) (λ is. absurd (never CantRead c 6 from (λ e. omega arith) (λ e. omega arith) is)) x;
+  output = output_nothing c (λ is. absurd (never CantRead c 0 from (λ e. omega arith) (λ e. omega arith) is))
+      (λ is. absurd (never CantRead c 2 from (λ e. omega arith) (λ e. omega arith) is))
+      (λ is. absurd (never CantRead c 6 from (λ e. omega arith) (λ e. omega arith) is)) x;
   alignment = λ _. record {
     done = λ is. absurd (never CantRead c 0 from (λ e. omega arith) (λ e. omega arith) is);
     faulted = λ is. absurd (never CantRead c 2 from (λ e. omega arith) (λ e. omega arith) is);
@@ -395,7 +402,9 @@ clauses_no_memory job c command some from x = record {
   run = run_nothing job c x.no_entry;
   code = no_code job c x.no_code (λ is. absurd (never NoMemory c 0 from (λ e. omega arith) (λ e. omega arith) is)) (λ is. absurd (never NoMemory c 2 from (λ e. omega arith) (λ e. omega arith) is));
   count = no_count job c x.no_count (λ is. absurd (never NoMemory c 0 from (λ e. omega arith) (λ e. omega arith) is)) (λ is. absurd (never NoMemory c 2 from (λ e. omega arith) (λ e. omega arith) is));
-  output = output_nothing c (λ is. absurd (never NoMemory c 0 from (λ e. omega arith) (λ e. omega arith) is)) (λ is. absurd (never NoMemory c 2 from (λ e. omega arith) (λ e. omega arith) is)) (λ _ other is _ program _. unbegun (run_of program other) (some other is)) x;
+  output = output_nothing c (λ is. absurd (never NoMemory c 0 from (λ e. omega arith) (λ e. omega arith) is))
+      (λ is. absurd (never NoMemory c 2 from (λ e. omega arith) (λ e. omega arith) is))
+      (λ _ other is _ program _. unbegun (run_of program other) (some other is)) x;
   alignment = λ _. record {
     done = λ is. absurd (never NoMemory c 0 from (λ e. omega arith) (λ e. omega arith) is);
     faulted = λ is. absurd (never NoMemory c 2 from (λ e. omega arith) (λ e. omega arith) is);
@@ -456,7 +465,8 @@ check_or_code : (mode : Mode) → mode ≡ Check → mode ≡ Code → ⊥
 check_or_code m check code = let e = sym check ∙ code in cc
 
 -- the program was run
-clauses_ran : (before : Ending) (job : Job) (c : Call) → Runs job.mode → IsCommand c job → StatusFrom before c → HasText job c → Ran job (wanted job c.watchers) c.text c.out c.out_after (kept_in c) before → Clauses job c
+clauses_ran : (before : Ending) (job : Job) (c : Call) → Runs job.mode → IsCommand c job → StatusFrom before c → HasText job c
+    → Ran job (wanted job c.watchers) c.text c.out c.out_after (kept_in c) before → Clauses job c
 clauses_ran before job c mode command from whole x =
     let says = x.says in
     let only = x.compiled.only in
@@ -492,7 +502,9 @@ clauses_ran before job c mode command from whole x =
       };
       count = record {
         ended = λ is _ p has. subst (λ (q : NumberedProgram). IsDone (program_code q) (run_of q job) c.history c.done) (sym (only p has)) (says.counted (done_at before c from is));
-        faulted = λ is p has. let f = faulted_at before c from is in subst (λ (q : NumberedProgram). IsDone (program_code q) (run_of q job) c.history c.done) (sym (only p has)) (says.counted_at_fault f.0 f.1);
+        faulted = λ is p has. let f = faulted_at before c from is in
+            subst (λ (q : NumberedProgram). IsDone (program_code q) (run_of q job) c.history c.done) (sym (only p has))
+            (says.counted_at_fault f.0 f.1);
         none = λ h. absurd (h x.program x.compiled.has);
         unrun = λ unrun. absurd (unrun mode);
       };
@@ -591,7 +603,8 @@ clauses_ran before job c mode command from whole x =
 
     -- a status that no ending of a run has
     other : (n : ℕ) → (0 ≡ n → ⊥) → (2 ≡ n → ⊥) → (6 ≡ n → ⊥) → (5 ≡ n → ⊥) → c.status ≡ n → ⊥
-    other n a b d e is = never before c n from (λ s. by_end (λ k. a (sym (ap status_of k) ∙ s)) (λ k. b (sym (ap status_of k.1) ∙ s)) (λ k. d (sym (ap status_of k) ∙ s)) (λ k. e (sym (ap status_of k) ∙ s))) e is
+    other n a b d e is = never before c n from (λ s. by_end (λ k. a (sym (ap status_of k) ∙ s)) (λ k. b (sym (ap status_of k.1) ∙ s))
+        (λ k. d (sym (ap status_of k) ∙ s)) (λ k. e (sym (ap status_of k) ∙ s))) e is
 
     -- what holds of this job and this program holds of each that the call has
     alone : (P : Job → NumberedProgram → Type 0) → P job x.program → WhereAccepted c P
@@ -648,7 +661,8 @@ clauses_checked job c command mode from whole x =
     }
 
 -- the code of the program was written
-clauses_coded : (before : Ending) (job : Job) (c : Call) → IsCommand c job → job.mode ≡ Code → (before ≡ Done) ⊎ (before ≡ CantWrite) → StatusFrom before c → HasText job c → WasCoded c.text c.out c.out_after (kept_in c) before → Clauses job c
+clauses_coded : (before : Ending) (job : Job) (c : Call) → IsCommand c job → job.mode ≡ Code → (before ≡ Done) ⊎ (before ≡ CantWrite)
+    → StatusFrom before c → HasText job c → WasCoded c.text c.out c.out_after (kept_in c) before → Clauses job c
 clauses_coded before job c command mode either from whole x =
     let only = x.compiled.only in
     let marked : Infers job.mode → ⊥ = λ infers. subst Infers mode infers in
@@ -679,7 +693,8 @@ clauses_coded before job c command mode either from whole x =
       };
       count = no_count job c x.no_count (λ _ run _ _. run_or_code job.mode run mode) (λ is. absurd (other 2 (λ e. omega arith) (λ e. omega arith) is));
       output = record {
-        done = λ is told. alone (λ j q. GrewBy c.out c.out_after (output j q c.history (wanted j c.watchers))) (subst (λ t. GrewBy c.out c.out_after t) (sym text_is) (x.wrote.all (done_at before c from is) told));
+        done = λ is told. alone (λ j q. GrewBy c.out c.out_after (output j q c.history (wanted j c.watchers)))
+            (subst (λ t. GrewBy c.out c.out_after t) (sym text_is) (x.wrote.all (done_at before c from is) told));
         faulted = λ is. absurd (other 2 (λ e. omega arith) (λ e. omega arith) is);
         nothing_at_one = λ is. absurd (other 1 (λ e. omega arith) (λ e. omega arith) is);
         nothing_at_three = λ is. absurd (other 3 (λ e. omega arith) (λ e. omega arith) is);
@@ -1006,7 +1021,8 @@ told_run : (before : Ending) (job : Job) (c : Call) → Runs job.mode → IsComm
 told_run Done job c runs command some whole says from =
     record { clauses = clauses_ran Done job c runs command from whole says; says = (job, command, accepted_in job.mode c.text (runs_marked job.mode runs) (says.program, says.compiled.has)) }
 told_run (Refused refusal) job c runs command some whole says from = told_refused refusal job c (runs_marked job.mode runs) command some from whole says
-told_run (Faulted fault) job c runs command some whole says from = record { clauses = clauses_ran (Faulted fault) job c runs command from whole says; says = (job, command, says.says.faulted fault refl) }
+told_run (Faulted fault) job c runs command some whole says from =
+    record { clauses = clauses_ran (Faulted fault) job c runs command from whole says; says = (job, command, says.says.faulted fault refl) }
 told_run NoCommand job c runs command some whole says from = absurd says
 told_run CantRead job c runs command some whole says from = absurd says
 told_run (NoRun line) job c runs command some whole says from = absurd says
@@ -1028,7 +1044,10 @@ told_text Check CantWrite job c unverified mode command some whole says from = a
 told_text Check NoMemory job c unverified mode command some whole says from = told_unrun job c command some says from
 told_text Check (NoRun line) job c unverified mode command some whole says from = absurd says
 told_text Code Done job c unverified mode command some whole says from =
-    record { clauses = clauses_coded Done job c command mode (inl refl) from whole says; says = (job, command, accepted_in job.mode c.text (λ infers. subst Infers mode infers) (says.program, says.compiled.has)) }
+    record {
+      clauses = clauses_coded Done job c command mode (inl refl) from whole says;
+      says = (job, command, accepted_in job.mode c.text (λ infers. subst Infers mode infers) (says.program, says.compiled.has));
+    }
 told_text Code (Refused refusal) job c unverified mode command some whole says from = told_refused refusal job c (λ infers. subst Infers mode infers) command some from whole says
 told_text Code (Faulted fault) job c unverified mode command some whole says from = absurd says
 told_text Code NoCommand job c unverified mode command some whole says from = absurd says
@@ -1057,7 +1076,9 @@ told_text Infer CantWrite job c unverified mode command some whole says from =
 told_text Infer NoMemory job c unverified mode command some whole says from = told_unrun job c command some says from
 told_text Infer (NoRun line) job c unverified mode command some whole says from = absurd says
 
-told_file : (before : Ending) (end : ReadEnd) (job : Job) (c : Call) → HasFile job.mode → (Verifies job.mode → ⊥) → IsCommand c job → 1 ≤ job.procs → ReadsWhole job.file c.source c.source_after c.text end → FileSays end before job (work_of job c) → StatusFrom before c → ToldOf before job c
+told_file : (before : Ending) (end : ReadEnd) (job : Job) (c : Call) → HasFile job.mode → (Verifies job.mode → ⊥) → IsCommand c job
+    → 1 ≤ job.procs → ReadsWhole job.file c.source c.source_after c.text end → FileSays end before job (work_of job c) → StatusFrom before c
+    → ToldOf before job c
 told_file before Read.Whole job c named unverified command some read says from =
     told_text job.mode before job c unverified refl command some (whole_read job.mode job c named (read_whole before job c read (ends_as Read.Whole before job c says) from)) says from
 told_file before Read.CantRead job c named unverified command some read says from =
@@ -1076,7 +1097,8 @@ gets_read Gen job c named reads = absurd named
 gets_read Verify job c named reads = reads
 gets_read Infer job c named reads = reads
 
-told_read : (before : Ending) (job : Job) (c : Call) → HasFile job.mode → (Verifies job.mode → ⊥) → IsCommand c job → 1 ≤ job.procs → FileDone job before (work_of job c) → StatusFrom before c → Told before job c
+told_read : (before : Ending) (job : Job) (c : Call) → HasFile job.mode → (Verifies job.mode → ⊥) → IsCommand c job → 1 ≤ job.procs
+    → FileDone job before (work_of job c) → StatusFrom before c → Told before job c
 told_read before job c named unverified command some work from =
     let fits = ends_as work.end before job c work.says in
     let k = told_file before work.end job c named unverified command some work.read work.says from in
@@ -1092,17 +1114,35 @@ whole_text : (before : Ending) (job : Job) (c : Call) (mid : SourceState) → jo
     → (before ≡ NoCommand → ⊥) → (before ≡ CantRead → ⊥) → HasText job c
 whole_text before job c mid mode read from commanded readable =
     whole_read job.mode job c (subst HasFile (sym mode) tt)
-    (whole_of job c mid read (λ is. commanded (is_no_command before (not_five before 3 c from is (λ e. omega arith)))) (λ _ is. readable (is_cant_read before (not_five before 4 c from is (λ e. omega arith)))))
+    (whole_of job c mid read (λ is. commanded (is_no_command before (not_five before 3 c from is (λ e. omega arith))))
+    (λ _ is. readable (is_cant_read before (not_five before 4 c from is (λ e. omega arith)))))
 
 -- a trace was held against the text, which was read
 told_held : (before : Ending) (job : Job) (c : Call) (mid : SourceState) → job.mode ≡ Verify → IsCommand c job → 1 ≤ job.procs → TraceDone job before (work_of job c)
     → ReadsWhole job.file c.source mid c.text Read.Whole → WasRead mid c.source_after → HeldSays before job c.text mid c.source_after c.history → StatusFrom before c → ToldOf before job c
 told_held Done job c mid mode command some work read later says from =
     let k = verdict_run job c mid (record { never_falls = read.never_falls; same = read.same }) says in
-    record { clauses = clauses_verified Done job c mode command from (whole_text Done job c mid mode read from (λ e. let x = e in cc) (λ e. let x = e in cc)) k work.unwritten work.no_code work.no_count; says = (job, command, accepted_in job.mode c.text (λ infers. subst Infers mode infers) (k.program, k.compiled.has)) }
+    record {
+      clauses = clauses_verified Done job c mode command from
+          (whole_text Done job c mid mode read from (λ e. let x = e in cc) (λ e. let x = e in cc)) k work.unwritten work.no_code
+          work.no_count;
+      says = (
+        job,
+        command,
+        accepted_in job.mode c.text (λ infers. subst Infers mode infers) (
+          k.program,
+          k.compiled.has,
+        ),
+      );
+    }
 told_held (NoRun line) job c mid mode command some work read later says from =
     let k = verdict_wrong line job c mid (record { never_falls = read.never_falls; same = read.same }) says in
-    record { clauses = clauses_verified (NoRun line) job c mode command from (whole_text (NoRun line) job c mid mode read from (λ e. let x = e in cc) (λ e. let x = e in cc)) k work.unwritten work.no_code work.no_count; says = (job, command, k.wrong line refl) }
+    record {
+      clauses = clauses_verified (NoRun line) job c mode command from
+          (whole_text (NoRun line) job c mid mode read from (λ e. let x = e in cc) (λ e. let x = e in cc)) k work.unwritten work.no_code
+          work.no_count;
+      says = (job, command, k.wrong line refl);
+    }
 told_held CantRead job c mid mode command some work read later says from =
     let cause = cause_of job c mid (subst Verifies (sym mode) tt) read says in
     let nothing : RanNothing c.out c.out_after (kept_in c) = record { unwritten = work.unwritten; no_entry = says.says.1; no_code = work.no_code; no_count = work.no_count } in
@@ -1160,7 +1200,8 @@ told_made before job c gen command some work from = elim work.says [
       }
 ]
 
-told_in : (mode : Mode) (before : Ending) (job : Job) (c : Call) → job.mode ≡ mode → IsCommand c job → 1 ≤ job.procs → WorkSays mode job before (work_of job c) → StatusFrom before c → Told before job c
+told_in : (mode : Mode) (before : Ending) (job : Job) (c : Call) → job.mode ≡ mode → IsCommand c job → 1 ≤ job.procs
+    → WorkSays mode job before (work_of job c) → StatusFrom before c → Told before job c
 told_in Run before job c mode command some work from = told_read before job c (subst HasFile (sym mode) tt) (λ verifies. subst Verifies mode verifies) command some work from
 told_in Check before job c mode command some work from = told_read before job c (subst HasFile (sym mode) tt) (λ verifies. subst Verifies mode verifies) command some work from
 told_in Code before job c mode command some work from = told_read before job c (subst HasFile (sym mode) tt) (λ verifies. subst Verifies mode verifies) command some work from
@@ -1192,7 +1233,9 @@ beside_command before job c x leaves from =
     }
 
 -- what was done, and how the line on err was written, meet the clauses
-pub meets_command : (before : Ending) (job : Job) (c : Call) → IsCommand c job → 1 ≤ job.procs → WorkSays job.mode job before (work_of job c) → LeavesOut before c.out c.out_after → Ended before job.file c.err c.err_after c.status → Meets c
+pub meets_command : (before : Ending) (job : Job) (c : Call) → IsCommand c job → 1 ≤ job.procs
+    → WorkSays job.mode job before (work_of job c) → LeavesOut before c.out c.out_after → Ended before job.file c.err c.err_after c.status
+    → Meets c
 meets_command before job c command some work leaves written =
     let ended = subst (λ file. Ended before file c.err c.err_after c.status) (sym (ap file_in command)) written in
     let x : Commanded before job c = record { command = command; some = some; work = work } in
@@ -1252,7 +1295,9 @@ beside_unread c some x from = record {
   run = λ job command. (clauses_no_memory job c command some from x.nothing).run;
   code = λ job command. (clauses_no_memory job c command some from x.nothing).code;
   count = λ job command. (clauses_no_memory job c command some from x.nothing).count;
-  output = output_nothing c (λ is. absurd (never NoMemory c 0 from (λ e. omega arith) (λ e. omega arith) is)) (λ is. absurd (never NoMemory c 2 from (λ e. omega arith) (λ e. omega arith) is)) (λ _ other is _ program _. unbegun (run_of program other) (some other is)) x.nothing;
+  output = output_nothing c (λ is. absurd (never NoMemory c 0 from (λ e. omega arith) (λ e. omega arith) is))
+      (λ is. absurd (never NoMemory c 2 from (λ e. omega arith) (λ e. omega arith) is))
+      (λ _ other is _ program _. unbegun (run_of program other) (some other is)) x.nothing;
   flushes = flushes_out c NoMemory from (inr (inl x.nothing.unwritten));
   alignment = λ _ _ _. record {
     done = λ is. absurd (never NoMemory c 0 from (λ e. omega arith) (λ e. omega arith) is);

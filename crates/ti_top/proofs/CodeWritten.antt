@@ -19,7 +19,8 @@ text_is : (p : NumberedProgram) (code : Code) (text : List ℕ) → Listed p cod
 text_is p code text listed = listed.spelled ∙ ap code_text listed.is
 
 -- the whole text was written
-pub wrote_whole : {T E : Type 0} (p : NumberedProgram) (code : Code) (text : List ℕ) (s0 s1 : SinkState) (x : T) → Listed p code text → Writes {E = E} text s0 s1 (Ok x) → WroteCode p s0 s1 (Some code) Done
+pub wrote_whole : {T E : Type 0} (p : NumberedProgram) (code : Code) (text : List ℕ) (s0 s1 : SinkState) (x : T) → Listed p code text
+    → Writes {E = E} text s0 s1 (Ok x) → WroteCode p s0 s1 (Some code) Done
 wrote_whole p code text s0 s1 x listed wrote = record {
   there = ap Some listed.is;
   follows = subst (λ (c : Code). Follows c p) listed.is listed.follows;
@@ -29,7 +30,8 @@ wrote_whole p code text s0 s1 x listed wrote = record {
 }
 
 -- a call failed
-pub wrote_cut : {T E : Type 0} (p : NumberedProgram) (code : Code) (text : List ℕ) (s0 s1 : SinkState) (e : E) → Listed p code text → Writes {T = T} text s0 s1 (Err e) → WroteCode p s0 s1 (Some code) CantWrite
+pub wrote_cut : {T E : Type 0} (p : NumberedProgram) (code : Code) (text : List ℕ) (s0 s1 : SinkState) (e : E) → Listed p code text
+    → Writes {T = T} text s0 s1 (Err e) → WroteCode p s0 s1 (Some code) CantWrite
 wrote_cut p code text s0 s1 e listed wrote = record {
   there = ap Some listed.is;
   follows = subst (λ (c : Code). Follows c p) listed.is listed.follows;

@@ -13,7 +13,7 @@ use Rattle.ti_syntax.specs.Trees.Text.{tree_of}
 use Rattle.ti_rules.specs.declared.checked.Checked.{Checked}
 use Rattle.ti_rules.specs.declared.rule.Rule.{Rule}
 use Rattle.ti_rules.specs.declared.refusal.Refusal.{Refusal}
-use Rattle.ti_rules.proofs.OneAnswer.{OneReading}
+use Rattle.ti_rules.proofs.Lemmas.{OneReading}
 use Rattle.ti_rules.specs.RefusalOf.{of_names as of_names_first, of_program, HasTokens, HasTree, rule_of_misfit, IsRefusal, of_bytes, of_tokens, of_tree, HasProgram}
 use Rattle.ti_lex.specs.declared.error.LexErr.{LexErr}
 use Rattle.ti_lex.specs.declared.error.LexErr.TheVariants as lexer

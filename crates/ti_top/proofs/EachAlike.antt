@@ -9,7 +9,7 @@ use Rattle.ti_lang.specs.Meaning.Processes.{Setting}
 use Rattle.ti_lang.specs.Meaning.Histories.{is_end, is_fault, entries_of, has_end, has_fault}
 use Rattle.ti_lang.specs.Meaning.Determinacy.{IsFront}
 use Rattle.ti_lang.specs.Meaning.Runs.{IsRun, none, more, AllEnded, IsComplete}
-use Rattle.ti_lang.proofs.MeaningLaws.Running.{taker}
+use Rattle.ti_lang.proofs.Lemmas.{taker}
 use Rattle.ti_top.proofs.FaultLast.{true_false, not_all_ended}
 use Rattle.ti_top.proofs.OneRun.{split}
 

@@ -87,12 +87,14 @@ nothing_has known c none program has = no_program known.one_list program (subst 
 
 missing_alike : OneAnswer → (job : Job) (c d : Call) → Meets c → Meets d → IsCommand c job → IsCommand d job
     → (c.status ≡ 4) → (d.status ≡ 4) → c.text ≡ [] → d.text ≡ [] → EndAlike c d
-missing_alike known job c d m n x y four fourth none nought = all_alike c d (none ∙ sym nought) ((m.beside_err.code job x).none (nothing_has known c none) ∙ sym ((n.beside_err.code job y).none (nothing_has known d nought))) (record {
-  status = four ∙ sym fourth;
-  history = (m.beside_err.run job x).none (nothing_has known c none) ∙ sym ((n.beside_err.run job y).none (nothing_has known d nought));
-  done = (m.beside_err.count job x).none (nothing_has known c none) ∙ sym ((n.beside_err.count job y).none (nothing_has known d nought));
-  output = λ watchers told heard. nothing_grew c d (m.beside_err.output.nothing_at_four four) (n.beside_err.output.nothing_at_four fourth);
-})
+missing_alike known job c d m n x y four fourth none nought = all_alike c d (none ∙ sym nought)
+    ((m.beside_err.code job x).none (nothing_has known c none) ∙ sym ((n.beside_err.code job y).none (nothing_has known d nought)))
+    (record {
+      status = four ∙ sym fourth;
+      history = (m.beside_err.run job x).none (nothing_has known c none) ∙ sym ((n.beside_err.run job y).none (nothing_has known d nought));
+      done = (m.beside_err.count job x).none (nothing_has known c none) ∙ sym ((n.beside_err.count job y).none (nothing_has known d nought));
+      output = λ watchers told heard. nothing_grew c d (m.beside_err.output.nothing_at_four four) (n.beside_err.output.nothing_at_four fourth);
+    })
 
 -- ---- the text is judged
 
@@ -220,7 +222,8 @@ run_alike known job c d m n u v x y whole all same a b runs program has = record
     ended_same : job.workers ≡ 1 → EndSame c d
     ended_same alone =
         let one : c.history ≡ d.history =
-        one_run (run_of program job) c.history d.history ((m.beside_err.run job x).solo runs alone program has) (whole.ended runs program has) ((n.beside_err.run job y).solo runs alone program has_too)
+        one_run (run_of program job) c.history d.history ((m.beside_err.run job x).solo runs alone program has)
+        (whole.ended runs program has) ((n.beside_err.run job y).solo runs alone program has_too)
         (all.ended runs program has_too) in
         record {
           status = statuses one a b;
@@ -326,7 +329,8 @@ marked_alike known job c d m n ask u v x y whole all same marked = by (known.som
     run_of_both unverified runs a b program has =
         run_alike known job c d m n u v x y whole all same (of_run job c m x unverified a) (of_run job d n y unverified b) runs program has
 
-    unrun_of_both : (unverified : Verifies job.mode → ⊥) → (job.mode ≡ Check) ⊎ (job.mode ≡ Code) → Accepts job c → Accepts job d → (program : NumberedProgram) → HasProgram c.text program → EndAlike c d
+    unrun_of_both : (unverified : Verifies job.mode → ⊥) → (job.mode ≡ Check) ⊎ (job.mode ≡ Code) → Accepts job c → Accepts job d
+        → (program : NumberedProgram) → HasProgram c.text program → EndAlike c d
     unrun_of_both unverified mode a b program has =
         unrun_alike job c d m n x y same (of_run job c m x unverified a) (of_run job d n y unverified b) mode program has
 

@@ -16,7 +16,8 @@ use Rattle.ti_top.proofs.FaultLast.{fault_is_last}
 abbrev IsAtEnd : RunEnd → Option Fault → Type 0
 IsAtEnd end found = (fault : Fault) → EndsWithFault end.history.items fault → found ≡ Some fault
 
-pub run_faulted : (c : Code) (s : Setting) (workers : ℕ) (end : RunEnd) (fault : Fault) → Ran c s workers end → end.how ≡ Faulted → IsAtEnd end (Some fault) → RunEnds s end.history.items (ending.Faulted fault)
+pub run_faulted : (c : Code) (s : Setting) (workers : ℕ) (end : RunEnd) (fault : Fault) → Ran c s workers end → end.how ≡ Faulted
+    → IsAtEnd end (Some fault) → RunEnds s end.history.items (ending.Faulted fault)
 run_faulted c s workers end fault ran is found =
     let last = fault_is_last s end.history.items ran.run (ran.faulted.0 is) in
     subst (EndsWithFault end.history.items) (sym (same_Some fault last.0 (found last.0 last.1))) last.1

@@ -53,7 +53,8 @@ faulty (act.Fault kind) h = (kind, refl)
 faulty a h = absurd (true_false (sym h))
 
 -- an action that is a fault is answered as one
-of_outcome : (i : ℕ) (at : Place) (a : Action) (o : Outcome) (e : Entry) → ((kind : FaultKind) → a ≡ act.Fault kind → o ≡ Answers Done) → entry_with i at a o ≡ Some e → is_fault e.act ≡ true → IsFaultEntry e
+of_outcome : (i : ℕ) (at : Place) (a : Action) (o : Outcome) (e : Entry) → ((kind : FaultKind) → a ≡ act.Fault kind → o ≡ Answers Done)
+    → entry_with i at a o ≡ Some e → is_fault e.act ≡ true → IsFaultEntry e
 of_outcome i at a (Answers answer) e says is h =
     let same = same_Some _ e is in
     let f = faulty a (ap (λ (x : Entry). is_fault x.act) same ∙ h) in

@@ -85,7 +85,8 @@ traced values mode file against = option_and_then (seeded values mode file again
 abbrev named : Values → Mode → Word → Option Job
 named values mode file = option_and_then (traced values mode file) (against_of mode values.against)
 
-within : (values : Values) (mode : Mode) (file against : Word) (seed procs workers fuel : ℕ) (job : Job) → job_with values mode file against seed procs workers fuel ≡ job → IsWithin procs fuel → 1 ≤ workers → IsInRanges job
+within : (values : Values) (mode : Mode) (file against : Word) (seed procs workers fuel : ℕ) (job : Job)
+    → job_with values mode file against seed procs workers fuel ≡ job → IsWithin procs fuel → 1 ≤ workers → IsInRanges job
 within values _ file against seed procs workers fuel job same is some = subst IsInRanges same (record { within = is; workers = some })
 
 ranges : (values : Values) (job : Job) → job_by values ≡ Some job → IsInRanges job

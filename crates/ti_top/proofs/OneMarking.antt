@@ -14,8 +14,7 @@ use Rattle.ti_rules.specs.Refusals.{IsFirstRefusal}
 use Rattle.ti_rules.specs.BrokenNames.{BreaksNames}
 use Rattle.ti_rules.specs.TypeRules.{type_refusals}
 use Rattle.ti_rules.specs.RefusalOf.{HasTokens, HasTree, IsRefusal}
-use Rattle.ti_rules.proofs.FirstRefusal.{first_only}
-use Rattle.ti_rules.proofs.OneAnswer.{OneReading}
+use Rattle.ti_rules.proofs.Lemmas.{first_only, OneReading}
 use Rattle.ti_blame.specs.declared.mark.Mark.{Mark}
 use Rattle.ti_infer.specs.Stripped.{stripped}
 use Rattle.ti_infer.specs.Answer.{IsGreatest, IsFirstUnaligned}

@@ -4,7 +4,7 @@ use Rattle.ti_base.specs.declared.entry.Entry.{Entry}
 use Rattle.ti_lang.specs.Meaning.Processes.{Setting}
 use Rattle.ti_lang.specs.Meaning.Runs.{CanTake, IsSolo, IsComplete}
 use Rattle.ti_lang.specs.Meaning.Runs as r
-use Rattle.ti_lang.proofs.MeaningLaws.Running.{entry_same}
+use Rattle.ti_lang.proofs.Lemmas.{entry_same}
 
 -- ---- lists
 

@@ -27,7 +27,8 @@ not_missing name old new text so_far missing =
     cc
 
 -- the end is reached: nothing is left
-pub read_end : (name : List ℕ) (old mid new : SourceState) (text buffer : List ℕ) → ReadSoFar name old mid text → mid.faults ≤ new.faults → SameFiles mid new → ReadAnswers buffer mid new 0 → 0 < length buffer → ReadsWhole name old new text Whole
+pub read_end : (name : List ℕ) (old mid new : SourceState) (text buffer : List ℕ) → ReadSoFar name old mid text → mid.faults ≤ new.faults
+    → SameFiles mid new → ReadAnswers buffer mid new 0 → 0 < length buffer → ReadsWhole name old new text Whole
 read_end name old mid new text buffer so_far never_falls same answer room = record {
   never_falls = omega arith;
   same = record { tells = same.tells ∙ so_far.same.tells; files = same.files ∙ so_far.same.files };

@@ -14,6 +14,8 @@ map_filter f p [] = refl
 map_filter f p (x ∷ xs) =
     map_cond (p (f x)) f x (filter (λ x. p (f x)) xs) (filter (λ x. p (f x)) xs) ∙ ap (λ ys. cond (p (f x)) (f x ∷ ys) ys) (map_filter f p xs)
 
-pub kept_wanted : {X P : Type 0} (R : P → X → Bool → P → Type 0) (f : X → Watcher) (job : Job) (p : P) → ((x : X) (b : Bool) (q : P) → R p x b q → (b ≡ is_wanted job (f x)) × (q ≡ p)) → (xs ys : List X) → IsFiltered R p xs ys → map f ys ≡ wanted job (map f xs)
+pub kept_wanted : {X P : Type 0} (R : P → X → Bool → P → Type 0) (f : X → Watcher) (job : Job) (p : P)
+    → ((x : X) (b : Bool) (q : P) → R p x b q → (b ≡ is_wanted job (f x)) × (q ≡ p)) → (xs ys : List X) → IsFiltered R p xs ys → map f ys
+    ≡ wanted job (map f xs)
 kept_wanted R f job p says xs ys h =
     ap (map f) (filter_same R (λ x. is_wanted job (f x)) p says xs ys h) ∙ map_filter f (is_wanted job) xs

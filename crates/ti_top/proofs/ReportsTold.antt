@@ -4,7 +4,7 @@ use Rattle.std.proofs.lemmas.List.{map-append}
 use Rattle.std.proofs.lemmas.Grind.{flat_map-append}
 use Rattle.ti_base.specs.declared.entry.Entry.{Entry}
 use Rattle.ti_io.specs.Sink.{SinkState}
-use Rattle.ti_io.proofs.Rising.{rose_since}
+use Rattle.ti_io.proofs.Lemmas.{rose_since}
 use Rattle.ti_top.specs.declared.reports.ReportEnd.{ReportEnd}
 use Rattle.ti_top.specs.declared.reports.ReportEnd.TheVariants.{Written}
 use Rattle.ti_top.specs.Reports.{Watcher, report_of, reports}
@@ -33,10 +33,18 @@ reported_then xs ys h s0 s1 s2 end first next = record {
   tells = next.tells ∙ first.tells;
   rose = λ e. rose_since s0.faults s1.faults s2.faults first.never_falls (next.rose e);
   needed = λ e none. next.needed e (nil_right xs ys none);
-  all = λ e told. next.all e (first.tells ∙ told) ∙ ap (λ t. t ++ reports ys h) (first.all refl told) ∙ append_assoc s0.taken (reports xs h) (reports ys h) ∙ ap (λ t. s0.taken ++ t) (sym (reports_append xs ys h));
+  all = λ e told. next.all e (first.tells ∙ told) ∙ ap (λ t. t ++ reports ys h) (first.all refl told)
+      ∙ append_assoc s0.taken (reports xs h) (reports ys h) ∙ ap (λ t. s0.taken ++ t) (sym (reports_append xs ys h));
   part = λ told.
-      let p = next.part (first.tells ∙ told) in
-      (reports xs h ++ p.0, (p.1.0, append_assoc (reports xs h) p.0 p.1.0 ∙ ap (λ t. reports xs h ++ t) p.1.1 ∙ sym (reports_append xs ys h)), p.2 ∙ ap (λ t. t ++ p.0) (first.all refl told) ∙ append_assoc s0.taken (reports xs h) p.0);
+      let p = next.part (first.tells ∙ told) in (
+        reports xs h ++ p.0,
+        (
+          p.1.0,
+          append_assoc (reports xs h) p.0 p.1.0 ∙ ap (λ t. reports xs h ++ t) p.1.1
+              ∙ sym (reports_append xs ys h),
+        ),
+        p.2 ∙ ap (λ t. t ++ p.0) (first.all refl told) ∙ append_assoc s0.taken (reports xs h) p.0,
+      );
   few = λ e told.
       let p = next.few e (first.tells ∙ told) in
       record {
@@ -71,7 +79,9 @@ reported_stop xs ys h s0 s1 end stopped first = record {
 }
 
 -- a loop over watchers that ends at one of them
-pub reported_end : {X : Type 0} (f : X → Watcher) (all seen left rest : List X) (x : X) (h : List Entry) (s0 s1 s2 : SinkState) (end : ReportEnd) → map f all ≡ map f seen ++ map f left → left ≡ x ∷ rest → Reported (map f seen) h s0 s1 Written → Reported (f x ∷ []) h s1 s2 end → (end ≡ Written → ⊥) → Reported (map f all) h s0 s2 end
+pub reported_end : {X : Type 0} (f : X → Watcher) (all seen left rest : List X) (x : X) (h : List Entry) (s0 s1 s2 : SinkState)
+    (end : ReportEnd) → map f all ≡ map f seen ++ map f left → left ≡ x ∷ rest → Reported (map f seen) h s0 s1 Written
+    → Reported (f x ∷ []) h s1 s2 end → (end ≡ Written → ⊥) → Reported (map f all) h s0 s2 end
 reported_end f all seen left rest x h s0 s1 s2 end split next first last stopped =
     let whole : map f all ≡ map f seen ++ (f x ∷ map f rest) = split ∙ ap (λ t. map f seen ++ map f t) next in
     rw whole (reported_then (map f seen) (f x ∷ map f rest) h s0 s1 s2 end first (reported_stop (f x ∷ []) (map f rest) h s1 s2 end stopped last))

@@ -25,10 +25,12 @@ ended_not_memory h x y = let e = sym x ∙ y in cc
 faulted_not_memory : (h : How) → h ≡ how.Faulted → h ≡ how.Memory → ⊥
 faulted_not_memory h x y = let e = sym x ∙ y in cc
 
-counted : (code : Code) (s : Setting) (workers : ℕ) (end : RunEnd) (ended : Ending) → Ran code s workers end → RunEnds s end.history.items ended → ended ≡ Done → IsDone code s end.history.items end.done.items
+counted : (code : Code) (s : Setting) (workers : ℕ) (end : RunEnd) (ended : Ending) → Ran code s workers end
+    → RunEnds s end.history.items ended → ended ≡ Done → IsDone code s end.history.items end.done.items
 counted code s workers end ended ran ends is = ran.done (ended_not_memory end.how (ran.ended.1 (subst (RunEnds s end.history.items) is ends).0))
 
-counted_at_fault : (code : Code) (s : Setting) (workers : ℕ) (end : RunEnd) (ended : Ending) (fault : Fault) → Ran code s workers end → RunEnds s end.history.items ended → ended ≡ Faulted fault → IsDone code s end.history.items end.done.items
+counted_at_fault : (code : Code) (s : Setting) (workers : ℕ) (end : RunEnd) (ended : Ending) (fault : Fault) → Ran code s workers end
+    → RunEnds s end.history.items ended → ended ≡ Faulted fault → IsDone code s end.history.items end.done.items
 counted_at_fault code s workers end ended fault ran ends is =
     ran.done (faulted_not_memory end.how (ran.faulted.1 (fault_is_there end.history.items fault (subst (RunEnds s end.history.items) is ends))))
 

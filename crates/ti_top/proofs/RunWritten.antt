@@ -3,7 +3,7 @@ use Rattle.std.proofs.Common.{◌≡◌, ◌⊎◌, inl, inr, ℕ, false, List, 
 use Rattle.std.proofs.lemmas.List.{append-nil}
 use Rattle.ti_base.specs.declared.entry.Entry.{Entry}
 use Rattle.ti_io.specs.Sink.{SinkState, GrewBy, GrewByFront, Writes}
-use Rattle.ti_io.proofs.Rising.{rose_since}
+use Rattle.ti_io.proofs.Lemmas.{rose_since}
 use Rattle.ti_code.specs.Follows.{Follows}
 use Rattle.ti_lang.specs.Program.Classes.{NumberedProgram}
 use Rattle.ti_lang.specs.Meaning.Processes.{Setting}
@@ -33,7 +33,8 @@ use Rattle.ti_top.proofs.HaveEnded.{summary_is}
 -- ---- what was written
 
 -- the head wasn't written
-pub wrote_cut : {T E : Type 0} (ended : Ending) (head : List ℕ) (ws : List Watcher) (h : List Entry) (s0 s1 : SinkState) (e : E) → Writes {T = T} head s0 s1 (Err e) → WroteRun ended head ws h s0 s1 CantWrite
+pub wrote_cut : {T E : Type 0} (ended : Ending) (head : List ℕ) (ws : List Watcher) (h : List Entry) (s0 s1 : SinkState) (e : E)
+    → Writes {T = T} head s0 s1 (Err e) → WroteRun ended head ws h s0 s1 CantWrite
 wrote_cut ended head ws h s0 s1 e wrote = record {
   never_falls = wrote.never_falls;
   tells = wrote.tells;
@@ -89,7 +90,9 @@ reports_whole Report.CantWrite ended whole there = absurd (whole refl)
 reports_whole Report.NoMemory ended whole there = absurd (there refl)
 
 -- the head of one that wasn't was written, and then the reports up to this end
-wrote_reports : {T E : Type 0} (ended : Ending) (end : ReportEnd) (head : List ℕ) (ws : List Watcher) (h : List Entry) (s0 s1 s2 : SinkState) (x : T) → (ended ≡ NoMemory → ⊥) → Writes {E = E} head s0 s1 (Ok x) → Reported ws h s1 s2 end → WroteRun ended head ws h s0 s2 (ending_after end ended)
+wrote_reports : {T E : Type 0} (ended : Ending) (end : ReportEnd) (head : List ℕ) (ws : List Watcher) (h : List Entry)
+    (s0 s1 s2 : SinkState) (x : T) → (ended ≡ NoMemory → ⊥) → Writes {E = E} head s0 s1 (Ok x) → Reported ws h s1 s2 end
+    → WroteRun ended head ws h s0 s2 (ending_after end ended)
 wrote_reports ended end head ws h s0 s1 s2 x whole wrote reported = record {
   never_falls = omega arith;
   tells = reported.tells ∙ wrote.tells;
@@ -113,10 +116,12 @@ wrote_reports ended end head ws h s0 s1 s2 x whole wrote reported = record {
 }
 
 -- the head of a run was written, and the watchers reported on it
-pub wrote_all : {T E : Type 0} (ended ending : Ending) (head : List ℕ) (ws : List Watcher) (h : List Entry) (s0 s1 s2 : SinkState) (x : T) → Writes {E = E} head s0 s1 (Ok x) → ReportsAfter ended ws h s1 s2 ending → WroteRun ended head ws h s0 s2 ending
+pub wrote_all : {T E : Type 0} (ended ending : Ending) (head : List ℕ) (ws : List Watcher) (h : List Entry) (s0 s1 s2 : SinkState) (x : T)
+    → Writes {E = E} head s0 s1 (Ok x) → ReportsAfter ended ws h s1 s2 ending → WroteRun ended head ws h s0 s2 ending
 wrote_all {E = E} ended ending head ws h s0 s1 s2 x wrote (inl cut) =
     subst (λ (e : Ending). WroteRun e head ws h s0 s2 ending) (sym cut.0)
-    (subst (λ (e : Ending). WroteRun NoMemory head ws h s0 s2 e) (sym (cut.1 ∙ cut.0)) (wrote_head {E = E} head ws h s0 s2 x (subst (λ (s : SinkState). Writes {E = E} head s0 s (Ok x)) (sym cut.2) wrote)))
+    (subst (λ (e : Ending). WroteRun NoMemory head ws h s0 s2 e) (sym (cut.1 ∙ cut.0))
+    (wrote_head {E = E} head ws h s0 s2 x (subst (λ (s : SinkState). Writes {E = E} head s0 s (Ok x)) (sym cut.2) wrote)))
 wrote_all {E = E} ended ending head ws h s0 s1 s2 x wrote (inr said) =
     subst (λ (e : Ending). WroteRun ended head ws h s0 s2 e) (sym said.1.ending_is) (wrote_reports {E = E} ended said.1.end head ws h s0 s1 s2 x said.0 wrote said.1.reported)
 
@@ -142,7 +147,8 @@ ending_is ended ending e (inl same) is there uncut = sym same ∙ is
 ending_is ended ending e (inr (inl same)) is there uncut = absurd (there (sym same ∙ is))
 ending_is ended ending e (inr (inr same)) is there uncut = absurd (uncut (sym same ∙ is))
 
-run_known : (ended ending : Ending) (s : Setting) (h : List Entry) → RunEnds s h ended → (ending ≡ ended) ⊎ (ending ≡ NoMemory) ⊎ (ending ≡ CantWrite) → (ending ≡ Done) ⊎ ((fault : Fault) × (ending ≡ Faulted fault)) ⊎ (ending ≡ NoMemory) ⊎ (ending ≡ CantWrite)
+run_known : (ended ending : Ending) (s : Setting) (h : List Entry) → RunEnds s h ended → (ending ≡ ended) ⊎ (ending ≡ NoMemory)
+    ⊎ (ending ≡ CantWrite) → (ending ≡ Done) ⊎ ((fault : Fault) × (ending ≡ Faulted fault)) ⊎ (ending ≡ NoMemory) ⊎ (ending ≡ CantWrite)
 run_known Done ending s h ends (inl same) = inl same
 run_known (Refused refusal) ending s h ends (inl same) = absurd ends
 run_known (Faulted fault) ending s h ends (inl same) = inr (inl (fault, same))
@@ -154,7 +160,8 @@ run_known (NoRun line) ending s h ends (inl same) = absurd ends
 run_known ended ending s h ends (inr other) = inr (inr other)
 
 -- what is written of a run that ended so
-output_is : (mode : Mode) (ended : Ending) (s : Setting) (h : List Entry) (ws : List Watcher) → Runs mode → IsRun s h → RunEnds s h ended → output_in mode s h ws ≡ head_after mode ended s.program h ++ reports ws h
+output_is : (mode : Mode) (ended : Ending) (s : Setting) (h : List Entry) (ws : List Watcher) → Runs mode → IsRun s h → RunEnds s h ended
+    → output_in mode s h ws ≡ head_after mode ended s.program h ++ reports ws h
 output_is Run ended s h ws runs run ends = refl
 output_is Check ended s h ws runs run ends = absurd runs
 output_is Code ended s h ws runs run ends = absurd runs
@@ -170,7 +177,11 @@ pub record IsByCode (p : NumberedProgram) (job : Job) (ended : Ending) (k : Kept
   pub counted_at_fault : (fault : Fault) → ended ≡ Faulted fault → IsDone (program_code p) (run_of p job) k.history k.done
 
 -- the run of a program, and what was written of it
-pub run_says : (ended : Ending) (p : NumberedProgram) (job : Job) (ws : List Watcher) (s0 s1 : SinkState) (kept : Kept) (ending : Ending) → Runs job.mode → IsRun (run_of p job) kept.history → (job.workers ≡ 1 → IsSolo (run_of p job) kept.history) → Determines (run_of p job) kept.history → races_told kept.history ≡ races kept.history → RunEnds (run_of p job) kept.history ended → IsByCode p job ended kept → WroteRun ended (head_after job.mode ended p kept.history) ws kept.history s0 s1 ending → RunSays p job ws s0 s1 kept ending
+pub run_says : (ended : Ending) (p : NumberedProgram) (job : Job) (ws : List Watcher) (s0 s1 : SinkState) (kept : Kept) (ending : Ending)
+    → Runs job.mode → IsRun (run_of p job) kept.history → (job.workers ≡ 1 → IsSolo (run_of p job) kept.history)
+    → Determines (run_of p job) kept.history → races_told kept.history ≡ races kept.history → RunEnds (run_of p job) kept.history ended
+    → IsByCode p job ended kept → WroteRun ended (head_after job.mode ended p kept.history) ws kept.history s0 s1 ending
+    → RunSays p job ws s0 s1 kept ending
 run_says ended p job ws s0 s1 kept ending runs run solo determines told ends by wrote = record {
   run = run;
   solo = solo;
@@ -215,5 +226,6 @@ run_says ended p job ws s0 s1 kept ending runs run solo determines told ends by 
     done is = subst (RunEnds s h) (ending_is ended ending Done wrote.known is (λ e. let x = e in cc) (λ e. let x = e in cc)) ends
 
 -- the same of what is kept in another place
-pub said_of : (p : NumberedProgram) (job : Job) (ws : List Watcher) (s0 s1 : SinkState) (kept k : Kept) (ending : Ending) → k ≡ kept → RunSays p job ws s0 s1 kept ending → RunSays p job ws s0 s1 k ending
+pub said_of : (p : NumberedProgram) (job : Job) (ws : List Watcher) (s0 s1 : SinkState) (kept k : Kept) (ending : Ending) → k ≡ kept
+    → RunSays p job ws s0 s1 kept ending → RunSays p job ws s0 s1 k ending
 said_of p job ws s0 s1 kept k ending same says = subst (λ (x : Kept). RunSays p job ws s0 s1 x ending) (sym same) says

@@ -9,7 +9,8 @@ use Rattle.ti_top.specs.Clauses.{IsMade, MakesText}
 use Rattle.ti_top.proofs.StatusFrom.{StatusFrom, not_five, is_cant_read}
 
 -- the text was made, or it ran out of memory before
-pub makes_text : (before : Ending) (job : Job) (c : Call) → c.source_after ≡ c.source → IsMade job c ⊎ ((c.text ≡ []) × (before ≡ NoMemory)) → (before ≡ CantRead → ⊥) → StatusFrom before c → MakesText job c
+pub makes_text : (before : Ending) (job : Job) (c : Call) → c.source_after ≡ c.source → IsMade job c ⊎ ((c.text ≡ []) × (before ≡ NoMemory))
+    → (before ≡ CantRead → ⊥) → StatusFrom before c → MakesText job c
 makes_text before job c unread made other from = record {
   made = elim made [ inl is ↦ inl is | inr empty ↦ inr (empty.0, short empty.1) ];
   source_as_before = unread;

@@ -44,7 +44,8 @@ cause_of_four Read.Whole before job c read fits is = absurd (fits.1 is)
 cause_of_four Read.CantRead before job c read fits is = refl
 cause_of_four Read.NoMemory before job c read fits is = absurd (let e = sym fits ∙ is in cc)
 
-missing_is_told : (end : ReadEnd) (before : Ending) (job : Job) (c : Call) → ReadsWhole job.file c.source c.source_after c.text end → EndsAs end before → StatusFrom before c → IsMissing c.source job.file → (c.status ≡ 4) ⊎ Yields c
+missing_is_told : (end : ReadEnd) (before : Ending) (job : Job) (c : Call) → ReadsWhole job.file c.source c.source_after c.text end
+    → EndsAs end before → StatusFrom before c → IsMissing c.source job.file → (c.status ≡ 4) ⊎ Yields c
 missing_is_told Read.Whole before job c read fits from missing = absurd (not_whole job c read missing)
 missing_is_told Read.CantRead before job c read fits from missing =
     elim from [ inl same ↦ inl (same ∙ ap status_of fits) | inr cut ↦ inr (inr (cut.0, inr cut.1)) ]

@@ -48,7 +48,8 @@ not_no_run line (inr (inr (inl e))) = let x = e in cc
 not_no_run line (inr (inr (inr e))) = let x = e in cc
 
 -- the program of the text was run
-pub ran_text : (ending : Ending) (p : NumberedProgram) (job : Job) (ws : List Watcher) (text : List ℕ) (out after : SinkState) (k : Kept) → IsCompiled text p → RunSays p job ws out after k ending → RunTextSays ending job ws text out after k
+pub ran_text : (ending : Ending) (p : NumberedProgram) (job : Job) (ws : List Watcher) (text : List ℕ) (out after : SinkState) (k : Kept)
+    → IsCompiled text p → RunSays p job ws out after k ending → RunTextSays ending job ws text out after k
 ran_text Done p job ws text out after k compiled says = record { program = p; compiled = compiled; says = says }
 ran_text (Refused refusal) p job ws text out after k compiled says = absurd (not_refused refusal says.known)
 ran_text (Faulted fault) p job ws text out after k compiled says = record { program = p; compiled = compiled; says = says }
@@ -59,7 +60,8 @@ ran_text NoMemory p job ws text out after k compiled says = inr (record { progra
 ran_text (NoRun line) p job ws text out after k compiled says = absurd (not_no_run line says.known)
 
 -- the code of the text's program was written
-pub coded_text : (ending : Ending) (p : NumberedProgram) (text : List ℕ) (out after : SinkState) (k : Kept) → IsCompiled text p → k.history ≡ [] → k.done ≡ [] → CodeSays ending p out after k.code → CodeTextSays ending text out after k
+pub coded_text : (ending : Ending) (p : NumberedProgram) (text : List ℕ) (out after : SinkState) (k : Kept) → IsCompiled text p → k.history
+    ≡ [] → k.done ≡ [] → CodeSays ending p out after k.code → CodeTextSays ending text out after k
 coded_text Done p text out after k compiled none uncounted says = record { program = p; compiled = compiled; wrote = says; no_entry = none; no_count = uncounted }
 coded_text (Refused refusal) p text out after k compiled none uncounted says = absurd says
 coded_text (Faulted fault) p text out after k compiled none uncounted says = absurd says

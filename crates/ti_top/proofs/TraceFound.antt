@@ -82,7 +82,8 @@ verdict_wrong line job c mid read held = record {
     }
 
 -- the bytes of the trace decide the status
-pub decides : (before : Ending) (job : Job) (c : Call) (x : Verdict before job c) → c.status ≡ status_of before → (bytes : List ℕ) → Holds c.source job.against bytes → TraceDecides (run_of x.program job) bytes c
+pub decides : (before : Ending) (job : Job) (c : Call) (x : Verdict before job c) → c.status ≡ status_of before → (bytes : List ℕ)
+    → Holds c.source job.against bytes → TraceDecides (run_of x.program job) bytes c
 decides before job c x is bytes holds = by x.known
   where
     s : Setting

@@ -30,7 +30,8 @@ held_text NoCommand p job text old new es compiled says = absurd says
 held_text CantWrite p job text old new es compiled says = absurd says
 
 -- the text is refused, or it ran out of memory
-pub refused_held : (refusal : Refusal) (ends : Ending) (job : Job) (text : List ℕ) (old new : SourceState) (es : List Entry) → IsRefusal text refusal × HasNoProgram text → ends ≡ Refused refusal → es ≡ []
+pub refused_held : (refusal : Refusal) (ends : Ending) (job : Job) (text : List ℕ) (old new : SourceState) (es : List Entry)
+    → IsRefusal text refusal × HasNoProgram text → ends ≡ Refused refusal → es ≡ []
     → HeldSays ends job text old new es
 refused_held refusal ends job text old new es is ended none = subst (λ (e : Ending). HeldSays e job text old new es) (sym ended) (is.0, is.1, none)
 
@@ -38,12 +39,15 @@ pub unheld : (ends : Ending) (job : Job) (text : List ℕ) (old new : SourceStat
 unheld ends job text old new es ended none = subst (λ (e : Ending). HeldSays e job text old new es) (sym ended) none
 
 -- the file was read whole, and the trace was held against it
-pub verified_whole : (job : Job) (ends : Ending) (old mid new : SourceState) (text : List ℕ) (es : List Entry) → ReadsWhole job.file old mid text Read.Whole → WasRead mid new → HeldSays ends job text mid new es
+pub verified_whole : (job : Job) (ends : Ending) (old mid new : SourceState) (text : List ℕ) (es : List Entry)
+    → ReadsWhole job.file old mid text Read.Whole → WasRead mid new → HeldSays ends job text mid new es
     → Verified job ends old new text es
 verified_whole job ends old mid new text es read later says = record { end = Read.Whole; middle = mid; read = read; later = later; says = says }
 
-pub verified_unread : (job : Job) (ends : Ending) (old new : SourceState) (text : List ℕ) (es : List Entry) → ReadsWhole job.file old new text Read.CantRead → ends ≡ CantRead → es ≡ [] → Verified job ends old new text es
+pub verified_unread : (job : Job) (ends : Ending) (old new : SourceState) (text : List ℕ) (es : List Entry)
+    → ReadsWhole job.file old new text Read.CantRead → ends ≡ CantRead → es ≡ [] → Verified job ends old new text es
 verified_unread job ends old new text es read is none = record { end = Read.CantRead; middle = new; read = read; later = never_read new; says = (is, refl, none) }
 
-pub verified_short : (job : Job) (ends : Ending) (old new : SourceState) (text : List ℕ) (es : List Entry) → ReadsWhole job.file old new text Read.NoMemory → ends ≡ NoMemory → es ≡ [] → Verified job ends old new text es
+pub verified_short : (job : Job) (ends : Ending) (old new : SourceState) (text : List ℕ) (es : List Entry)
+    → ReadsWhole job.file old new text Read.NoMemory → ends ≡ NoMemory → es ≡ [] → Verified job ends old new text es
 verified_short job ends old new text es read is none = record { end = Read.NoMemory; middle = new; read = read; later = never_read new; says = (is, none) }

@@ -53,11 +53,13 @@ pub judged : (s : Setting) (name : List ℕ) (old new : SourceState) (v : Verdic
     → (old.tells ≡ true → Judges s old.left v) → ends ≡ ending_by v → es ≡ run_by v → HeldTrace ends s name old new es
 judged s name old new v ends es read found laws keeps judges is are = record {
   read = read;
-  says = subst (λ (e : Ending). TraceSays e s name old new es) (sym is) (subst (λ (xs : List Entry). TraceSays (ending_by v) s name old new xs) (sym are) (says_by s name old new v found laws keeps judges));
+  says = subst (λ (e : Ending). TraceSays e s name old new es) (sym is)
+      (subst (λ (xs : List Entry). TraceSays (ending_by v) s name old new xs) (sym are) (says_by s name old new v found laws keeps judges));
 }
 
 -- the source failed, or the trace is missing
-pub unread : (s : Setting) (name : List ℕ) (old new : SourceState) (ends : Ending) (es : List Entry) → WasRead old new → IsMissing old name ⊎ Rose old.faults new.faults → ends ≡ ending.CantRead → es ≡ []
+pub unread : (s : Setting) (name : List ℕ) (old new : SourceState) (ends : Ending) (es : List Entry) → WasRead old new → IsMissing old name
+    ⊎ Rose old.faults new.faults → ends ≡ ending.CantRead → es ≡ []
     → HeldTrace ends s name old new es
 unread s name old new ends es read cause is none = record {
   read = read;

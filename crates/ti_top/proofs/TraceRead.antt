@@ -3,7 +3,7 @@ use Rattle.std.proofs.Common.{◌≡◌, ◌⊎◌, inl, inr, ℕ, true, false, 
 use Rattle.ti_base.specs.declared.entry.Entry.{Entry}
 use Rattle.ti_io.specs.Faults.{Rose}
 use Rattle.ti_io.specs.Source.{SourceState, SameFiles, IsMissing, Holds, content_of}
-use Rattle.ti_io.proofs.Rising.{rose_since}
+use Rattle.ti_io.proofs.Lemmas.{rose_since}
 use Rattle.ti_lang.specs.Meaning.Processes.{Setting}
 use Rattle.ti_rules.specs.declared.refusal.Refusal.{Refusal}
 use Rattle.ti_rules.specs.RefusalOf.{IsRefusal}
@@ -41,7 +41,8 @@ found_before s name old mid es same found = record {
 }
 
 -- what became of a trace is said of the source before an earlier call too
-pub says_before : (ending : Ending) (s : Setting) (name : List ℕ) (old mid new : SourceState) (es : List Entry) → WasRead old mid → TraceSays ending s name mid new es → TraceSays ending s name old new es
+pub says_before : (ending : Ending) (s : Setting) (name : List ℕ) (old mid new : SourceState) (es : List Entry) → WasRead old mid
+    → TraceSays ending s name mid new es → TraceSays ending s name old new es
 says_before Done s name old mid new es read says = record {
   found = found_before s name old mid es read.same says.found;
   complete = says.complete;
@@ -66,7 +67,8 @@ both_read old mid new a b = record {
   same = record { tells = b.same.tells ∙ a.same.tells; files = b.same.files ∙ a.same.files };
 }
 
-pub held_before : (ending : Ending) (s : Setting) (name : List ℕ) (old mid new : SourceState) (es : List Entry) → WasRead old mid → HeldTrace ending s name mid new es → HeldTrace ending s name old new es
+pub held_before : (ending : Ending) (s : Setting) (name : List ℕ) (old mid new : SourceState) (es : List Entry) → WasRead old mid
+    → HeldTrace ending s name mid new es → HeldTrace ending s name old new es
 held_before ending s name old mid new es read held = record { read = both_read old mid new read held.read; says = says_before ending s name old mid new es read held.says }
 
 -- ---- how the call ends
@@ -104,7 +106,8 @@ unreadable job c (inr (inr rose)) = inr (inr rose)
 true_false : true ≡ false → ⊥
 true_false e = cc
 
-pub cause_of : (job : Job) (c : Call) (mid : SourceState) → Verifies job.mode → ReadsWhole job.file c.source mid c.text Read.Whole → HeldText CantRead job c.text mid c.source_after c.history → Cause job c
+pub cause_of : (job : Job) (c : Call) (mid : SourceState) → Verifies job.mode → ReadsWhole job.file c.source mid c.text Read.Whole
+    → HeldText CantRead job c.text mid c.source_after c.history → Cause job c
 cause_of job c mid mode read held = elim held.says.0 [
   | inl gone ↦
       let missing : IsMissing c.source job.against = missing_before c.source mid job.against read.same gone in
@@ -131,7 +134,8 @@ cause_by Read.CantRead before job c mid mode read says is = cause_of_read job c 
 cause_by Read.NoMemory before job c mid mode read says is = absurd (let e = sym says.0 ∙ is in cc)
 
 -- with a status that no failed reading has, the text was read whole
-whole_at : (n : ℕ) (end : ReadEnd) (before : Ending) (job : Job) (c : Call) (mid : SourceState) → ReadsWhole job.file c.source mid c.text end → ReadSays end before job c.text mid c.source_after c.history
+whole_at : (n : ℕ) (end : ReadEnd) (before : Ending) (job : Job) (c : Call) (mid : SourceState)
+    → ReadsWhole job.file c.source mid c.text end → ReadSays end before job c.text mid c.source_after c.history
     → StatusFrom before c → c.status ≡ n → (3 ≡ n → ⊥) → (4 ≡ n → ⊥) → (5 ≡ n → ⊥) → (6 ≡ n → ⊥) → IsReadWhole job c
 whole_at n Read.Whole before job c mid read says from is three four five six = whole_of job c mid read (λ e. three (sym e ∙ is)) (λ _ e. four (sym e ∙ is))
 whole_at n Read.CantRead before job c mid read says from is three four five six = absurd (four (sym (ap status_of says.0) ∙ not_five before n c from is (λ x. five (sym x))))

@@ -137,38 +137,47 @@ pub record RefusesExactly (job : Job) (c : Call) : Type 0 where
   pub accepted_at_two : c.status ≡ 2 → IsAcceptedIn job.mode c.text
   pub accepted_at_seven : c.status ≡ 7 → IsAcceptedIn job.mode c.text
 
--- The run: whatever the status, the history is a run of the text's program, by however many workers, and by one worker, as far as it goes, the one in
--- which each entry is that of the lowest-numbered process that can take one; where there is no program, or the mode isn't one that runs it or
+-- The run: whatever the status, the history is a run of the text's program, by however many workers, and by one worker, as far as it goes,
+-- the one in
+-- which each entry is that of the lowest-numbered process that can take one; where there is no program, or the mode isn't one that runs it
+-- or
 -- reads its trace, it is empty.
 pub record KeepsRun (job : Job) (c : Call) : Type 0 where
   pub run : (program : NumberedProgram) → HasProgram c.text program → IsRun (run_of program job) c.history
-  pub solo : Runs job.mode → job.workers ≡ 1 → (program : NumberedProgram) → HasProgram c.text program → IsSolo (run_of program job) c.history
+  pub solo : Runs job.mode → job.workers ≡ 1 → (program : NumberedProgram) → HasProgram c.text program
+      → IsSolo (run_of program job) c.history
   pub none : ((program : NumberedProgram) → HasProgram c.text program → ⊥) → c.history ≡ []
   pub unrun : (HasHistory job.mode → ⊥) → c.history ≡ []
 
 -- The code: with status 0 or 2 in the modes run, code and gen it is there. One that is there is that of the text's program, and follows it:
 -- for each number of processes, all ticks, each process and all answers that fit, it has next the action, the fault or the end that the
--- program has, at the same place. It is there in no other mode, and with no other status, unless a sink failed, or the run was out of memory.
+-- program has, at the same place. It is there in no other mode, and with no other status, unless a sink failed, or the run was out of
+-- memory.
 pub record RunsCode (job : Job) (c : Call) : Type 0 where
-  pub there : c.status ≡ 0 → HasCode job.mode → (program : NumberedProgram) → HasProgram c.text program → c.code ≡ Some (program_code program)
+  pub there : c.status ≡ 0 → HasCode job.mode → (program : NumberedProgram) → HasProgram c.text program → c.code
+      ≡ Some (program_code program)
   pub there_at_two : c.status ≡ 2 → (program : NumberedProgram) → HasProgram c.text program → c.code ≡ Some (program_code program)
   pub is : (code : coded.Code) → c.code ≡ Some code → (program : NumberedProgram) → HasProgram c.text program → code ≡ program_code program
   pub follows : (code : coded.Code) → c.code ≡ Some code → (program : NumberedProgram) → HasProgram c.text program → Follows code program
-  pub only_where : (code : coded.Code) → c.code ≡ Some code → (c.status ≡ 0) ⊎ ((c.status ≡ 2) ⊎ (((c.status ≡ 5) × SinkRose c) ⊎ ((c.status ≡ 6) × Runs job.mode)))
+  pub only_where : (code : coded.Code) → c.code ≡ Some code → (c.status ≡ 0)
+      ⊎ ((c.status ≡ 2) ⊎ (((c.status ≡ 5) × SinkRose c) ⊎ ((c.status ≡ 6) × Runs job.mode)))
   pub none : ((program : NumberedProgram) → HasProgram c.text program → ⊥) → c.code ≡ None
   pub unlowered : (HasCode job.mode → ⊥) → c.code ≡ None
 
 -- The count of instructions: where the program was run with status 0 or 2, there is for each process the number of instructions of the code
 -- that it has finished for the answers of its entries. Where nothing was run there is none.
 pub record CountsInstructions (job : Job) (c : Call) : Type 0 where
-  pub ended : c.status ≡ 0 → Runs job.mode → (program : NumberedProgram) → HasProgram c.text program → IsDone (program_code program) (run_of program job) c.history c.done
-  pub faulted : c.status ≡ 2 → (program : NumberedProgram) → HasProgram c.text program → IsDone (program_code program) (run_of program job) c.history c.done
+  pub ended : c.status ≡ 0 → Runs job.mode → (program : NumberedProgram) → HasProgram c.text program
+      → IsDone (program_code program) (run_of program job) c.history c.done
+  pub faulted : c.status ≡ 2 → (program : NumberedProgram) → HasProgram c.text program
+      → IsDone (program_code program) (run_of program job) c.history c.done
   pub none : ((program : NumberedProgram) → HasProgram c.text program → ⊥) → c.done ≡ []
   pub unrun : (Runs job.mode → ⊥) → c.done ≡ []
 
 -- this holds of the job and the program wherever the text has one, in every mode but infer
 abbrev pub WhereAccepted : Call → (Job → NumberedProgram → Type 0) → Type 0
-WhereAccepted c P = (job : Job) → IsCommand c job → (Infers job.mode → ⊥) → (program : NumberedProgram) → HasProgram c.text program → P job program
+WhereAccepted c P =
+    (job : Job) → IsCommand c job → (Infers job.mode → ⊥) → (program : NumberedProgram) → HasProgram c.text program → P job program
 
 -- wherever it has one, and is to be run
 abbrev pub WhereRun : Call → (Job → NumberedProgram → Type 0) → Type 0
@@ -193,15 +202,20 @@ pub record WritesOutput (c : Call) : Type 0 where
   -- where code is wanted and there is none
   pub uncoded : (job : Job) → IsCommand c job → job.mode ≡ Code → c.code ≡ None → c.out_after.taken ≡ c.out.taken
   -- a write to out or err failed
-  pub failed : c.status ≡ 5 → c.out.tells ≡ true → WhereAccepted c (λ job program. GrewByFront c.out c.out_after (output job program c.history (wanted job c.watchers)))
+  pub failed : c.status ≡ 5 → c.out.tells ≡ true → WhereAccepted c
+      (λ job program. GrewByFront c.out c.out_after (output job program c.history (wanted job c.watchers)))
   -- the lines of the kept history or its summary are written, and whole reports
-  pub no_memory : c.status ≡ 6 → c.out.tells ≡ true → WhereRun c (λ job program. WroteFew job.mode (run_of program job) (wanted job c.watchers) c.history c.out c.out_after)
+  pub no_memory : c.status ≡ 6 → c.out.tells ≡ true → WhereRun c (λ job program. WroteFew job.mode (run_of program job)
+      (wanted job c.watchers) c.history c.out c.out_after)
 
--- Inference, in mode infer: with status 0 the text has a greatest marking, and out grew by a line for each of its marks. Where a sink failed, it
+-- Inference, in mode infer: with status 0 the text has a greatest marking, and out grew by a line for each of its marks. Where a sink
+-- failed, it
 -- grew by a front of these lines, and with no other status it grew.
 pub record InfersMarks (job : Job) (c : Call) : Type 0 where
-  pub done : c.status ≡ 0 → Infers job.mode → (marks : List Mark) × HasMarking c.text marks × (c.out.tells ≡ true → GrewBy c.out c.out_after (marks_text marks))
-  pub failed : c.status ≡ 5 → Infers job.mode → c.out.tells ≡ true → (marks : List Mark) → HasMarking c.text marks → GrewByFront c.out c.out_after (marks_text marks)
+  pub done : c.status ≡ 0 → Infers job.mode → (marks : List Mark) × HasMarking c.text marks
+      × (c.out.tells ≡ true → GrewBy c.out c.out_after (marks_text marks))
+  pub failed : c.status ≡ 5 → Infers job.mode → c.out.tells ≡ true → (marks : List Mark) → HasMarking c.text marks
+      → GrewByFront c.out c.out_after (marks_text marks)
   pub unwritten : Infers job.mode → (c.status ≡ 0 → ⊥) → (c.status ≡ 5 → ⊥) → c.out_after.taken ≡ c.out.taken
 
 -- Alignment: with status 0, 2 or 7 the program of the text is aligned.
@@ -210,8 +224,10 @@ pub record IsAlignedRun (c : Call) : Type 0 where
   pub faulted : c.status ≡ 2 → (program : NumberedProgram) → HasProgram c.text program → IsAligned program
   pub wrong : c.status ≡ 7 → (program : NumberedProgram) → HasProgram c.text program → IsAligned program
 
--- Determinacy: where the program is run, all processes have their end and nothing in the history stands in a race, what each process does in
--- every run of the program, by as many processes with as many ticks each, is a front of what it does in the history. What stands in a race is
+-- Determinacy: where the program is run, all processes have their end and nothing in the history stands in a race, what each process does
+-- in
+-- every run of the program, by as many processes with as many ticks each, is a front of what it does in the history. What stands in a race
+-- is
 -- what the report on the history alone lists.
 pub record IsDeterminate (job : Job) (c : Call) : Type 0 where
   pub followed : Runs job.mode → (program : NumberedProgram) → HasProgram c.text program → Determines (run_of program job) c.history
@@ -220,11 +236,14 @@ pub record IsDeterminate (job : Job) (c : Call) : Type 0 where
 -- The end: where the text is run, all processes have their end with status 0, and status 2 says that the last entry is a fault,
 -- which the line on err names with its process and place; status 6 never comes with a complete history, unless a watcher is wanted.
 pub record EndsRun (job : Job) (c : Call) : Type 0 where
-  pub ended : c.status ≡ 0 → Runs job.mode → (program : NumberedProgram) → HasProgram c.text program → AllEnded (run_of program job) c.history
+  pub ended : c.status ≡ 0 → Runs job.mode → (program : NumberedProgram) → HasProgram c.text program
+      → AllEnded (run_of program job) c.history
   pub fault_only_where : c.status ≡ 2 → Runs job.mode × ((fault : Fault) × EndsWithFault c.history fault)
   -- a sink may fail, and memory for a wanted report
-  pub fault_everywhere : Runs job.mode → (fault : Fault) → EndsWithFault c.history fault → (c.status ≡ 2) ⊎ (((c.status ≡ 5) × SinkRose c) ⊎ ((c.status ≡ 6) × WantsReport job c))
-  pub unfinished : c.status ≡ 6 → (program : NumberedProgram) → HasProgram c.text program → IsCompleteRun (run_of program job) c.history → WantsReport job c
+  pub fault_everywhere : Runs job.mode → (fault : Fault) → EndsWithFault c.history fault → (c.status ≡ 2)
+      ⊎ (((c.status ≡ 5) × SinkRose c) ⊎ ((c.status ≡ 6) × WantsReport job c))
+  pub unfinished : c.status ≡ 6 → (program : NumberedProgram) → HasProgram c.text program → IsCompleteRun (run_of program job) c.history
+      → WantsReport job c
 
 -- What the command promises of everything but its line on err.
 pub record MeetsBesideErr (c : Call) : Type 0 where
@@ -286,15 +305,19 @@ pub record NothingFailed (job : Job) (c : Call) : Type 0 where
   pub there : HasFile job.mode → IsMissing c.source job.file → ⊥
   pub memory : c.status ≡ 6 → ⊥
 
--- Completeness: where nothing failed the whole text is there and decides, and one without a refusal has a program; where it is to be run, it is
--- run until all processes have their end, or one has a fault; and where a trace is held against it, the trace decides, unless it is missing.
+-- Completeness: where nothing failed the whole text is there and decides, and one without a refusal has a program; where it is to be run,
+-- it is
+-- run until all processes have their end, or one has a fault; and where a trace is held against it, the trace decides, unless it is
+-- missing.
 pub record IsComplete (job : Job) (c : Call) : Type 0 where
   pub whole : HasText job c
   pub refused : (refusal : Refusal) → IsRefusalIn job.mode c.text refusal → c.status ≡ 1
-  pub accepted : HasNone (IsRefusalIn job.mode c.text) → (c.status ≡ 0) ⊎ (c.status ≡ 2) ⊎ (c.status ≡ 7) ⊎ ((c.status ≡ 4) × LacksTrace job c)
+  pub accepted : HasNone (IsRefusalIn job.mode c.text) → (c.status ≡ 0) ⊎ (c.status ≡ 2) ⊎ (c.status ≡ 7)
+      ⊎ ((c.status ≡ 4) × LacksTrace job c)
   pub program : HasNone (IsRefusalIn job.mode c.text) → IsAcceptedIn job.mode c.text
   pub ended : Runs job.mode → (program : NumberedProgram) → HasProgram c.text program → IsCompleteRun (run_of program job) c.history
-  pub verified : Verifies job.mode → (program : NumberedProgram) → HasProgram c.text program → (bytes : List ℕ) → Holds c.source job.against bytes → TraceDecides (run_of program job) bytes c
+  pub verified : Verifies job.mode → (program : NumberedProgram) → HasProgram c.text program → (bytes : List ℕ)
+      → Holds c.source job.against bytes → TraceDecides (run_of program job) bytes c
 
 -- What the command promises.
 pub record Meets (c : Call) : Type 0 where

@@ -21,12 +21,14 @@ status_of (NoRun line) = 7
 -- what stands behind the name of the file in the line of a refused text
 abbrev pub refused_as : Refusal → List ℕ
 refused_as refusal =
-    codes ":" ++ decimal refusal.place.line ++ codes ":" ++ decimal refusal.place.col ++ codes ": " ++ code_of refusal.rule ++ codes " " ++ text_of refusal.rule ++ codes "\n"
+    codes ":" ++ decimal refusal.place.line ++ codes ":" ++ decimal refusal.place.col ++ codes ": " ++ code_of refusal.rule ++ codes " "
+    ++ text_of refusal.rule ++ codes "\n"
 
 -- the line of a fault
 abbrev pub fault_line : Fault → List ℕ
 fault_line fault =
-    codes "titan: fault " ++ name_of fault.kind ++ codes " in process " ++ decimal fault.proc ++ codes " at " ++ decimal fault.place.line ++ codes ":" ++ decimal fault.place.col ++ codes "\n"
+    codes "titan: fault " ++ name_of fault.kind ++ codes " in process " ++ decimal fault.proc ++ codes " at " ++ decimal fault.place.line
+    ++ codes ":" ++ decimal fault.place.col ++ codes "\n"
 
 -- the line of a trace that is no run
 abbrev pub no_run_line : ℕ → List ℕ

@@ -40,7 +40,8 @@ pub data IsUnmarkedTreeRefusal (tree : TextTree) : Refusal → Type 0 where
   of_names : {refusal : Refusal} → IsFirstRefusal (BreaksNames tree) refusal → IsUnmarkedTreeRefusal tree refusal
   of_types : {program : NumberedProgram} {refusal : Refusal} → HasNone (BreaksNames tree) → Numbers tree program
       → IsFirstRefusal (Contains (type_refusals (stripped program))) refusal → IsUnmarkedTreeRefusal tree refusal
-  of_marks : {program : NumberedProgram} {place : Place} → HasNone (BreaksNames tree) → Numbers tree program → type_refusals (stripped program) ≡ []
+  of_marks : {program : NumberedProgram} {place : Place} → HasNone (BreaksNames tree) → Numbers tree program
+      → type_refusals (stripped program) ≡ []
       → IsFirstUnaligned (stripped program) place → IsUnmarkedTreeRefusal tree (record { rule = B1; place = place })
 
 -- what a text is refused for, whatever marks it has: that of its tree, or where it has none, what every mode refuses it for

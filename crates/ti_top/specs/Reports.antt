@@ -40,7 +40,8 @@ report_of history watcher = watch_text watcher.kind (watcher.told ++ history)
 abbrev pub reports : List Watcher → List Entry → List ℕ
 reports watchers history = flat_map (report_of history) watchers
 
--- what is written of a program in a mode: the lines of the history or the summary of the run, and then the reports of watchers; or the text of
+-- what is written of a program in a mode: the lines of the history or the summary of the run, and then the reports of watchers; or the text
+-- of
 -- the program's code. In mode infer it isn't written of the program that the text has: it is in `Inference`.
 abbrev pub output_in : Mode → Setting → List Entry → List Watcher → List ℕ
 output_in Run run history watchers = lines_of run.program history ++ reports watchers history

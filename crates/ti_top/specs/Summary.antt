@@ -32,7 +32,8 @@ printed_sum es = fold (λ (total : ℤ) (e : Entry). total +ℤ printed_int e.ac
 -- how many prints and how many entries there are, and the sum of the printed whole numbers, as one of 32 bits
 unfoldable pub summary_line : List Entry → List ℕ
 summary_line es =
-    codes "lines " ++ decimal (prints es) ++ codes " entries " ++ decimal (length es) ++ codes " sum " ++ signed_decimal (wrap w32 (printed_sum es)) ++ codes "\n"
+    codes "lines " ++ decimal (prints es) ++ codes " entries " ++ decimal (length es) ++ codes " sum "
+    ++ signed_decimal (wrap w32 (printed_sum es)) ++ codes "\n"
 
 -- whether all processes have their end
 abbrev pub have_ended : Setting → List Entry → Bool

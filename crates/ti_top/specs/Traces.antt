@@ -25,26 +25,31 @@ IsUnreadable job c = IsMissing c.source job.file ⊎ LacksTrace job c ⊎ Source
 pub record IsTraced (job : Job) (c : Call) : Type 0 where
   pub there : IsMissing c.source job.against → ⊥
   pub complete : (program : NumberedProgram) → HasProgram c.text program → IsComplete (run_of program job) c.history
-  pub told : (program : NumberedProgram) → HasProgram c.text program → (bytes : List ℕ) → Holds c.source job.against bytes → IsTraceOf (run_of program job) bytes c.history
+  pub told : (program : NumberedProgram) → HasProgram c.text program → (bytes : List ℕ) → Holds c.source job.against bytes
+      → IsTraceOf (run_of program job) bytes c.history
 
 -- The history has an entry for each line before the one of this number, and the trace is wrong at that line, where the source tells what it
 -- holds: the lines before are the trace of the history, and with it they are that of no run, or nothing is left and the run isn't complete.
 pub record IsWrongTrace (job : Job) (c : Call) (line : ℕ) : Type 0 where
   pub there : IsMissing c.source job.against → ⊥
   pub number : line ≡ length c.history + 1
-  pub told : (program : NumberedProgram) → HasProgram c.text program → (bytes : List ℕ) → Holds c.source job.against bytes → IsWrongAt (run_of program job) bytes line c.history
+  pub told : (program : NumberedProgram) → HasProgram c.text program → (bytes : List ℕ) → Holds c.source job.against bytes
+      → IsWrongAt (run_of program job) bytes line c.history
 
--- The trace: in mode verify, status 0 says that it is that of a complete run, which is the history. Status 7, which comes in this mode alone,
+-- The trace: in mode verify, status 0 says that it is that of a complete run, which is the history. Status 7, which comes in this mode
+-- alone,
 -- says that it is wrong at a line, and the history is the run of the lines before. With every other status there is no history, unless the
 -- line on err of a wrong trace wasn't written. Nothing is written to out.
 pub record VerifiesTrace (job : Job) (c : Call) : Type 0 where
   pub traced : c.status ≡ 0 → Verifies job.mode → IsTraced job c
   pub wrong : c.status ≡ 7 → (line : ℕ) × IsWrongTrace job c line
   pub seven_only_where : c.status ≡ 7 → Verifies job.mode
-  pub unjudged : Verifies job.mode → (c.status ≡ 0 → ⊥) → (c.status ≡ 7 → ⊥) → (c.history ≡ []) ⊎ ((c.status ≡ 5) × ErrRose c × ((line : ℕ) × IsWrongTrace job c line))
+  pub unjudged : Verifies job.mode → (c.status ≡ 0 → ⊥) → (c.status ≡ 7 → ⊥) → (c.history ≡ [])
+      ⊎ ((c.status ≡ 5) × ErrRose c × ((line : ℕ) × IsWrongTrace job c line))
   pub unwritten : Verifies job.mode → c.out_after.taken ≡ c.out.taken
 
--- These bytes decide the status: it is 0 where they are the trace of a complete run, and that run is the history; else it is 7, and where the
+-- These bytes decide the status: it is 0 where they are the trace of a complete run, and that run is the history; else it is 7, and where
+-- the
 -- bytes are wrong at a line, the run of the lines before is the history.
 pub record TraceDecides (s : Setting) (bytes : List ℕ) (c : Call) : Type 0 where
   pub run : (es : List Entry) → IsTraceOf s bytes es → (c.status ≡ 0) × (c.history ≡ es)

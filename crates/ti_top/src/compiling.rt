@@ -97,10 +97,12 @@ impl From<CheckErr> for CompileErr {
 
 /// That a text has one program or one refusal, and never both.
 pub fn one_answer()
-    ensures some { (text : List ℕ) → ((program : NumberedProgram) × HasProgram text program) ⊎ ((refusal : RefusalSeen) × IsRefusal text refusal) }
+    ensures some { (text : List ℕ) → ((program : NumberedProgram) × HasProgram text program)
+        ⊎ ((refusal : RefusalSeen) × IsRefusal text refusal) }
     ensures one_program { (text : List ℕ) (p q : NumberedProgram) → HasProgram text p → HasProgram text q → p ≡ q }
     ensures one_refusal { (text : List ℕ) (a b : RefusalSeen) → IsRefusal text a → IsRefusal text b → a ≡ b }
-    ensures never_both { (text : List ℕ) (program : NumberedProgram) (refusal : RefusalSeen) → HasProgram text program → IsRefusal text refusal → ⊥ }
+    ensures never_both { (text : List ℕ) (program : NumberedProgram) (refusal : RefusalSeen) → HasProgram text program
+        → IsRefusal text refusal → ⊥ }
 {
     one_reading();
     one_text();

@@ -42,7 +42,8 @@ impl From<InferErr> for CompileErr {
 pub fn one_marking()
     ensures one_marking { (text : List ℕ) (a b : List MarkSeen) → HasMarking text a → HasMarking text b → a ≡ b }
     ensures one_refusal { (text : List ℕ) (a b : RefusalSeen) → IsUnmarkedRefusal text a → IsUnmarkedRefusal text b → a ≡ b }
-    ensures never_both { (text : List ℕ) (marks : List MarkSeen) (refusal : RefusalSeen) → HasMarking text marks → IsUnmarkedRefusal text refusal → ⊥ }
+    ensures never_both { (text : List ℕ) (marks : List MarkSeen) (refusal : RefusalSeen) → HasMarking text marks
+        → IsUnmarkedRefusal text refusal → ⊥ }
 {
     one_reading();
     one_text();

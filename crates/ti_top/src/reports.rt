@@ -37,7 +37,8 @@ fn is_asked_for(watcher: &Box<dyn Watch>, trace: bool, stats: bool, races: bool)
 
 /// Keeps the watchers whose flag is given, and drops the others.
 pub fn keep_wanted(watchers: &mut Vec<Box<dyn Watch>>, job: &Job)
-    ensures { map {B = Watcher} (λ w. record { kind = kind_of w; told = told w }) watchers.new.items ≡ wanted job.now (map {B = Watcher} (λ w. record { kind = kind_of w; told = told w }) watchers.old.items) }
+    ensures { map {B = Watcher} (λ w. record { kind = kind_of w; told = told w }) watchers.new.items
+        ≡ wanted job.now (map {B = Watcher} (λ w. record { kind = kind_of w; told = told w }) watchers.old.items) }
 {
     let trace = job.trace;
     let stats = job.stats;
@@ -91,7 +92,8 @@ fn write_report<K: Sink>(
     history: &[Entry],
     out: &mut K,
 ) -> ReportEnd
-    ensures reported { Reported (record { kind = kind_of watcher; told = told watcher } ∷ []) history.now (K.state out.old) (K.state out.new) result }
+    ensures reported { Reported (record { kind = kind_of watcher; told = told watcher } ∷ []) history.now (K.state out.old)
+        (K.state out.new) result }
     ensures leaves { ReportsLeave result (K.state out.old) (K.state out.new) }
 {
     let mut watcher = watcher;
@@ -115,7 +117,8 @@ pub fn write_reports<K: Sink>(
     history: &[Entry],
     out: &mut K,
 ) -> ReportEnd
-    ensures reported { Reported (map {B = Watcher} (λ w. record { kind = kind_of w; told = told w }) watchers.items) history.now (K.state out.old) (K.state out.new) result }
+    ensures reported { Reported (map {B = Watcher} (λ w. record { kind = kind_of w; told = told w }) watchers.items) history.now
+        (K.state out.old) (K.state out.new) result }
     ensures leaves { ReportsLeave result (K.state out.old) (K.state out.new) }
 {
     'watchers: for watcher in watchers {

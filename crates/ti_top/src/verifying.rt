@@ -58,8 +58,10 @@ impl Verified {
 // Holds the trace that was found against a program. What is said of its races and of its verdict is the law of every run and every text.
 fn verify_found<S: Source>(alloc: Global, job: &Job, checked: &Checked, source: &mut S) -> Verified
     requires within { IsWithin job.now.procs job.now.fuel }
-    requires found { (S.state source.old).tells ≡ true → content_of (S.state source.old).files job.now.against ≡ Some (S.state source.old).left }
-    ensures { HeldTrace result.ending (run_of (program_of checked.now.program.parts) job.now) job.now.against (S.state source.old) (S.state source.new) result.history.items }
+    requires found { (S.state source.old).tells ≡ true → content_of (S.state source.old).files job.now.against
+        ≡ Some (S.state source.old).left }
+    ensures { HeldTrace result.ending (run_of (program_of checked.now.program.parts) job.now) job.now.against (S.state source.old)
+        (S.state source.new) result.history.items }
 {
     actions_formed(checked);
     races_are_told();
@@ -74,7 +76,8 @@ fn verify_found<S: Source>(alloc: Global, job: &Job, checked: &Checked, source: 
 // Finds the trace that a job names, and holds it against a program.
 fn verify_named<S: Source>(alloc: Global, job: &Job, checked: &Checked, source: &mut S) -> Verified
     requires { IsWithin job.now.procs job.now.fuel }
-    ensures { HeldTrace result.ending (run_of (program_of checked.now.program.parts) job.now) job.now.against (S.state source.old) (S.state source.new) result.history.items }
+    ensures { HeldTrace result.ending (run_of (program_of checked.now.program.parts) job.now) job.now.against (S.state source.old)
+        (S.state source.new) result.history.items }
 {
     match source.find(job.against.as_str()) {
         Ok(true) => verify_found(alloc, job, checked, source),

@@ -114,7 +114,8 @@ fn report_after<K: Sink>(
     watchers: Vec<Box<dyn Watch>>,
     out: &mut K,
 ) -> Ending
-    ensures reports { ReportsAfter ended (map {B = Watcher} (λ w. record { kind = kind_of w; told = told w }) watchers.items) history.now (K.state out.old) (K.state out.new) result }
+    ensures reports { ReportsAfter ended (map {B = Watcher} (λ w. record { kind = kind_of w; told = told w }) watchers.items) history.now
+        (K.state out.old) (K.state out.new) result }
     ensures leaves { LeavesOut result (K.state out.old) (K.state out.new) }
 {
     match ended {
@@ -173,7 +174,9 @@ fn run_program<R: Threads + Wait + Sync, K: Sink, G: Gate + Sync>(
     requires room { HasRoom checked.now.program.parts.literals.items ready.line }
     requires code { ready.code ≡ program_code (program_of checked.now.program.parts) }
     requires follows { Follows ready.code (program_of checked.now.program.parts) }
-    ensures says { RunSays (program_of checked.now.program.parts) job.now (map {B = Watcher} (λ w. record { kind = kind_of w; told = told w }) watchers.items) (K.state out.old) (K.state out.new) (kept_of result.kept) result.ending }
+    ensures says { RunSays (program_of checked.now.program.parts) job.now
+        (map {B = Watcher} (λ w. record { kind = kind_of w; told = told w }) watchers.items) (K.state out.old) (K.state out.new)
+        (kept_of result.kept) result.ending }
     ensures leaves { LeavesOut result.ending (K.state out.old) (K.state out.new) }
 {
     let Ready { code, mut line } = ready;
@@ -233,7 +236,9 @@ fn run_compiled<R: Threads + Wait + Sync, K: Sink, G: Gate + Sync>(
     requires ranges { IsInRanges job.now }
     requires mode { Runs job.now.mode }
     requires aligned { IsAligned (program_of checked.now.program.parts) }
-    ensures says { (text : List ℕ) → IsCompiled text (program_of checked.now.program.parts) → RunTextSays result.ending job.now (map {B = Watcher} (λ w. record { kind = kind_of w; told = told w }) watchers.items) text (K.state out.old) (K.state out.new) (kept_of result.kept) }
+    ensures says { (text : List ℕ) → IsCompiled text (program_of checked.now.program.parts)
+        → RunTextSays result.ending job.now (map {B = Watcher} (λ w. record { kind = kind_of w; told = told w }) watchers.items) text
+        (K.state out.old) (K.state out.new) (kept_of result.kept) }
     ensures leaves { LeavesOut result.ending (K.state out.old) (K.state out.new) }
 {
     match ready_for(alloc, checked) {
@@ -244,7 +249,8 @@ fn run_compiled<R: Threads + Wait + Sync, K: Sink, G: Gate + Sync>(
 
 // Writes the code of a text's program.
 fn code_compiled<K: Sink>(alloc: Global, checked: &Checked, out: &mut K) -> Written
-    ensures says { (text : List ℕ) → IsCompiled text (program_of checked.now.program.parts) → CodeTextSays result.ending text (K.state out.old) (K.state out.new) (kept_of result.kept) }
+    ensures says { (text : List ℕ) → IsCompiled text (program_of checked.now.program.parts)
+        → CodeTextSays result.ending text (K.state out.old) (K.state out.new) (kept_of result.kept) }
     ensures leaves { LeavesOut result.ending (K.state out.old) (K.state out.new) }
 {
     let coded = write_code(alloc, checked, out);
@@ -270,7 +276,8 @@ fn run_text<R: Threads + Wait + Sync, K: Sink, G: Gate + Sync>(
 ) -> Written
     requires ranges { IsInRanges job.now }
     requires mode { Runs job.now.mode }
-    ensures says { RunTextSays result.ending job.now (map {B = Watcher} (λ w. record { kind = kind_of w; told = told w }) watchers.items) text.now (K.state out.old) (K.state out.new) (kept_of result.kept) }
+    ensures says { RunTextSays result.ending job.now (map {B = Watcher} (λ w. record { kind = kind_of w; told = told w }) watchers.items)
+        text.now (K.state out.old) (K.state out.new) (kept_of result.kept) }
     ensures leaves { LeavesOut result.ending (K.state out.old) (K.state out.new) }
 {
     match compile(alloc, text) {
@@ -323,7 +330,9 @@ fn do_text<R: Threads + Wait + Sync, K: Sink, G: Gate + Sync>(
     out: &mut K,
 ) -> Written
     requires { IsInRanges job.now }
-    ensures says { TextSays job.now.mode result.ending job.now (map {B = Watcher} (λ w. record { kind = kind_of w; told = told w }) watchers.items) text.now (K.state out.old) (K.state out.new) (kept_of result.kept) }
+    ensures says { TextSays job.now.mode result.ending job.now (map {B = Watcher}
+        (λ w. record { kind = kind_of w; told = told w }) watchers.items) text.now (K.state out.old) (K.state out.new)
+        (kept_of result.kept) }
     ensures leaves { LeavesOut result.ending (K.state out.old) (K.state out.new) }
 {
     match job.mode {
@@ -379,7 +388,8 @@ fn work_on_seed<R: Threads + Wait + Sync, K: Sink, G: Gate + Sync>(
     watchers: Vec<Box<dyn Watch>>,
 ) -> Worked
     requires { IsInRanges job.now }
-    ensures says { SeedSays result.ending job.now (map {B = Watcher} (λ w. record { kind = kind_of w; told = told w }) watchers.items) result.text.items (K.state out.old) (K.state out.new) (kept_of result.kept) }
+    ensures says { SeedSays result.ending job.now (map {B = Watcher} (λ w. record { kind = kind_of w; told = told w }) watchers.items)
+        result.text.items (K.state out.old) (K.state out.new) (kept_of result.kept) }
     ensures leaves { LeavesOut result.ending (K.state out.old) (K.state out.new) }
 {
     match gen_source(alloc, job.seed) {
@@ -402,7 +412,8 @@ fn work_on_seed<R: Threads + Wait + Sync, K: Sink, G: Gate + Sync>(
 // Reads the file of a job, and holds the trace that is named against its program.
 fn work_on_trace<S: Source>(alloc: Global, job: &Job, source: &mut S) -> Worked
     requires { IsInRanges job.now }
-    ensures verified { VerifiedBy job.now result.ending (S.state source.old) (S.state source.new) result.text.items result.kept.history.items }
+    ensures verified { VerifiedBy job.now result.ending (S.state source.old)
+        (S.state source.new) result.text.items result.kept.history.items }
     ensures no_code { result.kept.code ≡ None }
     ensures no_count { result.kept.done.items ≡ [] }
 {

@@ -26,7 +26,8 @@ true_false e = cc
 -- ---- before the first line
 
 -- a store of these terms that nothing halted yet
-pub opens : (code : Code) (store : StoreState) (s : Setting) → setting_of store ≡ s → store.halted ≡ false → IsWithin s.procs s.fuel → Follows code s.program → OfEveryRun AnswersFit s.program → IsOpen code store
+pub opens : (code : Code) (store : StoreState) (s : Setting) → setting_of store ≡ s → store.halted ≡ false → IsWithin s.procs s.fuel
+    → Follows code s.program → OfEveryRun AnswersFit s.program → IsOpen code store
 opens code store s same unhalted within follows fit = record {
   unhalted = unhalted;
   within = subst (λ (t : Setting). IsWithin t.procs t.fuel) (sym same) within;

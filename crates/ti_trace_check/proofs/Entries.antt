@@ -5,7 +5,7 @@ use Rattle.std.proofs.lemmas.List.Elements.{filter-append}
 use Rattle.std.proofs.lemmas.List.Folds.{list_any-append}
 use Rattle.ti_base.specs.declared.entry.Entry.{Entry}
 use Rattle.ti_lang.specs.Meaning.Histories.{is_end, is_answered, entries_of, answers_of, has_end}
-use Rattle.ti_align.proofs.Entries.{got_both, other}
+use Rattle.ti_align.proofs.Lemmas.{got_both, other}
 
 own_more : (i : ℕ) (es : List Entry) (e : Entry) → e.proc ≡ i → entries_of i (es ++ e ∷ []) ≡ entries_of i es ++ e ∷ []
 own_more i es e h = filter-append (λ (x : Entry). x.proc == i) es (e ∷ []) ∙ ap (λ xs. entries_of i es ++ xs) one

@@ -69,7 +69,9 @@ onto (suc k) n acc h =
     let more : None_in (digit_glyph false (n % 10) ∷ acc) = both _ _ (glyph (n % 10) (below_ten n)) h in
     by (n / 10 == 0) more (onto k (n / 10) (digit_glyph false (n % 10) ∷ acc) more)
   where
-    by : (b : Bool) → None_in (digit_glyph false (n % 10) ∷ acc) → None_in (digits_onto k 10 false (n / 10) (digit_glyph false (n % 10) ∷ acc)) → None_in (cond b (digit_glyph false (n % 10) ∷ acc) (digits_onto k 10 false (n / 10) (digit_glyph false (n % 10) ∷ acc)))
+    by : (b : Bool) → None_in (digit_glyph false (n % 10) ∷ acc) → None_in
+        (digits_onto k 10 false (n / 10) (digit_glyph false (n % 10) ∷ acc))
+        → None_in (cond b (digit_glyph false (n % 10) ∷ acc) (digits_onto k 10 false (n / 10) (digit_glyph false (n % 10) ∷ acc)))
     by true x y = x
     by false x y = y
 
@@ -188,7 +190,9 @@ deposit (Count n) = plus (codes "count:") (decimal n) (record { is = refl }) (nu
 view : (how : ViewHow) → No (view_text how)
 view (Restrict r) = plus (codes "restrict ") (rect_text r) (record { is = refl }) (rect r)
 view (Translate by) = plus (codes "translate ") (point_text by) (record { is = refl }) (point by)
-view (Slice k j) = plus (codes "slice " ++ signed_decimal k ++ codes " ") (signed_decimal j) (plus (codes "slice " ++ signed_decimal k) (codes " ") (plus (codes "slice ") (signed_decimal k) (record { is = refl }) (signed k)) (record { is = refl })) (signed j)
+view (Slice k j) = plus (codes "slice " ++ signed_decimal k ++ codes " ") (signed_decimal j)
+    (plus (codes "slice " ++ signed_decimal k) (codes " ") (plus (codes "slice ") (signed_decimal k) (record { is = refl }) (signed k))
+    (record { is = refl })) (signed j)
 
 -- behind a blank
 blank : (text : List ℕ) → No text → No (codes " " ++ text)
@@ -250,7 +254,9 @@ body k e = decimal k ++ codes " p" ++ decimal e.proc ++ codes " " ++ place_text 
 
 pub none_inside : (k : ℕ) (e : Entry) → No (body k e)
 none_inside k e =
-    plus _ _ (plus _ _ (plus _ _ (plus _ _ (plus _ _ (plus _ _ (plus _ _ (plus _ _ (number k) (record { is = refl })) (number e.proc)) (record { is = refl })) (place e.place)) (record { is = refl })) (plus _ _ (word e.act) (operands e.act))) (record { is = refl })) (answer e.answer)
+    plus _ _ (plus _ _ (plus _ _
+    (plus _ _ (plus _ _ (plus _ _ (plus _ _ (plus _ _ (number k) (record { is = refl })) (number e.proc)) (record { is = refl }))
+    (place e.place)) (record { is = refl })) (plus _ _ (word e.act) (operands e.act))) (record { is = refl })) (answer e.answer)
 
 -- with a text behind it
 pub ended : (k : ℕ) (e : Entry) (x : List ℕ) → entry_text k e ++ x ≡ body k e ++ 10 ∷ x

@@ -35,7 +35,8 @@ one_read n more text r small z blank value = elim (cases_lt n 10) [
     apart k e = absurd (omega (arith, e))
 
 -- and else the two are its digits
-pub two_read : (n : ℕ) (more text : List ℕ) (r t : ℕ) → n < 100 → text ≡ decimal n ++ 32 ∷ more → (get_or text 1 0 ≡ 32 → ⊥) → ((d : ℕ) → get_or text 0 0 ≡ 48 + d → r ≡ d) → ((d : ℕ) → get_or text 1 0 ≡ 48 + d → t ≡ d) → r * 10 + t ≡ n
+pub two_read : (n : ℕ) (more text : List ℕ) (r t : ℕ) → n < 100 → text ≡ decimal n ++ 32 ∷ more → (get_or text 1 0 ≡ 32 → ⊥)
+    → ((d : ℕ) → get_or text 0 0 ≡ 48 + d → r ≡ d) → ((d : ℕ) → get_or text 1 0 ≡ 48 + d → t ≡ d) → r * 10 + t ≡ n
 two_read n more text r t small z other first second = elim (cases_lt n 10) [
   | inl one ↦ absurd (other (ap (λ t. get_or t 1 0) (one_digit n more text one z)))
   | inr two ↦

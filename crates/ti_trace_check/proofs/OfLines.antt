@@ -42,7 +42,9 @@ pub begins : (text line rest : List ℕ) (es : List Entry) → es ≡ [] → Tak
 begins text line rest es none t = record { left = text; begins = ap (λ xs. trace_text xs ++ text) (sym none); takes = t }
 
 -- behind a line
-pub goes : (code : Code) (s : Setting) (text : List ℕ) (es : List Entry) (old new : List Seat) (all : List Entry) (line rest next later : List ℕ) → GoesOn code s es old all new line → Goes text es line rest → TakesLine rest next later → Goes text all next later
+pub goes : (code : Code) (s : Setting) (text : List ℕ) (es : List Entry) (old new : List Seat) (all : List Entry)
+    (line rest next later : List ℕ) → GoesOn code s es old all new line → Goes text es line rest → TakesLine rest next later
+    → Goes text all next later
 goes code s text es old new all line rest next later g x t = record {
   left = rest;
   begins = x.begins
@@ -53,7 +55,8 @@ goes code s text es old new all line rest next later g x t = record {
 }
 
 -- at the end of the text
-pub came_whole : (code : Code) (s : Setting) (es : List Entry) (seats : List Seat) (taken : ℕ) → Stands code s es seats → taken ≡ length es → CameTo code s es seats (record { taken = taken; is_end = true })
+pub came_whole : (code : Code) (s : Setting) (es : List Entry) (seats : List Seat) (taken : ℕ) → Stands code s es seats → taken ≡ length es
+    → CameTo code s es seats (record { taken = taken; is_end = true })
 came_whole code s es seats taken x e = record {
   within = same taken (length es) e;
   run = subst (IsRun s) (sym (take_all taken es (same (length es) taken (sym e)))) x.run;
@@ -63,7 +66,8 @@ came_whole code s es seats taken x e = record {
     same : (m n : ℕ) → m ≡ n → m ≤ n
     same m n e = omega (arith, e)
 
-pub left_whole : (s : Setting) (text line rest : List ℕ) (es : List Entry) (taken : ℕ) → taken ≡ length es → line ≡ [] → Goes text es line rest → LeavesText s text es (record { taken = taken; is_end = true })
+pub left_whole : (s : Setting) (text line rest : List ℕ) (es : List Entry) (taken : ℕ) → taken ≡ length es → line ≡ []
+    → Goes text es line rest → LeavesText s text es (record { taken = taken; is_end = true })
 left_whole s text line rest es taken e none x = record {
   left = x.left;
   begins = x.begins ∙ ap (λ xs. trace_text xs ++ x.left) (sym (take_all taken es (same (length es) taken (sym e))));
@@ -78,7 +82,8 @@ left_whole s text line rest es taken e none x = record {
     true_false e = cc
 
 -- at a line that is off
-pub came_off : (code : Code) (s : Setting) (es all : List Entry) (seats : List Seat) (line : List ℕ) (taken : ℕ) → taken ≡ length es → IsRun s es → IsOff s es all line → CameTo code s all seats (record { taken = taken; is_end = false })
+pub came_off : (code : Code) (s : Setting) (es all : List Entry) (seats : List Seat) (line : List ℕ) (taken : ℕ) → taken ≡ length es
+    → IsRun s es → IsOff s es all line → CameTo code s all seats (record { taken = taken; is_end = false })
 came_off code s es all seats line taken e ran off = record {
   within = subst (λ n. n ≤ length all) (sym e) off.within;
   run = subst (IsRun s) (sym (ap (λ n. take n all) e ∙ off.kept)) ran;
@@ -92,7 +97,8 @@ some_text : (text line rest : List ℕ) → (line ≡ [] → ⊥) → text ≡ l
 some_text text [] rest some off none = some refl
 some_text text (x ∷ xs) rest some off none = none_more x (xs ++ rest) (sym none ∙ off)
 
-pub left_off : (s : Setting) → s.procs < 2 ^ 64 → (text line rest : List ℕ) (es all : List Entry) (taken : ℕ) → taken ≡ length es → IsRun s es → (line ≡ [] → ⊥) → IsOff s es all line → Goes text es line rest
+pub left_off : (s : Setting) → s.procs < 2 ^ 64 → (text line rest : List ℕ) (es all : List Entry) (taken : ℕ) → taken ≡ length es
+    → IsRun s es → (line ≡ [] → ⊥) → IsOff s es all line → Goes text es line rest
     → LeavesText s text all (record { taken = taken; is_end = false })
 left_off s few text line rest es all taken e ran some off x = record {
   left = x.left;
@@ -123,5 +129,6 @@ not_empty_line held line b same is other none = by b is other (ap length (same �
         false_true e = cc
 
 -- the same of a line and a setting that are the same
-pub goes_of : (code : Code) (s t : Setting) (es : List Entry) (old : List Seat) (all : List Entry) (new : List Seat) (line same : List ℕ) → s ≡ t → line ≡ same → GoesOn code s es old all new line → GoesOn code t es old all new same
+pub goes_of : (code : Code) (s t : Setting) (es : List Entry) (old : List Seat) (all : List Entry) (new : List Seat) (line same : List ℕ)
+    → s ≡ t → line ≡ same → GoesOn code s es old all new line → GoesOn code t es old all new same
 goes_of code s t es old all new line same e f x = subst (λ l. GoesOn code t es old all new l) f (subst (λ z. GoesOn code z es old all new line) e x)

@@ -7,7 +7,7 @@ use Rattle.std.proofs.lemmas.Option.{same_Some}
 use Rattle.ti_base.specs.declared.entry.Entry.{Entry}
 use Rattle.ti_lang.specs.Meaning.Processes.{Setting}
 use Rattle.ti_lang.specs.Meaning.Runs.{CanTake}
-use Rattle.ti_lang.proofs.MeaningLaws.Running.{entry_same}
+use Rattle.ti_lang.proofs.Lemmas.{entry_same}
 use Rattle.ti_watch.specs.Lines.{line_room}
 use Rattle.ti_watch.specs.Reports.{entry_text}
 use Rattle.ti_trace_check.specs.Mirrors.Seats.{IsOff}
@@ -48,7 +48,8 @@ names_line n e line more small short z which = by which
     text : entry_text n e ≡ (head ++ 32 ∷ []) ++ (behind e ++ [])
     text =
         sym (append-nil (entry_text n e)) ∙ cut n e []
-        ∙ sym (append_assoc (head) (32 ∷ []) (behind e ++ []) ∙ append_assoc (decimal n ++ codes " p") (decimal e.proc) (32 ∷ (behind e ++ [])) ∙ append_assoc (decimal n) (codes " p") (decimal e.proc ++ 32 ∷ (behind e ++ [])))
+        ∙ sym (append_assoc (head) (32 ∷ []) (behind e ++ []) ∙ append_assoc (decimal n ++ codes " p") (decimal e.proc)
+        (32 ∷ (behind e ++ [])) ∙ append_assoc (decimal n) (codes " p") (decimal e.proc ++ 32 ∷ (behind e ++ [])))
 
     two : length (decimal e.proc) ≤ 2
     two = length-decimal-le 2 e.proc (omega arith) (omega (arith, small)) (omega (arith, small))
@@ -130,7 +131,8 @@ module _ (s : Setting) (es : List Entry) (line : List ℕ) (few : s.procs ≤ 32
   }
 
   -- its entry has another line
-  pub other_line : (p : ℕ) (entry : Entry) (all : List Entry) → result ≡ Some p → CanTake s es p entry → all ≡ es ++ entry ∷ [] → (entry_text (length es) entry ≡ line → ⊥) → length (entry_text (length es) entry) ≤ 345
+  pub other_line : (p : ℕ) (entry : Entry) (all : List Entry) → result ≡ Some p → CanTake s es p entry → all ≡ es ++ entry ∷ []
+      → (entry_text (length es) entry ≡ line → ⊥) → length (entry_text (length es) entry) ≤ 345
       → IsOff s es all line
   other_line p entry all is can after other bound = record {
     kept = ap (take (length es)) after ∙ take_at es (entry ∷ []) (length es) refl;
@@ -152,7 +154,8 @@ module _ (s : Setting) (es : List Entry) (line : List ℕ) (few : s.procs ≤ 32
       off more z (inr long) = too_long (length (entry_text (length es) entry)) (length line) (length more) (ap length z ∙ length-append line more) bound long
 
 -- the line of the last entry
-pub line_is : (es all before behind : List Entry) (e d : Entry) (line : List ℕ) → before ≡ es → behind ≡ all → all ≡ es ++ e ∷ [] → line ≡ entry_text (length before) (get_or behind (length before) d) → line ≡ entry_text (length es) e
+pub line_is : (es all before behind : List Entry) (e d : Entry) (line : List ℕ) → before ≡ es → behind ≡ all → all ≡ es ++ e ∷ [] → line
+    ≡ entry_text (length before) (get_or behind (length before) d) → line ≡ entry_text (length es) e
 line_is es all before behind e d line b a after is =
     is
     ∙ ap (λ (xs : List Entry). entry_text (length xs) (get_or behind (length xs) d)) b

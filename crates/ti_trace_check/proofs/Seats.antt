@@ -13,20 +13,16 @@ use Rattle.ti_lang.specs.Meaning.Steps.{Step, To, At, Ends, Faults, step}
 use Rattle.ti_lang.specs.Meaning.NextStep.{shown, IsNext, After}
 use Rattle.ti_lang.specs.Meaning.Histories.{is_end, is_fault, is_answered, entries_of, answers_of, has_end, has_fault}
 use Rattle.ti_lang.specs.Meaning.Runs.{World, IsReady, CanTake, IsRun, more}
-use Rattle.ti_lang.proofs.MeaningLaws.Limits.{within}
-use Rattle.ti_lang.proofs.MeaningLaws.Requests.{no_end_asked}
-use Rattle.ti_lang.proofs.MeaningLaws.Steps.{next_same, after_same}
+use Rattle.ti_lang.proofs.Lemmas.{within, no_end_asked, next_same, after_same}
 use Rattle.ti_align.specs.Answering.{AnswersFit}
-use Rattle.ti_align.proofs.Paying.{after_pays}
-use Rattle.ti_align.proofs.Vars.{or_right}
+use Rattle.ti_align.proofs.Lemmas.{after_pays, or_right}
 use Rattle.ti_code.specs.Programs.{Code}
 use Rattle.ti_machine.specs.Standing.{Standing, is_act}
 use Rattle.ti_machine.specs.Standing as machine
 use Rattle.ti_store.specs.Conditions as store
 use Rattle.ti_store.specs.Stores.{StoreState, setting_of, next_of, Becomes, fault_entry, IsDone, IsRefused}
 use Rattle.ti_store.specs.declared.act_err.ActErr.TheVariants as err
-use Rattle.ti_store.proofs.Running.{next_acts}
-use Rattle.ti_store.proofs.OneMore.{fault_more}
+use Rattle.ti_store.proofs.Lemmas.{next_acts, fault_more}
 use Rattle.ti_trace_check.specs.declared.seat.Seat.{Seat}
 use Rattle.ti_trace_check.specs.Mirrors.Seats.{doing_of, place_of, action_of, standing_of, StandsAt, Seated, told_more, Hears, Moves, steps_left, faults_left, IsOpen, TurnLeaves}
 use Rattle.ti_trace_check.proofs.Entries.{end_more, answers_more, answers_still}
@@ -217,7 +213,8 @@ module _ (code : Code) (st : StoreState) (o : IsOpen code st) (run : IsRun (sett
       can = can_take here going d.becomes;
       after = after;
       seated = subst (λ xs. Seated code s xs i seat) (sym after) (seated_on (is_act old.next) refl);
-      lighter = subst (λ k. steps_left s seat + k < steps_left s old + faults_left es) (sym no_fault_here) (more (steps_left s seat) (steps_left s old) (faults_left es) (lighter_on (is_act old.next) refl));
+      lighter = subst (λ k. steps_left s seat + k < steps_left s old + faults_left es) (sym no_fault_here)
+          (more (steps_left s seat) (steps_left s old) (faults_left es) (lighter_on (is_act old.next) refl));
     }
       where
         more : (a b c : ℕ) → a < b → a + c < b + c

@@ -35,7 +35,8 @@ pub record Taken (text line held left : List ℕ) : Type 0 where
   pub no_end : has_no_end line ≡ true
 
 -- where nothing is held and left any more, the line is all there is
-pub taken_all : (text line held left front : List ℕ) (most : ℕ) → 0 < most → front ≡ first_line (take most held) → front ≡ [] → (held ≡ [] → left ≡ []) → Taken text line held left → TakesLine text line (held ++ left)
+pub taken_all : (text line held left front : List ℕ) (most : ℕ) → 0 < most → front ≡ first_line (take most held) → front ≡ []
+    → (held ≡ [] → left ≡ []) → Taken text line held left → TakesLine text line (held ++ left)
 taken_all text line held left front most some is none at_end x =
     let nothing : held ≡ [] = empty most held some (some_line (take most held) (sym is ∙ none)) in
     let all : text ≡ line = x.off ∙ ap (λ h. line ++ h) (ap (λ h. h ++ left) nothing ∙ at_end nothing) ∙ append-nil line in
@@ -56,7 +57,8 @@ front_of held most =
     (r.0 ++ drop most held, sym (take-append-drop most held) ∙ ap (λ h. h ++ drop most held) r.1 ∙ append_assoc (first_line (take most held)) r.0 (drop most held))
 
 -- a front with a line end ends the line
-pub taken_end : (text line held left front later new : List ℕ) (most : ℕ) → new ≡ line ++ front → front ≡ first_line (take most held) → held ≡ front ++ later → has_no_end front ≡ false → Taken text line held left → TakesLine text new (later ++ left)
+pub taken_end : (text line held left front later new : List ℕ) (most : ℕ) → new ≡ line ++ front → front ≡ first_line (take most held) → held
+    ≡ front ++ later → has_no_end front ≡ false → Taken text line held left → TakesLine text new (later ++ left)
 taken_end text line held left front later new most same is split ends x = subst (λ (l : List ℕ). TakesLine text l (later ++ left)) (sym same) (record {
   off = x.off ∙ ap (λ h. line ++ h) (ap (λ h. h ++ left) split ∙ append_assoc front later left) ∙ sym (append_assoc line front (later ++ left));
   first = record {
@@ -98,7 +100,8 @@ shorter xs = let r = line_front xs in fewer (length xs) (length (first_line xs))
 
 -- the first line of so many bytes has no more
 pub front_short : (held front : List ℕ) (most : ℕ) → front ≡ first_line (take most held) → length front ≤ most
-front_short held front most is = fits (length front) (length (first_line (take most held))) (length (take most held)) most (length held) (ap length is) (shorter (take most held)) (length-take most held)
+front_short held front most is = fits (length front) (length (first_line (take most held))) (length (take most held)) most (length held)
+    (ap length is) (shorter (take most held)) (length-take most held)
   where
     fits : (a b c d e : ℕ) → a ≡ b → b ≤ c → c ≡ min d e → a ≤ d
     fits a b c d e h k l = omega arith

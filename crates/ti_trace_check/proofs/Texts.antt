@@ -9,7 +9,7 @@ use Rattle.ti_base.specs.declared.entry.Entry.{Entry}
 use Rattle.ti_lang.specs.Meaning.Processes.{Setting}
 use Rattle.ti_lang.specs.Meaning.Runs.{CanTake, IsRun, IsComplete}
 use Rattle.ti_lang.specs.Meaning.Runs as run
-use Rattle.ti_lang.proofs.MeaningLaws.Running.{taker, fronts, entry_same}
+use Rattle.ti_lang.proofs.Lemmas.{taker, fronts, entry_same}
 use Rattle.ti_watch.specs.Texts.{place_text}
 use Rattle.ti_watch.specs.Acts.{act_text, answer_text}
 use Rattle.ti_watch.specs.Reports.{entry_text, lines_from, trace_text}

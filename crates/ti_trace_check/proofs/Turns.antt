@@ -10,7 +10,7 @@ use Rattle.ti_lang.specs.Meaning.Processes.{Setting, begin}
 use Rattle.ti_lang.specs.Meaning.NextStep.{After}
 use Rattle.ti_lang.specs.Meaning.Histories.{is_end, is_answered, entries_of, answers_of}
 use Rattle.ti_lang.specs.Meaning.Runs.{more}
-use Rattle.ti_lang.proofs.MeaningLaws.Running.{taker}
+use Rattle.ti_lang.proofs.Lemmas.{taker}
 use Rattle.ti_code.specs.Programs.{Code}
 use Rattle.ti_machine.specs.Standing.{is_act}
 use Rattle.ti_watch.specs.Reports.{entry_text}
@@ -50,7 +50,8 @@ module _ (code : Code) (s : Setting) (es all : List Entry) (seats : List Seat) (
   lighter_on =
       let sums = sum_by-set (steps_left s) seats i new old inside in
       let same : steps_left s (get_or seats i old) ≡ steps_left s old = ap (steps_left s) (sym is) in
-      fewer (sum_by (steps_left s) (slice_set seats i new)) (steps_left s (get_or seats i old)) (sum_by (steps_left s) seats) (steps_left s new) (steps_left s old) (faults_left all) (faults_left es) sums same g.lighter
+      fewer (sum_by (steps_left s) (slice_set seats i new)) (steps_left s (get_or seats i old)) (sum_by (steps_left s) seats)
+      (steps_left s new) (steps_left s old) (faults_left all) (faults_left es) sums same g.lighter
     where
       fewer : (a b c d e f h : ℕ) → a + b ≡ c + d → b ≡ e → d + f < e + h → a + f < c + h
       fewer a b c d e f h k l m = omega arith

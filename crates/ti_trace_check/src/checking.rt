@@ -31,7 +31,8 @@ use ti_store::{Store, Terms};
 fn seats_of(alloc: Global, code: &Code, procs: u32, fuel: u32) -> Result<Vec<Seat>, Memory>
     requires within { IsWithin procs fuel }
     requires follows { (program : NumberedProgram) × Follows code.now program }
-    ensures { IfOk result (λ seats. (program : NumberedProgram) → Follows code.now program → Stands code.now (record { program = program; procs = procs; fuel = fuel }) [] seats.items) }
+    ensures { IfOk result (λ seats. (program : NumberedProgram) → Follows code.now program
+        → Stands code.now (record { program = program; procs = procs; fuel = fuel }) [] seats.items) }
 {
     has_one_next();
     let mut seats = Vec::with_capacity(alloc, procs as usize)?;
@@ -91,7 +92,8 @@ fn check_by<J: Terms, S: Source>(
     ensures never_falls { (S.state source.old).faults ≤ (S.state source.new).faults }
     ensures same { SameFiles (S.state source.old) (S.state source.new) }
     ensures keeps { IfOk result (λ v. Keeps (record { program = program_of c.now.program.parts; procs = procs; fuel = fuel }) v) }
-    ensures judges { IfOk result (λ v. (S.state source.old).tells ≡ true → Judges (record { program = program_of c.now.program.parts; procs = procs; fuel = fuel }) (S.state source.old).left v) }
+    ensures judges { IfOk result (λ v. (S.state source.old).tells ≡ true
+        → Judges (record { program = program_of c.now.program.parts; procs = procs; fuel = fuel }) (S.state source.old).left v) }
     ensures read { IfErr result (λ e. e ≡ Read → Rose (S.state source.old).faults (S.state source.new).faults) }
 {
     answers_fit(c);
@@ -118,7 +120,8 @@ pub fn check_trace<S: Source>(
     ensures never_falls { (S.state source.old).faults ≤ (S.state source.new).faults }
     ensures same { SameFiles (S.state source.old) (S.state source.new) }
     ensures keeps { IfOk result (λ v. Keeps (record { program = program_of c.now.program.parts; procs = procs; fuel = fuel }) v) }
-    ensures judges { IfOk result (λ v. (S.state source.old).tells ≡ true → Judges (record { program = program_of c.now.program.parts; procs = procs; fuel = fuel }) (S.state source.old).left v) }
+    ensures judges { IfOk result (λ v. (S.state source.old).tells ≡ true
+        → Judges (record { program = program_of c.now.program.parts; procs = procs; fuel = fuel }) (S.state source.old).left v) }
     ensures read { IfErr result (λ e. e ≡ Read → Rose (S.state source.old).faults (S.state source.new).faults) }
 {
     check_by::<Brand, S>(alloc, c, procs, fuel, source)

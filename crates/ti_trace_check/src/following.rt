@@ -34,7 +34,8 @@ fn meet<J: Terms>(
 ) -> Result<bool, Memory>
     requires open { IsOpen code.now store.old }
     requires stands { Stands code.now (setting_of store.old) store.old.entries seats.old.items }
-    ensures meets { IfOk result (λ met. Meets code.now (setting_of store.old) store.old.entries seats.old.items store.new.entries seats.new.items line.now met) }
+    ensures meets { IfOk result (λ met. Meets code.now (setting_of store.old) store.old.entries seats.old.items store.new.entries
+        seats.new.items line.now met) }
     ensures store { store.new ≡ record store.old { entries = store.new.entries } }
 {
     let number = store.history().len();
@@ -64,7 +65,8 @@ pub fn follow<J: Terms, S: Source>(
     ensures never_falls { (S.state source.old).faults ≤ (S.state source.new).faults }
     ensures same { SameFiles (S.state source.old) (S.state source.new) }
     ensures came { IfOk result (λ end. CameTo code.now (setting_of store.old) store.new.entries seats.new.items end) }
-    ensures leaves { IfOk result (λ end. (S.state source.old).tells ≡ true → LeavesText (setting_of store.old) (S.state source.old).left store.new.entries end) }
+    ensures leaves { IfOk result (λ end. (S.state source.old).tells ≡ true
+        → LeavesText (setting_of store.old) (S.state source.old).left store.new.entries end) }
     ensures read { IfErr result (λ e. e ≡ Read → Rose (S.state source.old).faults (S.state source.new).faults) }
     ensures store { store.new ≡ record store.old { entries = store.new.entries } }
 {

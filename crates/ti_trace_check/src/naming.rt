@@ -31,7 +31,8 @@ fn small_number(text: &[u8]) -> Option<u32>
 
 /// The process that a line of this number names, where it names one of fewer than a hundred.
 pub fn process_in(number: usize, line: &[u8]) -> Option<u32>
-    ensures names { (p : ℕ) (more : List ℕ) → p < 100 → line.now ≡ decimal number ++ codes " p" ++ decimal p ++ 32 ∷ more → result ≡ Some p }
+    ensures names { (p : ℕ) (more : List ℕ) → p < 100 → line.now ≡ decimal number ++ codes " p" ++ decimal p ++ 32 ∷ more → result
+        ≡ Some p }
     ensures short { length (decimal number) ≤ 20 }
 {
     let mut head = Line::new();

@@ -55,7 +55,8 @@ impl Pieces {
         ensures cause { HasCause (S.state source.old).faults (S.state source.new).faults result }
         ensures same { SameFiles (S.state source.old) (S.state source.new) }
         ensures room { IsRoom self.new }
-        ensures fills { IfOk result (λ _. (S.state source.old).tells ≡ true → Fills (held self.old) (S.state source.old).left (held self.new) (S.state source.new).left) }
+        ensures fills { IfOk result (λ _. (S.state source.old).tells ≡ true
+            → Fills (held self.old) (S.state source.old).left (held self.new) (S.state source.new).left) }
     {
         if self.at >= self.end {
             self.at = 0;
@@ -84,7 +85,8 @@ impl Pieces {
         ensures cause { HasCause (S.state source.old).faults (S.state source.new).faults result }
         ensures same { SameFiles (S.state source.old) (S.state source.new) }
         ensures room { IsRoom self.new }
-        ensures line { IfOk result (λ line. (S.state source.old).tells ≡ true → TakesLine (held self.old ++ (S.state source.old).left) line (held self.new ++ (S.state source.new).left)) }
+        ensures line { IfOk result (λ line. (S.state source.old).tells ≡ true
+            → TakesLine (held self.old ++ (S.state source.old).left) line (held self.new ++ (S.state source.new).left)) }
     {
         let mut line = Line::new();
         'pieces: while line.as_slice().len() < MOST_HELD {

@@ -43,7 +43,14 @@ impl Seat {
         requires number { number < 2 ^ 31 }
         requires procs { procs < 2 ^ 31 }
         requires goes { GoesOn (record { code = code.now; procs = procs; fuel = fuel; number = number; told = []; asks = false }) }
-        ensures stands { IfOk result (λ seat. StandsAt (record { code = code.now; procs = procs; fuel = fuel; number = number; told = []; asks = false }) seat) }
+        ensures stands { IfOk result (λ seat. StandsAt (record {
+          code = code.now;
+          procs = procs;
+          fuel = fuel;
+          number = number;
+          told = [];
+          asks = false;
+        }) seat) }
         ensures unended { IfOk result (λ seat. seat.ended ≡ false) }
     {
         let mut process = Proc::start(alloc, code, number, procs, fuel)?;
@@ -84,7 +91,8 @@ impl Seat {
         requires number { number < store.old.procs }
         requires run { IsRun (setting_of store.old) store.old.entries }
         requires seated { Seated code.now (setting_of store.old) store.old.entries number self.old }
-        ensures leaves { IfOk result (λ took. TurnLeaves code.now (setting_of store.old) store.old.entries number self.old store.new.entries self.new took) }
+        ensures leaves { IfOk result (λ took. TurnLeaves code.now (setting_of store.old) store.old.entries number self.old store.new.entries
+            self.new took) }
         ensures store { store.new ≡ record store.old { entries = store.new.entries } }
     {
         has_one_next();

@@ -29,20 +29,26 @@ module _ {V I : Type 0} {g : _} (table : TableId) where
   -- one more pass, whose number is how many there were
   pub one_more : (ps : List (Pass V I g)) (p : Pass V I g) (k : ℕ) → length ps ≡ k → p.seat.table_id ≡ table → p.seat.me ≡ (outside k [], []) → AreNew table ps → AreNew table (ps ++ p ∷ [])
   one_more ps p k len of is are i q e = ⊎_elim (are i q)
-      (λ (x : (i ≡ length ps) × (p ≡ q)). subst (λ (y : ℕ × Pass V I g). (turnstile_of y.1 ≡ table) × (number_of y.1 ≡ y.0) × (seen_by y.1 ≡ [])) (λ j. (sym (x.0 ∙ len) j, x.1 j)) (of, ap number_in is, ap seen_in is))
+      (λ (x : (i ≡ length ps) × (p ≡ q)). subst (λ (y : ℕ × Pass V I g). (turnstile_of y.1 ≡ table) × (number_of y.1 ≡ y.0)
+      × (seen_by y.1 ≡ [])) (λ j. (sym (x.0 ∙ len) j, x.1 j)) (of, ap number_in is, ap seen_in is))
       (at_end ps p q i e)
 
 module _ {V I : Type 0} {g : _} (log_of : V → List (ℕ × I)) where
   -- once all passes are in one seat, the value is in its slot, and its log is legal with each of them
-  pub closing : (n id : ℕ) (me : Me (Option V) (View I)) (passes left done : List (Pass V I g)) (words : List ℕ) (slots : List (Option V)) → passes ≡ left ++ done → length left ≡ 0 → me ≡ (view false (map part_of done), []) → length passes ≡ n
-      → Final (Seen (Sound log_of n) id me.0) words slots → (x : V) × (get_elem? slots 0 ≡ some (Some x)) × AreLegal (log_of x) passes × OneHasSeen (log_of x) passes × AreAll n passes × AreDistinct passes
+  pub closing : (n id : ℕ) (me : Me (Option V) (View I)) (passes left done : List (Pass V I g)) (words : List ℕ) (slots : List (Option V))
+      → passes ≡ left ++ done → length left ≡ 0 → me ≡ (view false (map part_of done), []) → length passes ≡ n
+      → Final (Seen (Sound log_of n) id me.0) words slots → (x : V) × (get_elem? slots 0 ≡ some (Some x)) × AreLegal (log_of x) passes
+      × OneHasSeen (log_of x) passes × AreAll n passes × AreDistinct passes
   closing n id me passes left done words slots all empty is count final =
       let same : done ≡ passes = sym (all ∙ ap (λ l. l ++ done) (nothing left empty)) in
-      let t = closes_value log_of n id (map part_of done) words slots (subst (λ v. Final (Seen (Sound log_of n) id v) words slots) (ap (λ m. m.0) is) final) (length-map done part_of ∙ ap length same ∙ count) in
+      let t = closes_value log_of n id (map part_of done) words slots
+      (subst (λ v. Final (Seen (Sound log_of n) id v) words slots) (ap (λ m. m.0) is) final) (length-map done part_of ∙ ap length same
+      ∙ count) in
       (t.0, t.1, subst (λ ps. AreLegal (log_of t.0) ps) same t.2, subst (λ ps. OneHasSeen (log_of t.0) ps) same t.3, subst (λ ps. AreAll n ps) same t.4, subst (λ ps. AreDistinct ps) same t.5)
 
   -- the same of the value that was taken out of the slot
-  pub closed : (n : ℕ) (passes : List (Pass V I g)) (slots : List (Option V)) (v : V) → (x : V) × (get_elem? slots 0 ≡ some (Some x)) × AreLegal (log_of x) passes × OneHasSeen (log_of x) passes × AreAll n passes × AreDistinct passes → get_elem? slots 0 ≡ some (Some v)
+  pub closed : (n : ℕ) (passes : List (Pass V I g)) (slots : List (Option V)) (v : V) → (x : V) × (get_elem? slots 0 ≡ some (Some x))
+      × AreLegal (log_of x) passes × OneHasSeen (log_of x) passes × AreAll n passes × AreDistinct passes → get_elem? slots 0 ≡ some (Some v)
       → AreLegal (log_of v) passes × OneHasSeen (log_of v) passes × AreAll n passes × AreDistinct passes
   closed n passes slots v t taken =
       let same : t.0 ≡ v = let some_same = some-injective (Some t.0) (Some v) (sym t.1 ∙ taken) in cc some_same in

@@ -103,14 +103,16 @@ module _ {I : Type 0} where
   any_some P (p ∷ ps) h = omega arith
 
   -- a part that some seat has, after a step of the seat id
-  pub some_set : (P : Part I → Type 0) (views : List (View I)) (id : ℕ) (v w : View I) → get_elem? views id ≡ some v → (AnyPart P v.parts → AnyPart P w.parts) → SomeSeat P views → SomeSeat P (set views id w)
+  pub some_set : (P : Part I → Type 0) (views : List (View I)) (id : ℕ) (v w : View I) → get_elem? views id ≡ some v
+      → (AnyPart P v.parts → AnyPart P w.parts) → SomeSeat P views → SomeSeat P (set views id w)
   some_set P views id v w at keep s = elim (ℕ_discrete s.0 id) as (λ _. SomeSeat P (set views id w)) [
     | yes e ↦ (id, w, get_set views id v w at, keep (subst (λ (u : View I). AnyPart P u.parts) (some-injective s.1 v (sym s.2 ∙ ap (λ j. get_elem? views j) e ∙ at)) s.3))
     | no ne ↦ (s.0, s.1, set_else views id s.0 w ne ∙ s.2, s.3)
   ]
 
   -- after a cut
-  pub some_cut : (P : Part I → Type 0) (views : List (View I)) (id : ℕ) (v left right : View I) → get_elem? views id ≡ some v → (AnyPart P v.parts → AnyPart P right.parts ⊎ AnyPart P left.parts) → SomeSeat P views → SomeSeat P (set views id left ++ right ∷ [])
+  pub some_cut : (P : Part I → Type 0) (views : List (View I)) (id : ℕ) (v left right : View I) → get_elem? views id ≡ some v
+      → (AnyPart P v.parts → AnyPart P right.parts ⊎ AnyPart P left.parts) → SomeSeat P views → SomeSeat P (set views id left ++ right ∷ [])
   some_cut P views id v left right at keep s =
       let vs : List (View I) = set views id left in
       elim (ℕ_discrete s.0 id) as (λ _. SomeSeat P (vs ++ right ∷ [])) [
@@ -136,11 +138,13 @@ module _ {I : Type 0} where
       ]
 
   -- what holds of each view after a step of the seat id
-  pub after_set : (P : View I → Type 0) (views : List (View I)) (id : ℕ) (w : View I) → ((j : ℕ) (v : View I) → get_elem? views j ≡ some v → P v) → P w → (j : ℕ) (v : View I) → get_elem? (set views id w) j ≡ some v → P v
+  pub after_set : (P : View I → Type 0) (views : List (View I)) (id : ℕ) (w : View I)
+      → ((j : ℕ) (v : View I) → get_elem? views j ≡ some v → P v) → P w → (j : ℕ) (v : View I) → get_elem? (set views id w) j ≡ some v → P v
   after_set P views id w others mine j v e = ⊎_elim (λ (x : (j ≡ id) × (w ≡ v)). subst P x.1 mine) (λ (x : (j ≢ id) × (get_elem? views j ≡ some v)). others j v x.1) (at_set views id j w v e)
 
   -- what holds of each view after one was cut in two
-  pub after_cut : (P : ℕ → View I → Type 0) (views : List (View I)) (id : ℕ) (left right : View I) → ((j : ℕ) (v : View I) → j ≢ id → get_elem? views j ≡ some v → P j v) → P id left → P (length (set views id left)) right
+  pub after_cut : (P : ℕ → View I → Type 0) (views : List (View I)) (id : ℕ) (left right : View I)
+      → ((j : ℕ) (v : View I) → j ≢ id → get_elem? views j ≡ some v → P j v) → P id left → P (length (set views id left)) right
       → (j : ℕ) (v : View I) → get_elem? (set views id left ++ right ∷ []) j ≡ some v → P j v
   after_cut P views id left right others mine new j v e = ⊎_elim
       (λ old. ⊎_elim
@@ -151,7 +155,8 @@ module _ {I : Type 0} where
       (at_end (set views id left) right v j e)
 
   -- what holds of each view after two were put together
-  pub after_join : (P : ℕ → View I → Type 0) (views : List (View I)) (id other : ℕ) (both spent : View I) → ((j : ℕ) (v : View I) → j ≢ id → j ≢ other → get_elem? views j ≡ some v → P j v) → P id both → P other spent
+  pub after_join : (P : ℕ → View I → Type 0) (views : List (View I)) (id other : ℕ) (both spent : View I)
+      → ((j : ℕ) (v : View I) → j ≢ id → j ≢ other → get_elem? views j ≡ some v → P j v) → P id both → P other spent
       → (j : ℕ) (v : View I) → get_elem? (set (set views id both) other spent) j ≡ some v → P j v
   after_join P views id other both spent others mine theirs j v e = ⊎_elim
       (λ (x : (j ≡ other) × (spent ≡ v)). subst (λ (y : ℕ × View I). P y.0 y.1) (λ k. (sym x.0 k, x.1 k)) theirs)

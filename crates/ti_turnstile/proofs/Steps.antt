@@ -14,11 +14,16 @@ use Rattle.ti_turnstile.specs.declared.view.Part.{Part}
 use Rattle.ti_turnstile.specs.declared.view.View.{View}
 use Rattle.ti_turnstile.specs.Parts.{part, first_seen, AllParts, AnyPart, HasSeen, HasNumber, Distinct, number_in, seen_in}
 use Rattle.ti_turnstile.specs.Mirrors.Views.{view, outside, inside, fresh, SomeSeat, total, size, Fits, IsPass, NoneInside, OneInside, Free, Held, Sound, Tries, Sees, Goes}
-use Rattle.ti_turnstile.proofs.Lists.{get_set, at_end, legal_self, legal_grown, all_map, all_both, all_append, total_set, total_two, total_append, fresh_length, fresh_all, fresh_above, fresh_seen, fresh_number, fresh_distinct, distinct_append, after_set, any_left, any_right, any_some, some_set, some_cut, some_join, after_cut, after_join}
+use Rattle.ti_turnstile.proofs.Lists.{get_set, at_end, legal_self, legal_grown, all_map, all_both, all_append, total_set, total_two}
+use Rattle.ti_turnstile.proofs.Lists.{total_append, fresh_length, fresh_all, fresh_above, fresh_seen, fresh_number, fresh_distinct}
+use Rattle.ti_turnstile.proofs.Lists.{distinct_append, after_set, any_left, any_right, any_some, some_set, some_cut, some_join, after_cut}
+use Rattle.ti_turnstile.proofs.Lists.{after_join}
 
 module _ {V I : Type 0} (log_of : V → List (ℕ × I)) where
   -- the views after a step of the seat id
-  each_set : (log : List (ℕ × I)) (owner : ℕ → ℕ) (views : List (View I)) (id : ℕ) (w : View I) → ((j : ℕ) (v : View I) → j ≢ id → get_elem? views j ≡ some v → AllParts (Fits log owner j) v.parts) → AllParts (Fits log owner id) w.parts
+  each_set : (log : List (ℕ × I)) (owner : ℕ → ℕ) (views : List (View I)) (id : ℕ) (w : View I)
+      → ((j : ℕ) (v : View I) → j ≢ id → get_elem? views j ≡ some v → AllParts (Fits log owner j) v.parts)
+      → AllParts (Fits log owner id) w.parts
       → (j : ℕ) (v : View I) → get_elem? (set views id w) j ≡ some v → AllParts (Fits log owner j) v.parts
   each_set log owner views id w old new j v e = ⊎_elim
       (λ (x : (j ≡ id) × (w ≡ v)). subst (λ (y : ℕ × View I). AllParts (Fits log owner y.0) y.1.parts) (λ k. (sym x.0 k, x.1 k)) new)
@@ -35,10 +40,13 @@ module _ {V I : Type 0} (log_of : V → List (ℕ × I)) where
       (at_set views id j w v e)
 
   enters_free : (n id k : ℕ) (seen : List (ℕ × I)) (views : List (View I)) (log : List (ℕ × I)) (hint : ℕ) (owner : ℕ → ℕ) (x : V) → log_of x ≡ log → total size views ≡ n
-      → ((j : ℕ) (v : View I) → get_elem? views j ≡ some v → AllParts (Fits log owner j) v.parts) → NoneInside log_of views → ((i : ℕ) → i < n → SomeSeat (λ p. p.number ≡ i) views) → ((j : ℕ) (v : View I) → get_elem? views j ≡ some v → Distinct v.parts) → get_elem? views id ≡ some (outside k seen)
+      → ((j : ℕ) (v : View I) → get_elem? views j ≡ some v → AllParts (Fits log owner j) v.parts) → NoneInside log_of views
+      → ((i : ℕ) → i < n → SomeSeat (λ p. p.number ≡ i) views) → ((j : ℕ) (v : View I) → get_elem? views j ≡ some v → Distinct v.parts)
+      → get_elem? views id ≡ some (outside k seen)
       → Sound log_of n record { words = 1 ∷ hint ∷ []; homes = none ∷ []; views = set views id (inside k (log_of x)) }
   enters_free n id k seen views log hint owner x is count each out cover apart at =
-      let each' : (j : ℕ) (v : View I) → get_elem? views j ≡ some v → AllParts (Fits (log_of x) owner j) v.parts = subst (λ l. (j : ℕ) (v : View I) → get_elem? views j ≡ some v → AllParts (Fits l owner j) v.parts) (sym is) each in
+      let each' : (j : ℕ) (v : View I) → get_elem? views j ≡ some v → AllParts (Fits (log_of x) owner j) v.parts =
+      subst (λ l. (j : ℕ) (v : View I) → get_elem? views j ≡ some v → AllParts (Fits l owner j) v.parts) (sym is) each in
       let here : get_elem? (set views id (inside k (log_of x))) id ≡ some (inside k (log_of x)) = get_set views id (outside k seen) (inside k (log_of x)) at in record {
         log = log_of x;
         hint = hint;
@@ -51,10 +59,12 @@ module _ {V I : Type 0} (log_of : V → List (ℕ × I)) where
         turn = inr (refl, refl, id, k, here, one_after views id (inside k (log_of x)) (λ j v _ e. out j v e));
       }
 
-  pub tries : (n slots id k : ℕ) (seen : List (ℕ × I)) (st : Step (Option V)) → Allows (Sound log_of n) slots id (outside k seen, []) 0 (λ w. either (w == 0) 1 w) (Tries log_of st (outside k seen, []))
+  pub tries : (n slots id k : ℕ) (seen : List (ℕ × I)) (st : Step (Option V))
+      → Allows (Sound log_of n) slots id (outside k seen, []) 0 (λ w. either (w == 0) 1 w) (Tries log_of st (outside k seen, []))
   tries n slots id k seen st s r wide at _ =
       let Able : List ℕ → List (maybe.Option (Option V)) → Type 0 = λ ws hs.
-      (w : View I) × (a : Act (Option V)) × Valid hs [] a × Sound log_of n (stepped record { words = ws; homes = hs; views = s.views } 0 (either (slice_index ws 0 == 0) 1 (slice_index ws 0)) id [] w a)
+      (w : View I) × (a : Act (Option V)) × Valid hs [] a × Sound log_of n
+      (stepped record { words = ws; homes = hs; views = s.views } 0 (either (slice_index ws 0 == 0) 1 (slice_index ws 0)) id [] w a)
       × Tries log_of st (outside k seen, []) (slice_index ws 0) (w, carried_after [] a) in
       ⊎_elim
       (λ (free : Free log_of r.log r.hint s).
@@ -180,7 +190,8 @@ module _ {V I : Type 0} (log_of : V → List (ℕ × I)) where
       let owner' : ℕ → ℕ = λ k. cond (eqb k i) (length vs) (r.owner k) in
       let mine : r.owner i ≡ id = (r.each id old at).0.1 in
       let kept : (p : Part I) → p.number ≢ i → owner' p.number ≡ r.owner p.number = λ p ne. ap (λ b. cond b (length vs) (r.owner p.number)) (ne_eqb p.number i ne) in
-      let stays : (j : ℕ) (v : View I) → j ≢ id → get_elem? s.views j ≡ some v → get_elem? (vs ++ right ∷ []) j ≡ some v = λ j v ne e. at_longer vs (right ∷ []) j v (set_else s.views id j left ne ∙ e) in
+      let stays : (j : ℕ) (v : View I) → j ≢ id → get_elem? s.views j ≡ some v → get_elem? (vs ++ right ∷ []) j ≡ some v =
+      λ j v ne e. at_longer vs (right ∷ []) j v (set_else s.views id j left ne ∙ e) in
       record {
         log = r.log;
         hint = r.hint;
@@ -188,7 +199,8 @@ module _ {V I : Type 0} (log_of : V → List (ℕ × I)) where
         count = (let a = total_append size vs right in let t = total_set size s.views id old left at in let c = r.count in omega arith);
         each = after_cut (λ j v. AllParts (Fits r.log owner' j) v.parts) s.views id left right
             (λ j v ne e. all_map (Fits r.log r.owner j) (Fits r.log owner' j) (λ p f. (f.0, kept p (λ same. ne (sym f.1 ∙ ap r.owner same ∙ mine)) ∙ f.1)) v.parts (r.each j v e))
-            (all_both (Fits r.log r.owner id) (λ p. p.number ≢ i) (Fits r.log owner' id) (λ p f ne. (f.0, kept p ne ∙ f.1)) (fresh (suc i) m) (r.each id old at).1 (fresh_above I i (suc i) m (omega arith)))
+            (all_both (Fits r.log r.owner id) (λ p. p.number ≢ i) (Fits r.log owner' id) (λ p f ne. (f.0, kept p ne ∙ f.1))
+            (fresh (suc i) m) (r.each id old at).1 (fresh_above I i (suc i) m (omega arith)))
             (((r.each id old at).0.0, ap (λ b. cond b (length vs) (r.owner i)) (eq-eqb i i refl)), tt);
         apart = after_cut (λ j v. Distinct v.parts) s.views id left right (λ j v _ e. r.apart j v e) (r.apart id old at).1 (tt, tt);
         knower = some_cut (λ p. p.seen ≡ r.log) s.views id old left right at (⊎_elim (λ h. inl (inl h)) (λ t. inr t)) r.knower;
@@ -218,14 +230,17 @@ module _ {V I : Type 0} (log_of : V → List (ℕ × I)) where
       let away : (k : ℕ) → r.owner k ≢ other → owner' k ≡ r.owner k = λ k ne. ap (λ b. cond b id (r.owner k)) (ne_eqb (r.owner k) other ne) in
       let moved : (k : ℕ) → r.owner k ≡ other → owner' k ≡ id = λ k e. ap (λ b. cond b id (r.owner k)) (eq-eqb (r.owner k) other e) in
       let vs : List (View I) = set (set s.views id both) other spent in
-      let stays : (j : ℕ) (v : View I) → j ≢ id → j ≢ other → get_elem? s.views j ≡ some v → get_elem? vs j ≡ some v = λ j v a b e. set_else (set s.views id both) other j spent b ∙ set_else s.views id j both a ∙ e in
+      let stays : (j : ℕ) (v : View I) → j ≢ id → j ≢ other → get_elem? s.views j ≡ some v → get_elem? vs j ≡ some v =
+      λ j v a b e. set_else (set s.views id both) other j spent b ∙ set_else s.views id j both a ∙ e in
       let not_in : (j : ℕ) (parts : List (Part I)) → get_elem? s.views j ≡ some (view false parts) → (held : Held log_of r.log r.hint s) → held.2 ≢ j = λ j parts e held same.
       false≢true (ap (λ (v : View I). v.is_inside) (some-injective (view false parts) (inside held.3 r.log) (sym e ∙ ap (λ j. get_elem? s.views j) (sym same) ∙ held.4))) in
       record {
         log = r.log;
         hint = r.hint;
         owner = owner';
-        count = (let a = total_set size s.views id (view false ps) both at in let b = total_set size (set s.views id both) other (view false qs) spent at' in let c = r.count in let l = length-append ps qs in omega arith);
+        count = (let a = total_set size s.views id (view false ps) both at in
+            let b = total_set size (set s.views id both) other (view false qs) spent at' in let c = r.count in
+            let l = length-append ps qs in omega arith);
         each = after_join (λ j v. AllParts (Fits r.log owner' j) v.parts) s.views id other both spent
             (λ j v a b e. all_map (Fits r.log r.owner j) (Fits r.log owner' j) (λ p f. (f.0, away p.number (λ o. b (sym f.1 ∙ o)) ∙ f.1)) v.parts (r.each j v e))
             (all_append (Fits r.log owner' id) ps qs
@@ -235,10 +250,13 @@ module _ {V I : Type 0} (log_of : V → List (ℕ × I)) where
         apart = after_join (λ j v. Distinct v.parts) s.views id other both spent (λ j v _ _ e. r.apart j v e)
             (distinct_append ps qs (r.apart id (view false ps) at) (r.apart other (view false qs) there)
             (all_map (Fits r.log r.owner id) (λ p. AllParts (λ q. q.number ≢ p.number) qs)
-            (λ p f. all_map (Fits r.log r.owner other) (λ q. q.number ≢ p.number) (λ q h same. apart (sym h.1 ∙ ap r.owner same ∙ f.1)) qs (r.each other (view false qs) there)) ps (r.each id (view false ps) at)))
+            (λ p f. all_map (Fits r.log r.owner other) (λ q. q.number ≢ p.number) (λ q h same. apart (sym h.1 ∙ ap r.owner same ∙ f.1)) qs
+            (r.each other (view false qs) there)) ps (r.each id (view false ps) at)))
             tt;
-        knower = some_join (λ p. p.seen ≡ r.log) s.views id other (view false ps) (view false qs) both spent apart at there (any_left (λ p. p.seen ≡ r.log) ps qs) (any_right (λ p. p.seen ≡ r.log) ps qs) r.knower;
-        cover = λ k lt. some_join (λ p. p.number ≡ k) s.views id other (view false ps) (view false qs) both spent apart at there (any_left (λ p. p.number ≡ k) ps qs) (any_right (λ p. p.number ≡ k) ps qs) (r.cover k lt);
+        knower = some_join (λ p. p.seen ≡ r.log) s.views id other (view false ps) (view false qs) both spent apart at there
+            (any_left (λ p. p.seen ≡ r.log) ps qs) (any_right (λ p. p.seen ≡ r.log) ps qs) r.knower;
+        cover = λ k lt. some_join (λ p. p.number ≡ k) s.views id other (view false ps) (view false qs) both spent apart at there
+            (any_left (λ p. p.number ≡ k) ps qs) (any_right (λ p. p.number ≡ k) ps qs) (r.cover k lt);
         turn = ⊎_elim
             (λ (free : Free log_of r.log r.hint s). inl (free.0, free.1, free.2, free.3, after_join (λ j v. v.is_inside ≡ false) s.views id other both spent (λ j v _ _ e. free.4 j v e) refl refl))
             (λ (held : Held log_of r.log r.hint s).
@@ -254,7 +272,8 @@ module _ {V I : Type 0} (log_of : V → List (ℕ × I)) where
       }
 
   -- where one seat has all passes, each part is one of its own
-  all_here : (n id : ℕ) (ps : List (Part I)) (P : Part I → Type 0) (s : State (Option V) (View I)) → Sound log_of n s → get_elem? s.views id ≡ some (view false ps) → length ps ≡ n → SomeSeat P s.views → AnyPart P ps
+  all_here : (n id : ℕ) (ps : List (Part I)) (P : Part I → Type 0) (s : State (Option V) (View I)) → Sound log_of n s → get_elem? s.views id
+      ≡ some (view false ps) → length ps ≡ n → SomeSeat P s.views → AnyPart P ps
   all_here n id ps P s r at all t =
       let v : View I = view false ps in
       elim (ℕ_discrete id t.0) as (λ _. AnyPart P ps) [
@@ -270,8 +289,14 @@ module _ {V I : Type 0} (log_of : V → List (ℕ × I)) where
       ⊎_elim
       (λ (free : Free log_of r.log r.hint s).
       let knows : HasSeen r.log ps = all_here n id ps (λ p. p.seen ≡ r.log) s r at all r.knower in
-      let legal : AllParts (λ p. IsLegal r.log p.number p.seen) ps = all_map (Fits r.log r.owner id) (λ p. IsLegal r.log p.number p.seen) (λ p f. f.0) ps (r.each id v at) in
-      (free.1, free.2, subst (λ l. AllParts (λ p. IsLegal l p.number p.seen) ps) (sym free.3) legal, subst (λ l. HasSeen l ps) (sym free.3) knows, (λ k lt. all_here n id ps (λ p. p.number ≡ k) s r at all (r.cover k lt)), r.apart id v at))
+      let legal : AllParts (λ p. IsLegal r.log p.number p.seen) ps = all_map (Fits r.log r.owner id) (λ p. IsLegal r.log p.number p.seen) (λ p f. f.0) ps (r.each id v at) in (
+        free.1,
+        free.2,
+        subst (λ l. AllParts (λ p. IsLegal l p.number p.seen) ps) (sym free.3) legal,
+        subst (λ l. HasSeen l ps) (sym free.3) knows,
+        (λ k lt. all_here n id ps (λ p. p.number ≡ k) s r at all (r.cover k lt)),
+        r.apart id v at,
+      ))
       (λ (held : Held log_of r.log r.hint s).
       let ne : id ≢ held.2 = λ e. false≢true (ap (λ (v : View I). v.is_inside) (some-injective v (inside held.3 r.log) (sym at ∙ ap (λ j. get_elem? s.views j) e ∙ held.4))) in
       absurd (let t = total_two size s.views id held.2 v (inside held.3 r.log) ne at held.4 in let c = r.count in omega arith))
@@ -284,18 +309,25 @@ module _ {V I : Type 0} (log_of : V → List (ℕ × I)) where
       (c.0, final.4 0 (Some c.0) (ap (λ l. get_elem? l 0) c.1), c.2, c.3, c.4, c.5)
 
   pub tries_from : (n slots id : ℕ) (m : Me (Option V) (View I)) (st : Step (Option V)) → IsPass m → Allows (Sound log_of n) slots id m 0 (λ w. either (w == 0) 1 w) (Tries log_of st m)
-  tries_from n slots id m st is = subst (λ (u : Me (Option V) (View I)). Allows (Sound log_of n) slots id u 0 (λ w. either (w == 0) 1 w) (Tries log_of st u)) (λ i. (sym is.0 i, sym is.1 i)) (tries n slots id (number_in m) (seen_in m) st)
+  tries_from n slots id m st is = subst (λ (u : Me (Option V) (View I)). Allows (Sound log_of n) slots id u 0 (λ w. either (w == 0) 1 w)
+      (Tries log_of st u)) (λ i. (sym is.0 i, sym is.1 i)) (tries n slots id (number_in m) (seen_in m) st)
 
-  pub sees_from : (n slots id new : ℕ) (m : Me (Option V) (View I)) (x : V) (st : Step (Option V)) → m.0 ≡ inside (number_in m) (seen_in m) → m.1 ≡ (0, Some x) ∷ [] → GrownBy (number_in m) (seen_in m) (log_of x)
+  pub sees_from : (n slots id new : ℕ) (m : Me (Option V) (View I)) (x : V) (st : Step (Option V)) → m.0 ≡ inside (number_in m) (seen_in m)
+      → m.1 ≡ (0, Some x) ∷ [] → GrownBy (number_in m) (seen_in m) (log_of x)
       → Allows (Sound log_of n) slots id m 1 (λ _. new) (λ _. Sees log_of st m new)
-  sees_from n slots id new m x st view_is slot_is grown = subst (λ (u : Me (Option V) (View I)). Allows (Sound log_of n) slots id u 1 (λ _. new) (λ _. Sees log_of st u new)) (λ i. (sym view_is i, sym slot_is i)) (sees n slots id (number_in m) new (seen_in m) x st grown)
+  sees_from n slots id new m x st view_is slot_is grown = subst (λ (u : Me (Option V) (View I)). Allows (Sound log_of n) slots id u 1
+      (λ _. new) (λ _. Sees log_of st u new)) (λ i. (sym view_is i, sym slot_is i))
+      (sees n slots id (number_in m) new (seen_in m) x st grown)
 
   pub goes_from : (n slots id k : ℕ) (m : Me (Option V) (View I)) (x : V) (st : Step (Option V)) → m.0 ≡ inside k (log_of x) → m.1 ≡ (0, Some x) ∷ []
       → Allows (Sound log_of n) slots id m 0 (λ _. 0) (λ _. Goes log_of st m 0)
-  goes_from n slots id k m x st view_is slot_is = subst (λ (u : Me (Option V) (View I)). Allows (Sound log_of n) slots id u 0 (λ _. 0) (λ _. Goes log_of st u 0)) (λ i. (sym view_is i, sym slot_is i)) (goes n slots id k x st)
+  goes_from n slots id k m x st view_is slot_is = subst (λ (u : Me (Option V) (View I)). Allows (Sound log_of n) slots id u 0 (λ _. 0)
+      (λ _. Goes log_of st u 0)) (λ i. (sym view_is i, sym slot_is i)) (goes n slots id k x st)
 
   pub cuts_from : (n id i m : ℕ) (v : View I) → v ≡ view false (fresh i (m + 1)) → Splits (Sound log_of n) id v (view false (drop 1 v.parts)) (view false (take 1 v.parts))
-  cuts_from n id i m v is = subst (λ (u : View I). Splits (Sound log_of n) id u (view false (drop 1 u.parts)) (view false (take 1 u.parts))) (sym (is ∙ ap (λ k. view false (fresh i k)) (add-one m))) (cuts n id i m)
+  cuts_from n id i m v is = subst (λ (u : View I). Splits (Sound log_of n) id u (view false (drop 1 u.parts)) (view false (take 1 u.parts)))
+      (sym (is ∙ ap (λ k. view false (fresh i k)) (add-one m))) (cuts n id i m)
 
   pub joins_from : (n id other : ℕ) (v w : View I) → v ≡ view false v.parts → w ≡ view false w.parts → Joins (Sound log_of n) id v other w (view false (v.parts ++ w.parts)) (view false [])
-  joins_from n id other v w v_is w_is = subst (λ (y : View I × View I). Joins (Sound log_of n) id y.0 other y.1 (view false (v.parts ++ w.parts)) (view false [])) (λ i. (sym v_is i, sym w_is i)) (joins n id other v.parts w.parts)
+  joins_from n id other v w v_is w_is = subst (λ (y : View I × View I). Joins (Sound log_of n) id y.0 other y.1
+      (view false (v.parts ++ w.parts)) (view false [])) (λ i. (sym v_is i, sym w_is i)) (joins n id other v.parts w.parts)

@@ -214,7 +214,8 @@ impl<V: Kept> Turnstile<V> {
     // The seat takes in the log of the value that stands in its slot.
     fn see(&self, seat: &mut Seat<Option<V>, View<V::Item>>, hint: u64)
         requires table { seat.old.table_id ≡ identity_of self.now }
-        requires value { (x : _) × (seat.old.me.0 ≡ inside (number_in seat.old.me) (seen_in seat.old.me)) × (seat.old.me.1 ≡ (0, Some x) ∷ []) × GrownBy (number_in seat.old.me) (seen_in seat.old.me) (V.log x) }
+        requires value { (x : _) × (seat.old.me.0 ≡ inside (number_in seat.old.me) (seen_in seat.old.me))
+            × (seat.old.me.1 ≡ (0, Some x) ∷ []) × GrownBy (number_in seat.old.me) (seen_in seat.old.me) (V.log x) }
         ensures table { seat.new.table_id ≡ seat.old.table_id }
         ensures view { seat.new.me.0 ≡ inside (number_in seat.old.me) (carried_log V.log seat.old.me.1) }
         ensures slot { seat.new.me.1 ≡ seat.old.me.1 }

@@ -19,12 +19,14 @@ counting op inner other at x y f g =
     ((misplaced_at inner x ++ misplaced_at other y)
     ++ both_judged (operand x) (operand y) (λ t u. mistaken at (is_some (binary_type op t u)) (is_some (binary_type op (one_dim t) (one_dim u))))))
 
-taken : (op : BinaryOperator) (at : Place) (otherwise : Bool) → binary_type op Int Int ≡ Some Int → None ≡ sooner (sooner None None) (first_of (mistaken at (is_some (binary_type op Int Int)) otherwise))
+taken : (op : BinaryOperator) (at : Place) (otherwise : Bool) → binary_type op Int Int ≡ Some Int → None
+    ≡ sooner (sooner None None) (first_of (mistaken at (is_some (binary_type op Int Int)) otherwise))
 unfolding sooner first_of
 taken op at otherwise e = ap (λ (o : Option ValueType). sooner (sooner None None) (first_of (mistaken at (is_some o) otherwise))) (sym e)
 
 -- nothing is
-pub ints_sound : (op : BinaryOperator) (inner other at : Place) (x y : Typed) (f g : Option Refusal) → x ≡ plain (Some Int) → y ≡ plain (Some Int) → f ≡ None → g ≡ None → binary_type op Int Int ≡ Some Int
+pub ints_sound : (op : BinaryOperator) (inner other at : Place) (x y : Typed) (f g : Option Refusal) → x ≡ plain (Some Int) → y
+    ≡ plain (Some Int) → f ≡ None → g ≡ None → binary_type op Int Int ≡ Some Int
     → None ≡ counting op inner other at x y f g
 ints_sound op inner other at x y f g a b c d e =
     subst (λ (z : Typed). None ≡ counting op inner other at z y f g) (sym a)

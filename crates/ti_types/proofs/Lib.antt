@@ -1,11 +1,12 @@
-pub mod Forms
-pub mod Ints
-pub mod Rows
-pub mod Loops
-pub mod Parameters
-pub mod Repeated
-pub mod Told
-pub mod ToldNodes
-pub mod Walked
-pub mod Taken
-pub mod WordsAlone
+mod Forms
+mod Ints
+mod Rows
+mod Loops
+mod Parameters
+mod Repeated
+mod Told
+mod ToldNodes
+mod Walked
+mod Taken
+mod WordsAlone
+pub mod Lemmas

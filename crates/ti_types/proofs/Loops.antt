@@ -9,7 +9,7 @@ use Rattle.ti_rules.specs.declared.rule.Rule.TheVariants.{Y7}
 use Rattle.ti_types.specs.Mirrors.Words.{qualifiers_again}
 use Rattle.ti_rules.specs.Refusals.{refused_if}
 use Rattle.ti_rules.specs.Mirrors.First.{sooner, first_of}
-use Rattle.ti_rules.proofs.First.{sooner_none, sooner_assoc, first_append}
+use Rattle.ti_rules.proofs.Lemmas.{sooner_none, sooner_assoc, first_append}
 
 pub none_sooner : (a : Option Refusal) → a ≡ sooner None a
 unfolding sooner
@@ -29,7 +29,8 @@ each_step f xs i d found next lt is =
     ∙ sym (ap (λ a. sooner a (first_of (flat_map f (drop (i + 1) xs)))) is)
 
 -- the same of what the elements are seen as
-pub seen_step : {A B : Type 0} (view : A → B) (f : B → List Refusal) (xs : List A) (i : ℕ) (d : A) (found next : Option Refusal) → i < length xs → next ≡ sooner found (first_of (f (view (get_or xs i d))))
+pub seen_step : {A B : Type 0} (view : A → B) (f : B → List Refusal) (xs : List A) (i : ℕ) (d : A) (found next : Option Refusal)
+    → i < length xs → next ≡ sooner found (first_of (f (view (get_or xs i d))))
     → sooner found (first_of (flat_map f (map view (drop i xs)))) ≡ sooner next (first_of (flat_map f (map view (drop (i + 1) xs))))
 seen_step view f xs i d found next lt is =
     let x = get_or xs i d in
@@ -65,5 +66,6 @@ again_step had_single had_local next_single next_local words i d found next lt i
     ∙ sym (ap (λ b. sooner next (first_of (qualifiers_again b (had_local || not (is_single_word q.word)) (drop (i + 1) words)))) is_single)
     ∙ sym (ap (λ b. sooner next (first_of (qualifiers_again next_single b (drop (i + 1) words)))) is_local)
 
-pub again_end : (had_single had_local : Bool) (words : List Qualifier) (i : ℕ) (found : Option Refusal) → length words ≤ i → sooner found (first_of (qualifiers_again had_single had_local (drop i words))) ≡ found
+pub again_end : (had_single had_local : Bool) (words : List Qualifier) (i : ℕ) (found : Option Refusal) → length words ≤ i
+    → sooner found (first_of (qualifiers_again had_single had_local (drop i words))) ≡ found
 again_end had_single had_local words i found le = ap (λ l. sooner found (first_of (qualifiers_again had_single had_local l))) (drop_all i words le) ∙ sooner_nil found

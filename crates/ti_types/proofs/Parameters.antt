@@ -8,11 +8,15 @@ use Rattle.ti_lang.specs.Typing.Declared.{types_of}
 
 pub type_here : (params : List Param) (i : ℕ) (d : Param) → i < length params → slice_get (types_of (map numbered_param_of params)) i ≡ Some (value_type_of (get_or params i d).ty.ty)
 type_here params i d lt =
-    slice_get-map (λ (p : NumberedParam). p.ty.type) (map numbered_param_of params) i ∙ ap (option_map (λ (p : NumberedParam). p.ty.type)) (slice_get-map numbered_param_of params i ∙ ap (option_map numbered_param_of) (slice_get-get_or params i d lt))
+    slice_get-map (λ (p : NumberedParam). p.ty.type) (map numbered_param_of params) i
+    ∙ ap (option_map (λ (p : NumberedParam). p.ty.type)) (slice_get-map numbered_param_of params i
+    ∙ ap (option_map numbered_param_of) (slice_get-get_or params i d lt))
 
 pub no_type_here : (params : List Param) (i : ℕ) → length params ≤ i → slice_get (types_of (map numbered_param_of params)) i ≡ None
 no_type_here params i le =
-    slice_get-map (λ (p : NumberedParam). p.ty.type) (map numbered_param_of params) i ∙ ap (option_map (λ (p : NumberedParam). p.ty.type)) (slice_get-map numbered_param_of params i ∙ ap (option_map numbered_param_of) (slice_get_past params i le))
+    slice_get-map (λ (p : NumberedParam). p.ty.type) (map numbered_param_of params) i
+    ∙ ap (option_map (λ (p : NumberedParam). p.ty.type)) (slice_get-map numbered_param_of params i
+    ∙ ap (option_map numbered_param_of) (slice_get_past params i le))
 
 pub ruleset lookups = (type_here, no_type_here)
 

@@ -18,7 +18,7 @@ use Rattle.ti_rules.specs.Known.{IsThere}
 use Rattle.ti_rules.specs.Broken.Refused.{refused, judged, both_judged, mistaken, misfit}
 use Rattle.ti_rules.specs.Broken.Misplaced.{misplaced_at}
 use Rattle.ti_rules.specs.Broken.Calls.{misfits, takes_local, params_refusals, call_refusals, instance_refusals, built_in_refusals, member_refusals}
-use Rattle.ti_rules.proofs.Sound.Refused.{and_left, and_right}
+use Rattle.ti_rules.proofs.Lemmas.{and_left, and_right}
 
 -- ---- tests
 
@@ -60,7 +60,8 @@ right_there None q give there = cc there.1
 right_there (Some a) None give there = cc there.1
 right_there (Some a) (Some b) give there = (b, refl)
 
-pub both_none : {A B C : Type 0} (o : Option A) (q : Option B) (rule : A → B → List Refusal) (give : A → B → Option C) → IsThere (both o q give) → ((a : A) (b : B) → IsThere (give a b) → rule a b ≡ []) → both_judged o q rule ≡ []
+pub both_none : {A B C : Type 0} (o : Option A) (q : Option B) (rule : A → B → List Refusal) (give : A → B → Option C)
+    → IsThere (both o q give) → ((a : A) (b : B) → IsThere (give a b) → rule a b ≡ []) → both_judged o q rule ≡ []
 both_none None q rule give there none = refl
 both_none (Some a) None rule give there none = refl
 both_none (Some a) (Some b) rule give there none = none a b there
@@ -83,7 +84,8 @@ value_there None true there = cc there.1
 value_there None false there = cc there.1
 value_there (Some t) is_call there = (t, refl)
 
-value_placed : (type : Option ValueType) (is_call : Bool) (at : Place) → IsThere (operand (record { type = type; is_call = is_call })) → misplaced_at at (record { type = type; is_call = is_call }) ≡ []
+value_placed : (type : Option ValueType) (is_call : Bool) (at : Place) → IsThere (operand (record { type = type; is_call = is_call }))
+    → misplaced_at at (record { type = type; is_call = is_call }) ≡ []
 value_placed type true at there = cc there.1
 value_placed None false at there = refl
 value_placed (Some t) false at there = by (is_void t) there
@@ -162,7 +164,8 @@ exchange_none at (Grid v n local) u there = by (can_exchange (Grid v n local) u)
 exchange_none at t u there = cc there.1
 
 -- the arguments of any other member
-with_member : (at : Place) (b : BuiltIn) (t : ValueType) (ts : List ValueType) → IsThere (member_type b t ts) → mistaken at (is_some (member_type b t ts)) (is_some (member_type b (one_dim t) (map one_dim ts))) ≡ []
+with_member : (at : Place) (b : BuiltIn) (t : ValueType) (ts : List ValueType) → IsThere (member_type b t ts)
+    → mistaken at (is_some (member_type b t ts)) (is_some (member_type b (one_dim t) (map one_dim ts))) ≡ []
 with_member at b t ts there = is_taken at (member_type b t ts) (is_some (member_type b (one_dim t) (map one_dim ts))) there
 
 built_in_none : (at : Place) (b : BuiltIn) (t : ValueType) (ts : List ValueType) → IsThere (member_type b t ts) → built_in_refusals at (Some b) t ts ≡ []
@@ -187,7 +190,8 @@ given_none at (Some b) t ts there = built_in_none at b t ts there
 
 -- ---- both
 
-behind_none : (p : NumberedProgram) (at : Place) (places : List Place) (name : ℕ) (t : ValueType) (ts : List ValueType) → IsThere (member_given p t name ts).type → member_refusals p at places name t ts ≡ []
+behind_none : (p : NumberedProgram) (at : Place) (places : List Place) (name : ℕ) (t : ValueType) (ts : List ValueType)
+    → IsThere (member_given p t name ts).type → member_refusals p at places name t ts ≡ []
 behind_none p at places name (Class c local) ts there = instance_none at places (instance_method p c name) ts there
 behind_none p at places name t ts there = given_none at (built_in p name) t ts there
 

@@ -19,14 +19,15 @@ use Rattle.ti_rules.specs.Mirrors.First.{sooner, first_of}
 use Rattle.ti_lang.specs.Typing.Alike.{one_dim, as_local}
 use Rattle.ti_rules.specs.Broken.Refused.{refused, judged, misfit}
 use Rattle.ti_rules.specs.Broken.Calls.{misfits, first_misfit, params_refusals, call_refusals, instance_refusals}
-use Rattle.ti_rules.proofs.First.{first_append}
+use Rattle.ti_rules.proofs.Lemmas.{first_append}
 use Rattle.ti_types.specs.Mirrors.Arguments.{ToldTypes, first_type, told, more, wanted_misfit, types_in, wanted_types, told_takes, told_params, told_refusal, told_called}
 use Rattle.ti_types.proofs.Loops.{drop_next}
 
 -- ---- the parameter of a number
 
 -- there is one, or none from there on
-pub at_or_past : {A : Type 0} (d : A) (xs : List A) (i : ℕ) → ((x : A) × (drop i xs ≡ x ∷ drop (i + 1) xs) × (slice_get xs i ≡ Some x)) ⊎ ((drop i xs ≡ []) × (slice_get xs i ≡ None) × (drop (i + 1) xs ≡ []))
+pub at_or_past : {A : Type 0} (d : A) (xs : List A) (i : ℕ) → ((x : A) × (drop i xs ≡ x ∷ drop (i + 1) xs) × (slice_get xs i ≡ Some x))
+    ⊎ ((drop i xs ≡ []) × (slice_get xs i ≡ None) × (drop (i + 1) xs ≡ []))
 at_or_past d xs i =
     elim (cases_order i (length xs)) [
       | inl same ↦ inr (drop_all i xs (omega (arith, same)), slice_get_past xs i (omega (arith, same)), drop_all (i + 1) xs (omega (arith, same)))
@@ -48,10 +49,12 @@ none_more l e = sym (ap first_of e)
 -- ---- one type more
 
 with_misfit : (t : ValueType) (ts : List ValueType) (a b : Option Refusal) → a ≡ b
-    → (let x : ToldTypes = record { ints = is_int t && all_ints ts; first = Some t; second = first_type ts; misfit = a } in x) ≡ record { ints = is_int t && all_ints ts; first = Some t; second = first_type ts; misfit = b }
+    → (let x : ToldTypes = record { ints = is_int t && all_ints ts; first = Some t; second = first_type ts; misfit = a } in x)
+    ≡ record { ints = is_int t && all_ints ts; first = Some t; second = first_type ts; misfit = b }
 with_misfit t ts a b e = ap (λ m. let x : ToldTypes = record { ints = is_int t && all_ints ts; first = Some t; second = first_type ts; misfit = m } in x) e
 
-pub told_more : (us : List ValueType) (i : ℕ) (at : Place) (places : List Place) (t : ValueType) (ts : List ValueType) → more at (slice_get us i) t (told places (drop (i + 1) us) ts) ≡ told (at ∷ places) (drop i us) (t ∷ ts)
+pub told_more : (us : List ValueType) (i : ℕ) (at : Place) (places : List Place) (t : ValueType) (ts : List ValueType)
+    → more at (slice_get us i) t (told places (drop (i + 1) us) ts) ≡ told (at ∷ places) (drop i us) (t ∷ ts)
 told_more us i at places t ts = elim (at_or_past Null us i) [
   | inl there ↦
       with_misfit t ts (sooner (wanted_misfit at t (slice_get us i)) (first_of (misfits places ts (drop (i + 1) us)))) (first_of (misfits (at ∷ places) (t ∷ ts) (drop i us)))
@@ -127,7 +130,8 @@ fit_test (at ∷ places) (t ∷ ts) (u ∷ us) same = by (fits t u) refl (fit_te
         ∙ sym (ap (λ l. (suc (length ts) == suc (length us)) && is_none (first_of (l ++ misfits places ts us))) (fine at t u is))
     by false is others =
         ap (λ b. b && all_fit ts us) is ∙ and_false (suc (length ts) == suc (length us))
-        ∙ sym (ap (λ b. (suc (length ts) == suc (length us)) && b) (ap (λ l. is_none (first_of (l ++ misfits places ts us))) (wrong at t u is) ∙ sooner_some (record { rule = rule_of t u; place = at }) (first_of (misfits places ts us))))
+        ∙ sym (ap (λ b. (suc (length ts) == suc (length us)) && b) (ap (λ l. is_none (first_of (l ++ misfits places ts us)))
+        (wrong at t u is) ∙ sooner_some (record { rule = rule_of t u; place = at }) (first_of (misfits places ts us))))
 
 -- ---- the call
 
@@ -160,10 +164,12 @@ params_are : (at : Place) (places : List Place) (params : NumberedParams) (ts : 
 params_are at places Words ts count is =
     ap (λ n. if n == 1 then first_of (first_misfit places) else first_of (refused Y4 at)) is ∙ choose (length ts == 1) (first_misfit places) (refused Y4 at)
 params_are at places (Params params) ts count is =
-    ap (λ n. if n == length params then first_of (misfits places ts (types_of params)) else first_of (refused Y4 at)) is ∙ choose (length ts == length params) (misfits places ts (types_of params)) (refused Y4 at)
+    ap (λ n. if n == length params then first_of (misfits places ts (types_of params)) else first_of (refused Y4 at)) is
+    ∙ choose (length ts == length params) (misfits places ts (types_of params)) (refused Y4 at)
 
 -- what counts of what is wrong with it
-pub refusal_is : (at : Place) (places : List Place) (m : Option NumberedMethod) (o : Option (List ValueType)) (count : ℕ) → count ≡ length places → ((ts : List ValueType) → o ≡ Some ts → length places ≡ length ts)
+pub refusal_is : (at : Place) (places : List Place) (m : Option NumberedMethod) (o : Option (List ValueType)) (count : ℕ) → count
+    ≡ length places → ((ts : List ValueType) → o ≡ Some ts → length places ≡ length ts)
     → told_refusal at places m None count (option_map (told places (wanted_types m)) o) ≡ first_of (judged o (λ ts. call_refusals at places m ts))
 unfolding first_of
 refusal_is at places m None count is same = refl
@@ -171,7 +177,8 @@ refusal_is at places None (Some ts) count is same = refl
 refusal_is at places (Some m) (Some ts) count is same = params_are at places m.params ts count (is ∙ same ts refl)
 
 -- the same behind an object
-pub instance_is : (at : Place) (places : List Place) (m : Option NumberedMethod) (o : Option (List ValueType)) (count : ℕ) → count ≡ length places → ((ts : List ValueType) → o ≡ Some ts → length places ≡ length ts)
+pub instance_is : (at : Place) (places : List Place) (m : Option NumberedMethod) (o : Option (List ValueType)) (count : ℕ) → count
+    ≡ length places → ((ts : List ValueType) → o ≡ Some ts → length places ≡ length ts)
     → told_refusal at places m (first_of (refused Y1 at)) count (option_map (told places (wanted_types m)) o) ≡ first_of (judged o (λ ts. instance_refusals at places m ts))
 unfolding first_of
 instance_is at places m None count is same = refl

@@ -99,16 +99,19 @@ member_is places us m t (u ∷ v ∷ []) = refl
 member_is places us m t (u ∷ v ∷ w ∷ ts) = ap (λ c. option_and_then (member_type m t) (if c then Some (u ∷ v ∷ []) else None)) (more_than_two (length ts)) ∙ sym (no_three m t u v w ts)
 
 -- a member with as many arguments as it takes
-none_by : (at : Place) (places : List Place) (us : List ValueType) (m : BuiltIn) (t : ValueType) (ts : List ValueType) → length ts ≡ 0 → arguments_by at m t 0 (first_type ts) (second_type ts) ≡ other_refusals at m t ts
+none_by : (at : Place) (places : List Place) (us : List ValueType) (m : BuiltIn) (t : ValueType) (ts : List ValueType) → length ts ≡ 0
+    → arguments_by at m t 0 (first_type ts) (second_type ts) ≡ other_refusals at m t ts
 none_by at places us m t [] is = refl
 none_by at places us m t (u ∷ ts) is = absurd (omega (arith, is))
 
-one_by : (at : Place) (m : BuiltIn) (t : ValueType) (ts : List ValueType) → length ts ≡ 1 → (u : ValueType) × (ts ≡ u ∷ []) × (arguments_by at m t 1 (first_type ts) (second_type ts) ≡ one_refusals at m t u)
+one_by : (at : Place) (m : BuiltIn) (t : ValueType) (ts : List ValueType) → length ts ≡ 1 → (u : ValueType) × (ts ≡ u ∷ [])
+    × (arguments_by at m t 1 (first_type ts) (second_type ts) ≡ one_refusals at m t u)
 one_by at m t [] is = absurd (omega (arith, is))
 one_by at m t (u ∷ []) is = (u, refl, refl)
 one_by at m t (u ∷ v ∷ ts) is = absurd (omega (arith, is))
 
-arguments_are : (at : Place) (places : List Place) (us : List ValueType) (m : BuiltIn) (t : ValueType) (ts : List ValueType) → length ts ≡ arity m → told_arguments at m t (told places us ts) ≡ argument_refusals at m t ts
+arguments_are : (at : Place) (places : List Place) (us : List ValueType) (m : BuiltIn) (t : ValueType) (ts : List ValueType) → length ts
+    ≡ arity m → told_arguments at m t (told places us ts) ≡ argument_refusals at m t ts
 arguments_are at places us b.Size t ts is = none_by at places us b.Size t ts is
 arguments_are at places us b.Min t ts is = none_by at places us b.Min t ts is
 arguments_are at places us b.Max t ts is = none_by at places us b.Max t ts is
@@ -128,11 +131,14 @@ else_same : (c : Bool) (xs ys zs : List Refusal) → (c ≡ true → ys ≡ zs) 
 else_same true xs ys zs same = same refl
 else_same false xs ys zs same = refl
 
-pub built_in_is : (at : Place) (places : List Place) (us : List ValueType) (m : Option BuiltIn) (t : ValueType) (ts : List ValueType) → told_built_in at m t (length ts) (told places us ts) ≡ built_in_refusals at m t ts
+pub built_in_is : (at : Place) (places : List Place) (us : List ValueType) (m : Option BuiltIn) (t : ValueType) (ts : List ValueType)
+    → told_built_in at m t (length ts) (told places us ts) ≡ built_in_refusals at m t ts
 built_in_is at places us None t ts = refl
 built_in_is at places us (Some m) t ts =
-    else_same (has_member m t) (refused Y1 at) (if not (length ts == arity m) then refused Y4 at else told_arguments at m t (told places us ts)) (if not (length ts == arity m) then refused Y4 at else argument_refusals at m t ts)
-    (λ has. else_same (length ts == arity m) (refused Y4 at) (told_arguments at m t (told places us ts)) (argument_refusals at m t ts) (λ same. arguments_are at places us m t ts ((Decides-eqb (length ts) (arity m)).0 same)))
+    else_same (has_member m t) (refused Y1 at) (if not (length ts == arity m) then refused Y4 at else told_arguments at m t
+    (told places us ts)) (if not (length ts == arity m) then refused Y4 at else argument_refusals at m t ts)
+    (λ has. else_same (length ts == arity m) (refused Y4 at) (told_arguments at m t (told places us ts)) (argument_refusals at m t ts)
+    (λ same. arguments_are at places us m t ts ((Decides-eqb (length ts) (arity m)).0 same)))
 
 -- ---- behind something
 
@@ -145,7 +151,8 @@ plain_is : (a c : Option ValueType) → a ≡ c → plain a ≡ plain c
 plain_is a c e = ap (λ o. let k : Typed = record { type = o; is_call = false } in k) e
 
 -- what is known of a member
-pub behind_is : (p : NumberedProgram) (places : List Place) (t : Option ValueType) (name : ℕ) (o : Option (List ValueType)) (count : ℕ) → count ≡ length places → ((ts : List ValueType) → o ≡ Some ts → length places ≡ length ts)
+pub behind_is : (p : NumberedProgram) (places : List Place) (t : Option ValueType) (name : ℕ) (o : Option (List ValueType)) (count : ℕ)
+    → count ≡ length places → ((ts : List ValueType) → o ≡ Some ts → length places ≡ length ts)
     → told_behind p t name (behind p t name) count (option_map (told places (wanted_types (behind p t name))) o) ≡ member p t name o
 behind_is p places None name o count is same = refl
 behind_is p places (Some (Class c local)) name None count is same = refl
@@ -153,18 +160,22 @@ behind_is p places (Some (Class c local)) name (Some ts) count is same = called_
 behind_is p places (Some t) name None count is same = refl
 behind_is p places (Some t) name (Some ts) count is same =
     plain_is (option_and_then (λ (c : BuiltIn). told_member c t count (told places (wanted_types None) ts)) (built_in p name)) (option_and_then (λ (c : BuiltIn). member_type c t ts) (built_in p name))
-    (ap (λ n. option_and_then (λ (c : BuiltIn). told_member c t n (told places (wanted_types None) ts)) (built_in p name)) (is ∙ same ts refl) ∙ given_is p places (wanted_types None) name t ts (built_in p name))
+    (ap (λ n. option_and_then (λ (c : BuiltIn). told_member c t n (told places (wanted_types None) ts)) (built_in p name)) (is
+    ∙ same ts refl) ∙ given_is p places (wanted_types None) name t ts (built_in p name))
 
 -- what counts of what is wrong with it
-pub behind_refusal_is : (p : NumberedProgram) (at : Place) (places : List Place) (t : Option ValueType) (name : ℕ) (o : Option (List ValueType)) (count : ℕ) → count ≡ length places → ((ts : List ValueType) → o ≡ Some ts → length places ≡ length ts)
-    → behind_refusal p at places t name (behind p t name) count (option_map (told places (wanted_types (behind p t name))) o) ≡ first_of (both_judged t o (λ u ts. member_refusals p at places name u ts))
+pub behind_refusal_is : (p : NumberedProgram) (at : Place) (places : List Place) (t : Option ValueType) (name : ℕ)
+    (o : Option (List ValueType)) (count : ℕ) → count ≡ length places → ((ts : List ValueType) → o ≡ Some ts → length places ≡ length ts)
+    → behind_refusal p at places t name (behind p t name) count (option_map (told places (wanted_types (behind p t name))) o)
+    ≡ first_of (both_judged t o (λ u ts. member_refusals p at places name u ts))
 unfolding first_of
 behind_refusal_is p at places None name o count is same = refl
 behind_refusal_is p at places (Some (Class c local)) name None count is same = refl
 behind_refusal_is p at places (Some (Class c local)) name (Some ts) count is same = instance_is at places (behind p (Some (Class c local)) name) (Some ts) count is same
 behind_refusal_is p at places (Some t) name None count is same = refl
 behind_refusal_is p at places (Some t) name (Some ts) count is same =
-    ap (λ n. first_of (told_built_in at (built_in p name) t n (told places (wanted_types None) ts))) (is ∙ same ts refl) ∙ ap first_of (built_in_is at places (wanted_types None) (built_in p name) t ts)
+    ap (λ n. first_of (told_built_in at (built_in p name) t n (told places (wanted_types None) ts))) (is ∙ same ts refl)
+    ∙ ap first_of (built_in_is at places (wanted_types None) (built_in p name) t ts)
 
 -- ---- ranges
 
@@ -237,7 +248,8 @@ single : (o : Option (List ValueType)) → AreTold 1 (both (option_map ends o) (
 single None = tt
 single (Some ts) = (
   ap (λ c. if c then Some (Rc 1) else range_of_points ts) (and_true (all_ints ts)) ∙ sym (ap (rect_literal 1) (alone ts)),
-  ap (λ c. if c then true else is_some (range_of_points (map one_dim ts))) (and_true (all_ints ts)) ∙ by (all_ints ts) ∙ sym (ap (λ c. is_some (if c then Some (Rc 1) else range_of_points (map one_dim ts))) (ints_as ts))
+  ap (λ c. if c then true else is_some (range_of_points (map one_dim ts))) (and_true (all_ints ts)) ∙ by (all_ints ts)
+      ∙ sym (ap (λ c. is_some (if c then Some (Rc 1) else range_of_points (map one_dim ts))) (ints_as ts))
       ∙ sym (ap (λ l. is_some (rect_literal 1 (map one_dim l))) (alone ts)),
 )
   where
@@ -259,7 +271,8 @@ literal_of_told n (Some e) None i = absurd i
 literal_of_told n None (Some ts) i = absurd i
 
 -- the literal that ranges are
-pub literal_is : (p : NumberedProgram) (s : ScopeContents) (rs : NumberedRanges) → option_map (told_literal (range_count rs)) (ranges_told p s rs) ≡ option_map (literal (range_count rs)) (bounds p s rs)
+pub literal_is : (p : NumberedProgram) (s : ScopeContents) (rs : NumberedRanges)
+    → option_map (told_literal (range_count rs)) (ranges_told p s rs) ≡ option_map (literal (range_count rs)) (bounds p s rs)
 literal_is p s rs = literal_of_told (range_count rs) (ranges_told p s rs) (bounds p s rs) (are_told p s rs)
 
 rect_of : (n : ℕ) (q : Option EndTypes) (w : Option (List ValueType)) → AreTold n q w → option_and_then (told_rect n) q ≡ option_and_then (rect_literal n) w
@@ -276,7 +289,8 @@ rect_refused at n (Some e) None i = absurd i
 rect_refused at n None (Some ts) i = absurd i
 
 -- what ranges give
-pub rect_is : (p : NumberedProgram) (s : ScopeContents) (rs : NumberedRanges) → option_and_then (told_rect (range_count rs)) (ranges_told p s rs) ≡ option_and_then (rect_literal (range_count rs)) (bounds p s rs)
+pub rect_is : (p : NumberedProgram) (s : ScopeContents) (rs : NumberedRanges)
+    → option_and_then (told_rect (range_count rs)) (ranges_told p s rs) ≡ option_and_then (rect_literal (range_count rs)) (bounds p s rs)
 rect_is p s rs = rect_of (range_count rs) (ranges_told p s rs) (bounds p s rs) (are_told p s rs)
 
 -- what is wrong with them

@@ -118,7 +118,8 @@ module _ (p : NumberedProgram) (s : ScopeContents) where
   bounds_placed : (rs : NumberedRanges) → IsThere (bounds p s rs) → bounds_misplaced p s rs ≡ []
   bounds_placed x.NoRange there = refl
   bounds_placed (x.MoreRange r rest) there =
-      none_both (bound_misplaced p s r) (bounds_misplaced p s rest) (bound_placed r (front_there (bound p s r) (bounds p s rest) there)) (bounds_placed rest (back_there (bound p s r) (bounds p s rest) there))
+      none_both (bound_misplaced p s r) (bounds_misplaced p s rest) (bound_placed r (front_there (bound p s r) (bounds p s rest) there))
+      (bounds_placed rest (back_there (bound p s r) (bounds p s rest) there))
 
   mutual
     pub words_alone : (e : NumberedExp) → IsThere (typed p s e) → OfWords (exp_refusals p s e)
@@ -196,7 +197,8 @@ module _ (p : NumberedProgram) (s : ScopeContents) where
         let inner = right_there (operand_type p s a) (operands p s xs) index_type there in
         let rule = λ (t : ValueType) (ts : List ValueType). mistaken at (is_some (index_type t ts)) (other_indices t ts) in
         node_none (parts a ++ parts_of_all xs) (x.Index at a xs) (and_words (parts a) (parts_of_all xs) (words_alone a (type_there (known p s a) receiver)) (words_of_all xs inner))
-        (none_both (misplaced p s a ++ all_misplaced p s xs) (both_judged (operand_type p s a) (operands p s xs) rule) (none_both (misplaced p s a) (all_misplaced p s xs) (placed a receiver) (all_placed xs inner))
+        (none_both (misplaced p s a ++ all_misplaced p s xs) (both_judged (operand_type p s a) (operands p s xs) rule)
+        (none_both (misplaced p s a) (all_misplaced p s xs) (placed a receiver) (all_placed xs inner))
         (both_none (operand_type p s a) (operands p s xs) rule index_type there (λ t ts given. is_taken at (index_type t ts) (other_indices t ts) given)))
 
     words_of_all : (xs : NumberedExps) → IsThere (operands p s xs) → AreOfWords (parts_of_all xs)
@@ -218,4 +220,5 @@ module _ (p : NumberedProgram) (s : ScopeContents) where
     words_of_ranges : (rs : NumberedRanges) → IsThere (bounds p s rs) → AreOfWords (parts_of_ranges rs)
     words_of_ranges x.NoRange there = All-nil IsOfWords
     words_of_ranges (x.MoreRange r rest) there =
-        and_words (parts_of_range r) (parts_of_ranges rest) (words_of_range r (front_there (bound p s r) (bounds p s rest) there)) (words_of_ranges rest (back_there (bound p s r) (bounds p s rest) there))
+        and_words (parts_of_range r) (parts_of_ranges rest) (words_of_range r (front_there (bound p s r) (bounds p s rest) there))
+        (words_of_ranges rest (back_there (bound p s r) (bounds p s rest) there))

@@ -81,7 +81,8 @@ fn told_more<'a>(
     t: Option<Seen<'a>>,
     rest: Option<Told<'a>>,
 ) -> Option<Told<'a>>
-    ensures { option_map told_of result ≡ both (option_map seen t.entry) (option_map told_of rest.entry) (λ u others. Some (more place (option_map seen wanted.entry) u others)) }
+    ensures { option_map told_of result ≡ both (option_map seen t.entry) (option_map told_of rest.entry)
+        (λ u others. Some (more place (option_map seen wanted.entry) u others)) }
 {
     match (t, rest) {
         (Some(t), Some(rest)) => Some(rest.more(place, wanted, t)),
@@ -113,7 +114,8 @@ impl<'a> Arguments<'a> {
     pub fn more(self, place: Place, j: Judged<'a>, wanted: Option<Seen<'a>>) -> Arguments<'a>
         ensures inner { result.inner ≡ sooner_of j.entry.first self.entry.inner }
         ensures misplaced { result.misplaced ≡ sooner_of (first_of (misplaced_at place (typed_of j.entry))) self.entry.misplaced }
-        ensures types { option_map told_of result.types ≡ both (operand (typed_of j.entry)) (option_map told_of self.entry.types) (λ u others. Some (more place (option_map seen wanted.entry) u others)) }
+        ensures types { option_map told_of result.types ≡ both (operand (typed_of j.entry)) (option_map told_of self.entry.types)
+            (λ u others. Some (more place (option_map seen wanted.entry) u others)) }
     {
         Arguments {
             inner: sooner(j.first, self.inner),
@@ -135,7 +137,8 @@ impl<'a> Judged<'a> {
     /// A form with this receiver, from what is wrong with the form itself.
     pub(crate) fn whole(self, inner: Place, own: Judged<'a>) -> Judged<'a>
         ensures known { typed_of result ≡ typed_of own.entry }
-        ensures first { result.first ≡ sooner_of self.entry.first (sooner_of (first_of (misplaced_at inner (typed_of self.entry))) own.entry.first) }
+        ensures first { result.first ≡ sooner_of self.entry.first (sooner_of
+            (first_of (misplaced_at inner (typed_of self.entry))) own.entry.first) }
     {
         own.behind(self.misplaced(inner)).behind(self.first)
     }
@@ -143,7 +146,8 @@ impl<'a> Judged<'a> {
     /// A form with this receiver and these arguments.
     pub(crate) fn with(self, inner: Place, found: Arguments<'a>, own: Judged<'a>) -> Judged<'a>
         ensures known { typed_of result ≡ typed_of own.entry }
-        ensures first { result.first ≡ sooner_of (sooner_of self.entry.first found.entry.inner) (sooner_of (sooner_of (first_of (misplaced_at inner (typed_of self.entry))) found.entry.misplaced) own.entry.first) }
+        ensures first { result.first ≡ sooner_of (sooner_of self.entry.first found.entry.inner)
+            (sooner_of (sooner_of (first_of (misplaced_at inner (typed_of self.entry))) found.entry.misplaced) own.entry.first) }
     {
         let misplaced = sooner(self.misplaced(inner), found.misplaced);
         own.behind(misplaced)
@@ -233,7 +237,8 @@ fn params_refusal(
     params: &Params,
     misfit: Option<Refusal>,
 ) -> Option<Refusal>
-    ensures { result ≡ told_params place (places_of (numbered_exps (map expression_of args.now))) (numbered_params_of params.now) (length args.now) misfit }
+    ensures { result ≡ told_params place (places_of (numbered_exps (map expression_of args.now))) (numbered_params_of params.now)
+        (length args.now) misfit }
 {
     match params {
         Params::Words => {
@@ -261,7 +266,8 @@ fn call_refusal<'a>(
     args: &[Expr],
     told: Option<Told<'a>>,
 ) -> Option<Refusal>
-    ensures { result ≡ told_refusal place (places_of (numbered_exps (map expression_of args.now))) (option_map (λ m. numbered_method_of m.now) m.entry) otherwise (length args.now) (option_map told_of told.entry) }
+    ensures { result ≡ told_refusal place (places_of (numbered_exps (map expression_of args.now)))
+        (option_map (λ m. numbered_method_of m.now) m.entry) otherwise (length args.now) (option_map told_of told.entry) }
 {
     match (told, m) {
         (Some(told), Some(m)) => params_refusal(place, args, &m.params, told.misfit),
@@ -278,8 +284,10 @@ pub fn called<'a>(
     args: &[Expr],
     types: Option<Told<'a>>,
 ) -> Judged<'a>
-    ensures known { typed_of result ≡ told_called (option_map (λ m. numbered_method_of m.now) m.entry) (length args.now) (option_map told_of types.entry) }
-    ensures first { result.first ≡ told_refusal place (places_of (numbered_exps (map expression_of args.now))) (option_map (λ m. numbered_method_of m.now) m.entry) otherwise (length args.now) (option_map told_of types.entry) }
+    ensures known { typed_of result ≡ told_called (option_map (λ m. numbered_method_of m.now) m.entry) (length args.now)
+        (option_map told_of types.entry) }
+    ensures first { result.first ≡ told_refusal place (places_of (numbered_exps (map expression_of args.now)))
+        (option_map (λ m. numbered_method_of m.now) m.entry) otherwise (length args.now) (option_map told_of types.entry) }
 {
     let first = call_refusal(place, m, otherwise, args, types);
     match types {

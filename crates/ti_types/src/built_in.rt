@@ -237,7 +237,7 @@ fn takes_local<'a>(t: Seen<'a>, u: Seen<'a>) -> bool
     }
 }
 
-#[tactic(auto, using(ti_rules::proofs::First::firsts))]
+#[tactic(auto, using(ti_rules::proofs::Lemmas::firsts))]
 fn exchange_refusal<'a>(place: Place, t: Seen<'a>, u: Seen<'a>) -> Option<Refusal>
     ensures { result ≡ first_of (exchange_refusals place (seen t.entry) (seen u.entry ∷ [])) }
 {
@@ -361,7 +361,8 @@ fn maybe_given<'a>(
     count: usize,
     told: Told<'a>,
 ) -> Option<Seen<'a>>
-    ensures { option_map seen result ≡ option_and_then (λ b. told_member b (seen t.entry) count (told_of told.entry)) (option_map built_in_of b) }
+    ensures { option_map seen result ≡ option_and_then (λ b. told_member b (seen t.entry) count (told_of told.entry))
+        (option_map built_in_of b) }
 {
     match b {
         Some(b) => given(b, t, count, told),
@@ -377,7 +378,8 @@ pub fn member_given<'a>(
     count: usize,
     told: Told<'a>,
 ) -> Judged<'a>
-    ensures known { typed_of result ≡ plain (option_and_then (λ b. told_member b (seen t.entry) count (told_of told.entry)) (option_map built_in_of b)) }
+    ensures known { typed_of result ≡ plain (option_and_then (λ b. told_member b (seen t.entry) count (told_of told.entry))
+        (option_map built_in_of b)) }
     ensures first { result.first ≡ first_of (told_built_in place (option_map built_in_of b) (seen t.entry) count (told_of told.entry)) }
 {
     Judged::plain(

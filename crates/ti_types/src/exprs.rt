@@ -27,7 +27,8 @@ impl<'a> Judge<'a> {
     /// What is known of the arguments of a call of a method, if there is one.
     #[cycle(exp)]
     fn arguments(&self, scope: &'a Scope, xs: &'a [Expr], m: Option<&'a Method>) -> Arguments<'a>
-        ensures { AreArguments (program_of self.now.program.now) (contents_of scope.now) (numbered_exps (map expression_of xs.now)) (wanted_types (option_map (λ m. numbered_method_of m.now) m.entry)) result }
+        ensures { AreArguments (program_of self.now.program.now) (contents_of scope.now) (numbered_exps (map expression_of xs.now))
+            (wanted_types (option_map (λ m. numbered_method_of m.now) m.entry)) result }
     {
         let mut found = Arguments::none();
         for i in (0..xs.len()).rev() {
@@ -78,7 +79,8 @@ impl<'a> Judge<'a> {
 
     /// The method that is called behind something.
     fn behind(&self, t: Option<Seen<'a>>, name: u32) -> Option<&'a Method>
-        ensures { option_map (λ m. numbered_method_of m.now) result ≡ behind (program_of self.now.program.now) (option_map seen t.entry) name }
+        ensures { option_map (λ m. numbered_method_of m.now) result ≡ behind (program_of self.now.program.now)
+            (option_map seen t.entry) name }
     {
         match t {
             Some(t) => method_behind(self.program, t, name),
@@ -87,7 +89,7 @@ impl<'a> Judge<'a> {
     }
 
     /// What is known of an expression without parts.
-    #[tactic(auto, using(ti_rules::proofs::First::firsts, ti_lang::proofs::ProgramBridges::program_bridges))]
+    #[tactic(auto, using(ti_rules::proofs::Lemmas::firsts, ti_lang::proofs::Lemmas::program_bridges))]
     fn leaf(&self, scope: &'a Scope, e: &'a Expr) -> Option<Judged<'a>>
         ensures { IfSome result (λ j. IsJudged (program_of self.now.program.now) (contents_of scope.now) (expression_of e.now) j) }
     {
@@ -122,7 +124,7 @@ impl<'a> Judge<'a> {
 
     /// What is known of an operator between two operands.
     #[cycle(exp)]
-    #[tactic(auto, using(ti_rules::proofs::First::firsts, ti_lang::proofs::ProgramBridges::program_bridges))]
+    #[tactic(auto, using(ti_rules::proofs::Lemmas::firsts, ti_lang::proofs::Lemmas::program_bridges))]
     fn operated(&self, scope: &'a Scope, e: &'a Expr) -> Option<Judged<'a>>
         ensures { IfSome result (λ j. IsJudged (program_of self.now.program.now) (contents_of scope.now) (expression_of e.now) j) }
     {
@@ -143,7 +145,7 @@ impl<'a> Judge<'a> {
 
     /// The same for an expression of any form.
     #[cycle(exp)]
-    #[tactic(auto, using(ti_rules::proofs::First::firsts, ti_lang::proofs::ProgramBridges::program_bridges))]
+    #[tactic(auto, using(ti_rules::proofs::Lemmas::firsts, ti_lang::proofs::Lemmas::program_bridges))]
     fn form(&self, scope: &'a Scope, e: &'a Expr) -> Judged<'a>
         ensures { IsJudged (program_of self.now.program.now) (contents_of scope.now) (expression_of e.now) result }
     {

@@ -126,10 +126,11 @@ impl<'a> Judged<'a> {
     }
 
     /// An operator at a place, before an operand at its own.
-    #[tactic(auto, using(ti_rules::proofs::First::firsts))]
+    #[tactic(auto, using(ti_rules::proofs::Lemmas::firsts))]
     pub(crate) fn unary(self, inner: Place, place: Place, op: UnaryOperator) -> Judged<'a>
         ensures known { typed_of result ≡ plain (option_and_then (unary_type op) (operand (typed_of self.entry))) }
-        ensures first { result.first ≡ sooner_of self.entry.first (first_of (misplaced_at inner (typed_of self.entry) ++ judged (operand (typed_of self.entry)) (λ t. mistaken_at place (is_some (unary_type op t)) false))) }
+        ensures first { result.first ≡ sooner_of self.entry.first (first_of (misplaced_at inner (typed_of self.entry)
+            ++ judged (operand (typed_of self.entry)) (λ t. mistaken_at place (is_some (unary_type op t)) false))) }
     {
         let t = self.operand();
         let own = sooner(self.misplaced(inner), unary_mistaken(place, op, t));
@@ -161,7 +162,10 @@ impl<'a> Judged<'a> {
         op: BinaryOperator,
     ) -> Judged<'a>
         ensures known { typed_of result ≡ plain (both (operand (typed_of self.entry)) (operand (typed_of other.entry)) (binary_type op)) }
-        ensures first { result.first ≡ sooner_of (sooner_of self.entry.first other.entry.first) (first_of ((misplaced_at inner (typed_of self.entry) ++ misplaced_at other_inner (typed_of other.entry)) ++ both_judged (operand (typed_of self.entry)) (operand (typed_of other.entry)) (λ t u. mistaken_at place (is_some (binary_type op t u)) (is_some (binary_type op (one_dim t) (one_dim u)))))) }
+        ensures first { result.first ≡ sooner_of (sooner_of self.entry.first other.entry.first)
+            (first_of ((misplaced_at inner (typed_of self.entry) ++ misplaced_at other_inner (typed_of other.entry))
+            ++ both_judged (operand (typed_of self.entry)) (operand (typed_of other.entry))
+            (λ t u. mistaken_at place (is_some (binary_type op t u)) (is_some (binary_type op (one_dim t) (one_dim u)))))) }
     {
         if are_sound_ints(op, &self, &other) {
             Judged::plain(Some(Seen::Int), None)
@@ -172,7 +176,7 @@ impl<'a> Judged<'a> {
 
     /// The same for operands of any type.
     #[inline(never)]
-    #[tactic(auto, using(ti_rules::proofs::First::firsts))]
+    #[tactic(auto, using(ti_rules::proofs::Lemmas::firsts))]
     fn any_binary(
         self,
         inner: Place,
@@ -182,7 +186,10 @@ impl<'a> Judged<'a> {
         op: BinaryOperator,
     ) -> Judged<'a>
         ensures known { typed_of result ≡ plain (both (operand (typed_of self.entry)) (operand (typed_of other.entry)) (binary_type op)) }
-        ensures first { result.first ≡ sooner_of (sooner_of self.entry.first other.entry.first) (first_of ((misplaced_at inner (typed_of self.entry) ++ misplaced_at other_inner (typed_of other.entry)) ++ both_judged (operand (typed_of self.entry)) (operand (typed_of other.entry)) (λ t u. mistaken_at place (is_some (binary_type op t u)) (is_some (binary_type op (one_dim t) (one_dim u)))))) }
+        ensures first { result.first ≡ sooner_of (sooner_of self.entry.first other.entry.first)
+            (first_of ((misplaced_at inner (typed_of self.entry) ++ misplaced_at other_inner (typed_of other.entry))
+            ++ both_judged (operand (typed_of self.entry)) (operand (typed_of other.entry))
+            (λ t u. mistaken_at place (is_some (binary_type op t u)) (is_some (binary_type op (one_dim t) (one_dim u)))))) }
     {
         let t = self.operand();
         let u = other.operand();
@@ -192,10 +199,15 @@ impl<'a> Judged<'a> {
     }
 
     /// A cast at a place, of an operand at its own.
-    #[tactic(auto, using(ti_rules::proofs::First::firsts))]
+    #[tactic(auto, using(ti_rules::proofs::Lemmas::firsts))]
     pub(crate) fn cast(self, inner: Place, place: Place, to: &'a TypeUse) -> Judged<'a>
-        ensures known { typed_of result ≡ plain (option_and_then (λ t. where_true (casts_to (type_use_of to.now).type t) (type_use_of to.now).type) (operand (typed_of self.entry))) }
-        ensures first { result.first ≡ sooner_of self.entry.first (first_of ((type_word_refusals false (type_use_of to.now) ++ misplaced_at inner (typed_of self.entry)) ++ judged (operand (typed_of self.entry)) (λ t. mistaken_at place (casts_to (type_use_of to.now).type t) (casts_to (one_dim (type_use_of to.now).type) (one_dim t))))) }
+        ensures known { typed_of result
+            ≡ plain (option_and_then (λ t. where_true (casts_to (type_use_of to.now).type t) (type_use_of to.now).type)
+            (operand (typed_of self.entry))) }
+        ensures first { result.first ≡ sooner_of self.entry.first (first_of
+            ((type_word_refusals false (type_use_of to.now) ++ misplaced_at inner (typed_of self.entry))
+            ++ judged (operand (typed_of self.entry)) (λ t. mistaken_at place (casts_to (type_use_of to.now).type t)
+            (casts_to (one_dim (type_use_of to.now).type) (one_dim t))))) }
     {
         let t = self.operand();
         let words = sooner(type_words(false, to), self.misplaced(inner));
@@ -225,7 +237,8 @@ fn operated<'a>(
     u: Option<Seen<'a>>,
 ) -> Judged<'a>
     ensures known { typed_of result ≡ plain (both (option_map seen t.entry) (option_map seen u.entry) (binary_type op)) }
-    ensures first { result.first ≡ first_of (both_judged (option_map seen t.entry) (option_map seen u.entry) (λ t u. mistaken_at place (is_some (binary_type op t u)) (is_some (binary_type op (one_dim t) (one_dim u))))) }
+    ensures first { result.first ≡ first_of (both_judged (option_map seen t.entry) (option_map seen u.entry)
+        (λ t u. mistaken_at place (is_some (binary_type op t u)) (is_some (binary_type op (one_dim t) (one_dim u))))) }
 {
     match (t, u) {
         (Some(t), Some(u)) => match binary_type(op, t, u) {
@@ -240,7 +253,8 @@ fn operated<'a>(
 }
 
 fn cast_type<'a>(to: &'a Ty, t: Option<Seen<'a>>) -> Option<Seen<'a>>
-    ensures { option_map seen result ≡ option_and_then (λ t. where_true (casts_to (value_type_of to.now) t) (value_type_of to.now)) (option_map seen t.entry) }
+    ensures { option_map seen result ≡ option_and_then (λ t. where_true (casts_to (value_type_of to.now) t) (value_type_of to.now))
+        (option_map seen t.entry) }
 {
     match t {
         Some(t) => {
@@ -254,7 +268,8 @@ fn cast_type<'a>(to: &'a Ty, t: Option<Seen<'a>>) -> Option<Seen<'a>>
 /// An operand that can't be cast.
 #[tactic(auto, unfolding(ti_rules::specs::Mirrors::First::first_of))]
 fn cast_mistaken<'a>(place: Place, to: &'a Ty, t: Option<Seen<'a>>) -> Option<Refusal>
-    ensures { result ≡ first_of (judged (option_map seen t.entry) (λ t. mistaken_at place (casts_to (value_type_of to.now) t) (casts_to (one_dim (value_type_of to.now)) (one_dim t)))) }
+    ensures { result ≡ first_of (judged (option_map seen t.entry) (λ t. mistaken_at place (casts_to (value_type_of to.now) t)
+        (casts_to (one_dim (value_type_of to.now)) (one_dim t)))) }
 {
     match t {
         Some(t) => {

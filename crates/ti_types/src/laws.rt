@@ -13,5 +13,6 @@ ghost use Rattle.ti_rules.specs.Broken.Expressions.{exp_refusals};
 ///
 /// A word that can't stand in the type of a cast leaves this as it is without the word.
 pub fn typed_breaks_words_alone()
-    ensures { (p : NumberedProgram) (s : ScopeContents) (e : NumberedExp) (t : ValueType) → typed p s e ≡ Some t → All (λ (r : Refusal). r.rule ≡ Y7) (exp_refusals p s e) }
+    ensures { (p : NumberedProgram) (s : ScopeContents) (e : NumberedExp) (t : ValueType) → typed p s e ≡ Some t
+        → All (λ (r : Refusal). r.rule ≡ Y7) (exp_refusals p s e) }
 {}

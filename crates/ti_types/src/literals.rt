@@ -18,8 +18,11 @@ use ti_lang::program::{Range, Scope};
 impl<'a> Judge<'a> {
     /// What is known of ranges that stand as in a literal, in a scope.
     pub fn literal(&self, scope: &'a Scope, ranges: &'a [Range]) -> Ranges<'a>
-        ensures first { result.first ≡ first_of (flat_map (refusals_at (program_of self.now.program.now) (contents_of scope.now)) (parts_of_ranges (numbered_ranges (map bound_of ranges.now))) ++ bounds_misplaced (program_of self.now.program.now) (contents_of scope.now) (numbered_ranges (map bound_of ranges.now))) }
-        ensures types { option_map literal_of result.types ≡ option_map (literal (range_count (numbered_ranges (map bound_of ranges.now)))) (bounds (program_of self.now.program.now) (contents_of scope.now) (numbered_ranges (map bound_of ranges.now))) }
+        ensures first { result.first ≡ first_of (flat_map (refusals_at (program_of self.now.program.now) (contents_of scope.now))
+            (parts_of_ranges (numbered_ranges (map bound_of ranges.now)))
+            ++ bounds_misplaced (program_of self.now.program.now) (contents_of scope.now) (numbered_ranges (map bound_of ranges.now))) }
+        ensures types { option_map literal_of result.types ≡ option_map (literal (range_count (numbered_ranges (map bound_of ranges.now))))
+            (bounds (program_of self.now.program.now) (contents_of scope.now) (numbered_ranges (map bound_of ranges.now))) }
     {
         let count = ranges.len();
         let found = self.ranges(scope, ranges);

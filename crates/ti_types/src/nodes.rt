@@ -48,7 +48,8 @@ fn point_refusal(place: Place, types: Option<Told>) -> Option<Refusal>
 
 /// So many coordinates at a place.
 pub fn point<'a>(place: Place, count: usize, types: Option<Told<'a>>) -> Judged<'a>
-    ensures known { typed_of result ≡ plain (option_and_then (λ (t : ToldTypes). where_true t.ints (Pt count)) (option_map told_of types.entry)) }
+    ensures known { typed_of result ≡ plain (option_and_then (λ (t : ToldTypes). where_true t.ints (Pt count))
+        (option_map told_of types.entry)) }
     ensures first { result.first ≡ first_of (judged (option_map told_of types.entry) (λ (t : ToldTypes). mistaken_at place t.ints false)) }
 {
     Judged::plain(point_type(count, types), point_refusal(place, types))
@@ -126,7 +127,8 @@ fn index_refusal<'a>(
     t: Option<Seen<'a>>,
     types: Option<Told<'a>>,
 ) -> Option<Refusal>
-    ensures { result ≡ first_of (both_judged (option_map seen t.entry) (option_map told_of types.entry) (λ u told. mistaken_at place (is_some (told_index count u told)) (told_other count u told))) }
+    ensures { result ≡ first_of (both_judged (option_map seen t.entry) (option_map told_of types.entry)
+        (λ u told. mistaken_at place (is_some (told_index count u told)) (told_other count u told))) }
 {
     match (t, types) {
         (Some(t), Some(told)) => {
@@ -145,7 +147,8 @@ pub fn index<'a>(
     types: Option<Told<'a>>,
 ) -> Judged<'a>
     ensures known { typed_of result ≡ plain (both (option_map seen t.entry) (option_map told_of types.entry) (told_index count)) }
-    ensures first { result.first ≡ first_of (both_judged (option_map seen t.entry) (option_map told_of types.entry) (λ u told. mistaken_at place (is_some (told_index count u told)) (told_other count u told))) }
+    ensures first { result.first ≡ first_of (both_judged (option_map seen t.entry) (option_map told_of types.entry)
+        (λ u told. mistaken_at place (is_some (told_index count u told)) (told_other count u told))) }
 {
     Judged::plain(
         maybe_index(count, t, types),
@@ -164,8 +167,11 @@ pub fn member<'a>(
     args: &'a [Expr],
     types: Option<Told<'a>>,
 ) -> Judged<'a>
-    ensures known { typed_of result ≡ told_behind (program_of program.now) (option_map seen t.entry) name (option_map (λ m. numbered_method_of m.now) m.entry) (length args.now) (option_map told_of types.entry) }
-    ensures first { result.first ≡ behind_refusal (program_of program.now) place (places_of (numbered_exps (map expression_of args.now))) (option_map seen t.entry) name (option_map (λ m. numbered_method_of m.now) m.entry) (length args.now) (option_map told_of types.entry) }
+    ensures known { typed_of result ≡ told_behind (program_of program.now) (option_map seen t.entry) name
+        (option_map (λ m. numbered_method_of m.now) m.entry) (length args.now) (option_map told_of types.entry) }
+    ensures first { result.first ≡ behind_refusal (program_of program.now) place (places_of (numbered_exps (map expression_of args.now)))
+        (option_map seen t.entry) name (option_map (λ m. numbered_method_of m.now) m.entry) (length args.now)
+        (option_map told_of types.entry) }
 {
     let Some(t) = t else {
         return Judged::plain(None, None);
@@ -195,7 +201,8 @@ fn field_refusal<'a>(
     t: Option<Seen<'a>>,
     name: u32,
 ) -> Option<Refusal>
-    ensures { result ≡ first_of (judged (option_map seen t.entry) (λ t. mistaken_at place (is_some (select_type (program_of program.now) t name)) false)) }
+    ensures { result ≡ first_of (judged (option_map seen t.entry) (λ t. mistaken_at place
+        (is_some (select_type (program_of program.now) t name)) false)) }
 {
     match t {
         Some(t) => mistaken(place, select_type(program, t, name).is_some(), false),
@@ -206,7 +213,8 @@ fn field_refusal<'a>(
 /// A field of a name at a place, behind something.
 pub fn select<'a>(program: &'a Parts, place: Place, t: Option<Seen<'a>>, name: u32) -> Judged<'a>
     ensures known { typed_of result ≡ plain (option_and_then (λ t. select_type (program_of program.now) t name) (option_map seen t.entry)) }
-    ensures first { result.first ≡ first_of (judged (option_map seen t.entry) (λ t. mistaken_at place (is_some (select_type (program_of program.now) t name)) false)) }
+    ensures first { result.first ≡ first_of (judged (option_map seen t.entry)
+        (λ t. mistaken_at place (is_some (select_type (program_of program.now) t name)) false)) }
 {
     Judged::plain(
         field_of(program, t, name),

@@ -130,7 +130,8 @@ fn maybe_three<'a>(
     u: Option<Seen<'a>>,
     v: Option<Seen<'a>>,
 ) -> Option<Ends<'a>>
-    ensures { option_map ends_of result ≡ both (option_map seen t.entry) (option_map seen u.entry) (λ a b. option_map (λ c. ends (a ∷ b ∷ c ∷ [])) (option_map seen v.entry)) }
+    ensures { option_map ends_of result ≡ both (option_map seen t.entry) (option_map seen u.entry)
+        (λ a b. option_map (λ c. ends (a ∷ b ∷ c ∷ [])) (option_map seen v.entry)) }
 {
     match (t, u, v) {
         (Some(t), Some(u), Some(v)) => Some(ends_three(t, u, v)),
@@ -160,8 +161,10 @@ impl<'a> Bounds<'a> {
     /// Of a range without a step, whose bounds stand at these places.
     pub fn plain(low_at: Place, low: Judged<'a>, high_at: Place, high: Judged<'a>) -> Bounds<'a>
         ensures inner { result.inner ≡ sooner_of low.entry.first high.entry.first }
-        ensures misplaced { result.misplaced ≡ sooner_of (first_of (misplaced_at low_at (typed_of low.entry))) (first_of (misplaced_at high_at (typed_of high.entry))) }
-        ensures types { option_map ends_of result.types ≡ both (operand (typed_of low.entry)) (operand (typed_of high.entry)) (λ v w. Some (ends (v ∷ w ∷ []))) }
+        ensures misplaced { result.misplaced ≡ sooner_of (first_of (misplaced_at low_at (typed_of low.entry)))
+            (first_of (misplaced_at high_at (typed_of high.entry))) }
+        ensures types { option_map ends_of result.types ≡ both (operand (typed_of low.entry)) (operand (typed_of high.entry))
+            (λ v w. Some (ends (v ∷ w ∷ []))) }
     {
         Bounds {
             inner: sooner(low.first, high.first),
@@ -180,7 +183,8 @@ impl<'a> Bounds<'a> {
     ) -> Bounds<'a>
         ensures inner { result.inner ≡ sooner_of self.entry.inner step.entry.first }
         ensures misplaced { result.misplaced ≡ sooner_of self.entry.misplaced (first_of (misplaced_at step_at (typed_of step.entry))) }
-        ensures types { option_map ends_of result.types ≡ both (operand (typed_of low.entry)) (operand (typed_of high.entry)) (λ a b. option_map (λ c. ends (a ∷ b ∷ c ∷ [])) (operand (typed_of step.entry))) }
+        ensures types { option_map ends_of result.types ≡ both (operand (typed_of low.entry)) (operand (typed_of high.entry))
+            (λ a b. option_map (λ c. ends (a ∷ b ∷ c ∷ [])) (operand (typed_of step.entry))) }
     {
         Bounds {
             inner: sooner(self.inner, step.first),
@@ -193,7 +197,8 @@ impl<'a> Bounds<'a> {
     pub fn before(self, others: Bounds<'a>) -> Bounds<'a>
         ensures inner { result.inner ≡ sooner_of self.entry.inner others.entry.inner }
         ensures misplaced { result.misplaced ≡ sooner_of self.entry.misplaced others.entry.misplaced }
-        ensures types { option_map ends_of result.types ≡ both (option_map ends_of self.entry.types) (option_map ends_of others.entry.types) (λ e rest. Some (ends_before e rest)) }
+        ensures types { option_map ends_of result.types ≡ both (option_map ends_of self.entry.types) (option_map ends_of others.entry.types)
+            (λ e rest. Some (ends_before e rest)) }
     {
         Bounds {
             inner: sooner(self.inner, others.inner),
@@ -235,7 +240,8 @@ fn maybe_literal<'a>(count: usize, types: Option<Ends<'a>>) -> Option<Literal<'a
 }
 
 fn types_before<'a>(first: Option<Ends<'a>>, others: Option<Ends<'a>>) -> Option<Ends<'a>>
-    ensures { option_map ends_of result ≡ both (option_map ends_of first.entry) (option_map ends_of others.entry) (λ e rest. Some (ends_before e rest)) }
+    ensures { option_map ends_of result ≡ both (option_map ends_of first.entry) (option_map ends_of others.entry)
+        (λ e rest. Some (ends_before e rest)) }
 {
     match (first, others) {
         (Some(first), Some(others)) => Some(Ends {
@@ -276,7 +282,8 @@ fn maybe_rect<'a>(count: usize, types: Option<Ends<'a>>) -> Option<Seen<'a>>
 
 #[tactic(auto, unfolding(ti_rules::specs::Mirrors::First::first_of))]
 fn rect_refusal(place: Place, count: usize, types: Option<Ends>) -> Option<Refusal>
-    ensures { result ≡ first_of (judged (option_map ends_of types.entry) (λ (e : EndTypes). mistaken_at place (is_some (told_rect count e)) (told_near count e))) }
+    ensures { result ≡ first_of (judged (option_map ends_of types.entry)
+        (λ (e : EndTypes). mistaken_at place (is_some (told_rect count e)) (told_near count e))) }
 {
     match types {
         Some(types) => {
@@ -290,7 +297,8 @@ fn rect_refusal(place: Place, count: usize, types: Option<Ends>) -> Option<Refus
 /// So many ranges at a place.
 pub fn rect<'a>(place: Place, count: usize, types: Option<Ends<'a>>) -> Judged<'a>
     ensures known { typed_of result ≡ plain (option_and_then (told_rect count) (option_map ends_of types.entry)) }
-    ensures first { result.first ≡ first_of (judged (option_map ends_of types.entry) (λ (e : EndTypes). mistaken_at place (is_some (told_rect count e)) (told_near count e))) }
+    ensures first { result.first ≡ first_of (judged (option_map ends_of types.entry)
+        (λ (e : EndTypes). mistaken_at place (is_some (told_rect count e)) (told_near count e))) }
 {
     Judged::plain(maybe_rect(count, types), rect_refusal(place, count, types))
 }

@@ -129,7 +129,7 @@ fn repeated(words: &[Qualifier]) -> Option<Refusal>
     again(words)
 }
 
-#[tactic(auto, using(ti_rules::proofs::First::firsts))]
+#[tactic(auto, using(ti_rules::proofs::Lemmas::firsts))]
 fn one_grid(grid: &Brackets) -> Option<Refusal>
     ensures { result ≡ first_of (grid_refusals (grid_of grid.now)) }
 {
@@ -147,7 +147,7 @@ fn all_grids(grids: &[Brackets]) -> Option<Refusal>
 }
 
 /// The words of a type, where it is that of something that may be single, or not.
-#[tactic(auto, using(ti_rules::proofs::First::firsts))]
+#[tactic(auto, using(ti_rules::proofs::Lemmas::firsts))]
 pub fn type_words(may_be_single: bool, t: &TypeUse) -> Option<Refusal>
     ensures { result ≡ first_of (type_word_refusals may_be_single (type_use_of t.now)) }
 {

@@ -10,7 +10,8 @@ use Rattle.ti_watch.specs.Acts.{word_of, act_text, answer_text}
 -- the line of an entry: its number, its process, its place, its act and its answer
 unfoldable pub entry_text : ℕ → Entry → List ℕ
 entry_text number e =
-    decimal number ++ codes " p" ++ decimal e.proc ++ codes " " ++ place_text e.place ++ codes " " ++ act_text e.act ++ codes " -> " ++ answer_text e.answer
+    decimal number ++ codes " p" ++ decimal e.proc ++ codes " " ++ place_text e.place ++ codes " " ++ act_text e.act ++ codes " -> "
+    ++ answer_text e.answer
     ++ 10 ∷ []
 
 -- a line for each entry, numbered from a number on
@@ -27,7 +28,8 @@ trace_text es = lines_from 0 es
 -- the words of acts in the order of the lines
 abbrev pub words : List (List ℕ)
 words =
-    codes "getField" ∷ codes "putField" ∷ codes "newObj" ∷ codes "newGrid" ∷ codes "getElem" ∷ codes "putElem" ∷ codes "makeView" ∷ codes "domainOf"
+    codes "getField" ∷ codes "putField" ∷ codes "newObj" ∷ codes "newGrid" ∷ codes "getElem" ∷ codes "putElem" ∷ codes "makeView"
+    ∷ codes "domainOf"
     ∷ codes "print" ∷ codes "arrive" ∷ codes "depart" ∷ codes "take" ∷ codes "end" ∷ codes "fault" ∷ []
 
 -- a number behind a blank, with the line end

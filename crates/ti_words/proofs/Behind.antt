@@ -92,7 +92,8 @@ argument_stands word =
     ∙ ap (λ b. bytes_eq word (codes "--trace") || b) (report_stands (codes "stats") word _
     ∙ ap (λ b. bytes_eq word (codes "--stats") || b) (report_stands (codes "races") word wrong))))))))
     ∙ from_left (setting_of (codes "mode") word) (setting_of (codes "procs") word) (setting_of (codes "workers") word)
-    (setting_of (codes "fuel") word) (setting_of (codes "seed") word) (setting_of (codes "against") word) (bytes_eq word (codes "--trace")) (bytes_eq word (codes "--stats")) (bytes_eq word (codes "--races")))
+    (setting_of (codes "fuel") word) (setting_of (codes "seed") word) (setting_of (codes "against") word) (bytes_eq word (codes "--trace"))
+    (bytes_eq word (codes "--stats")) (bytes_eq word (codes "--races")))
 
 -- the first test holds and is the answer, or the second is
 pub or_first : (a b v : Bool) → a ≡ true → v ≡ a → v ≡ (a || b)

@@ -11,7 +11,10 @@ use Rattle.clap.proofs.FaultLemmas.{leaf_fault}
 use Rattle.ti_words.specs.Uses.{Piece, Use, Word, awaits, dashed, dashed_piece, gives, is_used, piece_of, plain}
 use Rattle.ti_words.specs.Mirrors.Command.{all_stand, can_stand, titan}
 use Rattle.ti_words.proofs.Views.{IsReport, IsSetting, View, against, alone, front, fuel, joined, mode, none, other, procs, races, report, seed, stats, trace, view, workers}
-use Rattle.ti_words.proofs.Turns.{alone_turn, alone_walk, at, file_settled, file_settles, file_turn, file_walk, guard, held_for, held_with, joined_turn, joined_walk, new_row, no, outcome, outcome-end, outcome-more, report_turn, report_walk, rest_fault, row_of_use, rules, settles, shape, stray_turn, used_rows, value_settled, value_settles, value_turn, value_walk, waits_in_vain, whole}
+use Rattle.ti_words.proofs.Turns.{alone_turn, alone_walk, at, file_settled, file_settles, file_turn, file_walk, guard, held_for, held_with}
+use Rattle.ti_words.proofs.Turns.{joined_turn, joined_walk, new_row, no, outcome, outcome-end, outcome-more, report_turn, report_walk}
+use Rattle.ti_words.proofs.Turns.{rest_fault, row_of_use, rules, settles, shape, stray_turn, used_rows, value_settled, value_settles}
+use Rattle.ti_words.proofs.Turns.{value_turn, value_walk, waits_in_vain, whole}
 
 -- the use of FILE
 abbrev pub file_use : Word → Use

@@ -8,7 +8,9 @@ use Rattle.std.specs.Str.{bytes_eq}
 use Rattle.clap.specs.Faults.{bundle_fault, flag_word_fault, other_fault, step_fault, word_fault, check_fault, default_fault, defaults_fault, given_default_fault, settle_fault, turn_fault, walk_fault}
 use Rattle.clap.specs.Kinds.{Kinds, or_else}
 use Rattle.clap.specs.Simple.{Shape, built}
-use Rattle.clap.specs.Walk.{Step, after_step, long_or_other, more_values, plain_word, short_or_plain, started, subcommand_or_other, trailing, with_values, without, word_met, Held, Row, Rule, Text, Waiting, Walk, at_row, finished, has_row, idle, is_empty, is_pending, option, positional, settled, walked, with_default}
+use Rattle.clap.specs.Walk.{Step, after_step, long_or_other, more_values, plain_word, short_or_plain, started, subcommand_or_other}
+use Rattle.clap.specs.Walk.{trailing, with_values, without, word_met, Held, Row, Rule, Text, Waiting, Walk, at_row, finished, has_row, idle}
+use Rattle.clap.specs.Walk.{is_empty, is_pending, option, positional, settled, walked, with_default}
 use Rattle.clap.specs.declared.builder.value_parser.Reading.TheVariants.{AsWritten}
 use Rattle.clap.specs.declared.error.kind.ErrorKind.TheVariants as kind
 use Rattle.clap.specs.declared.parser.matches.ValueSource.TheVariants.{CommandLine}
@@ -302,7 +304,14 @@ pub stray_turn : (x : ℕ) (xs : Word) → (x == 45) ≡ false → (h : Held)
 stray_turn x xs e h = ap no (plain_turn idle x xs e h 2)
 
 file_held : (b : Bool) (word : Word) (h : Held)
-    → ◌≡◌ {A = Held} (record { rows = (cond (b && false) h (settled rules h)).rows; pending = Some ((started (codes "FILE") (cond (b && false) h (settled rules h)).pending).0, (started (codes "FILE") (cond (b && false) h (settled rules h)).pending).1 ++ word ∷ []); skip = (cond (b && false) h (settled rules h)).skip }) (held_with (codes "FILE") word h)
+    → ◌≡◌ {A = Held} (record {
+      rows = (cond (b && false) h (settled rules h)).rows;
+      pending = Some (
+        (started (codes "FILE") (cond (b && false) h (settled rules h)).pending).0,
+        (started (codes "FILE") (cond (b && false) h (settled rules h)).pending).1 ++ word ∷ [],
+      );
+      skip = (cond (b && false) h (settled rules h)).skip;
+    }) (held_with (codes "FILE") word h)
 file_held true word h = refl
 file_held false word h = refl
 

@@ -136,7 +136,8 @@ against_of Infer word = unsaid [] word
 -- the job of these values, of which each has to be one that its argument may have
 abbrev pub job_by : Values → Option Job
 job_by values =
-    option_and_then (λ mode. option_and_then (λ file. option_and_then (λ against. option_and_then (λ seed. option_and_then (λ procs. option_and_then (λ workers. option_map (λ fuel. record {
+    option_and_then (λ mode. option_and_then (λ file. option_and_then
+    (λ against. option_and_then (λ seed. option_and_then (λ procs. option_and_then (λ workers. option_map (λ fuel. record {
       mode = mode;
       procs = procs;
       workers = workers;
@@ -147,7 +148,8 @@ job_by values =
       races = values.races;
       file = file;
       against = against;
-    }) (fuel_of procs values)) (workers_of procs values)) (procs_of values)) (seed_of mode values.seed)) (against_of mode values.against)) (file_of mode values.file))
+    }) (fuel_of procs values)) (workers_of procs values)) (procs_of values)) (seed_of mode values.seed)) (against_of mode values.against))
+    (file_of mode values.file))
     (mode_of values.mode)
 
 -- the job that the words ask for, or nothing where they are no command

@@ -17,7 +17,8 @@ act_text e = e.done.now ++ (codes " -> " ++ e.answer.now)
 
 -- what stands behind the number of an entry
 abbrev pub rest_text : Entry → List ℕ
-rest_text e = codes "p" ++ (decimal e.process ++ (codes " " ++ (decimal e.place.line ++ (codes ":" ++ (decimal e.place.column ++ (codes " " ++ act_text e))))))
+rest_text e = codes "p" ++ (decimal e.process ++ (codes " " ++ (decimal e.place.line
+    ++ (codes ":" ++ (decimal e.place.column ++ (codes " " ++ act_text e))))))
 
 -- the line of an entry with its number
 abbrev pub entry_text : ℕ → Entry → List ℕ

@@ -7,7 +7,8 @@ use Rattle.timeline.specs.Lines.{entry_text}
 -- the four bytes that have a meaning in a picture are written by their names, each other as the character with its number
 abbrev pub escape_of : ℕ → List ℕ
 escape_of byte =
-    if byte == 38 then codes "&amp;" else if byte == 60 then codes "&lt;" else if byte == 62 then codes "&gt;" else if byte == 34 then codes "&quot;" else encode_utf8 byte
+    if byte == 38 then codes "&amp;" else if byte == 60 then codes "&lt;" else if byte == 62 then codes "&gt;" else if byte == 34 then codes
+    "&quot;" else encode_utf8 byte
 
 abbrev pub escaped : List ℕ → List ℕ
 escaped text = flat_map escape_of text

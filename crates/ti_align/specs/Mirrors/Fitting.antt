@@ -23,9 +23,11 @@ pub record EnvFits (uses : VariableUse → Bool) (s : ScopeContents) (w : Things
   pub procs : Fits w32 (pos env.procs)
   pub this_class : s.this_class ≡ this_of env.method
   pub this : (class : ℕ) → s.this_class ≡ Some class → (id : Id) → env.this ≡ Some id → w.class_at id ≡ Some class
-  pub variables : (x : VariableUse) (type : ValueType) → uses x ≡ true → variable_type s x ≡ Some type → IsOf w type (value_by x.declared env x)
+  pub variables : (x : VariableUse) (type : ValueType) → uses x ≡ true → variable_type s x ≡ Some type
+      → IsOf w type (value_by x.declared env x)
   pub dims : (x : VariableUse) (type : ValueType) → uses x ≡ true → variable_type s x ≡ Some type → DimsFine type
-  pub points : (x : VariableUse) (type : ValueType) → uses x ≡ true → x.declared ≡ Foreach → variable_type s x ≡ Some type → (n : ℕ) × (type ≡ t.Pt n)
+  pub points : (x : VariableUse) (type : ValueType) → uses x ≡ true → x.declared ≡ Foreach → variable_type s x ≡ Some type → (n : ℕ)
+      × (type ≡ t.Pt n)
 
 module _ (uses : VariableUse → Bool) where
   abbrev mutual

@@ -44,7 +44,9 @@ FramesFit p w (f ∷ fs) = FrameFits p w f × HandsOn p f fs × FramesFit p w fs
 abbrev pub WorkSound : Things → Process → Frame → List Work → Type 0
 WorkSound w pr f [] = Unit {0}
 WorkSound w pr f (x ∷ left) =
-    Sound pr.setting.program (λ u move. MoveFits pr.setting.program f.method (given_type pr.setting.program (scope_over pr.setting.program (method_scope f.method) left) x) (taken_type x) (scope_over pr.setting.program (method_scope f.method) left) u move) w
+    Sound pr.setting.program (λ u move. MoveFits pr.setting.program f.method
+    (given_type pr.setting.program (scope_over pr.setting.program (method_scope f.method) left) x) (taken_type x)
+    (scope_over pr.setting.program (method_scope f.method) left) u move) w
     (λ rest. performed (env_of pr f left) x (pr.answers ++ rest))
 
 -- the values that are taken first are of such a type

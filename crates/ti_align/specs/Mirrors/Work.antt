@@ -83,7 +83,8 @@ module _ (p : NumberedProgram) (m : NumberedMethod) where
   abbrev pub IsWhole : ScopeContents → NumberedExp → Type 0
   IsWhole s (e.Call at method args) = AreWritten (uses_of m) args
   IsWhole s (e.OwnCall at method args) =
-      AreWritten (uses_of m) args × ((called : NumberedMethod) → slice_get p.methods method ≡ Some called → (class : ℕ) → this_of called ≡ Some class → s.this_class ≡ Some class)
+      AreWritten (uses_of m) args × ((called : NumberedMethod) → slice_get p.methods method ≡ Some called → (class : ℕ) → this_of called
+      ≡ Some class → s.this_class ≡ Some class)
   IsWhole s x = IsWritten (uses_of m) x
 
   -- a whole expression has this type
@@ -99,7 +100,8 @@ module _ (p : NumberedProgram) (m : NumberedMethod) where
   ReceiverFits s Nowhere type = Unit {0}
   ReceiverFits s (Declared at v) type = DeclaredFits v.declared type
   ReceiverFits s (Assigned at target) type = (u : ValueType) × IsTarget s target u × (fits type u ≡ true)
-  ReceiverFits s (Updated at op target) type = (u : ValueType) × (r : ValueType) × IsTarget s target u × (binary_type op u type ≡ Some r) × ((narrows r u || fits r u) ≡ true)
+  ReceiverFits s (Updated at op target) type =
+      (u : ValueType) × (r : ValueType) × IsTarget s target u × (binary_type op u type ≡ Some r) × ((narrows r u || fits r u) ≡ true)
 
   -- things are placed in what this says
   abbrev pub RegionFits : ScopeContents → Option NumberedExp → Type 0
@@ -110,10 +112,13 @@ module _ (p : NumberedProgram) (m : NumberedMethod) where
   abbrev pub InitFits : ScopeContents → NumberedInit → ValueType → Type 0
   InitFits s (st.Value x) type = WholeFits s x type × (is_void type ≡ false)
   InitFits s (st.NewRegion at) type = type ≡ t.Region
-  InitFits s (st.NewObject at region class) type = (type ≡ t.Class class true) × RegionFits s region × ((zeros : List Zero) × (zeros_of_class p class ≡ Some zeros))
+  InitFits s (st.NewObject at region class) type =
+      (type ≡ t.Class class true) × RegionFits s region × ((zeros : List Zero) × (zeros_of_class p class ≡ Some zeros))
   InitFits s (st.NewGrid at region element dims_at dims) type =
-      (n : ℕ) × (type ≡ t.Grid element.type n true) × RegionFits s region × IsInner s (domain_written dims_at dims) (t.Rc n) × IsStorable element.type
-  InitFits s (st.Broadcast at x root) type = (u : ValueType) × (type ≡ as_global u) × IsInner s x u × IsInner s root t.Int × (can_broadcast u ≡ true)
+      (n : ℕ) × (type ≡ t.Grid element.type n true) × RegionFits s region × IsInner s (domain_written dims_at dims) (t.Rc n)
+      × IsStorable element.type
+  InitFits s (st.Broadcast at x root) type =
+      (u : ValueType) × (type ≡ as_global u) × IsInner s x u × IsInner s root t.Int × (can_broadcast u ≡ true)
 
   -- a value that is printed
   abbrev pub PrintFits : ScopeContents → NumberedPrint → Type 0
@@ -129,7 +134,8 @@ module _ (p : NumberedProgram) (m : NumberedMethod) where
 
   -- a foreach over such a domain, whose variable is of its own
   abbrev pub DomainFits : ScopeContents → ℕ → NumberedExp → ℕ → Type 0
-  DomainFits s number domain n = ((type : ValueType) × IsInner s domain type × (domain_dim type ≡ Some n)) × (is_none (in_scope s number) ≡ true) × IsDim n
+  DomainFits s number domain n =
+      ((type : ValueType) × IsInner s domain type × (domain_dim type ≡ Some n)) × (is_none (in_scope s number) ≡ true) × IsDim n
 
   abbrev mutual
     pub StmFits : ScopeContents → NumberedStm → Type 0
@@ -145,7 +151,8 @@ module _ (p : NumberedProgram) (m : NumberedMethod) where
     StmFits s (st.IfElse at c x y) = IsInner s c t.Boolean × StmFits s x × StmFits s y
     StmFits s (st.While at c body) = IsInner s c t.Boolean × StmFits s body
     StmFits s (st.For at first c update body) = MaybeFits s first × ConditionFits s c × MaybeFits s update × StmFits s body
-    StmFits s (st.Foreach at number domain body) = ((n : ℕ) × DomainFits s number domain n) × StmFits (record s { variables = variables_inside p s number domain }) body
+    StmFits s (st.Foreach at number domain body) =
+        ((n : ℕ) × DomainFits s number domain n) × StmFits (record s { variables = variables_inside p s number domain }) body
     StmFits s x = Unit {0}
 
     pub MaybeFits : ScopeContents → MaybeNumbered → Type 0
@@ -160,7 +167,8 @@ module _ (p : NumberedProgram) (m : NumberedMethod) where
   abbrev pub LoopFits : ScopeContents → Loop → Type 0
   LoopFits s (While at c update body) = ConditionFits s c × MaybeFits s update × StmFits s body
   LoopFits s (Foreach at number domain points body) =
-      ((n : ℕ) × DomainFits s number domain n × ArePoints n points) × StmFits (record s { variables = variables_inside p s number domain }) body
+      ((n : ℕ) × DomainFits s number domain n × ArePoints n points)
+      × StmFits (record s { variables = variables_inside p s number domain }) body
 
 -- a foreach in a turn stands at a point
 abbrev pub IsTurning : Loop → Type 0
@@ -224,7 +232,8 @@ module _ (p : NumberedProgram) (m : NumberedMethod) where
   WorkFits s w (Receive receiver h) = (type : ValueType) × IsOf w type h × ReceiverFits p m s receiver type
   WorkFits s w (CopyAll at to from points) =
       (element : ValueType) × (n : ℕ) × IsGridOf w element n to.thing × IsGridOf w element n from.thing × ArePoints n points
-      × ReferenceFits w to × ReferenceFits w from × IsOwn w (is_local element) (Some to.thing) × IsOwn w (is_local element) (Some from.thing)
+      × ReferenceFits w to × ReferenceFits w from × IsOwn w (is_local element) (Some to.thing)
+      × IsOwn w (is_local element) (Some from.thing)
       × SameForm (element_seen from.type) element
   WorkFits s w (TakeAll at grid procs) =
       IsGridOf w (element_of grid.type) 1 grid.thing × AreCounted procs × ReferenceFits w grid × (is_local (element_of grid.type) ≡ false)
@@ -250,7 +259,8 @@ module _ (p : NumberedProgram) (m : NumberedMethod) where
   MoveFits gives takes s w (Returns None) = Unit {0}
   MoveFits gives takes s w (Returns (Some h)) = IsOf w (result_type m) h
   MoveFits gives takes s w (Meets wait given behind) =
-      ((type : ValueType) × IsAwaited (scope_over p s behind) wait.wanted wait.receiver type × DepositFits w type given × IsOfRound (λ u. gives ≡ Some u) wait.kind type × WantsOf wait.kind wait.wanted type
+      ((type : ValueType) × IsAwaited (scope_over p s behind) wait.wanted wait.receiver type × DepositFits w type given
+      × IsOfRound (λ u. gives ≡ Some u) wait.kind type × WantsOf wait.kind wait.wanted type
       × TakesOf (taken_behind wait.kind type) behind) × WorksFit s w behind
   MoveFits gives takes s w (Deletes at region) = IsPlaced w region
   MoveFits gives takes s w move = Unit {0}

@@ -48,7 +48,8 @@ pub record Steps (s t : Falls) : Type 0 where
   pub stays : (b : Blame) → left t b ≡ true → left s b ≡ true
   pub fewer : (n : Name) → contains name_cmp t.standing n ≡ true → contains name_cmp s.standing n ≡ true
   pub kept : (n : Name) → is_fallen s.fallen.items n ≡ true → is_fallen t.fallen.items n ≡ true
-  pub noted : (n : Name) → contains name_cmp s.standing n ≡ true → (contains name_cmp t.standing n ≡ true) ⊎ (is_fallen t.fallen.items n ≡ true)
+  pub noted : (n : Name) → contains name_cmp s.standing n ≡ true → (contains name_cmp t.standing n ≡ true)
+      ⊎ (is_fallen t.fallen.items n ≡ true)
   pub apart : Apart s → Apart t
   pub room : 2 * btree_set_len t.standing + length t.fallen.items ≤ 2 * btree_set_len s.standing + length s.fallen.items
 
@@ -73,11 +74,13 @@ any_left held items ts = list_any (λ t. list_any held (meaning items t)) ts
 -- the edge has been followed, or waits
 abbrev pub IsKept : List Blame → Falls → BTreeMap Name (Vec Then Global) Global → Edge → Type 0
 IsKept items s w e =
-    (list_any (left s) (meaning items e.then) ≡ false) ⊎ ((m : Mark) × (e.from ≡ Some m) × ((test : Then → Bool) → test e.then ≡ true → list_any test (thens w (name_of m)) ≡ true))
+    (list_any (left s) (meaning items e.then) ≡ false) ⊎ ((m : Mark) × (e.from ≡ Some m)
+    × ((test : Then → Bool) → test e.then ≡ true → list_any test (thens w (name_of m)) ≡ true))
 
 -- what waits for a name waits rightly: the name stands, or is still to be followed, or has been
 abbrev pub IsOpen : List Blame → Falls → BTreeMap Name (Vec Then Global) Global → Name → Type 0
-IsOpen items s w n = (contains name_cmp s.standing n ≡ true) ⊎ ((is_fallen s.fallen.items n ≡ true) ⊎ (any_left (left s) items (thens w n) ≡ false))
+IsOpen items s w n =
+    (contains name_cmp s.standing n ≡ true) ⊎ ((is_fallen s.fallen.items n ≡ true) ⊎ (any_left (left s) items (thens w n) ≡ false))
 
 -- what waits falls with what it waits for
 abbrev pub IsFair : List Blame → (Blame → Bool) → BTreeMap Name (Vec Then Global) Global → Type 0

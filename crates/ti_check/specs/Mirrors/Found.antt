@@ -25,7 +25,8 @@ below p around (st.Block body) = inside_all p around body
 below p around (st.If at c a) = inside p around a
 below p around (st.IfElse at c a b) = inside p around a ++ inside p around b
 below p around (st.While at c body) = inside p (in_loop p around st.NoStm body) body
-below p around (st.For at first c update body) = inside_maybe p around first ++ (inside_maybe p around update ++ inside p (in_loop p around update body) body)
+below p around (st.For at first c update body) =
+    inside_maybe p around first ++ (inside_maybe p around update ++ inside p (in_loop p around update body) body)
 below p around (st.Foreach at number domain body) = inside p (in_foreach p around number domain body) body
 below p around x = []
 

@@ -18,7 +18,11 @@ jump_in true jump_has = Some jump_has
 
 -- what stands around it, by whether such a jump has an effect
 abbrev pub around_where : Site → Bool → Around
-around_where s jump_has = record { method = numbered_method_of s.method.now; variables = (contents_of s.scope.now).variables; jump_has = jump_in s.has_loop jump_has }
+around_where s jump_has = record {
+  method = numbered_method_of s.method.now;
+  variables = (contents_of s.scope.now).variables;
+  jump_has = jump_in s.has_loop jump_has;
+}
 
 -- what stands around it, where it has none
 abbrev pub around_of : Site → Around

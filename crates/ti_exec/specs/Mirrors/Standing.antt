@@ -8,7 +8,8 @@ use Rattle.ti_exec.specs.Standing.{Standing}
 -- it is stored as its parts
 abbrev pub standing_code : Coded Parts → Coded Answer → Coded Standing
 standing_code parts answer =
-    code_by (Parts × (ℕ × (ℕ × (ℕ × (List Answer × Bool))))) (coded× parts (coded× coded_ℕ (coded× coded_ℕ (coded× coded_ℕ (coded× (coded_list answer) coded_bool)))))
+    code_by (Parts × (ℕ × (ℕ × (ℕ × (List Answer × Bool))))) (coded× parts
+    (coded× coded_ℕ (coded× coded_ℕ (coded× coded_ℕ (coded× (coded_list answer) coded_bool)))))
     (λ s. (s.program, (s.procs, (s.fuel, (s.number, (s.told, s.asks))))))
     (λ t. record { program = t.0; procs = t.1.0; fuel = t.1.1.0; number = t.1.1.1.0; told = t.1.1.1.1.0; asks = t.1.1.1.1.1 })
     (λ _. refl)

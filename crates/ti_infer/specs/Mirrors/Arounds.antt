@@ -36,7 +36,8 @@ all_around a i jump s = edges_all (program_at a.site) (method_at a.site) a.whole
 -- those of the body of a foreach
 abbrev pub body_around : Around → ℕ → List Then → ℕ → NumberedExp → NumberedStm → List Edge
 body_around a i jump variable domain body =
-    edges (program_at a.site) (method_at a.site) a.whole (variables_foreach (program_at a.site) (method_at a.site) a.whole (variables_at a) variable domain)
+    edges (program_at a.site) (method_at a.site) a.whole (variables_foreach (program_at a.site) (method_at a.site) a.whole
+    (variables_at a) variable domain)
     (inside_foreach (program_at a.site) (method_at a.site) a.whole (variables_at a) (inside_of a.inside.now) variable domain) i jump body
 
 abbrev pub always_if : Bool → List Edge

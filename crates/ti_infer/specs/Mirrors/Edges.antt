@@ -74,11 +74,13 @@ module _ (p : NumberedProgram) (m : NumberedMethod) (whole : Then) where
   -- what falls with the condition of an `if`
   abbrev pub effect_targets : ℕ → List Then → NumberedStm → List Then
   effect_targets i jump s =
-      Between i (i + length (reasons p m s)) ∷ (then_if (doings p (this_of m) s).returns whole ++ (if (doings p (this_of m) s).jumps then jump else []))
+      Between i (i + length (reasons p m s)) ∷ (then_if (doings p (this_of m) s).returns whole
+      ++ (if (doings p (this_of m) s).jumps then jump else []))
 
   module _ (inside : List (ℕ × List (Option Mark))) where
     abbrev pub arguments_edges : List NumberedParam → NumberedExps → List Edge
-    arguments_edges (w ∷ params) (x.MoreExp e rest) = one_each (asks p m (inside_at inside) e) (One (OfVariable w.place)) ++ arguments_edges params rest
+    arguments_edges (w ∷ params) (x.MoreExp e rest) =
+        one_each (asks p m (inside_at inside) e) (One (OfVariable w.place)) ++ arguments_edges params rest
     arguments_edges _ _ = []
 
     abbrev pub params_edges : NumberedParams → NumberedExps → List Edge
@@ -108,9 +110,12 @@ module _ (p : NumberedProgram) (m : NumberedMethod) (whole : Then) where
 
     -- of a statement apart from those in it
     abbrev pub own_edges : ℕ → List Then → NumberedStm → List Edge
-    own_edges i jump (st.Declare at type variable value) = initial_edges value ++ one_each (initial_asks p m (inside_at inside) value) (One (OfVariable at))
-    own_edges i jump (st.Assign at target value) = initial_edges value ++ each (initial_asks p m (inside_at inside) value) (ones (target_reasons p m target))
-    own_edges i jump (st.Update at op target e) = whole_edges e ++ each (whole_asks p m (inside_at inside) e) (ones (target_reasons p m target))
+    own_edges i jump (st.Declare at type variable value) =
+        initial_edges value ++ one_each (initial_asks p m (inside_at inside) value) (One (OfVariable at))
+    own_edges i jump (st.Assign at target value) =
+        initial_edges value ++ each (initial_asks p m (inside_at inside) value) (ones (target_reasons p m target))
+    own_edges i jump (st.Update at op target e) =
+        whole_edges e ++ each (whole_asks p m (inside_at inside) e) (ones (target_reasons p m target))
     own_edges i jump (st.Call e) = whole_edges e
     own_edges i jump (st.If at c a) = each (asks p m (inside_at inside) c) (effect_targets i jump (st.If at c a))
     own_edges i jump (st.IfElse at c a b) = each (asks p m (inside_at inside) c) (effect_targets i jump (st.IfElse at c a b))
@@ -125,10 +130,12 @@ module _ (p : NumberedProgram) (m : NumberedMethod) (whole : Then) where
   -- what is inside the body of a foreach: its own variable too, where its domain is one
   abbrev pub inside_foreach : List ScopeVariable → List (ℕ × List (Option Mark)) → ℕ → NumberedExp → List (ℕ × List (Option Mark))
   inside_foreach ws inside variable domain =
-      inside ++ (if is_some (option_and_then domain_dim (operand_type p (record { this_class = this_of m; variables = ws }) domain)) then (variable, with_new [] (asks p m (inside_at inside) domain)) ∷ [] else [])
+      inside ++ (if is_some (option_and_then domain_dim (operand_type p (record { this_class = this_of m; variables = ws }) domain))
+      then (variable, with_new [] (asks p m (inside_at inside) domain)) ∷ [] else [])
 
   abbrev pub variables_foreach : List ScopeVariable → ℕ → NumberedExp → List ScopeVariable
-  variables_foreach ws variable domain = with_point ws variable false (option_and_then domain_dim (operand_type p (record { this_class = this_of m; variables = ws }) domain))
+  variables_foreach ws variable domain =
+      with_point ws variable false (option_and_then domain_dim (operand_type p (record { this_class = this_of m; variables = ws }) domain))
 
   abbrev mutual
     -- of a statement and those in it, whose reasons stand from a place on
@@ -137,12 +144,14 @@ module _ (p : NumberedProgram) (m : NumberedMethod) (whole : Then) where
     edges ws inside i jump (st.If at c a) = own_edges inside i jump (st.If at c a) ++ edges ws inside i jump a
     edges ws inside i jump (st.IfElse at c a b) =
         own_edges inside i jump (st.IfElse at c a b) ++ (edges ws inside i jump a ++ edges ws inside (i + length (reasons p m a)) jump b)
-    edges ws inside i jump (st.While at c body) = own_edges inside i jump (st.While at c body) ++ edges ws inside i (loop_targets i st.NoStm body) body
+    edges ws inside i jump (st.While at c body) =
+        own_edges inside i jump (st.While at c body) ++ edges ws inside i (loop_targets i st.NoStm body) body
     edges ws inside i jump (st.For at first c update body) =
         own_edges inside i jump (st.For at first c update body)
         ++ (edges_of_maybe ws inside i jump first
         ++ (edges_of_maybe ws inside (i + length (reasons_of_maybe p m first)) jump update
-        ++ edges ws inside ((i + length (reasons_of_maybe p m first)) + length (reasons_of_maybe p m update)) (loop_targets (i + length (reasons_of_maybe p m first)) update body) body))
+        ++ edges ws inside ((i + length (reasons_of_maybe p m first)) + length (reasons_of_maybe p m update))
+        (loop_targets (i + length (reasons_of_maybe p m first)) update body) body))
     edges ws inside i jump (st.Foreach at variable domain body) =
         own_edges inside i jump (st.Foreach at variable domain body)
         ++ edges (variables_foreach ws variable domain) (inside_foreach ws inside variable domain) i (loop_targets i st.NoStm body) body
@@ -169,7 +178,8 @@ whole_of p m i = Between i (i + length (return_reasons p m))
 abbrev pub method_edges : NumberedProgram → NumberedMethod → ℕ → List Edge
 method_edges p m i =
     one_each (own_asks m) (whole_of p m i)
-    ++ edges_all p m (whole_of p m i) (parameters m.params) (first_inside m.params) (i + length (result_reasons p m m.result)) [] (numbered_stms m.body)
+    ++ edges_all p m (whole_of p m i) (parameters m.params) (first_inside m.params) (i + length (result_reasons p m m.result)) []
+    (numbered_stms m.body)
 
 abbrev pub methods_edges : NumberedProgram → List NumberedMethod → ℕ → List Edge
 methods_edges p [] i = []

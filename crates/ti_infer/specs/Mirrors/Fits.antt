@@ -59,7 +59,8 @@ result_edges m (c.Typed t) = falls_unless (takes_mark m.place t) (OfResult m.pla
 
 abbrev pub param_edges : NumberedMethod → List NumberedParam → List Edge
 param_edges m [] = []
-param_edges m (w ∷ ws) = (falls_unless (takes_mark w.place w.ty) (OfVariable w.place) ++ one_each (own_asks m) (One (OfVariable w.place))) ++ param_edges m ws
+param_edges m (w ∷ ws) =
+    (falls_unless (takes_mark w.place w.ty) (OfVariable w.place) ++ one_each (own_asks m) (One (OfVariable w.place))) ++ param_edges m ws
 
 abbrev pub all_param_edges : NumberedMethod → NumberedParams → List Edge
 all_param_edges m Words = []
@@ -67,7 +68,8 @@ all_param_edges m (Params ws) = param_edges m ws
 
 abbrev pub method_fit_edges : NumberedMethod → List Edge
 method_fit_edges m =
-    ((falls_unless (method_takes_mark m) (OfMethod m.place) ++ result_edges m m.result) ++ all_param_edges m m.params) ++ declared_edges_all (numbered_stms m.body)
+    ((falls_unless (method_takes_mark m) (OfMethod m.place) ++ result_edges m m.result) ++ all_param_edges m m.params)
+    ++ declared_edges_all (numbered_stms m.body)
 
 abbrev pub fit_edges : NumberedProgram → List Edge
 fit_edges p = flat_map method_fit_edges p.methods

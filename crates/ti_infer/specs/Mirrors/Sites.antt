@@ -47,12 +47,16 @@ abbrev pub ranges_at : Site → List Inside → NumberedRanges → List (Option 
 ranges_at s vs rs = asks_ranges (program_at s) (method_at s) (inside_at (inside_of vs)) rs
 
 abbrev pub index_at : Site → List Inside → Expr → List Expr → List (Option Mark)
-index_at s vs a xs = plain_if (not (is_point (type_in_text (program_at s) (this_of (method_at s)) (expression_of a)))) ++ (asks_at s vs (expression_of a) ++ all_at s vs (numbered_exps (map expression_of xs)))
+index_at s vs a xs = plain_if (not (is_point (type_in_text (program_at s) (this_of (method_at s)) (expression_of a))))
+    ++ (asks_at s vs (expression_of a) ++ all_at s vs (numbered_exps (map expression_of xs)))
 
 abbrev pub member_at : Site → List Inside → Expr → ℕ → List Expr → List (Option Mark)
-member_at s vs a name xs = plain_if (not (tells_of_domain (member_called (program_at s) (this_of (method_at s)) (expression_of a) name))) ++ (asks_at s vs (expression_of a) ++ all_at s vs (numbered_exps (map expression_of xs)))
+member_at s vs a name xs = plain_if (not (tells_of_domain (member_called (program_at s) (this_of (method_at s)) (expression_of a) name)))
+    ++ (asks_at s vs (expression_of a) ++ all_at s vs (numbered_exps (map expression_of xs)))
 
 abbrev pub member_edges : Site → Then → List Inside → Expr → Place → Expr → ℕ → List Expr → List Edge
 member_edges s whole vs e at a name xs =
-    call_edges (program_at s) (method_at s) whole (inside_of vs) (called_method (program_at s) (this_of (method_at s)) (expression_of e)) (numbered_exps (map expression_of xs))
-    ++ (if is_delete (member_called (program_at s) (this_of (method_at s)) (expression_of a) name) then one_each (asks_at s vs (expression_of a)) (One (OfCollective at)) else [])
+    call_edges (program_at s) (method_at s) whole (inside_of vs) (called_method (program_at s) (this_of (method_at s)) (expression_of e))
+    (numbered_exps (map expression_of xs))
+    ++ (if is_delete (member_called (program_at s) (this_of (method_at s)) (expression_of a) name) then one_each
+    (asks_at s vs (expression_of a)) (One (OfCollective at)) else [])

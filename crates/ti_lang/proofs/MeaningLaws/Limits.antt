@@ -40,7 +40,9 @@ module _ (s : Setting) where
   if_keeps true x y h g = h refl
   if_keeps false x y h g = g
 
-  keep_asks : (p : Process) (request : Request) (go : Answer → Process) → Within s p → ((r : Answer) → ((go r).setting ≡ p.setting) × ((go r).spent ≡ p.spent) × (length (go r).frames ≤ most_frames)) → Keep s (asks p request go)
+  keep_asks : (p : Process) (request : Request) (go : Answer → Process) → Within s p
+      → ((r : Answer) → ((go r).setting ≡ p.setting) × ((go r).spent ≡ p.spent) × (length (go r).frames ≤ most_frames))
+      → Keep s (asks p request go)
   keep_asks p request go w h = keep_ticks p request.place _ w (λ t r. let k = h r in record { setting = k.0 ∙ w.setting; ticks = omega (arith, k.1); frames = k.2 })
 
   -- a frame in the place of the first

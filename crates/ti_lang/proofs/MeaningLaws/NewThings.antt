@@ -72,7 +72,8 @@ pub grid_then : (id : Id) (h : History) (g : Grid) → grid_of id h ≡ Some g �
 grid_then id [] g e = cc
 grid_then id (x ∷ h) g e = by (is_making x.act && is_grid id x.answer) refl (grid_then id h g) e
   where
-    by : (t : Bool) → (is_making x.act && is_grid id x.answer) ≡ t → (grid_of id h ≡ Some g → IsMade id h) → cond t (grid_made id x.act (λ viewed. grid_of viewed h)) (grid_of id h) ≡ Some g → IsMade id (x ∷ h)
+    by : (t : Bool) → (is_making x.act && is_grid id x.answer) ≡ t → (grid_of id h ≡ Some g → IsMade id h)
+        → cond t (grid_made id x.act (λ viewed. grid_of viewed h)) (grid_of id h) ≡ Some g → IsMade id (x ∷ h)
     by true k go f = let b = both_true (is_making x.act) (is_grid id x.answer) k in inl (grid_made_by x.act id x.answer b.0 b.1)
     by false k go f = inr (go f)
 

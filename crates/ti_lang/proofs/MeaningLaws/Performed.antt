@@ -83,7 +83,8 @@ module _ (env : Env) where
 
   pub calling_computes : (r : Receiver) (c : Call) → Computes (calling env r c)
   calling_computes r c =
-      computes_then _ _ (object_computes c.object) (λ object. computes_then _ _ (bound_computes _ c.args []) (λ parameters. computes_then _ _ (needed_computes c.place object) (λ this. computes_value _)))
+      computes_then _ _ (object_computes c.object) (λ object. computes_then _ _ (bound_computes _ c.args [])
+      (λ parameters. computes_then _ _ (needed_computes c.place object) (λ this. computes_value _)))
 
   -- ---- new things, copies and exchanges
 

@@ -5,7 +5,7 @@ use Rattle.ti_base.specs.declared.point.Point.{Point}
 use Rattle.ti_base.specs.declared.value.Id.{Id}
 use Rattle.ti_base.specs.PointSets.{same_point}
 use Rattle.ti_base.specs.Cells.{Cell, Field, Element, same_id, same_cell}
-use Rattle.ti_base.proofs.DomainLaws.{same_from, same_self}
+use Rattle.ti_base.proofs.Lemmas.{same_from, same_self}
 use Rattle.ti_lang.specs.Meaning.Races.{Access, race}
 
 -- tests that hold together are one

@@ -247,7 +247,8 @@ module _ (T : ℕ → Type 0) (Q : Request → Type 0) (each : Each T Q) where
         fetched_asks at (type_of env (e.Select at x name)) (Field h (type_of env x) (field_selected env x name)) u)
     eval_asks env (e.Member at x name args) rest =
         then_asks (eval env x rest) _ (eval_asks env x rest) (λ h u.
-        then_asks (eval_all env args u) _ (all_ask env args u) (λ hs w. member_asks at (type_of env (e.Member at x name args)) (member_called env.program (this_of env.method) x name) (type_of env x) h hs w))
+        then_asks (eval_all env args u) _ (all_ask env args u) (λ hs w. member_asks at (type_of env (e.Member at x name args))
+        (member_called env.program (this_of env.method) x name) (type_of env x) h hs w))
     eval_asks env (e.Index at x parts) rest =
         then_asks (eval env x rest) _ (eval_asks env x rest) (λ h u.
         then_asks (eval_numbers env parts u) _ (numbers_ask env parts u) (λ indices w. indexed_asks (is_point (type_of env x)) at (type_of env (e.Index at x parts)) (type_of env x) h indices w))
@@ -485,7 +486,8 @@ module _ (Q : Request → Type 0) (each : EachKind Q) where
 
   works_ask : (p : Process) (f : Frame) (fs : List Frame) (ws : List Work) → OfStep Q (works p f fs ws)
   works_ask p f fs [] = tt
-  works_ask p f fs (w ∷ left) = valued_asks p (performed (env_of p f left) w p.answers) (moves p f fs left) (performed_asks Anyone Q each.alone (env_of p f left) w p.answers (any_first w)) (moves_ask p f fs left)
+  works_ask p f fs (w ∷ left) = valued_asks p (performed (env_of p f left) w p.answers) (moves p f fs left)
+      (performed_asks Anyone Q each.alone (env_of p f left) w p.answers (any_first w)) (moves_ask p f fs left)
 
   steps_ask : (p : Process) (wait : Option Wait) → OfStep Q (steps p wait)
   steps_ask p None = by p.frames

@@ -220,7 +220,8 @@ one_length : (o : Option ValueType) (ts : List ValueType) → one o ≡ Some ts 
 one_length None ts h = no_some ts h
 one_length (Some u) ts h = ap length (sym (some_same _ _ h))
 
-joined_length : (o p : Option (List ValueType)) (ts : List ValueType) (n m : ℕ) → ((us : List ValueType) → o ≡ Some us → length us ≡ n) → ((us : List ValueType) → p ≡ Some us → length us ≡ m) → joined o p ≡ Some ts → length ts ≡ n + m
+joined_length : (o p : Option (List ValueType)) (ts : List ValueType) (n m : ℕ) → ((us : List ValueType) → o ≡ Some us → length us ≡ n)
+    → ((us : List ValueType) → p ≡ Some us → length us ≡ m) → joined o p ≡ Some ts → length ts ≡ n + m
 joined_length None p ts n m f g h = no_some ts h
 joined_length (Some us) None ts n m f g h = no_some ts h
 joined_length (Some us) (Some ws) ts n m f g h = omega (arith, ap length (some_same (us ++ ws) ts h), length-append us ws, f us refl, g ws refl)
@@ -294,7 +295,8 @@ module _ (program : NumberedProgram) (s : ScopeContents) (dims : ℕ → ℕ) wh
   variable_agrees number (Typed is_single type) k ty h = some_same _ _ h
   variable_agrees number Foreach k ty h = sym (k ty h)
 
-  operand_of : (x : NumberedExp) → ((ty : ValueType) → typed program s x ≡ Some ty → type_at program s.this_class dims x ≡ ty) → (u : ValueType) → operand (known program s x) ≡ Some u → type_at program s.this_class dims x ≡ u
+  operand_of : (x : NumberedExp) → ((ty : ValueType) → typed program s x ≡ Some ty → type_at program s.this_class dims x ≡ ty)
+      → (u : ValueType) → operand (known program s x) ≡ Some u → type_at program s.this_class dims x ≡ u
   operand_of x f u h = f u (operand_some (known program s x).is_call (known program s x).type u h)
 
   rect_agrees : (rs : NumberedRanges) (ts : List ValueType) (ty : ValueType)
@@ -330,7 +332,9 @@ module _ (program : NumberedProgram) (s : ScopeContents) (dims : ℕ → ℕ) wh
         operand_of x (agrees x are) k.first k.is ∙ unary_agrees o k.first ty k.next
     agrees (e.Binary at o x y) are ty h =
         let k = paired (operand (known program s x)) (operand (known program s y)) (binary_type o) ty h in
-        ap (λ u. operator_type o u (type_at program s.this_class dims y)) (operand_of x (agrees x are.0) k.left k.left_is) ∙ (ap (λ u. operator_type o k.left u) (operand_of y (agrees y are.1) k.right k.right_is) ∙ binary_agrees o k.left k.right ty k.next)
+        ap (λ u. operator_type o u (type_at program s.this_class dims y)) (operand_of x (agrees x are.0) k.left k.left_is)
+        ∙ (ap (λ u. operator_type o k.left u) (operand_of y (agrees y are.1) k.right k.right_is)
+        ∙ binary_agrees o k.left k.right ty k.next)
     agrees (e.Cast at to x) are ty h =
         let k = stepped (operand (known program s x)) (λ u. where_true (casts to.type u) to.type) ty h in where_some _ to.type ty k.next
     agrees (e.Select at x name) are ty h =
@@ -338,7 +342,9 @@ module _ (program : NumberedProgram) (s : ScopeContents) (dims : ℕ → ℕ) wh
         ap (field_seen program name) (operand_of x (agrees x are) k.first k.is) ∙ select_agrees program name k.first ty k.next
     agrees (e.Member at x name args) are ty h = by_operands (operand (known program s x)) (operands program s args) (operand_of x (agrees x are)) h
       where
-        by_operands : (o : Option ValueType) (ts : Option (List ValueType)) → ((u : ValueType) → o ≡ Some u → type_at program s.this_class dims x ≡ u) → (member program o name ts).type ≡ Some ty → member_seen program name (type_at program s.this_class dims x) ≡ ty
+        by_operands : (o : Option ValueType) (ts : Option (List ValueType))
+            → ((u : ValueType) → o ≡ Some u → type_at program s.this_class dims x ≡ u) → (member program o name ts).type ≡ Some ty
+            → member_seen program name (type_at program s.this_class dims x) ≡ ty
         by_operands None ts f h = no_some ty h
         by_operands (Some u) None f h = no_some ty h
         by_operands (Some u) (Some ts) f h = ap (member_seen program name) (f u refl) ∙ member_agrees program name u ts ty h
@@ -354,7 +360,8 @@ module _ (program : NumberedProgram) (s : ScopeContents) (dims : ℕ → ℕ) wh
         ap dim_of_type (operand_of low (agrees low are) t.Int (low_int (operand (known program s low)) (joined (one (operand (known program s high))) (one (operand (known program s step)))) ts
         (flat (operand (known program s low)) (one (operand (known program s high))) (one (operand (known program s step))) ts h) z))
 
-    ranges_ints : (rs : NumberedRanges) → AreRangesDims s dims rs → (ts : List ValueType) → bounds program s rs ≡ Some ts → all_ints ts ≡ true → dims_of_ranges program s.this_class dims rs ≡ range_count rs
+    ranges_ints : (rs : NumberedRanges) → AreRangesDims s dims rs → (ts : List ValueType) → bounds program s rs ≡ Some ts → all_ints ts
+        ≡ true → dims_of_ranges program s.this_class dims rs ≡ range_count rs
     ranges_ints e.NoRange are ts h z = refl
     ranges_ints (e.MoreRange r e.NoRange) are ts h z =
         let k = split (bound program s r) (Some []) ts h in
@@ -362,15 +369,19 @@ module _ (program : NumberedProgram) (s : ScopeContents) (dims : ℕ → ℕ) wh
         range_ints r are.0 k.front k.front_is m.0
     ranges_ints (e.MoreRange r (e.MoreRange q rs)) are ts h z = refl
 
-    range_points : (r : NumberedRange) → IsRangeDims s dims r → (ts : List ValueType) (ty : ValueType) → bound program s r ≡ Some ts → range_of_points ts ≡ Some ty → t.Rc (dims_of_range program s.this_class dims r) ≡ ty
+    range_points : (r : NumberedRange) → IsRangeDims s dims r → (ts : List ValueType) (ty : ValueType) → bound program s r ≡ Some ts
+        → range_of_points ts ≡ Some ty → t.Rc (dims_of_range program s.this_class dims r) ≡ ty
     range_points (e.Plain low high) are ts ty h z =
         let k = low_point (operand (known program s low)) (one (operand (known program s high))) ts ty h z in
         ap (λ u. t.Rc (dim_of_type u)) (operand_of low (agrees low are) (t.Pt k.dim) k.is) ∙ k.gives
     range_points (e.Stepped low high step) are ts ty h z =
-        let k = low_point (operand (known program s low)) (joined (one (operand (known program s high))) (one (operand (known program s step)))) ts ty (flat (operand (known program s low)) (one (operand (known program s high))) (one (operand (known program s step))) ts h) z in
+        let k = low_point (operand (known program s low)) (joined (one (operand (known program s high)))
+        (one (operand (known program s step)))) ts ty (flat (operand (known program s low)) (one (operand (known program s high)))
+        (one (operand (known program s step))) ts h) z in
         ap (λ u. t.Rc (dim_of_type u)) (operand_of low (agrees low are) (t.Pt k.dim) k.is) ∙ k.gives
 
-    ranges_points : (rs : NumberedRanges) → AreRangesDims s dims rs → (ts : List ValueType) (ty : ValueType) → bounds program s rs ≡ Some ts → range_count rs ≡ 1 → range_of_points ts ≡ Some ty → t.Rc (dims_of_ranges program s.this_class dims rs) ≡ ty
+    ranges_points : (rs : NumberedRanges) → AreRangesDims s dims rs → (ts : List ValueType) (ty : ValueType) → bounds program s rs ≡ Some ts
+        → range_count rs ≡ 1 → range_of_points ts ≡ Some ty → t.Rc (dims_of_ranges program s.this_class dims rs) ≡ ty
     ranges_points e.NoRange are ts ty h n z = absurd (omega (arith, n))
     ranges_points (e.MoreRange r e.NoRange) are ts ty h n z =
         let k = split (bound program s r) (Some []) ts h in

@@ -120,12 +120,14 @@ past_fits b (TakeAll at grid procs ∷ ws) f = past_fits b ws f.1
 -- ---- moves
 
 pub moves_fall : (b : ℕ) (p : Process) (f : Frame) (fs : List Frame) (w : Work) (left : List Work) (move : Move)
-    → p.frames ≡ f ∷ fs → f.left ≡ w ∷ left → falling.Falls b (weight_of w + length p.answers) move → Fits b left → FitsAll b fs → MethodsFit b p.setting.program → Falls b p (moves p f fs left move)
+    → p.frames ≡ f ∷ fs → f.left ≡ w ∷ left → falling.MoveFalls b (weight_of w + length p.answers) move → Fits b left → FitsAll b fs
+    → MethodsFit b p.setting.program → Falls b p (moves p f fs left move)
 moves_fall b p f fs w left (Goes variables new) e z h x y m =
     goes_falls b p f fs variables (new ++ left) e (omega (arith, ap weigh z, weigh_append new left, h.0)) (fits_append b new left h.1 x) y m
 moves_fall b p f fs w left (Turns at variables new) e z h x y m =
     ticks_fall b p at _ (λ t. (
-      tick_less p.setting.fuel p.spent b (weigh_all p.frames + length p.answers) (weigh (new ++ left) + weigh_all fs + 2 + 0) (ltb-true p.spent p.setting.fuel t) (omega (arith, ap weigh_all e, ap weigh z, weigh_append new left, h.0)),
+      tick_less p.setting.fuel p.spent b (weigh_all p.frames + length p.answers) (weigh (new ++ left) + weigh_all fs + 2 + 0)
+          (ltb-true p.spent p.setting.fuel t) (omega (arith, ap weigh_all e, ap weigh z, weigh_append new left, h.0)),
       ((fits_append b new left h.1 x, y), m),
     ))
 moves_fall b p f fs w left Breaks e z h x y m =
@@ -138,7 +140,9 @@ moves_fall b p f fs w left Continues e z h x y m =
     (goes_falls b p f fs f.variables left e (omega (arith, ap weigh z)) x y m)
 moves_fall b p f fs w left (Calls at method this parameters receiver) e z h x y m =
     ticks_fall b p at _ (λ t. if_falls b p (nat_lt (length (f ∷ fs)) most_frames) _ _ (
-      tick_less p.setting.fuel p.spent b (weigh_all p.frames + length p.answers) (weigh (frame_of method this parameters receiver).left + (weigh left + weigh_all fs + 2) + 2 + 0) (ltb-true p.spent p.setting.fuel t) (omega (arith, ap weigh_all e, ap weigh z, weigh_before (numbered_stms method.body) [], h)),
+      tick_less p.setting.fuel p.spent b (weigh_all p.frames + length p.answers)
+          (weigh (frame_of method this parameters receiver).left + (weigh left + weigh_all fs + 2) + 2 + 0)
+          (ltb-true p.spent p.setting.fuel t) (omega (arith, ap weigh_all e, ap weigh z, weigh_before (numbered_stms method.body) [], h)),
       ((fits_before b (numbered_stms method.body) [] (omega arith) tt, (x, y)), m),
     )
     tt)
@@ -146,13 +150,14 @@ moves_fall b p f fs w left (Returns value) e z h x y m = returns_fall b p f fs l
 moves_fall b p f fs w left (Meets wait given behind) e z h x y m = ticks_fall b p wait.place _ (λ t. tt)
 moves_fall b p f fs w left (Deletes at region) e z h x y m = ticks_fall b p at _ (λ t. tt)
 
-pub valued_falls : (b : ℕ) (p : Process) (k : ℕ) (got : Got Move) (go : Move → Step) → falling.Giving (falling.Falls b k) got
-    → ((move : Move) → falling.Falls b k move → Falls b p (go move)) → Falls b p (valued p got go)
+pub valued_falls : (b : ℕ) (p : Process) (k : ℕ) (got : Got Move) (go : Move → Step) → falling.Giving (falling.MoveFalls b k) got
+    → ((move : Move) → falling.MoveFalls b k move → Falls b p (go move)) → Falls b p (valued p got go)
 valued_falls b p k (Gives move rest) go h f = f move h
 valued_falls b p k (Asks request) go h f = ticks_fall b p request.place _ (λ t. tt)
 valued_falls b p k (Fails kind at) go h f = tt
 
-works_fall : (b : ℕ) (p : Process) (f : Frame) (fs : List Frame) (ws : List Work) → p.frames ≡ f ∷ fs → f.left ≡ ws → Fits b ws → FitsAll b fs → MethodsFit b p.setting.program → Falls b p (works p f fs ws)
+works_fall : (b : ℕ) (p : Process) (f : Frame) (fs : List Frame) (ws : List Work) → p.frames ≡ f ∷ fs → f.left ≡ ws → Fits b ws
+    → FitsAll b fs → MethodsFit b p.setting.program → Falls b p (works p f fs ws)
 works_fall b p f fs [] e z x y m = returns_fall b p f fs [] None e y m
 works_fall b p f fs (w ∷ left) e z x y m =
     valued_falls b p (weight_of w + length p.answers) (performed (env_of p f left) w p.answers) (moves p f fs left) (falling.work_falls b (env_of p f left) w p.answers m x.0)

@@ -45,7 +45,8 @@ called env x = call_by x (called_method env.program (this_of env.method) x)
 -- parameters, numbered from a number on
 abbrev pub parameters_from : ℕ → List NumberedParam → List VariableUse
 parameters_from number [] = []
-parameters_from number (p ∷ rest) = record { number = number; declared = Typed p.ty.is_single p.ty.type } ∷ parameters_from (number + 1) rest
+parameters_from number (p ∷ rest) =
+    record { number = number; declared = Typed p.ty.is_single p.ty.type } ∷ parameters_from (number + 1) rest
 
 -- the parameters of a method; `String[] x` is no variable
 abbrev pub parameters_of : NumberedParams → List VariableUse

@@ -31,7 +31,8 @@ meets at = gives (Meets (record { place = at; kind = coll.Barrier; arg = None; w
 -- `new SharedRegion()`, whose departure gives the region
 abbrev pub makes_region : Receiver → Place → Asking Move
 makes_region receiver at =
-    gives (Meets (record { place = at; kind = coll.MakeRegion; arg = None; wanted = ValueOf t.Region; receiver = receiver }) deposit.Nothing [])
+    gives (Meets (record { place = at; kind = coll.MakeRegion; arg = None; wanted = ValueOf t.Region; receiver = receiver }) deposit.Nothing
+    [])
 
 -- `r.delete()`
 abbrev pub deletes : Env → Place → NumberedExp → Asking Move
@@ -56,7 +57,8 @@ broadcasts env receiver at x p = do
   h ← eval env p
   root ← root_among env.procs at h
   given ← root_deposit env root x
-  gives (Meets (record { place = at; kind = coll.Broadcast; arg = Some root; wanted = ValueOf (type_here env x); receiver = receiver }) given [])
+  gives (Meets (record { place = at; kind = coll.Broadcast; arg = Some root; wanted = ValueOf (type_here env x); receiver = receiver })
+      given [])
 
 -- ---- exchanges
 

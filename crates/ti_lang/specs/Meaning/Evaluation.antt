@@ -53,7 +53,8 @@ abbrev mutual
   eval env (e.Null at) = gives (Plain (v.Obj None))
   eval env (e.This at) = gives (Plain (v.Obj env.this))
   eval env (e.Variable at variable) = gives (value_by variable.declared env variable)
-  eval env (e.OwnField at field) = fetched at (type_of env (e.OwnField at field)) (Field (Plain (v.Obj env.this)) (type_of env (e.This at)) field)
+  eval env (e.OwnField at field) =
+      fetched at (type_of env (e.OwnField at field)) (Field (Plain (v.Obj env.this)) (type_of env (e.This at)) field)
   eval env (e.ThisProc at) = gives (Plain (v.Int (pos env.number)))
   eval env (e.NumProcs at) = gives (Plain (v.Int (pos env.procs)))
   eval env (e.Point at parts) = do

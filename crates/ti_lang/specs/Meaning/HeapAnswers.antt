@@ -50,7 +50,8 @@ answers_value value = where_some value (λ x. Answers (Val x))
 
 -- something is made, unless the cells of the process would be too many
 abbrev pub makes : NumberedProgram → History → ℕ → Action → Value → Outcome
-makes program h i a made = faults_if (nat_lt most_cells (cost_of program i h + cost_of_making program a)) fault.HeapFull (Answers (Val made))
+makes program h i a made =
+    faults_if (nat_lt most_cells (cost_of program i h + cost_of_making program a)) fault.HeapFull (Answers (Val made))
 
 -- something is placed in a region, which was made and isn't gone
 abbrev pub places : ℕ → History → Outcome → Outcome
@@ -95,7 +96,8 @@ heap_answer program h i (act.NewObj class region) =
     where_some (zeros_of_class program class) (λ zeros.
     places region h (makes program h i (act.NewObj class region) (v.Obj (Some (new_id i region h)))))
 heap_answer program h i (act.NewGrid zero domain region) =
-    possible_if (is_dim domain.dim) (places region h (makes program h i (act.NewGrid zero domain region) (v.Grid (Some (new_id i region h)))))
+    possible_if (is_dim domain.dim) (places region h (makes program h i (act.NewGrid zero domain region)
+    (v.Grid (Some (new_id i region h)))))
 heap_answer program h i (act.GetElem grid at) =
     where_some (grid_of grid h) (λ g. at_point g at (answers_value (cell_value program (cell_of g at) h)))
 heap_answer program h i (act.PutElem grid at value) = where_some (grid_of grid h) (λ g. at_point g at (Answers Done))
@@ -113,4 +115,5 @@ heap_answer program h i (act.Fault kind) = Answers Done
 -- each entry of the history got the answer that the entries before it give
 pub data IsAnswered (program : NumberedProgram) : History → Type 0 where
   none : IsAnswered program []
-  more : {h : History} {e : Entry} → IsAnswered program h → heap_answer program h e.proc e.act ≡ Answers e.answer → IsAnswered program (e ∷ h)
+  more : {h : History} {e : Entry} → IsAnswered program h → heap_answer program h e.proc e.act ≡ Answers e.answer
+      → IsAnswered program (e ∷ h)

@@ -143,7 +143,8 @@ region_made_in answer = 0
 
 -- the cost of a process: that of the things that it made in no region that is gone
 abbrev pub cost_of : NumberedProgram → ℕ → History → ℕ
-cost_of program i h = sum_by (λ (e : Entry). if is_gone (region_made_in e.answer) h then 0 else cost_of_making program e.act) (entries_of i h)
+cost_of program i h =
+    sum_by (λ (e : Entry). if is_gone (region_made_in e.answer) h then 0 else cost_of_making program e.act) (entries_of i h)
 
 -- how much a process may cost
 abbrev pub most_cells : ℕ

@@ -49,7 +49,8 @@ before_turn env (While at c update body) = do
   h ← condition env c
   gives (if truth_of h then Turns at env.variables (Do body ∷ Behind (While at c update body) ∷ []) else Goes env.variables [])
 before_turn env (Foreach at variable domain [] body) = goes_on env
-before_turn env (Foreach at variable domain (p ∷ ps) body) = gives (Turns at env.variables (Do body ∷ Behind (Foreach at variable domain (p ∷ ps) body) ∷ []))
+before_turn env (Foreach at variable domain (p ∷ ps) body) =
+    gives (Turns at env.variables (Do body ∷ Behind (Foreach at variable domain (p ∷ ps) body) ∷ []))
 
 -- the update of a loop, which a turn ends with
 abbrev pub update_of : Loop → List Work

@@ -100,7 +100,8 @@ frame_of method this variables receiver =
 
 -- the frame in which a run begins
 abbrev pub first_frames : NumberedProgram → List Frame
-first_frames program = option_map_or (λ (main : NumberedMethod). frame_of main None [] Nowhere ∷ []) (slice_get program.methods program.main) []
+first_frames program =
+    option_map_or (λ (main : NumberedMethod). frame_of main None [] Nowhere ∷ []) (slice_get program.methods program.main) []
 
 -- the process of this number before its first step
 abbrev pub begin : Setting → ℕ → Process

@@ -46,7 +46,8 @@ abbrev pub initialized : Env → Receiver → NumberedInit → Asking Move
 initialized env receiver (s.Value x) = valued_or_called env receiver x (called env x)
 initialized env receiver (s.NewRegion at) = makes_region receiver at
 initialized env receiver (s.NewObject at region class) = made_first env receiver (new_object env at region class)
-initialized env receiver (s.NewGrid at region element dims_at dims) = made_first env receiver (new_grid env at region element.type dims_at dims)
+initialized env receiver (s.NewGrid at region element dims_at dims) =
+    made_first env receiver (new_grid env at region element.type dims_at dims)
 initialized env receiver (s.Broadcast at x root) = broadcasts env receiver at x root
 
 -- the variable that a declaration makes
@@ -71,7 +72,8 @@ member_alone env at x args other _ = other
 abbrev pub alone : Env → NumberedExp → Option Call → Asking Move
 alone env x (Some c) = calling env Nowhere c
 alone env (e.Member at x name args) None =
-    member_alone env at x args (receives env Nowhere (eval env (e.Member at x name args))) (member_called env.program (this_of env.method) x name)
+    member_alone env at x args (receives env Nowhere (eval env (e.Member at x name args)))
+    (member_called env.program (this_of env.method) x name)
 alone env x None = receives env Nowhere (eval env x)
 
 -- ---- prints

@@ -81,12 +81,14 @@ lies_in region (Some id) = id.region == region
 abbrev pub named_in : ℕ → List Frame → ℕ
 named_in region [] = 0
 named_in region (f ∷ fs) =
-    (count_by (λ (x : Variable). lies_in region (thing_of x.held)) f.variables + (if lies_in region f.this then 1 else 0)) + named_in region fs
+    (count_by (λ (x : Variable). lies_in region (thing_of x.held)) f.variables + (if lies_in region f.this then 1 else 0)) + named_in region
+    fs
 
 -- arrives at a collective, behind which these frames go on
 abbrev pub arrives : Process → List Frame → Wait → Deposit → Step
 arrives p frames wait given =
-    asks p (request wait.place (act.Arrive wait.kind wait.arg given) ToBeDone) (λ r. record p { frames = frames; wait = Some wait; answers = [] })
+    asks p (request wait.place (act.Arrive wait.kind wait.arg given) ToBeDone)
+    (λ r. record p { frames = frames; wait = Some wait; answers = [] })
 
 -- the arrival at the delete of a region
 abbrev pub deleting : Place → ℕ → Wait
@@ -100,7 +102,11 @@ value_asked (NewThing type) r = Some (told r)
 
 -- leaves a collective; what its departure gave goes to its receiver
 abbrev pub departs : Process → Wait → Step
-departs p w = asks p (request w.place act.Depart w.wanted) (λ r. record p { frames = handed w.receiver (value_asked w.wanted r) p.frames; wait = None; answers = [] })
+departs p w = asks p (request w.place act.Depart w.wanted) (λ r. record p {
+  frames = handed w.receiver (value_asked w.wanted r) p.frames;
+  wait = None;
+  answers = [];
+})
 
 -- ---- steps
 
@@ -118,7 +124,8 @@ moves p f fs left (Calls at method this parameters receiver) =
     else Faults Depth at)
 moves p f fs left (Returns value) = To (record p { frames = handed f.receiver value fs; wait = None; answers = [] })
 moves p f fs left (Meets wait given behind) = arrives p (record f { left = behind ++ left } ∷ fs) wait given
-moves p f fs left (Deletes at region) = arrives p (record f { left = left } ∷ fs) (deleting at region) (deposit.Count (named_in region (f ∷ fs)))
+moves p f fs left (Deletes at region) =
+    arrives p (record f { left = left } ∷ fs) (deleting at region) (deposit.Count (named_in region (f ∷ fs)))
 
 -- the step at the work that is left in a frame; the end of the method returns
 abbrev pub works : Process → Frame → List Frame → List Work → Step

@@ -19,4 +19,5 @@ zero_of_type other = z.Obj
 
 -- the zeros of the fields of a class
 abbrev pub zeros_of_class : NumberedProgram → ℕ → Option (List Zero)
-zeros_of_class program class = option_map (λ (c : NumberedClass). map (λ (f : NumberedField). zero_of_type f.ty.type) c.fields) (slice_get program.classes class)
+zeros_of_class program class =
+    option_map (λ (c : NumberedClass). map (λ (f : NumberedField). zero_of_type f.ty.type) c.fields) (slice_get program.classes class)

@@ -56,7 +56,8 @@ value_type_of t.Null = types.Null
 value_type_of t.Void = types.Void
 
 abbrev pub type_use_of : TypeUse → NumberedType
-type_use_of t = record { type = value_type_of t.ty; is_single = t.single; qualifiers = t.qualifiers.items; grids = map grid_of t.grids.items }
+type_use_of t =
+    record { type = value_type_of t.ty; is_single = t.single; qualifiers = t.qualifiers.items; grids = map grid_of t.grids.items }
 
 abbrev pub declared_of : Declared → Declaration
 declared_of (declared.Typed single ty) = types.Typed single (value_type_of ty)
@@ -117,7 +118,8 @@ abbrev pub initial_of : Init → NumberedInit
 initial_of (i.Value a) = s.Value (expression_of a)
 initial_of (i.NewRegion at) = s.NewRegion at
 initial_of (i.NewObject at region class) = s.NewObject at (maybe_of expression_of region) class
-initial_of (i.NewGrid at region element dims_at dims) = s.NewGrid at (maybe_of expression_of region) (type_use_of element) dims_at (extent_of dims)
+initial_of (i.NewGrid at region element dims_at dims) =
+    s.NewGrid at (maybe_of expression_of region) (type_use_of element) dims_at (extent_of dims)
 initial_of (i.Broadcast at a root) = s.Broadcast at (expression_of a) (expression_of root)
 
 abbrev pub printed_of : Printed → NumberedPrint
@@ -142,7 +144,8 @@ abbrev mutual
   statement_of (st.Block' _ body) = s.Block (statement_row_of body)
   statement_of (st.If' at c _ a b) = branches_of at (expression_of c) (statement_of a) b
   statement_of (st.While' at c _ body) = s.While at (expression_of c) (statement_of body)
-  statement_of (st.For' at first c update _ body) = s.For at (maybe_statement_of first) (maybe_of expression_of c) (maybe_statement_of update) (statement_of body)
+  statement_of (st.For' at first c update _ body) =
+      s.For at (maybe_statement_of first) (maybe_of expression_of c) (maybe_statement_of update) (statement_of body)
   statement_of (st.Foreach' at variable domain _ body) = s.Foreach at variable (expression_of domain) (statement_of body)
 
   pub branches_of : Place → NumberedExp → NumberedStm → Held-Stmt-If-3 → NumberedStm

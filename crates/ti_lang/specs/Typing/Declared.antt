@@ -37,7 +37,8 @@ field_type p class field = option_map (λ (f : NumberedField). f.ty.type) (slice
 
 -- the type of the first field of this name
 unfoldable pub named_field_type : NumberedProgram → ℕ → ℕ → Option ValueType
-named_field_type p class name = option_map (λ (f : NumberedField). f.ty.type) (find (λ (f : NumberedField). f.name == name) (fields_of_class p class))
+named_field_type p class name =
+    option_map (λ (f : NumberedField). f.ty.type) (find (λ (f : NumberedField). f.name == name) (fields_of_class p class))
 
 -- the number in its class of the first field of this name
 abbrev pub field_numbered : NumberedProgram → ℕ → ℕ → Option ℕ
@@ -51,7 +52,8 @@ is_static_method m = list_any (λ (x : Modifier). is_static_word x.word) m.modif
 
 -- the first method of this name in a class, where it's an instance method
 unfoldable pub instance_method : NumberedProgram → ℕ → ℕ → Option NumberedMethod
-instance_method p class name = only_if (λ (m : NumberedMethod). not (is_static_method m)) (find (λ (m : NumberedMethod). (m.class == class) && (m.name == name)) p.methods)
+instance_method p class name = only_if (λ (m : NumberedMethod). not (is_static_method m))
+    (find (λ (m : NumberedMethod). (m.class == class) && (m.name == name)) p.methods)
 
 -- the type that a result is declared to have
 abbrev pub type_of_result : NumberedResult → ValueType

@@ -26,7 +26,8 @@ is_collective_call program this e = false
 
 -- an expression that stands whole performs a collective or calls a method declared single
 abbrev pub acts : NumberedProgram → Option ℕ → NumberedExp → Bool
-acts program this e = option_map_or (λ (m : NumberedMethod). m.is_single) (called_method program this e) false || is_collective_call program this e
+acts program this e =
+    option_map_or (λ (m : NumberedMethod). m.is_single) (called_method program this e) false || is_collective_call program this e
 
 -- so does a right side; a broadcast and a new region are collectives
 abbrev pub initial_acts : NumberedProgram → Option ℕ → NumberedInit → Bool
@@ -80,7 +81,8 @@ module _ (program : NumberedProgram) (this : Option ℕ) where
     doings (st.If at c a) = doings a
     doings (st.IfElse at c a b) = together (doings a) (doings b)
     doings (st.While at c body) = kept_in_loop (doings body)
-    doings (st.For at first c update body) = together (doings_of_maybe first) (kept_in_loop (together (doings_of_maybe update) (doings body)))
+    doings (st.For at first c update body) =
+        together (doings_of_maybe first) (kept_in_loop (together (doings_of_maybe update) (doings body)))
     doings (st.Foreach at variable domain body) = kept_in_loop (doings body)
     doings (st.Break at) = record nothing { jumps = true }
     doings (st.Continue at) = record nothing { jumps = true }

@@ -165,7 +165,8 @@ abbrev mutual
   -- the types of the bounds and the step of a range
   pub bound : NumberedProgram → ScopeContents → NumberedRange → Option (List ValueType)
   bound p s (x.Plain low high) = joined (one (operand (known p s low))) (one (operand (known p s high)))
-  bound p s (x.Stepped low high step) = joined (joined (one (operand (known p s low))) (one (operand (known p s high)))) (one (operand (known p s step)))
+  bound p s (x.Stepped low high step) =
+      joined (joined (one (operand (known p s low))) (one (operand (known p s high)))) (one (operand (known p s step)))
 
   -- the types of the bounds and steps of ranges
   pub bounds : NumberedProgram → ScopeContents → NumberedRanges → Option (List ValueType)

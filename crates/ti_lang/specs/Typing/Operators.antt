@@ -45,7 +45,8 @@ domain_type t u = option_map Dm (same_dim (domain_dim t) (domain_dim u))
 
 -- two references of one type apart from `local`, or null
 abbrev pub are_references : ValueType → ValueType → Bool
-are_references t u = ((is_reference t || is_null t) && (is_reference u || is_null u)) && ((is_null t || is_null u) || same_type (as_global t) (as_global u))
+are_references t u =
+    ((is_reference t || is_null t) && (is_reference u || is_null u)) && ((is_null t || is_null u) || same_type (as_global t) (as_global u))
 
 -- ---- the table
 

@@ -20,7 +20,13 @@ impl Parts {
         names: Vec<Spelled>,
         literals: Vec<Spelled>,
     ) -> Result<Parts, Memory>
-        ensures { IfOk result (λ p. program_of p ≡ record { classes = map numbered_class_of classes.items; methods = map numbered_method_of methods.items; main = main; names = names.items; literals = literals.items }) }
+        ensures { IfOk result (λ p. program_of p ≡ record {
+          classes = map numbered_class_of classes.items;
+          methods = map numbered_method_of methods.items;
+          main = main;
+          names = names.items;
+          literals = literals.items;
+        }) }
     {
         let first_fields = first_fields(alloc, &classes)?;
         let first_methods = first_methods(alloc, &methods)?;

@@ -87,7 +87,8 @@ fn field_at(fields: &[Field], number: usize) -> Option<&Field>
 
 /// The first field of a class and a name.
 fn field_named(program: &Parts, class: u32, name: u32) -> Option<&Field>
-    ensures { option_map (λ f. numbered_field_of f.now) result ≡ find (λ (f : NumberedField). f.name == name) (fields_of_class (program_of program.now) class) }
+    ensures { option_map (λ f. numbered_field_of f.now) result ≡ find (λ (f : NumberedField). f.name == name)
+        (fields_of_class (program_of program.now) class) }
 {
     match program.first_field(class, name) {
         Some(number) => field_at(fields_of(program, class), number),
@@ -162,7 +163,8 @@ pub fn method(program: &Parts, number: u32) -> Option<&Method>
 
 /// The first method of a class and a name.
 fn method_named(program: &Parts, class: u32, name: u32) -> Option<&Method>
-    ensures { option_map (λ m. numbered_method_of m.now) result ≡ find (λ (m : NumberedMethod). (m.class == class) && (m.name == name)) (program_of program.now).methods }
+    ensures { option_map (λ m. numbered_method_of m.now) result ≡ find (λ (m : NumberedMethod). (m.class == class) && (m.name == name))
+        (program_of program.now).methods }
 {
     match program.first_method(class, name) {
         Some(number) => method_at(&program.methods, number),
@@ -178,7 +180,8 @@ fn is_instance(m: &Method) -> bool
 
 /// The same, where it's an instance method.
 fn only_instance(m: Option<&Method>) -> Option<&Method>
-    ensures { option_map (λ m. numbered_method_of m.now) result ≡ only_if (λ (m : NumberedMethod). not (is_static_method m)) (option_map (λ m. numbered_method_of m.now) m.entry) }
+    ensures { option_map (λ m. numbered_method_of m.now) result ≡ only_if (λ (m : NumberedMethod). not (is_static_method m))
+        (option_map (λ m. numbered_method_of m.now) m.entry) }
 {
     match m {
         Some(m) => if is_instance(m) { Some(m) } else { None },

@@ -246,7 +246,8 @@ fn dims_of_ranges(
     dims: &[ForeachDims],
     ranges: &[Range],
 ) -> usize
-    ensures { result ≡ dims_of_ranges (program_of program.now) this (dims_in (reverse dims.now)) (numbered_ranges (map bound_of ranges.now)) }
+    ensures { result ≡ dims_of_ranges (program_of program.now) this (dims_in (reverse dims.now))
+        (numbered_ranges (map bound_of ranges.now)) }
 {
     if ranges.len() == 1 {
         dims_of_range(program, this, dims, &ranges[0])

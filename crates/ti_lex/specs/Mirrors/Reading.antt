@@ -121,7 +121,8 @@ number_of at leads_with_zero size value long =
 -- the run of digits at the front, with the letter behind it
 abbrev pub digits : ℕ → List ℕ → Reading
 digits at l =
-    let size = prefix_len is_ascii_digit l in number_of at (first_passes (λ b. b == 48) l) size (value_from 0 l) (first_passes is_long_letter (drop size l))
+    let size = prefix_len is_ascii_digit l in number_of at (first_passes (λ b. b == 48) l) size (value_from 0 l)
+    (first_passes is_long_letter (drop size l))
 
 -- the dimension or the number at the front
 abbrev pub number : ℕ → List ℕ → Reading

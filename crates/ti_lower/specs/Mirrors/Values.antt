@@ -69,7 +69,8 @@ update_on w p q name k type (InSlot x) right code =
 update_on w p q name k type (InField field) right code =
     stored_on w p type k (InField field) (operated_on w p name right (code ++ i.Dup ∷ i.GetField field q ∷ []))
 update_on w p q name k type InElement right code =
-    operated_on (one_waits w) p name right (code ++ i.Keep (length w.names) ∷ i.Dup ∷ i.Load (length w.names) ∷ i.GetElem q ∷ []) ++ conversion p type k
+    operated_on (one_waits w) p name right (code ++ i.Keep (length w.names) ∷ i.Dup ∷ i.Load (length w.names) ∷ i.GetElem q ∷ [])
+    ++ conversion p type k
     ++ i.Keep (length w.names + 1) ∷ i.Load (length w.names) ∷ i.Load (length w.names + 1) ∷ i.PutElem p ∷ i.Trim (length w.names) ∷ []
 
 -- ---- ways of values
@@ -81,7 +82,8 @@ declared_on w p type k code = code ++ conversion p type k ++ i.Keep (length w.na
 -- a right side goes into what an assignment names
 abbrev pub assigned_on : Where → Place → NumberedExp → Known → Source → List Instr → List Instr
 assigned_on w p target k right code =
-    stored_on w p (type_in_text w.program w.this target) k (kind_of_target w.program w.this target) (source_on w right (place_on w target code))
+    stored_on w p (type_in_text w.program w.this target) k (kind_of_target w.program w.this target)
+    (source_on w right (place_on w target code))
 
 abbrev pub into_on : Where → Receiver → Kind → Known → Source → List Instr → List Instr
 into_on w Nowhere kind k right code = source_on w right code ++ i.Pop ∷ []
@@ -93,7 +95,8 @@ into_on w (Updated p op target) kind k right code =
     (kind_of_target w.program w.this target) right (place_on w target code)
 
 abbrev pub waiting_on : Where → Receiver → Kind → Known → List Instr → List Instr
-waiting_on w r kind k code = into_on (one_waits w) r kind k (Kept (length w.names)) (code ++ i.Keep (length w.names) ∷ []) ++ i.Trim (length w.names) ∷ []
+waiting_on w r kind k code =
+    into_on (one_waits w) r kind k (Kept (length w.names)) (code ++ i.Keep (length w.names) ∷ []) ++ i.Trim (length w.names) ∷ []
 
 abbrev pub late_on : Where → Receiver → Kind → Known → List Instr → List Instr
 late_on w Nowhere kind k code = code ++ i.Pop ∷ []
@@ -161,7 +164,8 @@ abbrev pub grids_on : Place → ℕ → List Instr → List Instr
 grids_on p n code = code ++ grids_code p n (length code)
 
 abbrev pub copy_on : Where → Place → NumberedExp → NumberedExps → List Instr → List Instr
-copy_on w p x args code = elements_on p (length w.names) (copied_code p (length w.names)) (grids_on p (length w.names) (both_on w x args code))
+copy_on w p x args code =
+    elements_on p (length w.names) (copied_code p (length w.names)) (grids_on p (length w.names) (both_on w x args code))
 
 abbrev pub exchange_on : Where → Place → NumberedExp → NumberedExps → List Instr → List Instr
 exchange_on w p x args code =
@@ -188,7 +192,8 @@ nothing_in c = is_void (result_type c.method)
 
 abbrev pub stands_on : Where → NumberedExp → List Instr → List Instr
 stands_on w x code =
-    alone_on w (gives_nothing w.program w.this (call_by x (called_method w.program w.this x))) x (call_by x (called_method w.program w.this x)) code
+    alone_on w (gives_nothing w.program w.this (call_by x (called_method w.program w.this x))) x
+    (call_by x (called_method w.program w.this x)) code
 
 -- ---- prints
 

@@ -45,9 +45,11 @@ module _ (program : NumberedProgram) (this : Option ℕ) (names : List Name) whe
         walked_ranges ranges code ++ coding.rect_instr (coding.kind_of_ranges program this ranges) (coding.how_many_ranges ranges) p ∷ []
     walked (e.Unary p op x) code = walked x code ++ coding.alone_code op
     walked (e.Binary p op x y) code = operated (coding.laziness op) (coding.operation_in program this op x y) p (walked y) (walked x code)
-    walked (e.Cast p type x) code = walked x code ++ coding.conversion p type.type (known_of program this x) ++ coding.local_test p (is_local type.type)
+    walked (e.Cast p type x) code =
+        walked x code ++ coding.conversion p type.type (known_of program this x) ++ coding.local_test p (is_local type.type)
     walked (e.Select p x name) code =
-        walked x code ++ i.GetField (unwrap_or (option_and_then (field_numbered program name) (class_of_type (type_in_text program this x))) 0) p ∷ []
+        walked x code ++ i.GetField (unwrap_or (option_and_then (field_numbered program name) (class_of_type (type_in_text program this x)))
+        0) p ∷ []
     walked (e.Member p x name args) code =
         walked_all args (walked x code) ++ coding.member_code (member_called program this x name) (how_many args) p
     walked (e.Index p x parts) code =

@@ -63,7 +63,8 @@ abbrev mutual
   number_exp site (t.Binary at op x y) = n.Binary at op (number_exp site x) (number_exp site y)
   number_exp site (t.Cast at to x) = n.Cast at (numbered_type site.text to) (number_exp site x)
   number_exp site (t.Select at x name) = selected site at (class_before_dot site x) (number_exp site x) name
-  number_exp site (t.Member at x name args) = member_called site at (class_before_dot site x) (number_exp site x) name (number_exps site args)
+  number_exp site (t.Member at x name args) =
+      member_called site at (class_before_dot site x) (number_exp site x) name (number_exps site args)
   number_exp site (t.Index at x parts) = n.Index at (number_exp site x) (number_exps site parts)
 
   pub number_exps : Site → Exps → NumberedExps
@@ -91,7 +92,8 @@ abbrev pub number_init : Site → InitTree → NumberedInit
 number_init site (s.Value x) = m.Value (number_exp site x)
 number_init site (s.NewRegion at) = m.NewRegion at
 number_init site (s.NewObject at region name_at name) = m.NewObject at (number_maybe site region) (unwrap_or (class_named site.text name) 0)
-number_init site (s.NewGrid at region element dims_at dims) = m.NewGrid at (number_maybe site region) (numbered_type site.text element) dims_at (number_dims site dims)
+number_init site (s.NewGrid at region element dims_at dims) =
+    m.NewGrid at (number_maybe site region) (numbered_type site.text element) dims_at (number_dims site dims)
 number_init site (s.Broadcast at x root) = m.Broadcast at (number_exp site x) (number_exp site root)
 
 abbrev pub number_print : Site → PrintTree → NumberedPrint
@@ -119,8 +121,10 @@ abbrev mutual
   number_stm site (s.While at c body) = m.While at (number_exp site c) (number_stm site body)
   number_stm site (s.For at first c update body) =
       let inside = behind_maybe site first in
-      m.For at (number_maybe_stm site first) (number_maybe inside c) (number_maybe_stm inside update) (number_stm (past_maybe inside update) body)
-  number_stm site (s.Foreach at name_at name domain body) = m.Foreach at site.variables (number_exp site domain) (number_stm (declares site name Foreach) body)
+      m.For at (number_maybe_stm site first) (number_maybe inside c) (number_maybe_stm inside update)
+      (number_stm (past_maybe inside update) body)
+  number_stm site (s.Foreach at name_at name domain body) =
+      m.Foreach at site.variables (number_exp site domain) (number_stm (declares site name Foreach) body)
 
   pub number_maybe_stm : Site → MaybeStm → MaybeNumbered
   number_maybe_stm site s.NoStm = m.NoStm
@@ -178,7 +182,8 @@ number_method site own = record {
 
 abbrev pub number_methods : TextTree → ℕ → List OwnMethod → List NumberedMethod
 number_methods text before [] = []
-number_methods text before (own ∷ rest) = number_method (method_site text own before) own ∷ number_methods text (before + length (literals_in (stms own.method.body))) rest
+number_methods text before (own ∷ rest) =
+    number_method (method_site text own before) own ∷ number_methods text (before + length (literals_in (stms own.method.body))) rest
 
 abbrev pub number_program : TextTree → NumberedProgram
 number_program text = record {

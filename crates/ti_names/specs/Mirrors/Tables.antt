@@ -48,7 +48,8 @@ field_tables cs = map (λ (c : ClassTree). with_numbered [] 0 (field_names (fiel
 -- one table of methods for each class, whose methods have the numbers from a number on
 abbrev pub method_tables : ℕ → List ClassTree → List (List (List ℕ × ℕ))
 method_tables number [] = []
-method_tables number (c ∷ rest) = with_numbered [] number (method_names c.members) ∷ method_tables (number + length (method_names c.members)) rest
+method_tables number (c ∷ rest) =
+    with_numbered [] number (method_names c.members) ∷ method_tables (number + length (method_names c.members)) rest
 
 -- whether each method is static
 abbrev pub static_table : List OwnMethod → List Bool

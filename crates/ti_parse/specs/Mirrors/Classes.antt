@@ -26,7 +26,8 @@ module _ (w : Way) (turns : ℕ) where
     at ← here
     name ← any_name
     is_more ← (λ i. Ok (sees k.Comma i, i))
-    if is_more then take_token >> more_params n (found ++ record { ty = ty; place = at; name = name } ∷ []) else pure (found ++ record { ty = ty; place = at; name = name } ∷ [])
+    if is_more then take_token >> more_params n (found ++ record { ty = ty; place = at; name = name } ∷ []) else pure (found
+        ++ record { ty = ty; place = at; name = name } ∷ [])
 
   -- after `String`
   unfoldable pub words : Parser ParamsTree
@@ -73,7 +74,8 @@ module _ (w : Way) (turns : ℕ) where
     at ← here
     name ← any_name
     is_field ← (λ i. Ok (sees k.Semicolon i, i))
-    if is_field then take_token >> pure (c.FieldMember (record { modifiers = ms; ty = ty; place = at; name = name })) else method ms (c.Typed ty) at name
+    if is_field then take_token >> pure (c.FieldMember (record { modifiers = ms; ty = ty; place = at; name = name })) else method ms
+        (c.Typed ty) at name
 
   abbrev pub typed_member : List Modifier → Bool → Parser MemberTree
   typed_member ms true = (do ty ← wide w turns; method_named ms (c.Typed ty))

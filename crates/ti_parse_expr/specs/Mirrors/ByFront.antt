@@ -19,8 +19,10 @@ is_final (Err stop.TooDeep) = false
 -- all of the front was taken and its last token weighs too much, that token is too deep.
 pub data Widens {T : Type 0} (weight : ℕ) (list front : List Token) (answer : Result T Stop) (left : List Token) : Result T Stop → List Token → Type 0 where
   final : {new : List Token} → is_final answer ≡ true → Widens weight list front answer left answer new
-  passes : {new : List Token} → is_final answer ≡ false → passed weight front (length left) ≡ true → new ≡ drop (length front - 1) list → Widens weight list front answer left (Err stop.TooDeep) new
-  moves : {new : List Token} → is_final answer ≡ false → passed weight front (length left) ≡ false → new ≡ drop (length front - length left) list → Widens weight list front answer left answer new
+  passes : {new : List Token} → is_final answer ≡ false → passed weight front (length left) ≡ true → new ≡ drop (length front - 1) list
+      → Widens weight list front answer left (Err stop.TooDeep) new
+  moves : {new : List Token} → is_final answer ≡ false → passed weight front (length left) ≡ false → new
+      ≡ drop (length front - length left) list → Widens weight list front answer left answer new
 
 -- the function value, with one turn more than the front has tokens, gave some answer, and the answer for the list is made from it
 pub record ByFront {T : Type 0} (weight : ℕ) (post : MutBor (List Token) → ℕ → Result T Stop → MutBor (List Token) → Type 0) (list : List Token) (result : Result T Stop) (new : List Token) : Type 0 where

@@ -273,4 +273,5 @@ behind_name turns at name = named turns (expr turns) at name >>= postfix turns (
 
 -- a Postfix behind its first name and an opening bracket, with so many turns behind its index
 unfoldable pub behind_bracket : ℕ → Place → Place → List ℕ → Parser Operand
-behind_bracket turns bracket_at at name = index (suc turns) (expr (suc turns)) bracket_at (e.Name at name) >>= postfix (suc turns) (expr (suc turns)) turns
+behind_bracket turns bracket_at at name =
+    index (suc turns) (expr (suc turns)) bracket_at (e.Name at name) >>= postfix (suc turns) (expr (suc turns)) turns

@@ -94,9 +94,12 @@ passed weight front left = nat_lt left 1 && nat_lt most_weight (weight + weigh f
 
 -- what the outcome for a front of the list is for the list
 abbrev pub widened : {A : Type 0} → ℕ → List Token → List Token → Outcome A → Outcome A
-widened weight l front (Ok p) = if passed weight front (length p.1) then Err (Over (drop (length front - 1) l)) else Ok (p.0, drop (length front - length p.1) l)
-widened weight l front (Err (At r)) = if passed weight front (length r) then Err (Over (drop (length front - 1) l)) else Err (At (drop (length front - length r) l))
-widened weight l front (Err (Over r)) = if passed weight front (length r) then Err (Over (drop (length front - 1) l)) else Err (Over (drop (length front - length r) l))
+widened weight l front (Ok p) =
+    if passed weight front (length p.1) then Err (Over (drop (length front - 1) l)) else Ok (p.0, drop (length front - length p.1) l)
+widened weight l front (Err (At r)) =
+    if passed weight front (length r) then Err (Over (drop (length front - 1) l)) else Err (At (drop (length front - length r) l))
+widened weight l front (Err (Over r)) =
+    if passed weight front (length r) then Err (Over (drop (length front - 1) l)) else Err (Over (drop (length front - length r) l))
 widened weight l front (Err Spent) = Err Spent
 
 -- a reader of the front, given one turn more than the front has tokens

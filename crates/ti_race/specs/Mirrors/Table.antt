@@ -58,8 +58,10 @@ written_by_others uses key i = list_any (λ (u : Use). same_key (key_of u) key &
 
 -- the table tells of these uses
 abbrev pub Tells : {S : Type 0} → HashMap Key Seen S → List Use → Type 0
-Tells table uses = (key : Key) (i : ℕ) → (others (users_in (get same_key table key)) i ≡ used_by_others uses key i) × (others (writers_in (get same_key table key)) i ≡ written_by_others uses key i)
+Tells table uses = (key : Key) (i : ℕ) → (others (users_in (get same_key table key)) i ≡ used_by_others uses key i)
+    × (others (writers_in (get same_key table key)) i ≡ written_by_others uses key i)
 
 -- what the table says of a use
 abbrev pub racing_by : {S : Type 0} → HashMap Key Seen S → Use → Bool
-racing_by table u = if u.writes then others (users_in (get same_key table (key_of u))) u.proc else others (writers_in (get same_key table (key_of u))) u.proc
+racing_by table u = if u.writes then others (users_in (get same_key table (key_of u))) u.proc else others
+    (writers_in (get same_key table (key_of u))) u.proc

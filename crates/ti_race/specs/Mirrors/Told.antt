@@ -122,7 +122,8 @@ IsThing t u = ⊥
 -- the same spot of things that the history tells: an element of a block is known by the number of its cell
 abbrev pub IsSpot : History → Spot → told.Spot → Type 0
 IsSpot h (spot.FieldOf t f) (told.FieldOf u g) = IsThing t u × (f ≡ g)
-IsSpot h (spot.CellOf n i) (told.ElementOf (told.Made m) p) = (n ≡ m) × ((whole : Rect) × (whole_at m h ≡ Some whole) × (place_in (points_of whole) p ≡ Some i))
+IsSpot h (spot.CellOf n i) (told.ElementOf (told.Made m) p) =
+    (n ≡ m) × ((whole : Rect) × (whole_at m h ≡ Some whole) × (place_in (points_of whole) p ≡ Some i))
 IsSpot h (spot.PointOf name at) (told.ElementOf (told.Untold id) p) = (name ≡ name_key id) × (at ≡ point_key p)
 IsSpot h s t = ⊥
 
@@ -175,7 +176,8 @@ pub record Gathers (kept : Uses) (es : List Entry) : Type 0 where
 
 -- the line of the entry of a use
 abbrev pub use_line : Use → List ℕ
-use_line u = decimal u.number ++ codes " p" ++ decimal u.proc ++ codes " " ++ decimal u.place.line ++ codes ":" ++ decimal u.place.col ++ 10 ∷ []
+use_line u =
+    decimal u.number ++ codes " p" ++ decimal u.proc ++ codes " " ++ decimal u.place.line ++ codes ":" ++ decimal u.place.col ++ 10 ∷ []
 
 -- the report on uses
 abbrev pub report_of : List Use → List ℕ

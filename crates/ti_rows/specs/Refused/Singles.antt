@@ -46,7 +46,8 @@ a_break_under_the_own_number = program_of ((class_with [] []) ∷ [])
     (x.Binary (pl 1 109) b.Equal (x.ThisProc (pl 1 95)) (x.Int (pl 1 112) (pos 0))) (s.Break (pl 1 115))) s.Nil)))) ∷ []) (pl 1 124)) ∷
     []) 0 (codes "main" ∷ [])
 
--- class Main { public static single void main(String[] args) { while (Ti.numProcs() > 0) { if (Ti.thisProc() == 0) break; return; } Ti.barrier(); } }
+-- class Main { public static single void main(String[] args) { while (Ti.numProcs() > 0) { if (Ti.thisProc() == 0) break; return; }
+-- Ti.barrier(); } }
 abbrev pub a_break_that_decides_a_return : NumberedProgram
 a_break_that_decides_a_return = program_of ((class_with [] []) ∷ [])
     ((method_with 0 ((modifier mw.Public (pl 1 14)) ∷ (modifier mw.Static (pl 1 21)) ∷ (modifier mw.Single (pl 1 28)) ∷ []) c.Void

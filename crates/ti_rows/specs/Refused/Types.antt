@@ -228,7 +228,8 @@ a_copy_of_local_elements = program_of ((class_with [] ((field_with [] (type_with
     (x.MoreExp (x.Variable (pl 1 124) (used 0 (ty.Typed false (ty.Grid (ty.Class 0 true) 1 false)))) x.NoExp))) ∷ []) (pl 1 128)) ∷ []) 0
     (codes "v" ∷ codes "main" ∷ [])
 
--- class C { int v; } class Main { public static single void main(String[] args) { C local [1d] a = new C local [0:0]; C c = new C(); a.exchange(c); } }
+-- class C { int v; } class Main { public static single void main(String[] args) { C local [1d] a = new C local [0:0]; C c = new C();
+-- a.exchange(c); } }
 abbrev pub an_exchange_into_local_elements : NumberedProgram
 an_exchange_into_local_elements = program_of ((class_with [] ((field_with [] (type_with ty.Int [] []) 11) ∷ [])) ∷ (class_with [] []) ∷
     []) ((method_with 1 ((modifier mw.Public (pl 1 33)) ∷ (modifier mw.Static (pl 1 40)) ∷ (modifier mw.Single (pl 1 47)) ∷ []) c.Void

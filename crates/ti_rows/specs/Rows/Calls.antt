@@ -9,7 +9,8 @@ use Rattle.ti_lang.specs.Program.Classes as c
 use Rattle.ti_lang.specs.Meaning.Processes.{Setting}
 use Rattle.ti_rows.specs.Texts.{pl, plain, single, var, single_var, xs, stms, class_of, field, param, instance_method, static_method, single_method, text}
 
--- class Main { static int f(int x) { if (x > 2) return 1; return 2; } public static single void main(String[] args) { int y = f(3); println(y); } }
+-- class Main { static int f(int x) { if (x > 2) return 1; return 2; } public static single void main(String[] args) { int y = f(3);
+-- println(y); } }
 abbrev pub an_early_return : Setting
 an_early_return = text 1 100000 (class_of [] ∷ []) (static_method 0 (c.Typed (plain t.Int)) 11
     (c.Params ((param (pl 1 31) (plain t.Int)) ∷ [])) ((s.If (pl 1 36)
@@ -19,7 +20,8 @@ an_early_return = text 1 100000 (class_of [] ∷ []) (static_method 0 (c.Typed (
     (s.Value (e.Call (pl 1 125) 0 (xs ((e.Int (pl 1 127) (pos 3)) ∷ []))))) ∷
     (s.Print (pl 1 131) (s.Expression (var (pl 1 139) 0 t.Int))) ∷ []) (pl 1 143) ∷ []) 1 ((codes "f") ∷ (codes "main") ∷ []) []
 
--- class Main { static int f(int n) { for (int i = 0; i < 10; i++) { while (true) { if (i * i > n) return i; break; } } return 0; } public static single void main(String[] args) { int r = f(20); println(r); } }
+-- class Main { static int f(int n) { for (int i = 0; i < 10; i++) { while (true) { if (i * i > n) return i; break; } } return 0; } public
+-- static single void main(String[] args) { int r = f(20); println(r); } }
 abbrev pub a_return_out_of_loops : Setting
 a_return_out_of_loops = text 1 100000 (class_of [] ∷ []) (static_method 0 (c.Typed (plain t.Int)) 11
     (c.Params ((param (pl 1 31) (plain t.Int)) ∷ [])) ((s.For (pl 1 36)
@@ -35,7 +37,8 @@ a_return_out_of_loops = text 1 100000 (class_of [] ∷ []) (static_method 0 (c.T
     (s.Value (e.Call (pl 1 186) 0 (xs ((e.Int (pl 1 188) (pos 20)) ∷ []))))) ∷
     (s.Print (pl 1 193) (s.Expression (var (pl 1 201) 0 t.Int))) ∷ []) (pl 1 205) ∷ []) 1 ((codes "f") ∷ (codes "main") ∷ []) []
 
--- class Main { static void g(int x) { if (x > 1) return; println(x); } public static single void main(String[] args) { g(1); g(2); Main.g(0); } }
+-- class Main { static void g(int x) { if (x > 1) return; println(x); } public static single void main(String[] args) { g(1); g(2);
+-- Main.g(0); } }
 abbrev pub a_return_of_nothing : Setting
 a_return_of_nothing = text 1 100000 (class_of [] ∷ []) (static_method 0 c.Void 11 (c.Params ((param (pl 1 32) (plain t.Int)) ∷ []))
     ((s.If (pl 1 37) (e.Binary (pl 1 43) op.Greater (var (pl 1 41) 0 t.Int) (e.Int (pl 1 45) (pos 1))) (s.Return (pl 1 48) None)) ∷
@@ -44,7 +47,8 @@ a_return_of_nothing = text 1 100000 (class_of [] ∷ []) (static_method 0 c.Void
     (s.Call (e.Call (pl 1 124) 0 (xs ((e.Int (pl 1 126) (pos 2)) ∷ [])))) ∷
     (s.Call (e.Call (pl 1 135) 0 (xs ((e.Int (pl 1 137) (pos 0)) ∷ [])))) ∷ []) (pl 1 141) ∷ []) 1 ((codes "g") ∷ (codes "main") ∷ []) []
 
--- class Main { static int fact(int n) { if (n <= 1) return 1; int r = fact(n - 1); return n * r; } public static single void main(String[] args) { int x = fact(5); println(x); } }
+-- class Main { static int fact(int n) { if (n <= 1) return 1; int r = fact(n - 1); return n * r; } public static single void main(String[]
+-- args) { int x = fact(5); println(x); } }
 abbrev pub recursion : Setting
 recursion = text 1 100000 (class_of [] ∷ []) (static_method 0 (c.Typed (plain t.Int)) 11 (c.Params ((param (pl 1 34) (plain t.Int)) ∷ []))
     ((s.If (pl 1 39) (e.Binary (pl 1 45) op.LessEqual (var (pl 1 43) 0 t.Int) (e.Int (pl 1 48) (pos 1)))
@@ -55,7 +59,8 @@ recursion = text 1 100000 (class_of [] ∷ []) (static_method 0 (c.Typed (plain 
     (s.Value (e.Call (pl 1 154) 0 (xs ((e.Int (pl 1 159) (pos 5)) ∷ []))))) ∷
     (s.Print (pl 1 163) (s.Expression (var (pl 1 171) 0 t.Int))) ∷ []) (pl 1 175) ∷ []) 1 ((codes "fact") ∷ (codes "main") ∷ []) []
 
--- class C { int v; int get() { return v; } void set(int x) { v = x; this.v += 1; } } class Main { public static single void main(String[] args) { C c = new C(); c.set(4); int y = c.get(); println(y); } }
+-- class C { int v; int get() { return v; } void set(int x) { v = x; this.v += 1; } } class Main { public static single void main(String[]
+-- args) { C c = new C(); c.set(4); int y = c.get(); println(y); } }
 abbrev pub instance_methods : Setting
 instance_methods = text 1 100000 (class_of (field t.Int 11 ∷ []) ∷ class_of [] ∷ [])
     (instance_method 0 (c.Typed (plain t.Int)) 12 (c.Params ([])) ((s.Return (pl 1 30) (Some (e.OwnField (pl 1 37) 0))) ∷ []) (pl 1 40) ∷
@@ -68,7 +73,8 @@ instance_methods = text 1 100000 (class_of (field t.Int 11 ∷ []) ∷ class_of 
     (s.Print (pl 1 187) (s.Expression (var (pl 1 195) 1 t.Int))) ∷ []) (pl 1 199) ∷ []) 2
     ((codes "v") ∷ (codes "get") ∷ (codes "set") ∷ (codes "main") ∷ []) []
 
--- class C { int v; int get() { return v; } int twice() { int x = get(); return x * 2; } } class Main { public static single void main(String[] args) { C c = new C(); c.v = 4; int y = c.twice(); println(y); } }
+-- class C { int v; int get() { return v; } int twice() { int x = get(); return x * 2; } } class Main { public static single void
+-- main(String[] args) { C c = new C(); c.v = 4; int y = c.twice(); println(y); } }
 abbrev pub a_method_of_the_own_object : Setting
 a_method_of_the_own_object = text 1 100000 (class_of (field t.Int 11 ∷ []) ∷ class_of [] ∷ [])
     (instance_method 0 (c.Typed (plain t.Int)) 12 (c.Params ([])) ((s.Return (pl 1 30) (Some (e.OwnField (pl 1 37) 0))) ∷ []) (pl 1 40) ∷
@@ -81,7 +87,8 @@ a_method_of_the_own_object = text 1 100000 (class_of (field t.Int 11 ∷ []) ∷
     (s.Print (pl 1 193) (s.Expression (var (pl 1 201) 1 t.Int))) ∷ []) (pl 1 205) ∷ []) 2
     ((codes "v") ∷ (codes "get") ∷ (codes "twice") ∷ (codes "main") ∷ []) []
 
--- class Main { static long g(long x) { return x + 1; } public static single void main(String[] args) { long y = g(3); println(y); int z = (int) y; println(z); println(y == 4); } }
+-- class Main { static long g(long x) { return x + 1; } public static single void main(String[] args) { long y = g(3); println(y); int z =
+-- (int) y; println(z); println(y == 4); } }
 abbrev pub long_parameters : Setting
 long_parameters = text 1 100000 (class_of [] ∷ []) (static_method 0 (c.Typed (plain t.Long)) 11
     (c.Params ((param (pl 1 33) (plain t.Long)) ∷ [])) ((s.Return (pl 1 38)
@@ -94,7 +101,8 @@ long_parameters = text 1 100000 (class_of [] ∷ []) (static_method 0 (c.Typed (
     (s.Print (pl 1 158) (s.Expression (e.Binary (pl 1 168) op.Equal (var (pl 1 166) 0 t.Long) (e.Int (pl 1 171) (pos 4))))) ∷ [])
     (pl 1 175) ∷ []) 1 ((codes "g") ∷ (codes "main") ∷ []) []
 
--- class Main { static int f(Domain<1> d) { return d.size(); } public static single void main(String[] args) { int n = f([0:4]); println(n); } }
+-- class Main { static int f(Domain<1> d) { return d.size(); } public static single void main(String[] args) { int n = f([0:4]); println(n);
+-- } }
 abbrev pub a_domain_as_parameter : Setting
 a_domain_as_parameter = text 1 100000 (class_of [] ∷ []) (static_method 0 (c.Typed (plain t.Int)) 11
     (c.Params ((param (pl 1 37) (plain (t.Dm 1))) ∷ [])) ((s.Return (pl 1 42)
@@ -104,7 +112,8 @@ a_domain_as_parameter = text 1 100000 (class_of [] ∷ []) (static_method 0 (c.T
     (e.Plain (e.Int (pl 1 120) (pos 0)) (e.Int (pl 1 122) (pos 4)) ∷ []))) ∷ []))))) ∷
     (s.Print (pl 1 127) (s.Expression (var (pl 1 135) 0 t.Int))) ∷ []) (pl 1 139) ∷ []) 1 ((codes "f") ∷ (codes "main") ∷ []) []
 
--- class C { int v; } class Main { static int f(C c) { c.v = 2; return 7; } public static single void main(String[] args) { C c = new C(); int [1d] a = new int [0:3]; a[c.v] = f(c); println(a[2]); println(a[0]); c.v = 0; a[c.v] += f(c); println(a[2]); println(a[0]); } }
+-- class C { int v; } class Main { static int f(C c) { c.v = 2; return 7; } public static single void main(String[] args) { C c = new C();
+-- int [1d] a = new int [0:3]; a[c.v] = f(c); println(a[2]); println(a[0]); c.v = 0; a[c.v] += f(c); println(a[2]); println(a[0]); } }
 abbrev pub a_call_comes_before_its_target : Setting
 a_call_comes_before_its_target = text 1 100000 (class_of (field t.Int 11 ∷ []) ∷ class_of [] ∷ [])
     (static_method 1 (c.Typed (plain t.Int)) 12 (c.Params ((param (pl 1 48) (plain (t.Class 0 false))) ∷ []))
@@ -128,7 +137,8 @@ a_call_comes_before_its_target = text 1 100000 (class_of (field t.Int 11 ∷ [])
     (s.Expression (e.Index (pl 1 259) (var (pl 1 258) 1 (t.Grid t.Int 1 false)) (xs ((e.Int (pl 1 260) (pos 0)) ∷ []))))) ∷ [])
     (pl 1 265) ∷ []) 1 ((codes "v") ∷ (codes "f") ∷ (codes "main") ∷ []) []
 
--- class Main { static single int single f(int single n) { int single k = n; while (k > 0) { Ti.barrier(); k = k - 1; } return k + 1; } public static single void main(String[] args) { int single r = f(2); println(r); } }
+-- class Main { static single int single f(int single n) { int single k = n; while (k > 0) { Ti.barrier(); k = k - 1; } return k + 1; }
+-- public static single void main(String[] args) { int single r = f(2); println(r); } }
 abbrev pub a_single_method : Setting
 a_single_method = text 2 100000 (class_of [] ∷ []) (single_method 0 (c.Typed (single t.Int)) 11
     (c.Params ((param (pl 1 52) (single t.Int)) ∷ [])) ((s.Declare (pl 1 68) (single t.Int) 1 (s.Value (single_var (pl 1 72) 0 t.Int))) ∷

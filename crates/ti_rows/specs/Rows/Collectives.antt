@@ -13,7 +13,8 @@ abbrev pub barriers : Setting
 barriers = alone 2 100000 [] ((s.Print (pl 1 62) (s.Expression (e.ThisProc (pl 1 70)))) ∷ (s.Barrier (pl 1 89)) ∷
     (s.Print (pl 1 100) (s.Expression (e.NumProcs (pl 1 108)))) ∷ []) (pl 1 124)
 
--- class Main { public static single void main(String[] args) { int single k = 0; while (true) { Ti.barrier(); k = k + 1; if (k == 3) break; } println(k); } }
+-- class Main { public static single void main(String[] args) { int single k = 0; while (true) { Ti.barrier(); k = k + 1; if (k == 3) break;
+-- } println(k); } }
 abbrev pub a_break_under_a_single_condition : Setting
 a_break_under_a_single_condition = alone 2 100000 [] ((s.Declare (pl 1 73) (single t.Int) 0 (s.Value (e.Int (pl 1 77) (pos 0)))) ∷
     (s.While (pl 1 80) (e.Truth (pl 1 87) true) (s.Block (stms ((s.Barrier (pl 1 98)) ∷
@@ -22,7 +23,8 @@ a_break_under_a_single_condition = alone 2 100000 [] ((s.Declare (pl 1 73) (sing
     (s.If (pl 1 120) (e.Binary (pl 1 126) op.Equal (single_var (pl 1 124) 0 t.Int) (e.Int (pl 1 129) (pos 3))) (s.Break (pl 1 132))) ∷
     [])))) ∷ (s.Print (pl 1 141) (s.Expression (single_var (pl 1 149) 0 t.Int))) ∷ []) (pl 1 153)
 
--- class Main { public static single void main(String[] args) { int single k = broadcast Ti.thisProc() + 5 from 1; while (k > 0) { Ti.barrier(); k = k - 2; } println(k); } }
+-- class Main { public static single void main(String[] args) { int single k = broadcast Ti.thisProc() + 5 from 1; while (k > 0) {
+-- Ti.barrier(); k = k - 2; } println(k); } }
 abbrev pub a_broadcast_decides_a_loop : Setting
 a_broadcast_decides_a_loop = alone 3 100000 [] ((s.Declare (pl 1 73) (single t.Int) 0
     (s.Broadcast (pl 1 77) (e.Binary (pl 1 101) op.Add (e.ThisProc (pl 1 87)) (e.Int (pl 1 103) (pos 5))) (e.Int (pl 1 110) (pos 1)))) ∷
@@ -31,7 +33,8 @@ a_broadcast_decides_a_loop = alone 3 100000 [] ((s.Declare (pl 1 73) (single t.I
     (s.Value (e.Binary (pl 1 149) op.Subtract (single_var (pl 1 147) 0 t.Int) (e.Int (pl 1 151) (pos 2))))) ∷ [])))) ∷
     (s.Print (pl 1 156) (s.Expression (single_var (pl 1 164) 0 t.Int))) ∷ []) (pl 1 168)
 
--- class C { int v; } class Main { public static single void main(String[] args) { C x = new C(); C y = broadcast x from 1; println(y == x); } }
+-- class C { int v; } class Main { public static single void main(String[] args) { C x = new C(); C y = broadcast x from 1; println(y == x);
+-- } }
 abbrev pub a_broadcast_of_a_reference : Setting
 a_broadcast_of_a_reference = text 2 100000 (class_of (field t.Int 11 ∷ []) ∷ class_of [] ∷ [])
     (single_method 1 c.Void 12 c.Words ((s.Declare (pl 1 83) (plain (t.Class 0 false)) 0 (s.NewObject (pl 1 87) None 0)) ∷
@@ -40,7 +43,8 @@ a_broadcast_of_a_reference = text 2 100000 (class_of (field t.Int 11 ∷ []) ∷
     (e.Binary (pl 1 132) op.Equal (var (pl 1 130) 1 (t.Class 0 false)) (var (pl 1 135) 0 (t.Class 0 false))))) ∷ []) (pl 1 139) ∷ []) 0
     ((codes "v") ∷ (codes "main") ∷ []) []
 
--- class Main { public static single void main(String[] args) { foreach (p in [[0, 0]:[0, 1]]) { Point<2> single q = broadcast p + [Ti.thisProc(), 0] from 1; println(q); } } }
+-- class Main { public static single void main(String[] args) { foreach (p in [[0, 0]:[0, 1]]) { Point<2> single q = broadcast p +
+-- [Ti.thisProc(), 0] from 1; println(q); } } }
 abbrev pub a_broadcast_of_a_foreach_variable : Setting
 a_broadcast_of_a_foreach_variable = alone 2 100000 [] ((s.Foreach (pl 1 62) 0
     (e.Rect (pl 1 76) (e.numbered_ranges (e.Plain (e.Point (pl 1 77) (xs ((e.Int (pl 1 78) (pos 0)) ∷ (e.Int (pl 1 81) (pos 0)) ∷ [])))
@@ -61,7 +65,9 @@ abbrev pub a_root_that_is_no_process : Setting
 a_root_that_is_no_process = alone 3 100000 [] ((s.Declare (pl 1 73) (single t.Int) 0
     (s.Broadcast (pl 1 77) (e.Int (pl 1 87) (pos 1)) (e.Int (pl 1 94) (pos 3)))) ∷ []) (pl 1 97)
 
--- class Main { public static single void main(String[] args) { int single n = Ti.numProcs(); int [1d] a = new int [0:1]; a[0] = Ti.thisProc() * 10; int [1d] [1d] all = new int [0:n - 1] [1d]; all.exchange(a); Ti.barrier(); println(all[(Ti.thisProc() + 1) % n][0]); } }
+-- class Main { public static single void main(String[] args) { int single n = Ti.numProcs(); int [1d] a = new int [0:1]; a[0] =
+-- Ti.thisProc() * 10; int [1d] [1d] all = new int [0:n - 1] [1d]; all.exchange(a); Ti.barrier(); println(all[(Ti.thisProc() + 1) % n][0]);
+-- } }
 abbrev pub an_exchange : Setting
 an_exchange = alone 2 100000 [] ((s.Declare (pl 1 73) (single t.Int) 0 (s.Value (e.NumProcs (pl 1 77)))) ∷
     (s.Declare (pl 1 101) (plain (t.Grid t.Int 1 false)) 1 (s.NewGrid (pl 1 105) None (plain t.Int) (pl 1 113)
@@ -77,7 +83,8 @@ an_exchange = alone 2 100000 [] ((s.Declare (pl 1 73) (single t.Int) 0 (s.Value 
     (xs ((e.Binary (pl 1 254) op.Remainder (e.Binary (pl 1 249) op.Add (e.ThisProc (pl 1 235)) (e.Int (pl 1 251) (pos 1)))
     (single_var (pl 1 256) 0 t.Int)) ∷ []))) (xs ((e.Int (pl 1 259) (pos 0)) ∷ []))))) ∷ []) (pl 1 264)
 
--- class Main { public static single void main(String[] args) { long [1d] a = new long [0:Ti.numProcs() - 1]; a.exchange(Ti.thisProc()); println(a[1]); } }
+-- class Main { public static single void main(String[] args) { long [1d] a = new long [0:Ti.numProcs() - 1]; a.exchange(Ti.thisProc());
+-- println(a[1]); } }
 abbrev pub an_exchange_widens : Setting
 an_exchange_widens = alone 2 100000 [] ((s.Declare (pl 1 72) (plain (t.Grid t.Long 1 false)) 0
     (s.NewGrid (pl 1 76) None (plain t.Long) (pl 1 85) (s.Ranges

@@ -7,7 +7,8 @@ use Rattle.ti_lang.specs.Program.Statements as s
 use Rattle.ti_lang.specs.Meaning.Processes.{Setting}
 use Rattle.ti_rows.specs.Texts.{pl, plain, var, each_var, xs, alone}
 
--- class Main { public static single void main(String[] args) { Point<2> p = [1,2]; Point<2> q = p + [3,4]; println(q); println(p < q); println(q - p); println(p == [1,2]); foreach (x in [p:q:[2,3]]) println(x); } }
+-- class Main { public static single void main(String[] args) { Point<2> p = [1,2]; Point<2> q = p + [3,4]; println(q); println(p < q);
+-- println(q - p); println(p == [1,2]); foreach (x in [p:q:[2,3]]) println(x); } }
 abbrev pub points : Setting
 points = alone 1 100000 [] ((s.Declare (pl 1 71) (plain (t.Pt 2)) 0
     (s.Value (e.Point (pl 1 75) (xs ((e.Int (pl 1 76) (pos 1)) ∷ (e.Int (pl 1 78) (pos 2)) ∷ []))))) ∷
@@ -31,7 +32,8 @@ a_coordinate_out_of_bounds = alone 1 100000 [] ((s.Declare (pl 1 71) (plain (t.P
     (s.Print (pl 1 98) (s.Expression (e.Index (pl 1 107) (var (pl 1 106) 0 (t.Pt 2)) (xs ((e.Int (pl 1 108) (pos 3)) ∷ []))))) ∷ [])
     (pl 1 113)
 
--- class Main { public static single void main(String[] args) { RectDomain<1> d = [0:10:3] * [1:10:2]; foreach (p in d) println(p[1]); println(d.size()); } }
+-- class Main { public static single void main(String[] args) { RectDomain<1> d = [0:10:3] * [1:10:2]; foreach (p in d) println(p[1]);
+-- println(d.size()); } }
 abbrev pub a_meet : Setting
 a_meet = alone 1 100000 [] ((s.Declare (pl 1 76) (plain (t.Rc 1)) 0
     (s.Value (e.Binary (pl 1 89) op.Multiply (e.Rect (pl 1 80) (e.numbered_ranges
@@ -51,7 +53,8 @@ a_difference_and_a_union = alone 1 100000 [] ((s.Declare (pl 1 72) (plain (t.Dm 
     (s.Foreach (pl 1 103) 1 (var (pl 1 117) 0 (t.Dm 1)) (s.Print (pl 1 120)
     (s.Expression (e.Index (pl 1 129) (each_var (pl 1 128) 1) (xs ((e.Int (pl 1 130) (pos 1)) ∷ [])))))) ∷ []) (pl 1 135)
 
--- class Main { public static single void main(String[] args) { Domain<1> d = [0:3] + [5:6]; println(d == [0:3]); RectDomain<1> e = [0:3:2]; println(e == [0:2:2]); println(d.contains([5])); println(d != d); } }
+-- class Main { public static single void main(String[] args) { Domain<1> d = [0:3] + [5:6]; println(d == [0:3]); RectDomain<1> e = [0:3:2];
+-- println(e == [0:2:2]); println(d.contains([5])); println(d != d); } }
 abbrev pub equal_domains : Setting
 equal_domains = alone 1 100000 [] ((s.Declare (pl 1 72) (plain (t.Dm 1)) 0
     (s.Value (e.Binary (pl 1 82) op.Add (e.Rect (pl 1 76) (e.numbered_ranges
@@ -68,7 +71,8 @@ equal_domains = alone 1 100000 [] ((s.Declare (pl 1 72) (plain (t.Dm 1)) 0
     (s.Print (pl 1 188) (s.Expression (e.Binary (pl 1 198) op.NotEqual (var (pl 1 196) 0 (t.Dm 1)) (var (pl 1 201) 0 (t.Dm 1))))) ∷ [])
     (pl 1 205)
 
--- class Main { public static single void main(String[] args) { RectDomain<2> r = [0:9:4, 3:5]; println(r.min()); println(r.max()); println(r.size()); } }
+-- class Main { public static single void main(String[] args) { RectDomain<2> r = [0:9:4, 3:5]; println(r.min()); println(r.max());
+-- println(r.size()); } }
 abbrev pub least_and_greatest : Setting
 least_and_greatest = alone 1 100000 [] ((s.Declare (pl 1 76) (plain (t.Rc 2)) 0
     (s.Value (e.Rect (pl 1 80) (e.numbered_ranges (e.Stepped (e.Int (pl 1 81) (pos 0)) (e.Int (pl 1 83) (pos 9))

@@ -8,7 +8,8 @@ use Rattle.ti_lang.specs.Program.Statements as s
 use Rattle.ti_lang.specs.Meaning.Processes.{Setting}
 use Rattle.ti_rows.specs.Texts.{pl, plain, var, each_var, xs, stms, alone}
 
--- class Main { public static single void main(String[] args) { int [1d] a = new int [0:3]; int i = 0; a[i] += 5; i++; a[i] -= 2; println(a[0] + a[1]); } }
+-- class Main { public static single void main(String[] args) { int [1d] a = new int [0:3]; int i = 0; a[i] += 5; i++; a[i] -= 2;
+-- println(a[0] + a[1]); } }
 abbrev pub elements : Setting
 elements = alone 1 100000 [] ((s.Declare (pl 1 71) (plain (t.Grid t.Int 1 false)) 0
     (s.NewGrid (pl 1 75) None (plain t.Int) (pl 1 83) (s.Ranges (e.Plain (e.Int (pl 1 84) (pos 0)) (e.Int (pl 1 86) (pos 3)) ∷ [])))) ∷
@@ -20,7 +21,8 @@ elements = alone 1 100000 [] ((s.Declare (pl 1 71) (plain (t.Grid t.Int 1 false)
     (e.Binary (pl 1 141) op.Add (e.Index (pl 1 137) (var (pl 1 136) 0 (t.Grid t.Int 1 false)) (xs ((e.Int (pl 1 138) (pos 0)) ∷ [])))
     (e.Index (pl 1 144) (var (pl 1 143) 0 (t.Grid t.Int 1 false)) (xs ((e.Int (pl 1 145) (pos 1)) ∷ [])))))) ∷ []) (pl 1 150)
 
--- class Main { public static single void main(String[] args) { int [1d] [1d] g = new int [0:1] [1d]; g[0] = new int [0:2]; g[0][1] = 4; println(g[0][1]); println(g[1] == null); } }
+-- class Main { public static single void main(String[] args) { int [1d] [1d] g = new int [0:1] [1d]; g[0] = new int [0:2]; g[0][1] = 4;
+-- println(g[0][1]); println(g[1] == null); } }
 abbrev pub grids_of_grids : Setting
 grids_of_grids = alone 1 100000 [] ((s.Declare (pl 1 76) (plain (t.Grid (t.Grid t.Int 1 false) 1 false)) 0
     (s.NewGrid (pl 1 80) None (plain (t.Grid t.Int 1 false)) (pl 1 88)
@@ -43,7 +45,8 @@ a_member_form_alone = alone 1 100000 [] ((s.Declare (pl 1 71) (plain (t.Grid t.I
     (s.Call (e.Member (pl 1 92) (var (pl 1 90) 0 (t.Grid t.Int 1 false)) 4 (xs ([])))) ∷
     (s.Print (pl 1 102) (s.Expression (e.Int (pl 1 110) (pos 1)))) ∷ []) (pl 1 114)
 
--- class Main { public static single void main(String[] args) { int [1d] a = new int [0:2]; foreach (p in a.domain()) { a[p] = p[1] * 2; } int s = 0; foreach (p in a.domain()) s += a[p]; println(s); } }
+-- class Main { public static single void main(String[] args) { int [1d] a = new int [0:2]; foreach (p in a.domain()) { a[p] = p[1] * 2; }
+-- int s = 0; foreach (p in a.domain()) s += a[p]; println(s); } }
 abbrev pub the_domain_of_a_grid : Setting
 the_domain_of_a_grid = alone 1 100000 [] ((s.Declare (pl 1 71) (plain (t.Grid t.Int 1 false)) 0
     (s.NewGrid (pl 1 75) None (plain t.Int) (pl 1 83) (s.Ranges (e.Plain (e.Int (pl 1 84) (pos 0)) (e.Int (pl 1 86) (pos 2)) ∷ [])))) ∷
@@ -56,7 +59,8 @@ the_domain_of_a_grid = alone 1 100000 [] ((s.Declare (pl 1 71) (plain (t.Grid t.
     (s.Update (pl 1 176) op.Add (var (pl 1 174) 2 t.Int) (e.Index (pl 1 180) (var (pl 1 179) 0 (t.Grid t.Int 1 false))
     (xs ((each_var (pl 1 181) 3) ∷ []))))) ∷ (s.Print (pl 1 185) (s.Expression (var (pl 1 193) 2 t.Int))) ∷ []) (pl 1 197)
 
--- class Main { public static single void main(String[] args) { int [2d] a = new int [0:2, 0:3]; a[1,2] = 5; int [1d] b = a.slice(1, 1); println(b[2]); int [2d] c = a.restrict([[1,1]:[2,2]]); println(c.domain().size()); println(c[1,2]); } }
+-- class Main { public static single void main(String[] args) { int [2d] a = new int [0:2, 0:3]; a[1,2] = 5; int [1d] b = a.slice(1, 1);
+-- println(b[2]); int [2d] c = a.restrict([[1,1]:[2,2]]); println(c.domain().size()); println(c[1,2]); } }
 abbrev pub views : Setting
 views = alone 1 100000 [] ((s.Declare (pl 1 71) (plain (t.Grid t.Int 2 false)) 0
     (s.NewGrid (pl 1 75) None (plain t.Int) (pl 1 83) (s.Ranges
@@ -76,7 +80,8 @@ views = alone 1 100000 [] ((s.Declare (pl 1 71) (plain (t.Grid t.Int 2 false)) 0
     (xs ([]))))) ∷ (s.Print (pl 1 218) (s.Expression (e.Index (pl 1 227) (var (pl 1 226) 2 (t.Grid t.Int 2 false))
     (xs ((e.Int (pl 1 228) (pos 1)) ∷ (e.Int (pl 1 230) (pos 2)) ∷ []))))) ∷ []) (pl 1 235)
 
--- class Main { public static single void main(String[] args) { RectDomain<2> r = [[0,0]:[2,3]]; int [2d] a = new int [r]; int [2d] b = a.translate([1,1]); b[[3,4]] = 7; println(a[2,3]); println(b[0,0]); } }
+-- class Main { public static single void main(String[] args) { RectDomain<2> r = [[0,0]:[2,3]]; int [2d] a = new int [r]; int [2d] b =
+-- a.translate([1,1]); b[[3,4]] = 7; println(a[2,3]); println(b[0,0]); } }
 abbrev pub a_translated_view : Setting
 a_translated_view = alone 1 100000 [] ((s.Declare (pl 1 76) (plain (t.Rc 2)) 0
     (s.Value (e.Rect (pl 1 80) (e.numbered_ranges (e.Plain (e.Point (pl 1 81)
@@ -118,7 +123,8 @@ a_write_outside = alone 1 100000 [] ((s.Declare (pl 1 71) (plain (t.Grid t.Int 1
     (s.Assign (pl 1 95) (e.Index (pl 1 91) (var (pl 1 90) 0 (t.Grid t.Int 1 false)) (xs ((e.Int (pl 1 92) (pos 2)) ∷ [])))
     (s.Value (e.Int (pl 1 97) (pos 1)))) ∷ []) (pl 1 100)
 
--- class Main { public static single void main(String[] args) { int [1d] a = new int [0:3]; int [1d] b = new int [2:5]; b[2] = 7; b[3] = 8; a.copy(b); println(a[2] + a[3]); println(a[0]); } }
+-- class Main { public static single void main(String[] args) { int [1d] a = new int [0:3]; int [1d] b = new int [2:5]; b[2] = 7; b[3] = 8;
+-- a.copy(b); println(a[2] + a[3]); println(a[0]); } }
 abbrev pub a_copy : Setting
 a_copy = alone 1 100000 [] ((s.Declare (pl 1 71) (plain (t.Grid t.Int 1 false)) 0
     (s.NewGrid (pl 1 75) None (plain t.Int) (pl 1 83) (s.Ranges (e.Plain (e.Int (pl 1 84) (pos 0)) (e.Int (pl 1 86) (pos 3)) ∷ [])))) ∷

@@ -8,7 +8,8 @@ use Rattle.ti_lang.specs.Program.Statements as s
 use Rattle.ti_lang.specs.Meaning.Processes.{Setting}
 use Rattle.ti_rows.specs.Texts.{pl, plain, var, alone}
 
--- class Main { public static single void main(String[] args) { println(-2147483647 - 1); println((-2147483647 - 1) / -1); println((-2147483647 - 1) % -1); println(7 / -2); println(-7 % 2); } }
+-- class Main { public static single void main(String[] args) { println(-2147483647 - 1); println((-2147483647 - 1) / -1);
+-- println((-2147483647 - 1) % -1); println(7 / -2); println(-7 % 2); } }
 abbrev pub sums_and_quotients : Setting
 sums_and_quotients = alone 1 100000 [] ((s.Print (pl 1 62) (s.Expression
     (e.Binary (pl 1 82) op.Subtract (e.Unary (pl 1 70) un.Minus (e.Int (pl 1 71) (pos 2147483647))) (e.Int (pl 1 84) (pos 1))))) ∷
@@ -23,7 +24,8 @@ sums_and_quotients = alone 1 100000 [] ((s.Print (pl 1 62) (s.Expression
     (s.Print (pl 1 171) (s.Expression (e.Binary (pl 1 182) op.Remainder (e.Unary (pl 1 179) un.Minus (e.Int (pl 1 180) (pos 7)))
     (e.Int (pl 1 184) (pos 2))))) ∷ []) (pl 1 188)
 
--- class Main { public static single void main(String[] args) { println(1 << 33); println(-8 >> 1); println(-8 >>> 28); int d = 0; if (d != 0 && 10 / d > 1) println(1); else println(2); } }
+-- class Main { public static single void main(String[] args) { println(1 << 33); println(-8 >> 1); println(-8 >>> 28); int d = 0; if (d !=
+-- 0 && 10 / d > 1) println(1); else println(2); } }
 abbrev pub shifts : Setting
 shifts = alone 1 100000 [] ((s.Print (pl 1 62) (s.Expression (e.Binary (pl 1 72) op.ShiftLeft (e.Int (pl 1 70) (pos 1))
     (e.Int (pl 1 75) (pos 33))))) ∷ (s.Print (pl 1 80) (s.Expression
@@ -36,7 +38,8 @@ shifts = alone 1 100000 [] ((s.Print (pl 1 62) (s.Expression (e.Binary (pl 1 72)
     (s.Print (pl 1 155) (s.Expression (e.Int (pl 1 163) (pos 1)))) (s.Print (pl 1 172) (s.Expression (e.Int (pl 1 180) (pos 2))))) ∷ [])
     (pl 1 184)
 
--- class Main { public static single void main(String[] args) { println(true & false); println(true ^ true); println(6 & 3); println(6 ^ 3); println(6 | 3); println(~5); println(!true); println(5L & 3); println(-1 ^ 1); } }
+-- class Main { public static single void main(String[] args) { println(true & false); println(true ^ true); println(6 & 3); println(6 ^ 3);
+-- println(6 | 3); println(~5); println(!true); println(5L & 3); println(-1 ^ 1); } }
 abbrev pub bits : Setting
 bits = alone 1 100000 [] ((s.Print (pl 1 62) (s.Expression (e.Binary (pl 1 75) op.And (e.Truth (pl 1 70) true)
     (e.Truth (pl 1 77) false)))) ∷ (s.Print (pl 1 85) (s.Expression
@@ -50,7 +53,8 @@ bits = alone 1 100000 [] ((s.Print (pl 1 62) (s.Expression (e.Binary (pl 1 75) o
     (s.Print (pl 1 201) (s.Expression (e.Binary (pl 1 212) op.Xor (e.Unary (pl 1 209) un.Minus (e.Int (pl 1 210) (pos 1)))
     (e.Int (pl 1 214) (pos 1))))) ∷ []) (pl 1 218)
 
--- class Main { public static single void main(String[] args) { long x = 2147483647; x = x + 1; println(x); println((int) x); println(-9223372036854775807L - 1L); println((-9223372036854775807L - 1L) / -1); } }
+-- class Main { public static single void main(String[] args) { long x = 2147483647; x = x + 1; println(x); println((int) x);
+-- println(-9223372036854775807L - 1L); println((-9223372036854775807L - 1L) / -1); } }
 abbrev pub long_sums : Setting
 long_sums = alone 1 100000 [] ((s.Declare (pl 1 67) (plain t.Long) 0 (s.Value (e.Int (pl 1 71) (pos 2147483647)))) ∷
     (s.Assign (pl 1 85) (var (pl 1 83) 0 t.Long) (s.Value (e.Binary (pl 1 89) op.Add (var (pl 1 87) 0 t.Long)
@@ -76,7 +80,8 @@ an_update_narrows = alone 1 100000 [] ((s.Declare (pl 1 66) (plain t.Int) 0 (s.V
     (s.Update (pl 1 84) op.Add (var (pl 1 82) 0 t.Int) (e.Long (pl 1 87) (pos 1))) ∷
     (s.Print (pl 1 91) (s.Expression (var (pl 1 99) 0 t.Int))) ∷ []) (pl 1 103)
 
--- class Main { public static single void main(String[] args) { int x = -7; println(x % 3); println(x / 2); println(x >>> 31); println(-9223372036854775807L - 2L); } }
+-- class Main { public static single void main(String[] args) { int x = -7; println(x % 3); println(x / 2); println(x >>> 31);
+-- println(-9223372036854775807L - 2L); } }
 abbrev pub remainders : Setting
 remainders = alone 1 100000 [] ((s.Declare (pl 1 66) (plain t.Int) 0 (s.Value (e.Unary (pl 1 70) un.Minus (e.Int (pl 1 71) (pos 7))))) ∷
     (s.Print (pl 1 74) (s.Expression (e.Binary (pl 1 84) op.Remainder (var (pl 1 82) 0 t.Int) (e.Int (pl 1 86) (pos 3))))) ∷

@@ -28,7 +28,8 @@ a_write_to_null = text 1 100000 (class_of (field t.Int 11 ∷ []) ∷ class_of [
     (s.Assign (pl 1 97) (e.Select (pl 1 95) (var (pl 1 93) 0 (t.Class 0 false)) 11) (s.Value (e.Int (pl 1 99) (pos 1)))) ∷ [])
     (pl 1 102) ∷ []) 0 ((codes "v") ∷ (codes "main") ∷ []) []
 
--- class C { int v; } class Main { public static single void main(String[] args) { C x = new C(); C y = broadcast x from 0; C local z = (C local) y; println(Ti.thisProc()); } }
+-- class C { int v; } class Main { public static single void main(String[] args) { C x = new C(); C y = broadcast x from 0; C local z = (C
+-- local) y; println(Ti.thisProc()); } }
 abbrev pub a_cast_to_local : Setting
 a_cast_to_local = text 2 100000 (class_of (field t.Int 11 ∷ []) ∷ class_of [] ∷ [])
     (single_method 1 c.Void 12 c.Words ((s.Declare (pl 1 83) (plain (t.Class 0 false)) 0 (s.NewObject (pl 1 87) None 0)) ∷

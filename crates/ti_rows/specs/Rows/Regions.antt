@@ -8,7 +8,8 @@ use Rattle.ti_lang.specs.Program.Classes as c
 use Rattle.ti_lang.specs.Meaning.Processes.{Setting}
 use Rattle.ti_rows.specs.Texts.{pl, plain, single, var, single_var, xs, stms, class_of, field, single_method, text, alone}
 
--- class C { int v; } class Main { public static single void main(String[] args) { SharedRegion single r = new SharedRegion(); if (Ti.numProcs() > 0) { C x = new (r) C(); x.v = Ti.thisProc(); println(x.v); } r.delete(); println(9); } }
+-- class C { int v; } class Main { public static single void main(String[] args) { SharedRegion single r = new SharedRegion(); if
+-- (Ti.numProcs() > 0) { C x = new (r) C(); x.v = Ti.thisProc(); println(x.v); } r.delete(); println(9); } }
 abbrev pub a_region_is_deleted : Setting
 a_region_is_deleted = text 2 100000 (class_of (field t.Int 11 ∷ []) ∷ class_of [] ∷ [])
     (single_method 1 c.Void 12 c.Words ((s.Declare (pl 1 101) (single t.Region) 0 (s.NewRegion (pl 1 105))) ∷
@@ -20,7 +21,8 @@ a_region_is_deleted = text 2 100000 (class_of (field t.Int 11 ∷ []) ∷ class_
     (s.Call (e.Member (pl 1 208) (single_var (pl 1 206) 0 t.Region) 10 (xs ([])))) ∷
     (s.Print (pl 1 218) (s.Expression (e.Int (pl 1 226) (pos 9)))) ∷ []) (pl 1 230) ∷ []) 0 ((codes "v") ∷ (codes "main") ∷ []) []
 
--- class Main { public static single void main(String[] args) { SharedRegion single r = new SharedRegion(); SharedRegion single s = new SharedRegion(); println(r == s); r.delete(); println(2); } }
+-- class Main { public static single void main(String[] args) { SharedRegion single r = new SharedRegion(); SharedRegion single s = new
+-- SharedRegion(); println(r == s); r.delete(); println(2); } }
 abbrev pub two_regions : Setting
 two_regions = alone 2 100000 [] ((s.Declare (pl 1 82) (single t.Region) 0 (s.NewRegion (pl 1 86))) ∷
     (s.Declare (pl 1 126) (single t.Region) 1 (s.NewRegion (pl 1 130))) ∷
@@ -28,7 +30,8 @@ two_regions = alone 2 100000 [] ((s.Declare (pl 1 82) (single t.Region) 0 (s.New
     (single_var (pl 1 163) 1 t.Region)))) ∷ (s.Call (e.Member (pl 1 169) (single_var (pl 1 167) 0 t.Region) 10 (xs ([])))) ∷
     (s.Print (pl 1 179) (s.Expression (e.Int (pl 1 187) (pos 2)))) ∷ []) (pl 1 191)
 
--- class C { int v; } class Main { public static single void main(String[] args) { SharedRegion single r = new SharedRegion(); if (Ti.numProcs() > 0) { C x = new (r) C(); x.v = 1; r.delete(); } } }
+-- class C { int v; } class Main { public static single void main(String[] args) { SharedRegion single r = new SharedRegion(); if
+-- (Ti.numProcs() > 0) { C x = new (r) C(); x.v = 1; r.delete(); } } }
 abbrev pub a_region_in_use_by_a_variable : Setting
 a_region_in_use_by_a_variable = text 2 100000 (class_of (field t.Int 11 ∷ []) ∷ class_of [] ∷ [])
     (single_method 1 c.Void 12 c.Words ((s.Declare (pl 1 101) (single t.Region) 0 (s.NewRegion (pl 1 105))) ∷
@@ -39,7 +42,8 @@ a_region_in_use_by_a_variable = text 2 100000 (class_of (field t.Int 11 ∷ []) 
     (s.Call (e.Member (pl 1 180) (single_var (pl 1 178) 0 t.Region) 10 (xs ([])))) ∷ [])))) ∷ []) (pl 1 192) ∷ []) 0
     ((codes "v") ∷ (codes "main") ∷ []) []
 
--- class D { D d; } class Main { public static single void main(String[] args) { SharedRegion single r = new SharedRegion(); D o = new D(); if (Ti.numProcs() > 0) { D x = new (r) D(); o.d = x; } r.delete(); } }
+-- class D { D d; } class Main { public static single void main(String[] args) { SharedRegion single r = new SharedRegion(); D o = new D();
+-- if (Ti.numProcs() > 0) { D x = new (r) D(); o.d = x; } r.delete(); } }
 abbrev pub a_region_in_use_by_a_cell : Setting
 a_region_in_use_by_a_cell = text 2 100000 (class_of (field (t.Class 0 false) 11 ∷ []) ∷ class_of [] ∷ [])
     (single_method 1 c.Void 12 c.Words ((s.Declare (pl 1 99) (single t.Region) 0 (s.NewRegion (pl 1 103))) ∷
@@ -51,7 +55,8 @@ a_region_in_use_by_a_cell = text 2 100000 (class_of (field (t.Class 0 false) 11 
     [])))) ∷ (s.Call (e.Member (pl 1 195) (single_var (pl 1 193) 0 t.Region) 10 (xs ([])))) ∷ []) (pl 1 205) ∷ []) 0
     ((codes "d") ∷ (codes "main") ∷ []) []
 
--- class C { int v; } class Main { public static single void main(String[] args) { SharedRegion single r = new SharedRegion(); if (Ti.numProcs() > 0) { C x = new (r) C(); x.v = 1; } r.delete(); println(1); r.delete(); } }
+-- class C { int v; } class Main { public static single void main(String[] args) { SharedRegion single r = new SharedRegion(); if
+-- (Ti.numProcs() > 0) { C x = new (r) C(); x.v = 1; } r.delete(); println(1); r.delete(); } }
 abbrev pub a_region_deleted_twice : Setting
 a_region_deleted_twice = text 2 100000 (class_of (field t.Int 11 ∷ []) ∷ class_of [] ∷ [])
     (single_method 1 c.Void 12 c.Words ((s.Declare (pl 1 101) (single t.Region) 0 (s.NewRegion (pl 1 105))) ∷

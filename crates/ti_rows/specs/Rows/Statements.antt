@@ -8,7 +8,8 @@ use Rattle.ti_lang.specs.Program.Statements as s
 use Rattle.ti_lang.specs.Meaning.Processes.{Setting}
 use Rattle.ti_rows.specs.Texts.{pl, plain, var, each_var, xs, stms, alone}
 
--- class Main { public static single void main(String[] args) { { int x = 1; println(x); } { int x = 2; println(x); } int x = 3; println(x); } }
+-- class Main { public static single void main(String[] args) { { int x = 1; println(x); } { int x = 2; println(x); } int x = 3; println(x);
+-- } }
 abbrev pub blocks : Setting
 blocks = alone 1 100000 [] ((s.Block (stms ((s.Declare (pl 1 68) (plain t.Int) 0 (s.Value (e.Int (pl 1 72) (pos 1)))) ∷
     (s.Print (pl 1 75) (s.Expression (var (pl 1 83) 0 t.Int))) ∷ []))) ∷
@@ -17,7 +18,8 @@ blocks = alone 1 100000 [] ((s.Block (stms ((s.Declare (pl 1 68) (plain t.Int) 0
     (s.Declare (pl 1 120) (plain t.Int) 2 (s.Value (e.Int (pl 1 124) (pos 3)))) ∷
     (s.Print (pl 1 127) (s.Expression (var (pl 1 135) 2 t.Int))) ∷ []) (pl 1 139)
 
--- class Main { public static single void main(String[] args) { for (int i = 0; i < 2; i++) { int j = i * 2; println(j); } for (int i = 5; i > 4; i--) println(i); int k = 2; while (k > 0) { k -= 1; ; } println(k); } }
+-- class Main { public static single void main(String[] args) { for (int i = 0; i < 2; i++) { int j = i * 2; println(j); } for (int i = 5; i
+-- > 4; i--) println(i); int k = 2; while (k > 0) { k -= 1; ; } println(k); } }
 abbrev pub loops : Setting
 loops = alone 1 100000 [] ((s.For (pl 1 62) (s.SomeStm (s.Declare (pl 1 71) (plain t.Int) 0 (s.Value (e.Int (pl 1 75) (pos 0)))))
     (Some (e.Binary (pl 1 80) op.Less (var (pl 1 78) 0 t.Int) (e.Int (pl 1 82) (pos 2))))
@@ -33,7 +35,8 @@ loops = alone 1 100000 [] ((s.For (pl 1 62) (s.SomeStm (s.Declare (pl 1 71) (pla
     (s.Block (stms ((s.Update (pl 1 190) op.Subtract (var (pl 1 188) 3 t.Int) (e.Int (pl 1 193) (pos 1))) ∷ s.Empty ∷ [])))) ∷
     (s.Print (pl 1 200) (s.Expression (var (pl 1 208) 3 t.Int))) ∷ []) (pl 1 212)
 
--- class Main { public static single void main(String[] args) { for (int i = 0; i < 5; i++) { if (i == 1) continue; if (i == 3) break; println(i); } Ti.barrier(); } }
+-- class Main { public static single void main(String[] args) { for (int i = 0; i < 5; i++) { if (i == 1) continue; if (i == 3) break;
+-- println(i); } Ti.barrier(); } }
 abbrev pub jumps : Setting
 jumps = alone 1 100000 [] ((s.For (pl 1 62) (s.SomeStm (s.Declare (pl 1 71) (plain t.Int) 0 (s.Value (e.Int (pl 1 75) (pos 0)))))
     (Some (e.Binary (pl 1 80) op.Less (var (pl 1 78) 0 t.Int) (e.Int (pl 1 82) (pos 5))))
@@ -43,7 +46,8 @@ jumps = alone 1 100000 [] ((s.For (pl 1 62) (s.SomeStm (s.Declare (pl 1 71) (pla
     (s.Break (pl 1 126))) ∷ (s.Print (pl 1 133) (s.Expression (var (pl 1 141) 0 t.Int))) ∷ [])))) ∷ (s.Barrier (pl 1 150)) ∷ [])
     (pl 1 161)
 
--- class Main { public static single void main(String[] args) { foreach (p in [0:9]) { if (p[1] == 2) continue; if (p[1] == 5) break; println(p[1]); } int q = 7; println(q); } }
+-- class Main { public static single void main(String[] args) { foreach (p in [0:9]) { if (p[1] == 2) continue; if (p[1] == 5) break;
+-- println(p[1]); } int q = 7; println(q); } }
 abbrev pub jumps_in_foreach : Setting
 jumps_in_foreach = alone 1 100000 [] ((s.Foreach (pl 1 62) 0 (e.Rect (pl 1 76)
     (e.numbered_ranges (e.Plain (e.Int (pl 1 77) (pos 0)) (e.Int (pl 1 79) (pos 9)) ∷ [])))

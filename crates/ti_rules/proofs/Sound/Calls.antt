@@ -57,7 +57,8 @@ takes_all at places (Params types) ts same e =
     listed [] = refl
     listed (t ∷ rest) = ap suc (listed rest)
 
-pub call_there : (at : Place) (places : List Place) (m : Option NumberedMethod) (ts : List ValueType) → IsThere m → length places ≡ length ts → call_refusals at places m ts ≡ [] → IsThere (call_type m ts)
+pub call_there : (at : Place) (places : List Place) (m : Option NumberedMethod) (ts : List ValueType) → IsThere m → length places
+    ≡ length ts → call_refusals at places m ts ≡ [] → IsThere (call_type m ts)
 call_there at places None ts there same e = cc there.1
 call_there at places (Some m) ts there same e = where_there (takes m.params ts) (result_type m) (takes_all at places m.params ts same e)
 
@@ -111,7 +112,8 @@ exchange_there at t (u ∷ v ∷ ts) has count e = absurd (omega (arith, count))
 exchange_there at (Grid v n local) (u ∷ []) has count e =
     let mistake = mistaken at (((n == 1) && fits u v) || ((n == 1) && fits (as_local u) v)) (can_exchange (one_dim (Grid v n local)) (one_dim u)) in
     let global = not_refused (is_local v) Q3 at (nil_right mistake (refused_if (is_local v) Q3 at) e) in
-    let taken = not_mistaken at (((n == 1) && fits u v) || ((n == 1) && fits (as_local u) v)) (can_exchange (one_dim (Grid v n local)) (one_dim u)) (nil_left mistake (refused_if (is_local v) Q3 at) e) in
+    let taken = not_mistaken at (((n == 1) && fits u v) || ((n == 1) && fits (as_local u) v))
+    (can_exchange (one_dim (Grid v n local)) (one_dim u)) (nil_left mistake (refused_if (is_local v) Q3 at) e) in
     where_there (((n == 1) && fits u v) && not (is_local v)) Void (by (n == 1) (fits u v) (fits (as_local u) v) (is_local v) global (not_local v u global) taken)
   where
     by : (a b c d : Bool) → d ≡ false → (c ≡ true → b ≡ true) → (a && b) || (a && c) ≡ true → (a && b) && not d ≡ true
@@ -161,7 +163,9 @@ built_in_there at None t ts e = cc
 built_in_there at (Some b) t ts e =
     let rest = if not (length ts == arity b) then refused Y4 at else argument_refusals at b t ts in
     let others = else_of (has_member b t) rest Y1 at e in
-    arguments_there at b t ts (unless_of (has_member b t) rest Y1 at e) (equal_counts (length ts) (arity b) (unless_of (length ts == arity b) (argument_refusals at b t ts) Y4 at others)) (else_of (length ts == arity b) (argument_refusals at b t ts) Y4 at others)
+    arguments_there at b t ts (unless_of (has_member b t) rest Y1 at e)
+    (equal_counts (length ts) (arity b) (unless_of (length ts == arity b) (argument_refusals at b t ts) Y4 at others))
+    (else_of (length ts == arity b) (argument_refusals at b t ts) Y4 at others)
 
 pub member_there : (p : NumberedProgram) (at : Place) (places : List Place) (name : ℕ) (t : ValueType) (ts : List ValueType) → length places ≡ length ts → member_refusals p at places name t ts ≡ []
     → IsThere (member_given p t name ts).type

@@ -25,7 +25,8 @@ use Rattle.ti_rules.proofs.Sound.Calls.{call_there, member_there}
 
 -- ---- how many arguments there are
 
-joined_count : (o : Option ValueType) (q : Option (List ValueType)) (ts : List ValueType) (n : ℕ) → joined (one o) q ≡ Some ts → ((us : List ValueType) → q ≡ Some us → n ≡ length us) → n + 1 ≡ length ts
+joined_count : (o : Option ValueType) (q : Option (List ValueType)) (ts : List ValueType) (n : ℕ) → joined (one o) q ≡ Some ts
+    → ((us : List ValueType) → q ≡ Some us → n ≡ length us) → n + 1 ≡ length ts
 joined_count None q ts n e count = cc
 joined_count (Some t) None ts n e count = cc
 joined_count (Some t) (Some us) ts n e count =
@@ -47,7 +48,8 @@ map_there : {A B : Type 0} (f : A → B) (o : Option A) → IsThere o → IsTher
 map_there f None there = cc there.1
 map_there f (Some a) there = (f a, refl)
 
-called_there : (m : Option NumberedMethod) (o : Option (List ValueType)) (rule : List ValueType → List Refusal) → IsThere o → judged o rule ≡ [] → ((ts : List ValueType) → o ≡ Some ts → rule ts ≡ [] → IsThere (call_type m ts))
+called_there : (m : Option NumberedMethod) (o : Option (List ValueType)) (rule : List ValueType → List Refusal) → IsThere o → judged o rule
+    ≡ [] → ((ts : List ValueType) → o ≡ Some ts → rule ts ≡ [] → IsThere (call_type m ts))
     → IsThere (called m o).type
 called_there m None rule there e gives = cc there.1
 called_there m (Some ts) rule there e gives = gives ts refl e
@@ -91,19 +93,26 @@ mutual
       let inner = each_left (refusals_at p s) (parts_of_all xs) (x.Point at xs ∷ []) e in
       let own = node_alone (refusals_at p s) (parts_of_all xs) (x.Point at xs) e in
       let rule = λ (ts : List ValueType). mistaken at (all_ints ts) false in
-      judged_there (operands p s xs) rule point_literal (have_types p s xs names inner (nil_left (all_misplaced p s xs) (judged (operands p s xs) rule) own)) (nil_right (all_misplaced p s xs) (judged (operands p s xs) rule) own)
+      judged_there (operands p s xs) rule point_literal (have_types p s xs names inner
+      (nil_left (all_misplaced p s xs) (judged (operands p s xs) rule) own))
+      (nil_right (all_misplaced p s xs) (judged (operands p s xs) rule) own)
       (λ ts fine. where_there (all_ints ts) (Pt (length ts)) (not_mistaken at (all_ints ts) false fine))
   has_type p s (x.Rect at ranges) names e =
       let inner = each_left (refusals_at p s) (parts_of_ranges ranges) (x.Rect at ranges ∷ []) e in
       let own = node_alone (refusals_at p s) (parts_of_ranges ranges) (x.Rect at ranges) e in
       let rule = λ (ts : List ValueType). mistaken at (is_some (rect_literal (range_count ranges) ts)) (is_some (rect_literal (range_count ranges) (map one_dim ts))) in
-      judged_there (bounds p s ranges) rule (rect_literal (range_count ranges)) (have_bounds p s ranges names inner (nil_left (bounds_misplaced p s ranges) (judged (bounds p s ranges) rule) own)) (nil_right (bounds_misplaced p s ranges) (judged (bounds p s ranges) rule) own)
-      (λ ts fine. there_is (rect_literal (range_count ranges) ts) (not_mistaken at (is_some (rect_literal (range_count ranges) ts)) (is_some (rect_literal (range_count ranges) (map one_dim ts))) fine))
+      judged_there (bounds p s ranges) rule (rect_literal (range_count ranges))
+      (have_bounds p s ranges names inner (nil_left (bounds_misplaced p s ranges) (judged (bounds p s ranges) rule) own))
+      (nil_right (bounds_misplaced p s ranges) (judged (bounds p s ranges) rule) own)
+      (λ ts fine. there_is (rect_literal (range_count ranges) ts) (not_mistaken at (is_some (rect_literal (range_count ranges) ts))
+      (is_some (rect_literal (range_count ranges) (map one_dim ts))) fine))
   has_type p s (x.Unary at op a) names e =
       let inner = each_left (refusals_at p s) (parts a) (x.Unary at op a ∷ []) e in
       let own = node_alone (refusals_at p s) (parts a) (x.Unary at op a) e in
       let rule = λ (t : ValueType). mistaken at (is_some (unary_type op t)) false in
-      judged_there (operand_type p s a) rule (unary_type op) (has_operand p s a (has_type p s a names inner) (nil_left (misplaced p s a) (judged (operand_type p s a) rule) own)) (nil_right (misplaced p s a) (judged (operand_type p s a) rule) own)
+      judged_there (operand_type p s a) rule (unary_type op) (has_operand p s a (has_type p s a names inner)
+      (nil_left (misplaced p s a) (judged (operand_type p s a) rule) own))
+      (nil_right (misplaced p s a) (judged (operand_type p s a) rule) own)
       (λ t fine. there_is (unary_type op t) (not_mistaken at (is_some (unary_type op t)) false fine))
   has_type p s (x.Binary at op a b) names e =
       let inner = each_left (refusals_at p s) (parts a ++ parts b) (x.Binary at op a b ∷ []) e in
@@ -120,14 +129,17 @@ mutual
       let own = node_alone (refusals_at p s) (parts a) (x.Cast at to a) e in
       let rule = λ (t : ValueType). mistaken at (casts to.type t) (casts (one_dim to.type) (one_dim t)) in
       let places = nil_left (type_word_refusals false to ++ misplaced p s a) (judged (operand_type p s a) rule) own in
-      judged_there (operand_type p s a) rule (λ t. where_true (casts to.type t) to.type) (has_operand p s a (has_type p s a names inner) (nil_right (type_word_refusals false to) (misplaced p s a) places))
+      judged_there (operand_type p s a) rule (λ t. where_true (casts to.type t) to.type)
+      (has_operand p s a (has_type p s a names inner) (nil_right (type_word_refusals false to) (misplaced p s a) places))
       (nil_right (type_word_refusals false to ++ misplaced p s a) (judged (operand_type p s a) rule) own)
       (λ t fine. where_there (casts to.type t) to.type (not_mistaken at (casts to.type t) (casts (one_dim to.type) (one_dim t)) fine))
   has_type p s (x.Select at a name) names e =
       let inner = each_left (refusals_at p s) (parts a) (x.Select at a name ∷ []) e in
       let own = node_alone (refusals_at p s) (parts a) (x.Select at a name) e in
       let rule = λ (t : ValueType). mistaken at (is_some (select_type p t name)) false in
-      judged_there (operand_type p s a) rule (λ t. select_type p t name) (has_operand p s a (has_type p s a names inner) (nil_left (misplaced p s a) (judged (operand_type p s a) rule) own)) (nil_right (misplaced p s a) (judged (operand_type p s a) rule) own)
+      judged_there (operand_type p s a) rule (λ t. select_type p t name)
+      (has_operand p s a (has_type p s a names inner) (nil_left (misplaced p s a) (judged (operand_type p s a) rule) own))
+      (nil_right (misplaced p s a) (judged (operand_type p s a) rule) own)
       (λ t fine. there_is (select_type p t name) (not_mistaken at (is_some (select_type p t name)) false fine))
   has_type p s (x.Member at a name args) names e =
       let inner = each_left (refusals_at p s) (parts a ++ parts_of_all args) (x.Member at a name args ∷ []) e in
@@ -150,28 +162,41 @@ mutual
       (nil_right (misplaced p s a ++ all_misplaced p s xs) (both_judged (operand_type p s a) (operands p s xs) rule) own)
       (λ t ts fine. there_is (index_type t ts) (not_mistaken at (is_some (index_type t ts)) (other_indices t ts) fine))
 
-  have_types : (p : NumberedProgram) (s : ScopeContents) (xs : NumberedExps) → AreKnown p s xs → flat_map (refusals_at p s) (parts_of_all xs) ≡ [] → all_misplaced p s xs ≡ [] → IsThere (operands p s xs)
+  have_types : (p : NumberedProgram) (s : ScopeContents) (xs : NumberedExps) → AreKnown p s xs
+      → flat_map (refusals_at p s) (parts_of_all xs) ≡ [] → all_misplaced p s xs ≡ [] → IsThere (operands p s xs)
   have_types p s x.NoExp names e places = ([], refl)
   have_types p s (x.MoreExp a rest) names e places =
       joined_there (one (operand_type p s a)) (operands p s rest)
-      (one_there (operand_type p s a) (has_operand p s a (has_type p s a names.0 (each_left (refusals_at p s) (parts a) (parts_of_all rest) e)) (nil_left (misplaced p s a) (all_misplaced p s rest) places)))
+      (one_there (operand_type p s a) (has_operand p s a (has_type p s a names.0
+      (each_left (refusals_at p s) (parts a) (parts_of_all rest) e))
+      (nil_left (misplaced p s a) (all_misplaced p s rest) places)))
       (have_types p s rest names.1 (each_right (refusals_at p s) (parts a) (parts_of_all rest) e) (nil_right (misplaced p s a) (all_misplaced p s rest) places))
 
-  has_bound : (p : NumberedProgram) (s : ScopeContents) (r : NumberedRange) → IsKnownRange p s r → flat_map (refusals_at p s) (parts_of_range r) ≡ [] → bound_misplaced p s r ≡ [] → IsThere (bound p s r)
+  has_bound : (p : NumberedProgram) (s : ScopeContents) (r : NumberedRange) → IsKnownRange p s r
+      → flat_map (refusals_at p s) (parts_of_range r) ≡ [] → bound_misplaced p s r ≡ [] → IsThere (bound p s r)
   has_bound p s (x.Plain low high) names e places =
       joined_there (one (operand_type p s low)) (one (operand_type p s high))
-      (one_there (operand_type p s low) (has_operand p s low (has_type p s low names.0 (each_left (refusals_at p s) (parts low) (parts high) e)) (nil_left (misplaced p s low) (misplaced p s high) places)))
-      (one_there (operand_type p s high) (has_operand p s high (has_type p s high names.1 (each_right (refusals_at p s) (parts low) (parts high) e)) (nil_right (misplaced p s low) (misplaced p s high) places)))
+      (one_there (operand_type p s low) (has_operand p s low (has_type p s low names.0
+      (each_left (refusals_at p s) (parts low) (parts high) e)) (nil_left (misplaced p s low) (misplaced p s high) places)))
+      (one_there (operand_type p s high) (has_operand p s high (has_type p s high names.1
+      (each_right (refusals_at p s) (parts low) (parts high) e)) (nil_right (misplaced p s low) (misplaced p s high) places)))
   has_bound p s (x.Stepped low high step) names e places =
       let first = each_left (refusals_at p s) (parts low ++ parts high) (parts step) e in
       let first_places = nil_left (misplaced p s low ++ misplaced p s high) (misplaced p s step) places in
       joined_there (joined (one (operand_type p s low)) (one (operand_type p s high))) (one (operand_type p s step))
       (joined_there (one (operand_type p s low)) (one (operand_type p s high))
-      (one_there (operand_type p s low) (has_operand p s low (has_type p s low names.0 (each_left (refusals_at p s) (parts low) (parts high) first)) (nil_left (misplaced p s low) (misplaced p s high) first_places)))
-      (one_there (operand_type p s high) (has_operand p s high (has_type p s high names.1 (each_right (refusals_at p s) (parts low) (parts high) first)) (nil_right (misplaced p s low) (misplaced p s high) first_places))))
-      (one_there (operand_type p s step) (has_operand p s step (has_type p s step names.2 (each_right (refusals_at p s) (parts low ++ parts high) (parts step) e)) (nil_right (misplaced p s low ++ misplaced p s high) (misplaced p s step) places)))
+      (one_there (operand_type p s low) (has_operand p s low (has_type p s low names.0
+      (each_left (refusals_at p s) (parts low) (parts high) first))
+      (nil_left (misplaced p s low) (misplaced p s high) first_places)))
+      (one_there (operand_type p s high) (has_operand p s high (has_type p s high names.1
+      (each_right (refusals_at p s) (parts low) (parts high) first))
+      (nil_right (misplaced p s low) (misplaced p s high) first_places))))
+      (one_there (operand_type p s step) (has_operand p s step (has_type p s step names.2
+      (each_right (refusals_at p s) (parts low ++ parts high) (parts step) e))
+      (nil_right (misplaced p s low ++ misplaced p s high) (misplaced p s step) places)))
 
-  have_bounds : (p : NumberedProgram) (s : ScopeContents) (rs : NumberedRanges) → AreKnownRanges p s rs → flat_map (refusals_at p s) (parts_of_ranges rs) ≡ [] → bounds_misplaced p s rs ≡ [] → IsThere (bounds p s rs)
+  have_bounds : (p : NumberedProgram) (s : ScopeContents) (rs : NumberedRanges) → AreKnownRanges p s rs
+      → flat_map (refusals_at p s) (parts_of_ranges rs) ≡ [] → bounds_misplaced p s rs ≡ [] → IsThere (bounds p s rs)
   have_bounds p s x.NoRange names e places = ([], refl)
   have_bounds p s (x.MoreRange r rest) names e places =
       joined_there (bound p s r) (bounds p s rest)

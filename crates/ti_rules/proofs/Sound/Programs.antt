@@ -37,7 +37,8 @@ in_methods p whole f head is (m ∷ rest) e =
 pub no_type_refusal : (p : NumberedProgram) (x : Standing) → BreaksNothing p → Contains (standing_in p) x → standing_refusals p x ≡ []
 no_type_refusal p x fine stands =
     each_one (standing_refusals p) (standing_in p) x
-    (in_methods p (method_refusals p) (standing_refusals p) (λ m. head_refusals m ++ end_refusals m) (λ m. refl) p.methods (nil_right (flat_map class_refusals p.classes) (flat_map (method_refusals p) p.methods) fine.types)) stands
+    (in_methods p (method_refusals p) (standing_refusals p) (λ m. head_refusals m ++ end_refusals m) (λ m. refl) p.methods
+    (nil_right (flat_map class_refusals p.classes) (flat_map (method_refusals p) p.methods) fine.types)) stands
 
 pub no_single_refusal : (p : NumberedProgram) (x : Standing) → BreaksNothing p → Contains (standing_in p) x → standing_single_refusals p x ≡ []
 no_single_refusal p x fine stands =

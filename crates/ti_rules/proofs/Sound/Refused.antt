@@ -54,7 +54,9 @@ no_misfit at t u e = by (fits t u) refl
   where
     by : (b : Bool) → fits t u ≡ b → fits t u ≡ true
     by true is = is
-    by false is = absurd (some (if fits (one_dim t) (one_dim u) then Y5 else if fits (as_local t) u then Q1 else Y2) (sym (ap (λ b. if b then [] else refused (if fits (one_dim t) (one_dim u) then Y5 else if fits (as_local t) u then Q1 else Y2) at) is) ∙ e))
+    by false is = absurd (some (if fits (one_dim t) (one_dim u) then Y5 else if fits (as_local t) u then Q1 else Y2)
+        (sym (ap (λ b. if b then [] else refused (if fits (one_dim t) (one_dim u) then Y5 else if fits (as_local t) u then Q1 else Y2) at)
+        is) ∙ e))
       where
         some : (rule : Rule) → refused rule at ≡ [] → ⊥
         some rule e = cc
@@ -89,7 +91,8 @@ both_there (Some a) None rule give there other e gives = cc other.1
 both_there (Some a) (Some b) rule give there other e gives = gives a b e
 
 -- what stands inside another expression and can stand there has a type there
-operand_is : (type : Option ValueType) (is_call : Bool) (at : Place) → IsThere type → misplaced_at at (record { type = type; is_call = is_call }) ≡ [] → IsThere (operand (record { type = type; is_call = is_call }))
+operand_is : (type : Option ValueType) (is_call : Bool) (at : Place) → IsThere type
+    → misplaced_at at (record { type = type; is_call = is_call }) ≡ [] → IsThere (operand (record { type = type; is_call = is_call }))
 operand_is None is_call at there e = cc there.1
 operand_is (Some t) true at there e = cc
 operand_is (Some t) false at there e = by (is_void t) refl

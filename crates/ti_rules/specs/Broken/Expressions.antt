@@ -41,21 +41,26 @@ refusals_at p s (x.Point at xs) =
     all_misplaced p s xs ++ judged (operands p s xs) (λ ts. mistaken at (all_ints ts) false)
 -- the bounds and steps of ranges are ints, or those of a single range points of one dimension
 refusals_at p s (x.Rect at ranges) =
-    bounds_misplaced p s ranges ++ judged (bounds p s ranges) (λ ts. mistaken at (is_some (rect_literal (range_count ranges) ts)) (is_some (rect_literal (range_count ranges) (map one_dim ts))))
+    bounds_misplaced p s ranges ++ judged (bounds p s ranges) (λ ts. mistaken at (is_some (rect_literal (range_count ranges) ts))
+    (is_some (rect_literal (range_count ranges) (map one_dim ts))))
 refusals_at p s (x.Unary at op a) =
     misplaced p s a ++ judged (operand_type p s a) (λ t. mistaken at (is_some (unary_type op t)) false)
 refusals_at p s (x.Binary at op a b) =
-    (misplaced p s a ++ misplaced p s b) ++ both_judged (operand_type p s a) (operand_type p s b) (λ t u. mistaken at (is_some (binary_type op t u)) (is_some (binary_type op (one_dim t) (one_dim u))))
+    (misplaced p s a ++ misplaced p s b) ++ both_judged (operand_type p s a) (operand_type p s b)
+    (λ t u. mistaken at (is_some (binary_type op t u)) (is_some (binary_type op (one_dim t) (one_dim u))))
 -- no cast is to a single type
 refusals_at p s (x.Cast at to a) =
-    (type_word_refusals false to ++ misplaced p s a) ++ judged (operand_type p s a) (λ t. mistaken at (casts to.type t) (casts (one_dim to.type) (one_dim t)))
+    (type_word_refusals false to ++ misplaced p s a) ++ judged (operand_type p s a)
+    (λ t. mistaken at (casts to.type t) (casts (one_dim to.type) (one_dim t)))
 -- an object of a class that has the field
 refusals_at p s (x.Select at a name) =
     misplaced p s a ++ judged (operand_type p s a) (λ t. mistaken at (is_some (select_type p t name)) false)
 refusals_at p s (x.Member at a name args) =
-    (misplaced p s a ++ all_misplaced p s args) ++ both_judged (operand_type p s a) (operands p s args) (λ t ts. member_refusals p at (places_of args) name t ts)
+    (misplaced p s a ++ all_misplaced p s args) ++ both_judged (operand_type p s a) (operands p s args)
+    (λ t ts. member_refusals p at (places_of args) name t ts)
 refusals_at p s (x.Index at a xs) =
-    (misplaced p s a ++ all_misplaced p s xs) ++ both_judged (operand_type p s a) (operands p s xs) (λ t ts. mistaken at (is_some (index_type t ts)) (other_indices t ts))
+    (misplaced p s a ++ all_misplaced p s xs) ++ both_judged (operand_type p s a) (operands p s xs)
+    (λ t ts. mistaken at (is_some (index_type t ts)) (other_indices t ts))
 -- a literal, a name, `this`, the own number and the number of processes break no rule
 refusals_at p s e = []
 

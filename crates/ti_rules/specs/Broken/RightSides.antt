@@ -33,7 +33,8 @@ region_refusals p s region = option_map_or (inner_refusals p s) region []
 -- what a new grid spreads over; its ranges are read as in a literal
 abbrev pub dims_refusals : NumberedProgram → ScopeContents → NumberedDims → List Refusal
 dims_refusals p s (st.Domain e) = inner_refusals p s e
-dims_refusals p s (st.Ranges ranges) = flat_map (refusals_at p s) (parts_of_ranges (numbered_ranges ranges)) ++ bounds_misplaced p s (numbered_ranges ranges)
+dims_refusals p s (st.Ranges ranges) =
+    flat_map (refusals_at p s) (parts_of_ranges (numbered_ranges ranges)) ++ bounds_misplaced p s (numbered_ranges ranges)
 
 -- the same spread but for its numbers of dimensions
 abbrev pub one_dim_spread : Spread → Spread
@@ -50,7 +51,9 @@ initial_refusals p s (st.NewObject at region class) =
 -- a grid is placed in a region and spreads over a rectangular domain; its elements aren't single
 initial_refusals p s (st.NewGrid at region element dims_at dims) =
     ((region_refusals p s region ++ type_word_refusals false element) ++ dims_refusals p s dims)
-    ++ both_judged (region_type p s region) (spread p s dims) (λ r d. mistaken at (is_some (new_grid_type element.type r d)) (is_some (new_grid_type element.type r (one_dim_spread d))))
+    ++ both_judged (region_type p s region) (spread p s dims) (λ r d. mistaken at (is_some (new_grid_type element.type r d))
+    (is_some (new_grid_type element.type r (one_dim_spread d))))
 -- the root of a broadcast is an int, and its value can be sent
 initial_refusals p s (st.Broadcast at e root) =
-    (inner_refusals p s e ++ inner_refusals p s root) ++ both_judged (operand_type p s e) (operand_type p s root) (λ t r. mistaken at (is_some (broadcast_type t r)) false)
+    (inner_refusals p s e ++ inner_refusals p s root) ++ both_judged (operand_type p s e) (operand_type p s root)
+    (λ t r. mistaken at (is_some (broadcast_type t r)) false)

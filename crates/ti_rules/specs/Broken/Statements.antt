@@ -42,7 +42,8 @@ result_refusals at r t = if narrows r t then [] else misfit at r t
 -- the operator takes a target and a value of these types, and what it gives goes into the target
 abbrev pub update_refusals : Place → BinaryOperator → ValueType → ValueType → List Refusal
 update_refusals at op t u =
-    mistaken at (is_some (binary_type op t u)) (is_some (binary_type op (one_dim t) (one_dim u))) ++ judged (binary_type op t u) (λ r. result_refusals at r t)
+    mistaken at (is_some (binary_type op t u)) (is_some (binary_type op (one_dim t) (one_dim u)))
+    ++ judged (binary_type op t u) (λ r. result_refusals at r t)
 
 -- `t++` is `t += 1`, and `t--` is `t -= 1`
 abbrev pub operator_of : StepOperator → BinaryOperator
@@ -58,7 +59,8 @@ is_boolean _ = false
 
 -- a condition
 abbrev pub condition_refusals : NumberedProgram → ScopeContents → NumberedExp → List Refusal
-condition_refusals p s c = inner_refusals p s c ++ judged (operand_type p s c) (λ t. refused_if (not (is_boolean t)) Y3 (place_of_numbered c))
+condition_refusals p s c =
+    inner_refusals p s c ++ judged (operand_type p s c) (λ t. refused_if (not (is_boolean t)) Y3 (place_of_numbered c))
 
 -- the condition of a `for`, if it has one
 abbrev pub maybe_condition_refusals : NumberedProgram → ScopeContents → Option NumberedExp → List Refusal
@@ -97,16 +99,20 @@ return_refusals p s at result (Some e) = inner_refusals p s e ++ judged (operand
 -- what is wrong with a statement that has this around it, apart from what is wrong with the statements in it
 abbrev pub statement_refusals : NumberedProgram → Around → NumberedStm → List Refusal
 statement_refusals p around (st.Declare at type variable value) =
-    (type_word_refusals true type ++ initial_refusals p (scope_of around) value) ++ judged (initial_type p (scope_of around) value) (λ t. misfit at t type.type)
+    (type_word_refusals true type ++ initial_refusals p (scope_of around) value)
+    ++ judged (initial_type p (scope_of around) value) (λ t. misfit at t type.type)
 statement_refusals p around (st.Assign at target value) =
     (exp_refusals p (scope_of around) target ++ initial_refusals p (scope_of around) value)
-    ++ both_judged (operand_type p (scope_of around) target) (initial_type p (scope_of around) value) (λ t u. write_refusals p (scope_of around) at target (misfit at u t))
+    ++ both_judged (operand_type p (scope_of around) target) (initial_type p (scope_of around) value)
+    (λ t u. write_refusals p (scope_of around) at target (misfit at u t))
 statement_refusals p around (st.Update at op target e) =
     (exp_refusals p (scope_of around) target ++ value_refusals p (scope_of around) e)
-    ++ both_judged (operand_type p (scope_of around) target) (value_type p (scope_of around) e) (λ t u. write_refusals p (scope_of around) at target (update_refusals at op t u))
+    ++ both_judged (operand_type p (scope_of around) target) (value_type p (scope_of around) e)
+    (λ t u. write_refusals p (scope_of around) at target (update_refusals at op t u))
 statement_refusals p around (st.Step at op target) =
     exp_refusals p (scope_of around) target
-    ++ judged (operand_type p (scope_of around) target) (λ t. write_refusals p (scope_of around) at target (update_refusals at (operator_of op) t Int))
+    ++ judged (operand_type p (scope_of around) target) (λ t. write_refusals p (scope_of around) at target
+    (update_refusals at (operator_of op) t Int))
 statement_refusals p around (st.Call e) = exp_refusals p (scope_of around) e
 statement_refusals p around (st.Print at what) = print_refusals p (scope_of around) at what
 statement_refusals p around (st.If at c a) = condition_refusals p (scope_of around) c
@@ -115,7 +121,8 @@ statement_refusals p around (st.While at c body) = condition_refusals p (scope_o
 statement_refusals p around (st.For at first c update body) = maybe_condition_refusals p (scope_of around) c
 -- a foreach runs over a domain
 statement_refusals p around (st.Foreach at number domain body) =
-    inner_refusals p (scope_of around) domain ++ judged (operand_type p (scope_of around) domain) (λ t. mistaken at (is_some (domain_dim t)) false)
+    inner_refusals p (scope_of around) domain ++ judged (operand_type p (scope_of around) domain)
+    (λ t. mistaken at (is_some (domain_dim t)) false)
 -- a jump stands in a loop
 statement_refusals p around (st.Break at) = refused_if (is_none around.jump_has) Y8 at
 statement_refusals p around (st.Continue at) = refused_if (is_none around.jump_has) Y8 at

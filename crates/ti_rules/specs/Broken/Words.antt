@@ -38,7 +38,8 @@ same_word _ _ = false
 -- of modifiers behind others, those whose word stands before them
 abbrev pub repeated_modifiers : List Modifier → List Modifier → List Refusal
 repeated_modifiers before [] = []
-repeated_modifiers before (m ∷ rest) = refused_if (list_any (λ (other : Modifier). same_word m.word other.word) before) Y7 m.place ++ repeated_modifiers (m ∷ before) rest
+repeated_modifiers before (m ∷ rest) =
+    refused_if (list_any (λ (other : Modifier). same_word m.word other.word) before) Y7 m.place ++ repeated_modifiers (m ∷ before) rest
 
 -- ---- words of types
 
@@ -55,7 +56,8 @@ is_grid _ = false
 -- a word behind what a type begins with: `single` belongs to what may be single and is neither a class nor a grid, `local` to a class
 abbrev pub base_word_refusals : Bool → ValueType → Qualifier → List Refusal
 base_word_refusals may_be_single t q =
-    refused_if (if qualifier.is_single_word q.word then (is_object (base_of t) || is_grid t) || not may_be_single else not (is_object (base_of t))) Y7 q.place
+    refused_if (if qualifier.is_single_word q.word then (is_object (base_of t) || is_grid t) || not may_be_single else not
+    (is_object (base_of t))) Y7 q.place
 
 -- a word behind a bracket: a grid isn't single
 abbrev pub grid_word_refusals : Qualifier → List Refusal
@@ -68,7 +70,8 @@ grid_refusals g = repeated_qualifiers [] g.qualifiers ++ flat_map grid_word_refu
 -- the words of a type, that of something that may be single or of something that may not
 abbrev pub type_word_refusals : Bool → NumberedType → List Refusal
 type_word_refusals may_be_single t =
-    (repeated_qualifiers [] t.qualifiers ++ flat_map (base_word_refusals may_be_single t.type) t.qualifiers) ++ flat_map grid_refusals t.grids
+    (repeated_qualifiers [] t.qualifiers ++ flat_map (base_word_refusals may_be_single t.type) t.qualifiers)
+    ++ flat_map grid_refusals t.grids
 
 -- ---- modifiers
 

@@ -19,16 +19,19 @@ NoneStands places = (i : ℕ) → slice_index_or places i None ≡ None
 -- one of the passes has the number k, and the seat tells where the process stands after what it has seen
 abbrev pub IsKnown : {V : Type 0} {g : _} → Code → Setting → ℕ → Seat → Bool → List (Pass V Entry g) → Type 0
 IsKnown code s k seat wants [] = ⊥
-IsKnown code s k seat wants (p ∷ ps) = ((number_of p ≡ k) × Stays code s (entries_in (seen_by p)) k seat wants) ⊎ IsKnown code s k seat wants ps
+IsKnown code s k seat wants (p ∷ ps) =
+    ((number_of p ≡ k) × Stays code s (entries_in (seen_by p)) k seat wants) ⊎ IsKnown code s k seat wants ps
 
 -- the process of each pass has its place
 abbrev pub ArePlaced : {V : Type 0} {g : _} → ℕ → List (Option Seat) → List (Pass V Entry g) → Type 0
 ArePlaced procs places [] = Unit {0}
-ArePlaced procs places (p ∷ ps) = (number_of p < procs) × ((seat : Seat) × (at_place procs places (number_of p) ≡ Some seat)) × ArePlaced procs places ps
+ArePlaced procs places (p ∷ ps) =
+    (number_of p < procs) × ((seat : Seat) × (at_place procs places (number_of p) ≡ Some seat)) × ArePlaced procs places ps
 
 -- of each process that stands at its place a pass came back
 abbrev pub IsBack : {V : Type 0} {g : _} → Code → Setting → List (Option Seat) → List (Pass V Entry g) → Bool → Type 0
-IsBack code s places passes wants = (k : ℕ) (seat : Seat) → k < s.procs → at_place s.procs places k ≡ Some seat → IsKnown code s k seat wants passes
+IsBack code s places passes wants =
+    (k : ℕ) (seat : Seat) → k < s.procs → at_place s.procs places k ≡ Some seat → IsKnown code s k seat wants passes
 
 -- the seats tell where all processes stand
 abbrev pub AreSeated : Code → Setting → List Entry → List Seat → Bool → Type 0

@@ -12,7 +12,8 @@ use Rattle.ti_runtime.specs.Mirrors.Team.{IsTold, Seated}
 abbrev pub entries_in : List (ℕ × Entry) → List Entry
 entries_in log = map (λ (x : ℕ × Entry). x.1) log
 
--- after these entries the seat tells whether process i has its end, which was told their answers, and, unless memory was wanting, where it stands
+-- after these entries the seat tells whether process i has its end, which was told their answers, and, unless memory was wanting, where it
+-- stands
 pub record Stays (code : Code) (s : Setting) (es : List Entry) (i : ℕ) (seat : Seat) (wants : Bool) : Type 0 where
   pub ended : has_end i es ≡ seat.ended
   pub told : IsTold code s es i seat

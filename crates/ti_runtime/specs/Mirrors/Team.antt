@@ -105,7 +105,8 @@ pub record GoesOn (code : Code) (s : Setting) (es : List Entry) (i : ℕ) (old :
 -- the run stops at process i: with its fault, behind which it stands where it stood, or for want of memory before its entry or behind it
 abbrev pub StopsAt : Code → Setting → List Entry → ℕ → List Entry → Seat → Stop → Type 0
 StopsAt code s es i all new stop.Faulted = (t : Takes s es i all) × (is_fault t.entry.act ≡ true) × Seated code s all i new
-StopsAt code s es i all new stop.Memory = ((all ≡ es) × (has_end i es ≡ false)) ⊎ ((t : Takes s es i all) × (is_fault t.entry.act ≡ false) × (is_end t.entry.act ≡ false))
+StopsAt code s es i all new stop.Memory =
+    ((all ≡ es) × (has_end i es ≡ false)) ⊎ ((t : Takes s es i all) × (is_fault t.entry.act ≡ false) × (is_end t.entry.act ≡ false))
 
 -- what the turn of process i makes of the entries and of its seat
 abbrev pub TurnLeaves : Code → Setting → List Entry → ℕ → Seat → List Entry → Seat → Result Turn Stop → Type 0

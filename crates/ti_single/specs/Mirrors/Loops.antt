@@ -17,7 +17,8 @@ abbrev mutual
   loop_in at (st.For place first c update body) =
       if same_place at place then Some (st.For place first c update body) else
       option_or (loop_in_maybe at first) (option_or (loop_in_maybe at update) (loop_in at body))
-  loop_in at (st.Foreach place variable domain body) = if same_place at place then Some (st.Foreach place variable domain body) else loop_in at body
+  loop_in at (st.Foreach place variable domain body) =
+      if same_place at place then Some (st.Foreach place variable domain body) else loop_in at body
   loop_in at x = None
 
   -- in a statement, if there is one

@@ -113,5 +113,6 @@ Departs c old r new false = (k : ℕ) (rest : List Answer) → Comes (process_of
 abbrev pub Meets : NumberedProgram → Slice → Answer → Slice → Bool → Type 0
 Meets c old r new true =
     IsFree c (process_of c new.walker)
-    × ((k : ℕ) (rest : List Answer) (x : SliceStep) → Comes (process_of c new.walker) new.gone.items (k + 1) rest x → Comes (process_of c old.walker) old.gone.items k (r ∷ rest) x)
+    × ((k : ℕ) (rest : List Answer) (x : SliceStep) → Comes (process_of c new.walker) new.gone.items (k + 1) rest x
+    → Comes (process_of c old.walker) old.gone.items k (r ∷ rest) x)
 Meets c old r new false = (k : ℕ) (rest : List Answer) → Comes (process_of c old.walker) old.gone.items k (r ∷ rest) (answer.Unfit k)

@@ -28,7 +28,8 @@ single_found env p x found = if is_single_declared p.declared then (given env p 
 -- what a statement comes to in the slice that is a call, if it is one
 abbrev pub SingleCallComes : Env → NumberedStm → List Answer → Option (Result (Move × Bor (List Answer)) Stop) → Option Call → Type 0
 SingleCallComes env x answers None call = call ≡ None
-SingleCallComes env x answers (Some r) call = (c : Call) × (call ≡ Some c) × ComesAs (move_of env x) r (single_calling env (receiver_of x) c answers)
+SingleCallComes env x answers (Some r) call =
+    (c : Call) × (call ≡ Some c) × ComesAs (move_of env x) r (single_calling env (receiver_of x) c answers)
 
 -- what a right side comes to goes to a single receiver
 abbrev pub single_received : Env → Receiver → Asking Held → Asking move.Move

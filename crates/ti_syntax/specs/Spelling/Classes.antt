@@ -15,20 +15,24 @@ use Rattle.ti_syntax.specs.Spelling.Statements.{Items}
 
 -- one or more parameters
 pub data ParamList : List Token → List ParamTree → Type 0 where
-  last : {l : List Token} {ty : TypeTree} (t : Token) {name : List ℕ} → Typed l ty → t.kind ≡ k.Name name → ParamList (l ++ t ∷ []) (record { ty = ty; place = t.place; name = name } ∷ [])
-  more : {l m : List Token} {ty : TypeTree} {ps : List ParamTree} (t c : Token) {name : List ℕ} → Typed l ty → t.kind ≡ k.Name name → c.kind ≡ k.Comma → ParamList m ps
+  last : {l : List Token} {ty : TypeTree} (t : Token) {name : List ℕ} → Typed l ty → t.kind ≡ k.Name name
+      → ParamList (l ++ t ∷ []) (record { ty = ty; place = t.place; name = name } ∷ [])
+  more : {l m : List Token} {ty : TypeTree} {ps : List ParamTree} (t c : Token) {name : List ℕ} → Typed l ty → t.kind ≡ k.Name name → c.kind
+      ≡ k.Comma → ParamList m ps
       → ParamList (l ++ t ∷ c ∷ m) (record { ty = ty; place = t.place; name = name } ∷ ps)
 
 -- what stands between the parentheses of a method
 pub data Parameters : List Token → ParamsTree → Type 0 where
   none : Parameters [] (Params [])
-  words : (s o c t : Token) {name : List ℕ} → s.kind ≡ k.KeywordString → o.kind ≡ k.LeftBracket → c.kind ≡ k.RightBracket → t.kind ≡ k.Name name
+  words : (s o c t : Token) {name : List ℕ} → s.kind ≡ k.KeywordString → o.kind ≡ k.LeftBracket → c.kind ≡ k.RightBracket → t.kind
+      ≡ k.Name name
       → Parameters (s ∷ o ∷ c ∷ t ∷ []) (Words t.place name)
   typed : {l : List Token} {ps : List ParamTree} → ParamList l ps → Parameters l (Params ps)
 
 -- a method from its `(` on; the last token is its closing `}`
 pub data Method : List Token → ParamsTree → List Stm → Token → Type 0 where
-  method : {l m : List Token} (o c b e : Token) {params : ParamsTree} {body : List Stm} → o.kind ≡ k.LeftParen → Parameters l params → c.kind ≡ k.RightParen
+  method : {l m : List Token} (o c b e : Token) {params : ParamsTree} {body : List Stm} → o.kind ≡ k.LeftParen → Parameters l params
+      → c.kind ≡ k.RightParen
       → b.kind ≡ k.LeftBrace → Items m body → e.kind ≡ k.RightBrace
       → Method (o ∷ (l ++ c ∷ b ∷ (m ++ e ∷ []))) params body e
 
@@ -42,14 +46,33 @@ pub data Modified : List Token → List Modifier → Type 0 where
 
 -- a Member
 pub data Member : List Token → MemberTree → Type 0 where
-  void_method : {l m : List Token} {ms : List Modifier} (v t e : Token) {name : List ℕ} {params : ParamsTree} {body : List Stm} → Modified l ms
+  void_method : {l m : List Token} {ms : List Modifier} (v t e : Token) {name : List ℕ} {params : ParamsTree} {body : List Stm}
+      → Modified l ms
       → v.kind ≡ k.KeywordVoid → t.kind ≡ k.Name name → Method m params body e
-      → Member (l ++ v ∷ t ∷ m) (MethodMember (record { modifiers = ms; result = Void v.place; place = t.place; name = name; params = params; body = body; end = e.place }))
-  field : {l m : List Token} {ms : List Modifier} {ty : TypeTree} (t s : Token) {name : List ℕ} → Modified l ms → FieldType m ty → t.kind ≡ k.Name name → s.kind ≡ k.Semicolon
+      → Member (l ++ v ∷ t ∷ m) (MethodMember (record {
+        modifiers = ms;
+        result = Void v.place;
+        place = t.place;
+        name = name;
+        params = params;
+        body = body;
+        end = e.place;
+      }))
+  field : {l m : List Token} {ms : List Modifier} {ty : TypeTree} (t s : Token) {name : List ℕ} → Modified l ms → FieldType m ty → t.kind
+      ≡ k.Name name → s.kind ≡ k.Semicolon
       → Member (l ++ (m ++ t ∷ s ∷ [])) (FieldMember (record { modifiers = ms; ty = ty; place = t.place; name = name }))
-  method : {l m v : List Token} {ms : List Modifier} {ty : TypeTree} (t e : Token) {name : List ℕ} {params : ParamsTree} {body : List Stm} → Modified l ms
+  method : {l m v : List Token} {ms : List Modifier} {ty : TypeTree} (t e : Token) {name : List ℕ} {params : ParamsTree} {body : List Stm}
+      → Modified l ms
       → Typed m ty → t.kind ≡ k.Name name → Method v params body e
-      → Member (l ++ (m ++ t ∷ v)) (MethodMember (record { modifiers = ms; result = TypedResult ty; place = t.place; name = name; params = params; body = body; end = e.place }))
+      → Member (l ++ (m ++ t ∷ v)) (MethodMember (record {
+        modifiers = ms;
+        result = TypedResult ty;
+        place = t.place;
+        name = name;
+        params = params;
+        body = body;
+        end = e.place;
+      }))
 
 pub data Members : List Token → List MemberTree → Type 0 where
   none : Members [] []
@@ -63,7 +86,8 @@ pub data ClassModified : List Token → List Modifier → Type 0 where
 
 -- a Class
 pub data Class : List Token → ClassTree → Type 0 where
-  class : {l m : List Token} {ms : List Modifier} {xs : List MemberTree} (c t o e : Token) {name : List ℕ} → ClassModified l ms → c.kind ≡ k.KeywordClass → t.kind ≡ k.Name name
+  class : {l m : List Token} {ms : List Modifier} {xs : List MemberTree} (c t o e : Token) {name : List ℕ} → ClassModified l ms → c.kind
+      ≡ k.KeywordClass → t.kind ≡ k.Name name
       → o.kind ≡ k.LeftBrace → Members m xs → e.kind ≡ k.RightBrace
       → Class (l ++ c ∷ t ∷ o ∷ (m ++ e ∷ [])) (record { modifiers = ms; word = c.place; place = t.place; name = name; members = xs })
 

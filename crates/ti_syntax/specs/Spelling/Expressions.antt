@@ -28,7 +28,8 @@ mutual
 
   -- a Unary
   pub data Prefixed : List Token → Exp → Type 0 where
-    unary : {l : List Token} (t : Token) {op : UnaryOperator} {x : Exp} → prefix_of t.kind ≡ Some op → Prefixed l x → Prefixed (t ∷ l) (e.Unary t.place op x)
+    unary : {l : List Token} (t : Token) {op : UnaryOperator} {x : Exp} → prefix_of t.kind ≡ Some op → Prefixed l x
+        → Prefixed (t ∷ l) (e.Unary t.place op x)
     cast : {l m : List Token} {ty : TypeTree} (o c : Token) {x : Exp} → o.kind ≡ k.LeftParen → CastType l ty → c.kind ≡ k.RightParen
         → Prefixed m x → Prefixed (o ∷ (l ++ c ∷ m)) (e.Cast o.place ty x)
     postfixed : {ending : Ending} {l : List Token} {x : Exp} → Postfixed ending l x → Prefixed l x
@@ -42,23 +43,32 @@ mutual
     null : (t : Token) → t.kind ≡ k.KeywordNull → Postfixed Other (t ∷ []) (e.Null t.place)
     this : (t : Token) → t.kind ≡ k.KeywordThis → Postfixed Other (t ∷ []) (e.This t.place)
     name : (t : Token) {name : List ℕ} → t.kind ≡ k.Name name → Postfixed Target (t ∷ []) (e.Name t.place name)
-    call : {l : List Token} (t o c : Token) {name : List ℕ} {xs : List Exp} → t.kind ≡ k.Name name → o.kind ≡ k.LeftParen → Args l xs → c.kind ≡ k.RightParen
+    call : {l : List Token} (t o c : Token) {name : List ℕ} {xs : List Exp} → t.kind ≡ k.Name name → o.kind ≡ k.LeftParen → Args l xs
+        → c.kind ≡ k.RightParen
         → Postfixed Call (t ∷ o ∷ (l ++ c ∷ [])) (e.call t.place name xs)
     -- a group has no node of its own
-    group : {l : List Token} (o c : Token) {x : Exp} → o.kind ≡ k.LeftParen → Whole 1 l x → c.kind ≡ k.RightParen → Postfixed Other (o ∷ (l ++ c ∷ [])) x
-    rect : {l : List Token} (o c : Token) {rs : List RangeTree} → o.kind ≡ k.LeftBracket → Ranges l rs → length rs ≤ 3 → c.kind ≡ k.RightBracket
+    group : {l : List Token} (o c : Token) {x : Exp} → o.kind ≡ k.LeftParen → Whole 1 l x → c.kind ≡ k.RightParen
+        → Postfixed Other (o ∷ (l ++ c ∷ [])) x
+    rect : {l : List Token} (o c : Token) {rs : List RangeTree} → o.kind ≡ k.LeftBracket → Ranges l rs → length rs ≤ 3 → c.kind
+        ≡ k.RightBracket
         → Postfixed Other (o ∷ (l ++ c ∷ [])) (e.rect o.place rs)
     point : {l : List Token} (o c : Token) {xs : List Exp} → o.kind ≡ k.LeftBracket → Listed l xs → length xs ≤ 3 → c.kind ≡ k.RightBracket
         → Postfixed Other (o ∷ (l ++ c ∷ [])) (e.point o.place xs)
-    this_proc : (t d n o c : Token) → t.kind ≡ k.KeywordTi → d.kind ≡ k.Dot → n.kind ≡ k.Name (codes "thisProc") → o.kind ≡ k.LeftParen → c.kind ≡ k.RightParen
+    this_proc : (t d n o c : Token) → t.kind ≡ k.KeywordTi → d.kind ≡ k.Dot → n.kind ≡ k.Name (codes "thisProc") → o.kind ≡ k.LeftParen
+        → c.kind ≡ k.RightParen
         → Postfixed Other (t ∷ d ∷ n ∷ o ∷ c ∷ []) (e.ThisProc t.place)
-    num_procs : (t d n o c : Token) → t.kind ≡ k.KeywordTi → d.kind ≡ k.Dot → n.kind ≡ k.Name (codes "numProcs") → o.kind ≡ k.LeftParen → c.kind ≡ k.RightParen
+    num_procs : (t d n o c : Token) → t.kind ≡ k.KeywordTi → d.kind ≡ k.Dot → n.kind ≡ k.Name (codes "numProcs") → o.kind ≡ k.LeftParen
+        → c.kind ≡ k.RightParen
         → Postfixed Other (t ∷ d ∷ n ∷ o ∷ c ∷ []) (e.NumProcs t.place)
-    select : {ending : Ending} {l : List Token} (d t : Token) {name : List ℕ} {x : Exp} → Postfixed ending l x → d.kind ≡ k.Dot → t.kind ≡ k.Name name
+    select : {ending : Ending} {l : List Token} (d t : Token) {name : List ℕ} {x : Exp} → Postfixed ending l x → d.kind ≡ k.Dot → t.kind
+        ≡ k.Name name
         → Postfixed Target (l ++ d ∷ t ∷ []) (e.Select t.place x name)
-    member : {ending : Ending} {l m : List Token} (d t o c : Token) {name : List ℕ} {x : Exp} {xs : List Exp} → Postfixed ending l x → d.kind ≡ k.Dot → t.kind ≡ k.Name name
-        → o.kind ≡ k.LeftParen → Args m xs → c.kind ≡ k.RightParen → Postfixed Call (l ++ d ∷ t ∷ o ∷ (m ++ c ∷ [])) (e.member t.place x name xs)
-    index : {ending : Ending} {l m : List Token} (o c : Token) {x : Exp} {xs : List Exp} → Postfixed ending l x → o.kind ≡ k.LeftBracket → Listed m xs → length xs ≤ 3
+    member : {ending : Ending} {l m : List Token} (d t o c : Token) {name : List ℕ} {x : Exp} {xs : List Exp} → Postfixed ending l x
+        → d.kind ≡ k.Dot → t.kind ≡ k.Name name
+        → o.kind ≡ k.LeftParen → Args m xs → c.kind ≡ k.RightParen → Postfixed Call (l ++ d ∷ t ∷ o ∷ (m ++ c ∷ []))
+        (e.member t.place x name xs)
+    index : {ending : Ending} {l m : List Token} (o c : Token) {x : Exp} {xs : List Exp} → Postfixed ending l x → o.kind ≡ k.LeftBracket
+        → Listed m xs → length xs ≤ 3
         → c.kind ≡ k.RightBracket → Postfixed Target (l ++ o ∷ (m ++ c ∷ [])) (e.index o.place x xs)
 
   -- what stands between the parentheses of a call
@@ -69,14 +79,18 @@ mutual
   -- expressions with commas between them
   pub data Listed : List Token → List Exp → Type 0 where
     last : {l : List Token} {x : Exp} → Whole 1 l x → Listed l (x ∷ [])
-    more : {l m : List Token} (t : Token) {x : Exp} {xs : List Exp} → Whole 1 l x → t.kind ≡ k.Comma → Listed m xs → Listed (l ++ t ∷ m) (x ∷ xs)
+    more : {l m : List Token} (t : Token) {x : Exp} {xs : List Exp} → Whole 1 l x → t.kind ≡ k.Comma → Listed m xs
+        → Listed (l ++ t ∷ m) (x ∷ xs)
 
   -- ranges with commas between them
   pub data Ranges : List Token → List RangeTree → Type 0 where
     last_range : {l : List Token} {r : RangeTree} → Range l r → Ranges l (r ∷ [])
-    more_ranges : {l m : List Token} (t : Token) {r : RangeTree} {rs : List RangeTree} → Range l r → t.kind ≡ k.Comma → Ranges m rs → Ranges (l ++ t ∷ m) (r ∷ rs)
+    more_ranges : {l m : List Token} (t : Token) {r : RangeTree} {rs : List RangeTree} → Range l r → t.kind ≡ k.Comma → Ranges m rs
+        → Ranges (l ++ t ∷ m) (r ∷ rs)
 
   pub data Range : List Token → RangeTree → Type 0 where
-    plain : {l m : List Token} (s : Token) {low high : Exp} → Whole 1 l low → s.kind ≡ k.Colon → Whole 1 m high → Range (l ++ s ∷ m) (e.Plain low high)
-    stepped : {l m v : List Token} (s t : Token) {low high step : Exp} → Whole 1 l low → s.kind ≡ k.Colon → Whole 1 m high → t.kind ≡ k.Colon → Whole 1 v step
+    plain : {l m : List Token} (s : Token) {low high : Exp} → Whole 1 l low → s.kind ≡ k.Colon → Whole 1 m high
+        → Range (l ++ s ∷ m) (e.Plain low high)
+    stepped : {l m v : List Token} (s t : Token) {low high step : Exp} → Whole 1 l low → s.kind ≡ k.Colon → Whole 1 m high → t.kind
+        ≡ k.Colon → Whole 1 v step
         → Range (l ++ s ∷ (m ++ t ∷ v)) (e.Stepped low high step)

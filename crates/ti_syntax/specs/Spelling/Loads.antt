@@ -53,7 +53,8 @@ abbrev pub initial_loads : {l : List Token} {x : InitTree} → Initial l x → L
 initial_loads (s.value {l = l} e) = weights l
 initial_loads (s.new_region n t o c h h2 h3 h4) = free (n ∷ t ∷ o ∷ c ∷ [])
 initial_loads (s.new_object n t o c h r h2 h3 h4) = Free ∷ (region_loads r ++ free (t ∷ o ∷ c ∷ []))
-initial_loads (s.new_grid {a = a} {q = q} {g = g} n o c h r b qs h2 d h3 gs few) = Free ∷ (region_loads r ++ (free a ++ (free q ++ Free ∷ (dims_loads d ++ Free ∷ free g))))
+initial_loads (s.new_grid {a = a} {q = q} {g = g} n o c h r b qs h2 d h3 gs few) =
+    Free ∷ (region_loads r ++ (free a ++ (free q ++ Free ∷ (dims_loads d ++ Free ∷ free g))))
 initial_loads (s.broadcast {l = l} {m = m} b f h e h2 root) = Free ∷ (weights l ++ Free ∷ weights m)
 
 -- ---- simple statements
@@ -100,7 +101,8 @@ abbrev mutual
   stated_loads n (s.while w h e x) = Level n ∷ (condition_loads e ++ stated_loads (suc n) x)
   stated_loads n (s.for f o p q c h h2 first h3 test h4 update h5 x) =
       Level n ∷ Free ∷ (first_loads first ++ Free ∷ (optional_loads test ++ Free ∷ (update_loads update ++ Free ∷ stated_loads (suc n) x)))
-  stated_loads n (s.foreach {l = l} f o t i c h h2 h3 h4 e h5 x) = Level n ∷ Free ∷ Free ∷ Free ∷ (weights l ++ Free ∷ stated_loads (suc n) x)
+  stated_loads n (s.foreach {l = l} f o t i c h h2 h3 h4 e h5 x) =
+      Level n ∷ Free ∷ Free ∷ Free ∷ (weights l ++ Free ∷ stated_loads (suc n) x)
   stated_loads n (s.change t d h) = changed_loads d ++ Free ∷ []
   stated_loads n (s.call {l = l} t e h) = weights l ++ Free ∷ []
   stated_loads n (s.print {l = l} p o c t printer h what h2 h3) = free l ++ Free ∷ (printed_loads what ++ Free ∷ Free ∷ [])

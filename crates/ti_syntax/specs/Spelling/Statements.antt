@@ -36,7 +36,8 @@ pub data Start : Ending → List Token → Exp → Type 0 where
 -- the region of `new`
 pub data Region : List Token → Option Exp → Type 0 where
   none : Region [] None
-  some : {l : List Token} (o c : Token) {x : Exp} → o.kind ≡ k.LeftParen → Whole 1 l x → c.kind ≡ k.RightParen → Region (o ∷ (l ++ c ∷ [])) (Some x)
+  some : {l : List Token} (o c : Token) {x : Exp} → o.kind ≡ k.LeftParen → Whole 1 l x → c.kind ≡ k.RightParen
+      → Region (o ∷ (l ++ c ∷ [])) (Some x)
 
 -- what a new grid spreads over
 pub data Dims : List Token → DimsTree → Type 0 where
@@ -48,27 +49,35 @@ pub data Initial : List Token → InitTree → Type 0 where
   value : {l : List Token} {x : Exp} → Whole 1 l x → Initial l (s.Value x)
   new_region : (n t o c : Token) → n.kind ≡ k.KeywordNew → t.kind ≡ k.KeywordSharedRegion → o.kind ≡ k.LeftParen → c.kind ≡ k.RightParen
       → Initial (n ∷ t ∷ o ∷ c ∷ []) (s.NewRegion n.place)
-  new_object : {l : List Token} {region : Option Exp} (n t o c : Token) {name : List ℕ} → n.kind ≡ k.KeywordNew → Region l region → t.kind ≡ k.Name name
+  new_object : {l : List Token} {region : Option Exp} (n t o c : Token) {name : List ℕ} → n.kind ≡ k.KeywordNew → Region l region → t.kind
+      ≡ k.Name name
       → o.kind ≡ k.LeftParen → c.kind ≡ k.RightParen → Initial (n ∷ (l ++ t ∷ o ∷ c ∷ [])) (s.NewObject n.place region t.place name)
   -- the elements have the base, and of the brackets behind the domain at most two
-  new_grid : {l a q d g : List Token} {region : Option Exp} {b : Base} {qs : List Qualifier} {gs : List GridTree} {dims : DimsTree} (n o c : Token) → n.kind ≡ k.KeywordNew
-      → Region l region → Based a b → Qualified q qs → o.kind ≡ k.LeftBracket → Dims d dims → c.kind ≡ k.RightBracket → Gridded g gs → length gs ≤ 2
-      → Initial (n ∷ (l ++ (a ++ (q ++ o ∷ (d ++ c ∷ g))))) (s.NewGrid n.place region (record { base = b; qualifiers = qs; grids = gs }) o.place dims)
-  broadcast : {l m : List Token} (b f : Token) {x root : Exp} → b.kind ≡ k.KeywordBroadcast → Whole 1 l x → f.kind ≡ k.Name (codes "from") → Whole 1 m root
+  new_grid : {l a q d g : List Token} {region : Option Exp} {b : Base} {qs : List Qualifier} {gs : List GridTree} {dims : DimsTree}
+      (n o c : Token) → n.kind ≡ k.KeywordNew
+      → Region l region → Based a b → Qualified q qs → o.kind ≡ k.LeftBracket → Dims d dims → c.kind ≡ k.RightBracket → Gridded g gs
+      → length gs ≤ 2
+      → Initial (n ∷ (l ++ (a ++ (q ++ o ∷ (d ++ c ∷ g))))) (s.NewGrid n.place region
+      (record { base = b; qualifiers = qs; grids = gs }) o.place dims)
+  broadcast : {l m : List Token} (b f : Token) {x root : Exp} → b.kind ≡ k.KeywordBroadcast → Whole 1 l x → f.kind ≡ k.Name (codes "from")
+      → Whole 1 m root
       → Initial (b ∷ (l ++ f ∷ m)) (s.Broadcast b.place x root)
 
 -- ---- simple statements
 
 -- a Decl
 pub data Declared : List Token → Stm → Type 0 where
-  declared : {l m : List Token} {ty : TypeTree} {value : InitTree} (t a : Token) {name : List ℕ} → Typed l ty → t.kind ≡ k.Name name → a.kind ≡ k.Assign → Initial m value
+  declared : {l m : List Token} {ty : TypeTree} {value : InitTree} (t a : Token) {name : List ℕ} → Typed l ty → t.kind ≡ k.Name name
+      → a.kind ≡ k.Assign → Initial m value
       → Declared (l ++ t ∷ a ∷ m) (s.Declare t.place ty name value)
 
 -- a Change
 pub data Changed : List Token → Stm → Type 0 where
-  assign : {l m : List Token} {target : Exp} {value : InitTree} (a : Token) → Start ending.Target l target → a.kind ≡ k.Assign → Initial m value
+  assign : {l m : List Token} {target : Exp} {value : InitTree} (a : Token) → Start ending.Target l target → a.kind ≡ k.Assign
+      → Initial m value
       → Changed (l ++ a ∷ m) (s.Assign a.place target value)
-  update : {l m : List Token} {target x : Exp} (a : Token) {op : BinaryOperator} → Start ending.Target l target → update_of a.kind ≡ Some op → Whole 1 m x
+  update : {l m : List Token} {target x : Exp} (a : Token) {op : BinaryOperator} → Start ending.Target l target → update_of a.kind ≡ Some op
+      → Whole 1 m x
       → Changed (l ++ a ∷ m) (s.Update a.place op target x)
   step : {l : List Token} {target : Exp} (a : Token) {op : StepOperator} → Start ending.Target l target → step_of a.kind ≡ Some op
       → Changed (l ++ a ∷ []) (s.Step a.place op target)
@@ -76,7 +85,8 @@ pub data Changed : List Token → Stm → Type 0 where
 -- `println` or `System.out.println`, with the place of `println`
 pub data Printer : List Token → Token → Type 0 where
   short : (t : Token) → t.kind ≡ k.KeywordPrintln → Printer (t ∷ []) t
-  long : (s d o p t : Token) → s.kind ≡ k.KeywordSystem → d.kind ≡ k.Dot → o.kind ≡ k.Name (codes "out") → p.kind ≡ k.Dot → t.kind ≡ k.KeywordPrintln
+  long : (s d o p t : Token) → s.kind ≡ k.KeywordSystem → d.kind ≡ k.Dot → o.kind ≡ k.Name (codes "out") → p.kind ≡ k.Dot → t.kind
+      ≡ k.KeywordPrintln
       → Printer (s ∷ d ∷ o ∷ p ∷ t ∷ []) t
 
 -- what stands between the parentheses of a print
@@ -91,7 +101,8 @@ pub data Printed : List Token → PrintTree → Type 0 where
 
 -- `( e )`
 pub data Condition : List Token → Exp → Type 0 where
-  condition : {l : List Token} (o c : Token) {x : Exp} → o.kind ≡ k.LeftParen → Whole 1 l x → c.kind ≡ k.RightParen → Condition (o ∷ (l ++ c ∷ [])) x
+  condition : {l : List Token} (o c : Token) {x : Exp} → o.kind ≡ k.LeftParen → Whole 1 l x → c.kind ≡ k.RightParen
+      → Condition (o ∷ (l ++ c ∷ [])) x
 
 -- what the head of a `for` begins with
 pub data First : List Token → MaybeStm → Type 0 where
@@ -116,23 +127,31 @@ mutual
     block : {l : List Token} (o c : Token) {xs : List Stm} → o.kind ≡ k.LeftBrace → Items l xs → c.kind ≡ k.RightBrace
         → Stated false (o ∷ (l ++ c ∷ [])) (s.block xs)
     empty : (t : Token) → t.kind ≡ k.Semicolon → Stated false (t ∷ []) s.Empty
-    if_alone : {open_if : Bool} {l m : List Token} (i : Token) {c : Exp} {x : Stm} → i.kind ≡ k.KeywordIf → Condition l c → Stated open_if m x
+    if_alone : {open_if : Bool} {l m : List Token} (i : Token) {c : Exp} {x : Stm} → i.kind ≡ k.KeywordIf → Condition l c
+        → Stated open_if m x
         → Stated true (i ∷ (l ++ m)) (s.If i.place c x)
-    if_else : {open_if : Bool} {l m v : List Token} (i d : Token) {c : Exp} {x y : Stm} → i.kind ≡ k.KeywordIf → Condition l c → Stated false m x
+    if_else : {open_if : Bool} {l m v : List Token} (i d : Token) {c : Exp} {x y : Stm} → i.kind ≡ k.KeywordIf → Condition l c
+        → Stated false m x
         → d.kind ≡ k.KeywordElse → Stated open_if v y → Stated open_if (i ∷ (l ++ (m ++ d ∷ v))) (s.IfElse i.place c x y)
-    while : {open_if : Bool} {l m : List Token} (w : Token) {c : Exp} {x : Stm} → w.kind ≡ k.KeywordWhile → Condition l c → Stated open_if m x
+    while : {open_if : Bool} {l m : List Token} (w : Token) {c : Exp} {x : Stm} → w.kind ≡ k.KeywordWhile → Condition l c
+        → Stated open_if m x
         → Stated open_if (w ∷ (l ++ m)) (s.While w.place c x)
-    for : {open_if : Bool} {l m u v : List Token} (f o p q c : Token) {first update : MaybeStm} {test : Option Exp} {x : Stm} → f.kind ≡ k.KeywordFor → o.kind ≡ k.LeftParen
-        → First l first → p.kind ≡ k.Semicolon → Optional m test → q.kind ≡ k.Semicolon → Update u update → c.kind ≡ k.RightParen → Stated open_if v x
+    for : {open_if : Bool} {l m u v : List Token} (f o p q c : Token) {first update : MaybeStm} {test : Option Exp} {x : Stm} → f.kind
+        ≡ k.KeywordFor → o.kind ≡ k.LeftParen
+        → First l first → p.kind ≡ k.Semicolon → Optional m test → q.kind ≡ k.Semicolon → Update u update → c.kind ≡ k.RightParen
+        → Stated open_if v x
         → Stated open_if (f ∷ o ∷ (l ++ p ∷ (m ++ q ∷ (u ++ c ∷ v)))) (s.For f.place first test update x)
-    foreach : {open_if : Bool} {l m : List Token} (f o t i c : Token) {name : List ℕ} {domain : Exp} {x : Stm} → f.kind ≡ k.KeywordForeach → o.kind ≡ k.LeftParen
+    foreach : {open_if : Bool} {l m : List Token} (f o t i c : Token) {name : List ℕ} {domain : Exp} {x : Stm} → f.kind ≡ k.KeywordForeach
+        → o.kind ≡ k.LeftParen
         → t.kind ≡ k.Name name → i.kind ≡ k.Name (codes "in") → Whole 1 l domain → c.kind ≡ k.RightParen → Stated open_if m x
         → Stated open_if (f ∷ o ∷ t ∷ i ∷ (l ++ c ∷ m)) (s.Foreach f.place t.place name domain x)
     change : {l : List Token} (t : Token) {x : Stm} → Changed l x → t.kind ≡ k.Semicolon → Stated false (l ++ t ∷ []) x
     call : {l : List Token} (t : Token) {x : Exp} → Start ending.Call l x → t.kind ≡ k.Semicolon → Stated false (l ++ t ∷ []) (s.Call x)
-    print : {l m : List Token} (p o c t : Token) {what : PrintTree} → Printer l p → o.kind ≡ k.LeftParen → Printed m what → c.kind ≡ k.RightParen
+    print : {l m : List Token} (p o c t : Token) {what : PrintTree} → Printer l p → o.kind ≡ k.LeftParen → Printed m what → c.kind
+        ≡ k.RightParen
         → t.kind ≡ k.Semicolon → Stated false (l ++ o ∷ (m ++ c ∷ t ∷ [])) (s.Print p.place what)
-    barrier : (i d b o c t : Token) → i.kind ≡ k.KeywordTi → d.kind ≡ k.Dot → b.kind ≡ k.Name (codes "barrier") → o.kind ≡ k.LeftParen → c.kind ≡ k.RightParen
+    barrier : (i d b o c t : Token) → i.kind ≡ k.KeywordTi → d.kind ≡ k.Dot → b.kind ≡ k.Name (codes "barrier") → o.kind ≡ k.LeftParen
+        → c.kind ≡ k.RightParen
         → t.kind ≡ k.Semicolon → Stated false (i ∷ d ∷ b ∷ o ∷ c ∷ t ∷ []) (s.Barrier b.place)
     break : (b t : Token) → b.kind ≡ k.KeywordBreak → t.kind ≡ k.Semicolon → Stated false (b ∷ t ∷ []) (s.Break b.place)
     continue : (c t : Token) → c.kind ≡ k.KeywordContinue → t.kind ≡ k.Semicolon → Stated false (c ∷ t ∷ []) (s.Continue c.place)

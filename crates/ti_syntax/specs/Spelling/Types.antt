@@ -31,12 +31,14 @@ pub data Qualified : List Token → List Qualifier → Type 0 where
 -- any number of grid brackets with one to three dimensions, each with what qualifies it
 pub data Gridded : List Token → List GridTree → Type 0 where
   none : Gridded [] []
-  more : {l m : List Token} {qs : List Qualifier} {gs : List GridTree} (o t c : Token) {n : ℕ} → o.kind ≡ k.LeftBracket → t.kind ≡ k.Dim n → 1 ≤ n → n ≤ 3 → c.kind ≡ k.RightBracket
+  more : {l m : List Token} {qs : List Qualifier} {gs : List GridTree} (o t c : Token) {n : ℕ} → o.kind ≡ k.LeftBracket → t.kind ≡ k.Dim n
+      → 1 ≤ n → n ≤ 3 → c.kind ≡ k.RightBracket
       → Qualified l qs → Gridded m gs → Gridded (o ∷ t ∷ c ∷ (l ++ m)) (record { dim = n; qualifiers = qs } ∷ gs)
 
 -- the type of a field, with at most three grid brackets
 pub data FieldType : List Token → TypeTree → Type 0 where
-  field_type : {a l m : List Token} {b : Base} {qs : List Qualifier} {gs : List GridTree} → Based a b → Qualified l qs → Gridded m gs → length gs ≤ 3
+  field_type : {a l m : List Token} {b : Base} {qs : List Qualifier} {gs : List GridTree} → Based a b → Qualified l qs → Gridded m gs
+      → length gs ≤ 3
       → FieldType (a ++ (l ++ m)) (record { base = b; qualifiers = qs; grids = gs })
 
 -- the types that no field and no element has

@@ -173,7 +173,8 @@ member_of (m.Field f) = c.FieldMember (field_of f)
 member_of (m.Method m) = c.MethodMember (method_of m)
 
 abbrev pub class_of : Class → ClassTree
-class_of c = record { modifiers = c.modifiers.items; word = c.word; place = c.place; name = c.name; members = map member_of c.members.items }
+class_of c =
+    record { modifiers = c.modifiers.items; word = c.word; place = c.place; name = c.name; members = map member_of c.members.items }
 
 abbrev pub text_tree_of : Vec Class Global → TextTree
 text_tree_of classes = map class_of classes.items

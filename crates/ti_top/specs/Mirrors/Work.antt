@@ -96,9 +96,11 @@ pub record ReportedAfter (ended : Ending) (watchers : List Watcher) (history : L
 
 abbrev pub ReportsAfter : Ending → List Watcher → List Entry → SinkState → SinkState → Ending → Type 0
 ReportsAfter ended watchers history out out_after ending =
-    ((ended ≡ NoMemory) × (ending ≡ ended) × (out_after ≡ out)) ⊎ ((ended ≡ NoMemory → ⊥) × ReportedAfter ended watchers history out out_after ending)
+    ((ended ≡ NoMemory) × (ending ≡ ended) × (out_after ≡ out)) ⊎ ((ended ≡ NoMemory → ⊥)
+    × ReportedAfter ended watchers history out out_after ending)
 
--- the head of a run that ended so was written, and the reports of the first few of these watchers: where memory was wanting in the run, of none
+-- the head of a run that ended so was written, and the reports of the first few of these watchers: where memory was wanting in the run, of
+-- none
 pub record WroteFewOf (ended : Ending) (head : List ℕ) (watchers : List Watcher) (history : List Entry) (out out_after : SinkState) : Type 0 where
   pub few : List Watcher
   pub others : List Watcher
@@ -139,13 +141,15 @@ pub record RunSays (program : NumberedProgram) (job : Job) (watchers : List Watc
   pub never_falls : out.faults ≤ out_after.faults
   pub tells : out_after.tells ≡ out.tells
   pub rose : ending ≡ CantWrite → Rose out.faults out_after.faults
-  pub all : (ending ≡ CantWrite → ⊥) → (ending ≡ NoMemory → ⊥) → out.tells ≡ true → GrewBy out out_after (output job program kept.history watchers)
+  pub all : (ending ≡ CantWrite → ⊥) → (ending ≡ NoMemory → ⊥) → out.tells ≡ true
+      → GrewBy out out_after (output job program kept.history watchers)
   pub part : out.tells ≡ true → GrewByFront out out_after (output job program kept.history watchers)
   pub few : ending ≡ NoMemory → out.tells ≡ true → WroteFew job.mode (run_of program job) watchers kept.history out out_after
   pub code : kept.code ≡ Some (program_code program)
   pub follows : Follows (program_code program) program
   pub counted : ending ≡ Done → IsDone (program_code program) (run_of program job) kept.history kept.done
-  pub counted_at_fault : (fault : Fault) → ending ≡ Faulted fault → IsDone (program_code program) (run_of program job) kept.history kept.done
+  pub counted_at_fault : (fault : Fault) → ending ≡ Faulted fault
+      → IsDone (program_code program) (run_of program job) kept.history kept.done
 
 -- so was the program of the text
 pub record Ran (job : Job) (watchers : List Watcher) (text : List ℕ) (out out_after : SinkState) (kept : Kept) (ending : Ending) : Type 0 where
@@ -193,7 +197,8 @@ RunTextSays Done job watchers text out out_after kept = Ran job watchers text ou
 RunTextSays (Refused refusal) job watchers text out out_after kept = WasRefused text out out_after kept refusal
 RunTextSays (Faulted fault) job watchers text out out_after kept = Ran job watchers text out out_after kept (Faulted fault)
 RunTextSays CantWrite job watchers text out out_after kept = Ran job watchers text out out_after kept CantWrite
-RunTextSays NoMemory job watchers text out out_after kept = RanNothing out out_after kept ⊎ Ran job watchers text out out_after kept NoMemory
+RunTextSays NoMemory job watchers text out out_after kept =
+    RanNothing out out_after kept ⊎ Ran job watchers text out out_after kept NoMemory
 RunTextSays NoCommand job watchers text out out_after kept = ⊥
 RunTextSays CantRead job watchers text out out_after kept = ⊥
 RunTextSays (NoRun line) job watchers text out out_after kept = ⊥
@@ -245,7 +250,8 @@ pub record FileDone (job : Job) (ending : Ending) (w : Work) : Type 0 where
 -- the text of the seed was made, or it ran out of memory before
 abbrev pub SeedSays : Ending → Job → List Watcher → List ℕ → SinkState → SinkState → Kept → Type 0
 SeedSays ending job watchers text out out_after kept =
-    ((text ≡ source_text job.seed) × TextSays job.mode ending job watchers text out out_after kept) ⊎ ((text ≡ []) × (ending ≡ NoMemory) × RanNothing out out_after kept)
+    ((text ≡ source_text job.seed) × TextSays job.mode ending job watchers text out out_after kept)
+    ⊎ ((text ≡ []) × (ending ≡ NoMemory) × RanNothing out out_after kept)
 
 -- what was done where none is
 pub record SeedDone (job : Job) (ending : Ending) (w : Work) : Type 0 where

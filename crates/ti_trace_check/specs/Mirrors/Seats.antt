@@ -131,7 +131,8 @@ pub record GoesOn (code : Code) (s : Setting) (es : List Entry) (old : List Seat
 pub record IsOff (s : Setting) (es all : List Entry) (line : List ℕ) : Type 0 where
   pub kept : take (length es) all ≡ es
   pub within : length es ≤ length all
-  pub none : (e : Entry) → CanTake s es e.proc e → (more : List ℕ) → entry_text (length es) e ≡ line ++ more → (more ≡ []) ⊎ (line_room ≤ length line) → ⊥
+  pub none : (e : Entry) → CanTake s es e.proc e → (more : List ℕ) → entry_text (length es) e ≡ line ++ more → (more ≡ [])
+      ⊎ (line_room ≤ length line) → ⊥
 
 -- what a line makes of the entries and the seats
 abbrev pub Meets : Code → Setting → List Entry → List Seat → List Entry → List Seat → List ℕ → Bool → Type 0
@@ -156,4 +157,5 @@ pub record LeavesText (s : Setting) (text : List ℕ) (all : List Entry) (end : 
 -- the verdict behind lines that took the first so many of these entries
 abbrev pub Gives : Followed → Bool → List Entry → Verdict → Type 0
 Gives end is_complete all (Run es) = (end.is_end ≡ true) × (is_complete ≡ true) × (es.items ≡ take end.taken all)
-Gives end is_complete all (NoRun line es) = (end.is_end ≡ true → is_complete ≡ false) × (line ≡ end.taken + 1) × (es.items ≡ take end.taken all)
+Gives end is_complete all (NoRun line es) =
+    (end.is_end ≡ true → is_complete ≡ false) × (line ≡ end.taken + 1) × (es.items ≡ take end.taken all)

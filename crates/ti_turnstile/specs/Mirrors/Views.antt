@@ -61,9 +61,11 @@ module _ {V I : Type 0} (log_of : V → List (ℕ × I)) where
 
   -- the word is held, and one seat is inside, which has seen the whole log
   abbrev pub Held : List (ℕ × I) → ℕ → State (Option V) (View I) → Type 0
-  Held log hint s = (s.words ≡ 1 ∷ hint ∷ []) × (s.homes ≡ none ∷ []) × (k : ℕ) × (number : ℕ) × (get_elem? s.views k ≡ some (inside number log)) × OneInside s.views k
+  Held log hint s = (s.words ≡ 1 ∷ hint ∷ []) × (s.homes ≡ none ∷ []) × (k : ℕ) × (number : ℕ)
+      × (get_elem? s.views k ≡ some (inside number log)) × OneInside s.views k
 
-  -- there is one log: each pass has seen a beginning of it with all items of its number, and one has seen the whole; each number below n is that of one pass
+  -- there is one log: each pass has seen a beginning of it with all items of its number, and one has seen the whole; each number below n is
+  -- that of one pass
   pub record Sound (n : ℕ) (s : State (Option V) (View I)) : Type 0 where
     pub log : List (ℕ × I)
     pub hint : ℕ
@@ -77,7 +79,8 @@ module _ {V I : Type 0} (log_of : V → List (ℕ × I)) where
 
   -- the seat is inside, with the value, whose log is legal with it
   abbrev pub Entered : Me (Option V) (View I) → Me (Option V) (View I) → Type 0
-  Entered m m' = (k : ℕ) × (seen : List (ℕ × I)) × (x : V) × (m.0 ≡ outside k seen) × (m'.0 ≡ inside k (log_of x)) × (m'.1 ≡ (0, Some x) ∷ []) × IsLegal (log_of x) k seen
+  Entered m m' = (k : ℕ) × (seen : List (ℕ × I)) × (x : V) × (m.0 ≡ outside k seen) × (m'.0 ≡ inside k (log_of x))
+      × (m'.1 ≡ (0, Some x) ∷ []) × IsLegal (log_of x) k seen
 
   -- a seat that is inside, with the value in its slot
   abbrev pub HasValue : Me (Option V) (View I) → Type 0

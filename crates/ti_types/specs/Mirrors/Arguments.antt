@@ -43,7 +43,8 @@ wanted_misfit at t (Some u) = first_of (misfit at t u)
 
 -- what is told with one type more in front of others
 abbrev pub more : Place → Option ValueType → ValueType → ToldTypes → ToldTypes
-more at u t rest = record { ints = is_int t && rest.ints; first = Some t; second = rest.first; misfit = sooner (wanted_misfit at t u) rest.misfit }
+more at u t rest =
+    record { ints = is_int t && rest.ints; first = Some t; second = rest.first; misfit = sooner (wanted_misfit at t u) rest.misfit }
 
 -- what clauses see of what is told
 abbrev pub told_of : Told → ToldTypes

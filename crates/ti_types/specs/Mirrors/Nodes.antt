@@ -59,10 +59,12 @@ abbrev pub told_behind : NumberedProgram → Option ValueType → ℕ → Option
 told_behind p None name m count told = plain None
 told_behind p (Some (Class c local)) name m count told = told_called m count told
 told_behind p (Some t) name m count None = plain None
-told_behind p (Some t) name m count (Some told) = plain (option_and_then (λ (b : member.BuiltIn). told_member b t count told) (built_in p name))
+told_behind p (Some t) name m count (Some told) =
+    plain (option_and_then (λ (b : member.BuiltIn). told_member b t count told) (built_in p name))
 
 -- what counts of what is wrong with it
-abbrev pub behind_refusal : NumberedProgram → Place → List Place → Option ValueType → ℕ → Option NumberedMethod → ℕ → Option ToldTypes → Option Refusal
+abbrev pub behind_refusal : NumberedProgram → Place → List Place → Option ValueType → ℕ → Option NumberedMethod → ℕ → Option ToldTypes
+    → Option Refusal
 behind_refusal p at places None name m count told = None
 behind_refusal p at places (Some (Class c local)) name m count told = told_refusal at places m (first_of (refused Y1 at)) count told
 behind_refusal p at places (Some t) name m count None = None

@@ -19,7 +19,8 @@ use Rattle.ti_types.specs.Mirrors.Arguments.{told, told_of}
 use Rattle.ti_types.specs.Mirrors.Nodes.{ends, ends_of, ranges_told}
 
 -- this is found of arguments, where these types are wanted
-abbrev pub AreFound : NumberedProgram → ScopeContents → NumberedExps → List ValueType → Option Refusal → Option Refusal → Option Told → Type 0
+abbrev pub AreFound : NumberedProgram → ScopeContents → NumberedExps → List ValueType → Option Refusal → Option Refusal → Option Told
+    → Type 0
 AreFound p s xs us inner placed types =
     (inner ≡ first_of (flat_map (refusals_at p s) (parts_of_all xs)))
     × (placed ≡ first_of (all_misplaced p s xs))

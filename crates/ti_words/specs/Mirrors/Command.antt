@@ -64,5 +64,6 @@ with_flags has_value = fold (λ app name. with_rule app (flag_rule has_value nam
 -- the command and its arguments
 abbrev pub titan : App
 titan =
-    let settings = with_flags true bare (codes "mode" ∷ codes "procs" ∷ codes "workers" ∷ codes "fuel" ∷ codes "seed" ∷ codes "against" ∷ []) in
+    let settings = with_flags true bare (codes "mode" ∷ codes "procs" ∷ codes "workers" ∷ codes "fuel" ∷ codes "seed" ∷ codes "against"
+    ∷ []) in
     with_rule (with_flags false settings (codes "trace" ∷ codes "stats" ∷ codes "races" ∷ [])) file_rule

@@ -2,9 +2,9 @@ use Rattle.std.proofs.Common.{subst}
 use Rattle.ti_lang.specs.declared.program.numbered.Program.{Program}
 use Rattle.ti_lang.specs.Program.Views.{program_of}
 use Rattle.ti_align.specs.Mirrors.Literals.{LiteralsFit}
-use Rattle.ti_align.proofs.Ended as ended
-use Rattle.ti_align.proofs.Owned as owned
-use Rattle.ti_align.proofs.Dangling as dangling
+use Rattle.ti_align.proofs.Regions.Ended as ended
+use Rattle.ti_align.proofs.Owners.Owned as owned
+use Rattle.ti_align.proofs.Regions.Dangling as dangling
 use Rattle.ti_align.proofs.laws.aligned.Goals as goal
 
 pub returns-clause-aligned : goal.returns-clause-aligned

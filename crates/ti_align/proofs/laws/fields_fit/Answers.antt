@@ -1,5 +1,5 @@
 use Rattle.ti_lang.specs.Program.Views.{program_of}
-use Rattle.ti_align.proofs.Programs as programs
+use Rattle.ti_align.proofs.TextTypes.Programs as programs
 use Rattle.ti_align.proofs.laws.fields_fit.Goals as goal
 
 pub returns : goal.returns

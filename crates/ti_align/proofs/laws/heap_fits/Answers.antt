@@ -1,4 +1,4 @@
-use Rattle.ti_align.proofs.Heaping.{keeps_types}
+use Rattle.ti_align.proofs.RunTypes.Heaping.{keeps_types}
 use Rattle.ti_align.proofs.laws.heap_fits.Goals as goal
 
 pub returns : goal.returns

@@ -1,4 +1,4 @@
-use Rattle.ti_align.proofs.Storing.{has_form}
+use Rattle.ti_align.proofs.RunTypes.Storing.{has_form}
 use Rattle.ti_align.proofs.laws.values_have_forms.Goals as goal
 
 pub returns : goal.returns

@@ -2,7 +2,7 @@ use Rattle.std.proofs.Common.{subst}
 use Rattle.ti_lang.specs.declared.program.numbered.Program.{Program}
 use Rattle.ti_lang.specs.Program.Views.{program_of}
 use Rattle.ti_align.specs.Mirrors.Literals.{LiteralsFit}
-use Rattle.ti_align.proofs.EveryRun as every
+use Rattle.ti_align.proofs.Runs.EveryRun as every
 use Rattle.ti_align.proofs.names.names_fit.Goals as goal
 
 pub returns : goal.returns

@@ -1,7 +1,8 @@
 use Rattle.std.proofs.Common.{map, sym, subst}
 use Rattle.ti_lang.specs.Program.Expressions.{numbered_exps, numbered_ranges}
 use Rattle.ti_lang.specs.Program.Views.{expression_of, bound_of}
-use Rattle.ti_lang.proofs.ProgramBridges.{seen_static_call, seen_own_call, seen_numbered_point, seen_numbered_rect, seen_numbered_member, seen_numbered_index}
+use Rattle.ti_lang.proofs.Lemmas.{seen_static_call, seen_own_call, seen_numbered_point, seen_numbered_rect, seen_numbered_member}
+use Rattle.ti_lang.proofs.Lemmas.{seen_numbered_index}
 use Rattle.ti_align.specs.Mirrors.Literals.{InExp, InExps, InRanges}
 use Rattle.ti_align.proofs.reading.+read.Goals as goal
 

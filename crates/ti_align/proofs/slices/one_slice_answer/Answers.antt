@@ -1,7 +1,7 @@
 use Rattle.ti_lang.specs.Program.Views.{program_of}
-use Rattle.ti_align.proofs.Checked.{checked_fine}
-use Rattle.ti_align.proofs.OneAnswer.{one_answer}
-use Rattle.ti_align.proofs.SomeAnswer.{some_answer}
+use Rattle.ti_align.proofs.Alignment.Checked.{checked_fine}
+use Rattle.ti_align.proofs.SliceAlone.OneAnswer.{one_answer}
+use Rattle.ti_align.proofs.SliceAlone.SomeAnswer.{some_answer}
 use Rattle.ti_align.proofs.slices.one_slice_answer.Goals as goal
 
 pub returns-clause-some : goal.returns-clause-some

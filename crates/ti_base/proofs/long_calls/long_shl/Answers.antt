@@ -7,4 +7,5 @@ use Rattle.ti_base.proofs.long_calls.long_shl.Goals as goal
 pub returns : goal.returns
 returns c =
     shifts_left w64 c.args.a c.args.b c.wrapping_shl.result _ c.ranges.a
-    (mod-eq_of_lt (mod-lt c.cast_unsigned.result (lit< tt)) ∙ low_bits w64 c.args.b c.cast_unsigned.result 64 288230376151711744 (lit< tt) refl c.ranges.b c.cast_unsigned.ensures) c.wrapping_shl.ensures
+    (mod-eq_of_lt (mod-lt c.cast_unsigned.result (lit< tt)) ∙ low_bits w64 c.args.b c.cast_unsigned.result 64 288230376151711744
+    (lit< tt) refl c.ranges.b c.cast_unsigned.ensures) c.wrapping_shl.ensures

@@ -10,7 +10,9 @@ loop-e-preserved c =
     let b = c.in_ok-begin.ensures in
     record {
       step = steps_trans _ _ _ i.step b.step;
-      kept = λ test h. one_more test c.args.edges.now c.loop-e.e-index _ c.loop-e-test.true (i.kept test (λ e k. h e (steps_kept c.args.items.now c.loop-e.s c.begin.new.s c.loop-e.waiting c.begin.new.waiting e b.step b.wider k))) (h _ b.kept);
+      kept = λ test h. one_more test c.args.edges.now c.loop-e.e-index _ c.loop-e-test.true
+          (i.kept test (λ e k. h e (steps_kept c.args.items.now c.loop-e.s c.begin.new.s c.loop-e.waiting c.begin.new.waiting e b.step
+          b.wider k))) (h _ b.kept);
       opened = λ n. b.opened n (i.opened n);
       fair = λ held keeps k. b.fair held (none_at (is_broken held c.args.items.now) c.args.edges.now c.loop-e.e-index _ c.loop-e-test.true keeps) (i.fair held keeps k);
       covered = λ held keeps k. b.covered held (none_at (is_broken held c.args.items.now) c.args.edges.now c.loop-e.e-index _ c.loop-e-test.true keeps) (i.covered held keeps k);

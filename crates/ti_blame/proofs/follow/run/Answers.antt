@@ -15,5 +15,6 @@ fallen-preserved c =
       done = e.done;
       stays = λ b h. i.stays b (popped_stays c.in-Some.m c.fallen.s t popped b (e.step.stays b h));
       fewer = λ n h. i.fewer n (e.step.fewer n h);
-      covered = λ held fair k. e.covered held (fair c.in-Some.m (not_held c.in-Some.m c.fallen.s t popped held i.apart (i.covered held fair k))) (popped_covers c.in-Some.m c.fallen.s t popped held (i.covered held fair k));
+      covered = λ held fair k. e.covered held (fair c.in-Some.m (not_held c.in-Some.m c.fallen.s t popped held i.apart
+          (i.covered held fair k))) (popped_covers c.in-Some.m c.fallen.s t popped held (i.covered held fair k));
     }

@@ -12,7 +12,8 @@ loop-what-preserved c =
     let e = c.in_ok-then_falls.ensures in
     record {
       step = steps_trans _ _ _ i.step e.step;
-      gone = one_more (λ t. list_any (left c.then_falls.new.s) (meaning c.args.items.now t)) c.args.found.now c.loop-what.what-index _ c.loop-what-test.true (still_fallen c.args.items.now _ _ e.step (take c.loop-what.what-index c.args.found.now) i.gone) e.gone;
+      gone = one_more (λ t. list_any (left c.then_falls.new.s) (meaning c.args.items.now t)) c.args.found.now c.loop-what.what-index _
+          c.loop-what-test.true (still_fallen c.args.items.now _ _ e.step (take c.loop-what.what-index c.args.found.now) i.gone) e.gone;
       covered = λ held h k. e.covered held (none_at (λ t. list_any held (meaning c.args.items.now t)) c.args.found.now c.loop-what.what-index _ c.loop-what-test.true h) (i.covered held h k);
       done = e.done;
     }

@@ -20,4 +20,6 @@ returns c =
     let b = c.in_ok-begin_all.ensures in
     let r = c.in_ok-run.ensures in
     subst (λ (ms : List Mark). IsSettled c.args.names.now c.args.items.now c.args.edges.now ms c.run.new.s.blamed) (sym c.in_ok-marks.ensures.items)
-    (settled c.args.names.now c.args.items.now c.args.edges.now c.in_ok-s.s c.begin_all.new.s c.run.new.s c.new-waiting.result c.begin_all.new.waiting c.in_ok-s.ensures none b.step b.kept b.fair b.covered r.followed r.stays r.fewer r.covered c.in_ok-marks.ensures.ordered)
+    (settled c.args.names.now c.args.items.now c.args.edges.now c.in_ok-s.s c.begin_all.new.s c.run.new.s c.new-waiting.result
+    c.begin_all.new.waiting c.in_ok-s.ensures none b.step b.kept b.fair b.covered r.followed r.stays r.fewer r.covered
+    c.in_ok-marks.ensures.ordered)

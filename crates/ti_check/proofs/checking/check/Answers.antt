@@ -1,6 +1,6 @@
 use Rattle.std.proofs.Common.{sym, ◌∙◌}
 use Rattle.ti_lang.specs.Program.Views.{program_of}
-use Rattle.ti_rules.proofs.OneProgramRefusal.{found, nothing_found}
+use Rattle.ti_rules.proofs.Lemmas.{found, nothing_found}
 use Rattle.ti_check.proofs.checking.check.Goals as goal
 
 pub of-requires : goal.of-requires

@@ -1,6 +1,6 @@
 use Rattle.std.proofs.Common.{Some, ap, sym, ◌∙◌}
 use Rattle.ti_lang.specs.Program.Views.{numbered_method_of}
-use Rattle.ti_lang.proofs.Elements.{method_here}
+use Rattle.ti_lang.proofs.Lemmas.{method_here}
 use Rattle.ti_check.proofs.checking.method_of.Goals as goal
 
 pub returns : goal.returns

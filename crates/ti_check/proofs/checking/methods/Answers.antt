@@ -3,7 +3,7 @@ use Rattle.std.proofs.lemmas.List.{length-map}
 use Rattle.ti_lang.specs.Program.Views.{program_of, numbered_method_of}
 use Rattle.ti_rules.specs.TypeRules.{method_refusals}
 use Rattle.ti_rules.specs.SingleRules.{method_single_refusals}
-use Rattle.ti_types.proofs.Loops.{each_end}
+use Rattle.ti_types.proofs.Lemmas.{each_end}
 use Rattle.ti_check.proofs.Walked.{left_first, at_step}
 use Rattle.ti_check.proofs.checking.methods.Goals as goal
 
@@ -18,8 +18,10 @@ loop-i-preserved c =
     let p = program_of c.args.p.now.parts in
     let m = numbered_method_of c.method_at-m.result.now in
     let count = length-map c.args.p.now.parts.methods.items numbered_method_of in (
-      c.loop-i.invariant.0 ∙ at_step (method_refusals p) p.methods c.loop-i.i m c.loop-i.found.types c.in_ok-next.next.types c.and-found.result.types (omega (arith, count)) c.method_at-m.ensures c.in_ok-next.ensures.0 c.and-found.ensures.types,
-      c.loop-i.invariant.1 ∙ at_step (method_single_refusals p) p.methods c.loop-i.i m c.loop-i.found.single c.in_ok-next.next.single c.and-found.result.single (omega (arith, count)) c.method_at-m.ensures c.in_ok-next.ensures.1 c.and-found.ensures.single,
+      c.loop-i.invariant.0 ∙ at_step (method_refusals p) p.methods c.loop-i.i m c.loop-i.found.types c.in_ok-next.next.types
+          c.and-found.result.types (omega (arith, count)) c.method_at-m.ensures c.in_ok-next.ensures.0 c.and-found.ensures.types,
+      c.loop-i.invariant.1 ∙ at_step (method_single_refusals p) p.methods c.loop-i.i m c.loop-i.found.single c.in_ok-next.next.single
+          c.and-found.result.single (omega (arith, count)) c.method_at-m.ensures c.in_ok-next.ensures.1 c.and-found.ensures.single,
     )
 
 pub returns : goal.returns

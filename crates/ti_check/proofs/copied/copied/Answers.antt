@@ -7,5 +7,7 @@ pub returns : goal.returns
 returns c =
     let count = c.same_front-count.result in
     let same = ap (λ l. map in_scope_of (take count l)) (sym c.deref.ensures.value) ∙ c.same_front-count.ensures.same in
-    subst (λ l. IfOk c.with_others.result (λ v. map in_scope_of v.items ≡ l)) (front_and_rest in_scope_of c.truncate.new.self.items c.args.unused.items c.args.variables.now count c.same_front-count.ensures.within_second c.truncate.ensures.items same)
+    subst (λ l. IfOk c.with_others.result (λ v. map in_scope_of v.items ≡ l))
+    (front_and_rest in_scope_of c.truncate.new.self.items c.args.unused.items c.args.variables.now count
+    c.same_front-count.ensures.within_second c.truncate.ensures.items same)
     c.with_others.ensures

@@ -6,4 +6,7 @@ use Rattle.ti_lang.specs.Program.Views.{numbered_param_of}
 use Rattle.ti_check.proofs.declarations.all_param_words.Given as goal
 
 abbrev pub invariant-loop-param : goal.invariant-loop-param
-invariant-loop-param l = first_of (flat_map (λ (x : NumberedParam). type_word_refusals l.may_be_single x.ty) (map numbered_param_of l.params)) ≡ sooner l.found (first_of (flat_map (λ (x : NumberedParam). type_word_refusals l.may_be_single x.ty) (map numbered_param_of (drop l.param-index l.params))))
+invariant-loop-param l = first_of (flat_map (λ (x : NumberedParam). type_word_refusals l.may_be_single x.ty)
+    (map numbered_param_of l.params))
+    ≡ sooner l.found (first_of (flat_map (λ (x : NumberedParam). type_word_refusals l.may_be_single x.ty)
+    (map numbered_param_of (drop l.param-index l.params))))

@@ -7,7 +7,7 @@ use Rattle.ti_lang.specs.Typing.Declared.{is_static_method}
 use Rattle.ti_rules.specs.Mirrors.First.{sooner, first_of}
 use Rattle.ti_rules.specs.Broken.Words.{repeated_modifiers, method_modifier_refusals}
 use Rattle.ti_rules.specs.TypeRules.{result_refusals, params_refusals}
-use Rattle.ti_rules.proofs.First.{first_append}
+use Rattle.ti_rules.proofs.Lemmas.{first_append}
 use Rattle.ti_check.proofs.declarations.head.Goals as goal
 
 pub returns : goal.returns

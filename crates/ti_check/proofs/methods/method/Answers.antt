@@ -24,8 +24,10 @@ returns c =
     let around : List ScopeVariable → Around = λ v. record { method = m; variables = v; jump_has = None } in
     let variables = (contents_of c.in_ok-scope.scope).variables in
     let nowhere : ScopeContents = record { this_class = None; variables = [] } in
-    let is_variables : variables ≡ parameters m.params = ap (λ (s : ScopeContents). s.variables) (c.in_ok-scope.ensures.contents ∙ ap (λ (o : Option NumberedMethod). option_map_or method_scope o nowhere) c.requires.is_method) in
-    method_found p m c.head.result c.end.result c.effects.result c.single_result.result own c.outside.result c.and.result c.head.ensures c.end.ensures c.sooner.ensures c.effects.ensures c.single_result.ensures c.sooner-2.ensures
+    let is_variables : variables ≡ parameters m.params = ap (λ (s : ScopeContents). s.variables) (c.in_ok-scope.ensures.contents
+    ∙ ap (λ (o : Option NumberedMethod). option_map_or method_scope o nowhere) c.requires.is_method) in
+    method_found p m c.head.result c.end.result c.effects.result c.single_result.result own c.outside.result c.and.result c.head.ensures
+    c.end.ensures c.sooner.ensures c.effects.ensures c.single_result.ensures c.sooner-2.ensures
     (same_found p (inside_all p (around variables) (numbered_stms (map statement_of c.listed_statements.result.now))) (standing_in_method p m) c.outside.result
     (ap (λ l. inside_all p (around variables) (numbered_stms (map statement_of l))) c.listed_statements.ensures ∙ ap (λ v. inside_all p (around v) (numbered_stms m.body)) is_variables)
     (subst (IsFound p (inside_all p (around variables) (numbered_stms (map statement_of c.listed_statements.result.now)))) (sym c.outside.ensures) (c.in_ok-body.ensures.found false)))

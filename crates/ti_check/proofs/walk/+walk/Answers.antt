@@ -4,11 +4,11 @@ use Rattle.ti_lang.specs.Program.Statements.{numbered_stms}
 use Rattle.ti_lang.specs.Program.Views.{expression_of, statement_of}
 use Rattle.ti_lang.specs.Typing.Effects.{together, kept_in_loop, doings, doings_of_all, doings_of_maybe}
 use Rattle.ti_rules.specs.Standing.{Around, scope_of, variables_inside, loop_acts, inside, inside_maybe, inside_all}
-use Rattle.ti_lang.proofs.ProgramBridges.{seen_numbered_block}
+use Rattle.ti_lang.proofs.Lemmas.{seen_numbered_block}
 use Rattle.ti_single.specs.Doings.{doings_of}
 use Rattle.ti_single.specs.EffectsAt.{doings_in_loop}
 use Rattle.ti_single.specs.Mirrors.Maybe.{maybe_in}
-use Rattle.ti_single.proofs.Together.{doings_step, doings_end}
+use Rattle.ti_single.proofs.Lemmas.{doings_step, doings_end}
 use Rattle.ti_check.specs.declared.found.Walked.{Walked}
 use Rattle.ti_check.specs.Mirrors.Found.{below}
 use Rattle.ti_check.specs.Mirrors.Sites.{program_at, around_where, around_of}
@@ -27,7 +27,8 @@ pub statements-loop-x-preserved : goal.statements-loop-x-preserved
 statements-loop-x-preserved t c =
     let p = program_at c.args.site in
     let found = doings_of c.loop-x.found.doings in (
-      where_next p (around_where c.args.site) c.args.xs.now c.loop-x.x-index c.x-item.result c.loop-x.found c.in_ok-next.next c.and-found.result (omega arith) c.x-item.is c.loop-x.invariant.0 c.in_ok-next.ensures.found
+      where_next p (around_where c.args.site) c.args.xs.now c.loop-x.x-index c.x-item.result c.loop-x.found c.in_ok-next.next
+          c.and-found.result (omega arith) c.x-item.is c.loop-x.invariant.0 c.in_ok-next.ensures.found
           c.and-found.ensures.types c.and-found.ensures.single c.and-found.ensures.jumping,
       doings_step p (this_of (around_of c.args.site).method) c.args.xs.now c.loop-x.x-index c.x-item.result found (doings_of c.and-found.result.doings) _ (omega arith) c.x-item.is c.loop-x.invariant.1
           (c.and-found.ensures.doings ∙ ap (together found) c.in_ok-next.ensures.doings),
@@ -44,7 +45,8 @@ pub maybe-returns-in-None-clause-found : goal.maybe-returns-in-None-clause-found
 maybe-returns-in-None-clause-found t c =
     let p = program_at c.args.site in
     let around = around_where c.args.site in
-    subst (λ o. IsWalked p (λ jump_has. inside_maybe p (around jump_has) (maybe_in o)) c.doing.result) (sym c.in-None.is) (subst (IsWalked p (λ jump_has. [])) (sym c.doing.ensures) (nothing_walked p c.none.result))
+    subst (λ o. IsWalked p (λ jump_has. inside_maybe p (around jump_has) (maybe_in o)) c.doing.result) (sym c.in-None.is)
+    (subst (IsWalked p (λ jump_has. [])) (sym c.doing.ensures) (nothing_walked p c.none.result))
 
 -- ---- a block
 
@@ -52,7 +54,8 @@ pub compound-whole-requires-clause-below : goal.compound-whole-requires-clause-b
 compound-whole-requires-clause-below t c =
     let p = program_at c.args.site in
     let around = around_where c.args.site in
-    same_walked p (λ jump_has. inside_all p (around jump_has) (numbered_stms (map statement_of c.listed_statements.result.now))) (λ jump_has. below p (around jump_has) (statement_of c.args.x.now)) c.in_ok-below-in-Block.below
+    same_walked p (λ jump_has. inside_all p (around jump_has) (numbered_stms (map statement_of c.listed_statements.result.now)))
+    (λ jump_has. below p (around jump_has) (statement_of c.args.x.now)) c.in_ok-below-in-Block.below
     (ap (λ l jump_has. inside_all p (around jump_has) (numbered_stms (map statement_of l))) c.listed_statements.ensures
     ∙ sym (ap (λ z jump_has. below p (around jump_has) z) (seen_numbered_block c.args.x.now c.in-Block.body c.in-Block.is)))
     c.in_ok-below-in-Block.ensures.found
@@ -73,9 +76,11 @@ compound-whole-requires-in-If-clause-below t c =
     let then = λ (jump_has : Bool). inside p (around jump_has) (statement_of c.boxed_statement.result.now) in
     let otherwise = λ (jump_has : Bool). inside_maybe p (around jump_has) (maybe_in c.in-If.otherwise) in
     same_walked p (λ jump_has. then jump_has ++ otherwise jump_has) (λ jump_has. below p (around jump_has) (statement_of c.args.x.now)) c.and.result
-    (λ j jump_has. (ap (λ z. inside p (around jump_has) (statement_of z) ++ otherwise jump_has) c.boxed_statement.ensures ∙ if_below p (around jump_has) c.in-If.place c.in-If.condition c.in-If.then c.in-If.otherwise
+    (λ j jump_has. (ap (λ z. inside p (around jump_has) (statement_of z) ++ otherwise jump_has) c.boxed_statement.ensures
+    ∙ if_below p (around jump_has) c.in-If.place c.in-If.condition c.in-If.then c.in-If.otherwise
     ∙ sym (ap (λ z. below p (around jump_has) (statement_of z)) c.in-If.is)) j)
-    (both_walked p then otherwise c.in_ok-then-in-If.then c.in_ok-otherwise-in-If.otherwise c.and.result c.in_ok-then-in-If.ensures.found c.in_ok-otherwise-in-If.ensures.found c.and.ensures.types c.and.ensures.single
+    (both_walked p then otherwise c.in_ok-then-in-If.then c.in_ok-otherwise-in-If.otherwise c.and.result c.in_ok-then-in-If.ensures.found
+    c.in_ok-otherwise-in-If.ensures.found c.and.ensures.types c.and.ensures.single
     c.and.ensures.jumping)
 
 pub compound-whole-requires-in-If-clause-own : goal.compound-whole-requires-in-If-clause-own
@@ -96,12 +101,16 @@ compound-whole-requires-in-While-clause-below t c =
     let around = around_of c.args.site in
     let within : Bool → Around = λ jump_has. record around { jump_has = Some jump_has } in
     let body = statement_of c.in-While.body.value in
-    let found = moved_walked p (program_at c.in_loop.result) (around_where c.in_loop.result) within (statement_of c.boxed_statement-in-While.result.now) body c.in_ok-body-in-While.body c.in_loop.ensures.program c.in_loop.ensures.around
+    let found = moved_walked p (program_at c.in_loop.result) (around_where c.in_loop.result) within
+    (statement_of c.boxed_statement-in-While.result.now) body c.in_ok-body-in-While.body c.in_loop.ensures.program
+    c.in_loop.ensures.around
     (ap statement_of c.boxed_statement-in-While.ensures) c.in_ok-body-in-While.ensures.found in
-    let does = moved_doings p (program_at c.in_loop.result) (around_where c.in_loop.result) within (statement_of c.boxed_statement-in-While.result.now) body (doings_of c.in_ok-body-in-While.body.doings) c.in_loop.ensures.program
+    let does = moved_doings p (program_at c.in_loop.result) (around_where c.in_loop.result) within
+    (statement_of c.boxed_statement-in-While.result.now) body (doings_of c.in_ok-body-in-While.body.doings) c.in_loop.ensures.program
     c.in_loop.ensures.around (ap statement_of c.boxed_statement-in-While.ensures) c.in_ok-body-in-While.ensures.doings in
     subst (λ z. IsWalked p (λ jump_has. below p (around_where c.args.site jump_has) (statement_of z)) c.looped-below.result) (sym c.in-While.is)
-    (alone_walked p around.method within body c.none-in-While.result c.doing.result c.in_ok-body-in-While.body c.looped-below.result c.doing.ensures c.none-in-While.ensures found does c.looped-below.ensures.types
+    (alone_walked p around.method within body c.none-in-While.result c.doing.result c.in_ok-body-in-While.body c.looped-below.result
+    c.doing.ensures c.none-in-While.ensures found does c.looped-below.ensures.types
     c.looped-below.ensures.single c.looped-below.ensures.jumping)
 
 pub compound-whole-requires-in-While-clause-own : goal.compound-whole-requires-in-While-clause-own
@@ -110,7 +119,8 @@ compound-whole-requires-in-While-clause-own t c =
     let around = around_of c.args.site in
     let within : Bool → Around = λ jump_has. record around { jump_has = Some jump_has } in
     let body = statement_of c.in-While.body.value in
-    let does = moved_doings p (program_at c.in_loop.result) (around_where c.in_loop.result) within (statement_of c.boxed_statement-in-While.result.now) body (doings_of c.in_ok-body-in-While.body.doings) c.in_loop.ensures.program
+    let does = moved_doings p (program_at c.in_loop.result) (around_where c.in_loop.result) within
+    (statement_of c.boxed_statement-in-While.result.now) body (doings_of c.in_ok-body-in-While.body.doings) c.in_loop.ensures.program
     c.in_loop.ensures.around (ap statement_of c.boxed_statement-in-While.ensures) c.in_ok-body-in-While.ensures.doings in
     alone_does p around.method body c.none-in-While.result c.doing.result c.in_ok-body-in-While.body c.looped-below.result c.doing.ensures c.none-in-While.ensures does c.looped-below.ensures.doings
     ∙ sym (ap (λ z. doings p (this_of around.method) (statement_of z)) c.in-While.is)
@@ -120,7 +130,8 @@ compound-whole-requires-in-While-clause-inside t c =
     let p = program_at c.args.site in
     let around = around_of c.args.site in
     let within : Bool → Around = λ jump_has. record around { jump_has = Some jump_has } in
-    moved_doings p (program_at c.in_loop.result) (around_where c.in_loop.result) within (statement_of c.boxed_statement-in-While.result.now) (statement_of c.in-While.body.value) (doings_of c.in_ok-body-in-While.body.doings)
+    moved_doings p (program_at c.in_loop.result) (around_where c.in_loop.result) within (statement_of c.boxed_statement-in-While.result.now)
+    (statement_of c.in-While.body.value) (doings_of c.in_ok-body-in-While.body.doings)
     c.in_loop.ensures.program c.in_loop.ensures.around (ap statement_of c.boxed_statement-in-While.ensures) c.in_ok-body-in-While.ensures.doings
     ∙ sym (ap (λ z. doings_in_loop p around.method (statement_of z)) c.in-While.is)
 
@@ -136,15 +147,20 @@ compound-whole-requires-in-For-clause-below t c =
     let update = maybe_in c.in-For.update in
     let first = λ (jump_has : Bool). inside_maybe p (around_where c.args.site jump_has) (maybe_in c.in-For.first) in
     let updates = λ (jump_has : Bool). inside_maybe p (around_where c.args.site jump_has) update in
-    let found = moved_walked p (program_at c.in_loop-in-For.result) (around_where c.in_loop-in-For.result) within (statement_of c.boxed_statement-in-For.result.now) body c.in_ok-body-in-For.body c.in_loop-in-For.ensures.program
+    let found = moved_walked p (program_at c.in_loop-in-For.result) (around_where c.in_loop-in-For.result) within
+    (statement_of c.boxed_statement-in-For.result.now) body c.in_ok-body-in-For.body c.in_loop-in-For.ensures.program
     c.in_loop-in-For.ensures.around (ap statement_of c.boxed_statement-in-For.ensures) c.in_ok-body-in-For.ensures.found in
-    let does = moved_doings p (program_at c.in_loop-in-For.result) (around_where c.in_loop-in-For.result) within (statement_of c.boxed_statement-in-For.result.now) body (doings_of c.in_ok-body-in-For.body.doings)
+    let does = moved_doings p (program_at c.in_loop-in-For.result) (around_where c.in_loop-in-For.result) within
+    (statement_of c.boxed_statement-in-For.result.now) body (doings_of c.in_ok-body-in-For.body.doings)
     c.in_loop-in-For.ensures.program c.in_loop-in-For.ensures.around (ap statement_of c.boxed_statement-in-For.ensures) c.in_ok-body-in-For.ensures.doings in
-    let others = loop_walked p m within updates update body c.in_ok-update-in-For.update c.in_ok-body-in-For.body c.looped.result c.in_ok-update-in-For.ensures.found c.in_ok-update-in-For.ensures.doings found does
+    let others = loop_walked p m within updates update body c.in_ok-update-in-For.update c.in_ok-body-in-For.body c.looped.result
+    c.in_ok-update-in-For.ensures.found c.in_ok-update-in-For.ensures.doings found does
     c.looped.ensures.types c.looped.ensures.single c.looped.ensures.jumping in
-    same_walked p (λ jump_has. first jump_has ++ (updates jump_has ++ inside p (within (loop_acts p m update body)) body)) (λ jump_has. below p (around_where c.args.site jump_has) (statement_of c.args.x.now)) c.and-below.result
+    same_walked p (λ jump_has. first jump_has ++ (updates jump_has ++ inside p (within (loop_acts p m update body)) body))
+    (λ jump_has. below p (around_where c.args.site jump_has) (statement_of c.args.x.now)) c.and-below.result
     (sym (ap (λ z jump_has. below p (around_where c.args.site jump_has) z) (ap statement_of c.in-For.is ∙ for_is c.in-For.place c.in-For.first c.in-For.condition c.in-For.update c.in-For.body)))
-    (both_walked p first (λ jump_has. updates jump_has ++ inside p (within (loop_acts p m update body)) body) c.in_ok-first-in-For.first c.looped.result c.and-below.result c.in_ok-first-in-For.ensures.found others
+    (both_walked p first (λ jump_has. updates jump_has ++ inside p (within (loop_acts p m update body)) body) c.in_ok-first-in-For.first
+    c.looped.result c.and-below.result c.in_ok-first-in-For.ensures.found others
     c.and-below.ensures.types c.and-below.ensures.single c.and-below.ensures.jumping)
 
 pub compound-whole-requires-in-For-clause-own : goal.compound-whole-requires-in-For-clause-own
@@ -154,7 +170,8 @@ compound-whole-requires-in-For-clause-own t c =
     let m = around.method in
     let within : Bool → Around = λ jump_has. record around { jump_has = Some jump_has } in
     let body = statement_of c.in-For.body.value in
-    let does = moved_doings p (program_at c.in_loop-in-For.result) (around_where c.in_loop-in-For.result) within (statement_of c.boxed_statement-in-For.result.now) body (doings_of c.in_ok-body-in-For.body.doings)
+    let does = moved_doings p (program_at c.in_loop-in-For.result) (around_where c.in_loop-in-For.result) within
+    (statement_of c.boxed_statement-in-For.result.now) body (doings_of c.in_ok-body-in-For.body.doings)
     c.in_loop-in-For.ensures.program c.in_loop-in-For.ensures.around (ap statement_of c.boxed_statement-in-For.ensures) c.in_ok-body-in-For.ensures.doings in
     c.and-below.ensures.doings
     ∙ ap (λ d. together d (doings_of c.looped.result.doings)) c.in_ok-first-in-For.ensures.doings
@@ -169,7 +186,8 @@ compound-whole-requires-in-For-clause-inside t c =
     let m = around.method in
     let within : Bool → Around = λ jump_has. record around { jump_has = Some jump_has } in
     let body = statement_of c.in-For.body.value in
-    let does = moved_doings p (program_at c.in_loop-in-For.result) (around_where c.in_loop-in-For.result) within (statement_of c.boxed_statement-in-For.result.now) body (doings_of c.in_ok-body-in-For.body.doings)
+    let does = moved_doings p (program_at c.in_loop-in-For.result) (around_where c.in_loop-in-For.result) within
+    (statement_of c.boxed_statement-in-For.result.now) body (doings_of c.in_ok-body-in-For.body.doings)
     c.in_loop-in-For.ensures.program c.in_loop-in-For.ensures.around (ap statement_of c.boxed_statement-in-For.ensures) c.in_ok-body-in-For.ensures.doings in
     c.together.ensures ∙ inside_does p m (maybe_in c.in-For.update) body c.in_ok-update-in-For.update c.in_ok-body-in-For.body c.in_ok-update-in-For.ensures.doings does
     ∙ sym (ap (doings_in_loop p m) (ap statement_of c.in-For.is ∙ for_is c.in-For.place c.in-For.first c.in-For.condition c.in-For.update c.in-For.body))
@@ -188,12 +206,15 @@ compound-whole-requires-in-Foreach-clause-below t c =
     c.with_scope.ensures.around ∙ ap with_scope c.in_loop-within.ensures.around
     ∙ ap with_these c.in_ok-scope-in-Foreach.ensures.variables in
     let is_program = c.with_scope.ensures.program ∙ c.in_loop-within.ensures.program in
-    let found = moved_walked p (program_at c.with_scope.result) (around_where c.with_scope.result) within (statement_of c.boxed_statement-in-Foreach.result.now) body c.in_ok-body-in-Foreach.body is_program is_around
+    let found = moved_walked p (program_at c.with_scope.result) (around_where c.with_scope.result) within
+    (statement_of c.boxed_statement-in-Foreach.result.now) body c.in_ok-body-in-Foreach.body is_program is_around
     (ap statement_of c.boxed_statement-in-Foreach.ensures) c.in_ok-body-in-Foreach.ensures.found in
-    let does = moved_doings p (program_at c.with_scope.result) (around_where c.with_scope.result) within (statement_of c.boxed_statement-in-Foreach.result.now) body (doings_of c.in_ok-body-in-Foreach.body.doings) is_program is_around
+    let does = moved_doings p (program_at c.with_scope.result) (around_where c.with_scope.result) within
+    (statement_of c.boxed_statement-in-Foreach.result.now) body (doings_of c.in_ok-body-in-Foreach.body.doings) is_program is_around
     (ap statement_of c.boxed_statement-in-Foreach.ensures) c.in_ok-body-in-Foreach.ensures.doings in
     subst (λ z. IsWalked p (λ jump_has. below p (around_where c.args.site jump_has) (statement_of z)) c.looped-below-in-Foreach.result) (sym c.in-Foreach.is)
-    (alone_walked p around.method within body c.none-in-Foreach.result c.doing-in-Foreach.result c.in_ok-body-in-Foreach.body c.looped-below-in-Foreach.result c.doing-in-Foreach.ensures c.none-in-Foreach.ensures found does
+    (alone_walked p around.method within body c.none-in-Foreach.result c.doing-in-Foreach.result c.in_ok-body-in-Foreach.body
+    c.looped-below-in-Foreach.result c.doing-in-Foreach.ensures c.none-in-Foreach.ensures found does
     c.looped-below-in-Foreach.ensures.types c.looped-below-in-Foreach.ensures.single c.looped-below-in-Foreach.ensures.jumping)
 
 pub compound-whole-requires-in-Foreach-clause-own : goal.compound-whole-requires-in-Foreach-clause-own
@@ -205,9 +226,11 @@ compound-whole-requires-in-Foreach-clause-own t c =
     let with_scope : (Bool → Around) → Bool → Around = λ a jump_has. record (a jump_has) { variables = (contents_of c.in_ok-scope-in-Foreach.scope).variables } in
     let is_around : around_where c.with_scope.result ≡ with_these =
     c.with_scope.ensures.around ∙ ap with_scope c.in_loop-within.ensures.around in
-    let does = moved_doings p (program_at c.with_scope.result) (around_where c.with_scope.result) with_these (statement_of c.boxed_statement-in-Foreach.result.now) body (doings_of c.in_ok-body-in-Foreach.body.doings)
+    let does = moved_doings p (program_at c.with_scope.result) (around_where c.with_scope.result) with_these
+    (statement_of c.boxed_statement-in-Foreach.result.now) body (doings_of c.in_ok-body-in-Foreach.body.doings)
     (c.with_scope.ensures.program ∙ c.in_loop-within.ensures.program) is_around (ap statement_of c.boxed_statement-in-Foreach.ensures) c.in_ok-body-in-Foreach.ensures.doings in
-    alone_does p around.method body c.none-in-Foreach.result c.doing-in-Foreach.result c.in_ok-body-in-Foreach.body c.looped-below-in-Foreach.result c.doing-in-Foreach.ensures c.none-in-Foreach.ensures does
+    alone_does p around.method body c.none-in-Foreach.result c.doing-in-Foreach.result c.in_ok-body-in-Foreach.body
+    c.looped-below-in-Foreach.result c.doing-in-Foreach.ensures c.none-in-Foreach.ensures does
     c.looped-below-in-Foreach.ensures.doings
     ∙ sym (ap (λ z. doings p (this_of around.method) (statement_of z)) c.in-Foreach.is)
 
@@ -220,5 +243,6 @@ compound-whole-requires-in-Foreach-clause-inside t c =
     let is_around : around_where c.with_scope.result ≡ with_these =
     c.with_scope.ensures.around ∙ ap with_scope c.in_loop-within.ensures.around in
     moved_doings p (program_at c.with_scope.result) (around_where c.with_scope.result) with_these (statement_of c.boxed_statement-in-Foreach.result.now) (statement_of c.in-Foreach.body.value)
-    (doings_of c.in_ok-body-in-Foreach.body.doings) (c.with_scope.ensures.program ∙ c.in_loop-within.ensures.program) is_around (ap statement_of c.boxed_statement-in-Foreach.ensures) c.in_ok-body-in-Foreach.ensures.doings
+    (doings_of c.in_ok-body-in-Foreach.body.doings) (c.with_scope.ensures.program ∙ c.in_loop-within.ensures.program) is_around
+    (ap statement_of c.boxed_statement-in-Foreach.ensures) c.in_ok-body-in-Foreach.ensures.doings
     ∙ sym (ap (λ z. doings_in_loop p around.method (statement_of z)) c.in-Foreach.is)

@@ -4,7 +4,7 @@ use Rattle.ti_lang.specs.Program.Statements.{numbered_stms}
 use Rattle.ti_lang.specs.Program.Views.{statement_of}
 use Rattle.ti_lang.specs.Typing.Effects.{together, doings_of_all}
 use Rattle.ti_single.specs.Doings.{doings_of}
-use Rattle.ti_single.proofs.Together.{doings_from}
+use Rattle.ti_single.proofs.Lemmas.{doings_from}
 use Rattle.ti_check.specs.Mirrors.Sites.{program_at, around_where, around_of}
 use Rattle.ti_check.proofs.Where.{LeftWhere}
 use Rattle.ti_check.proofs.walk.+walk.Given as goal

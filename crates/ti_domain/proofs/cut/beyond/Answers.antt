@@ -1,10 +1,9 @@
 use Rattle.std.proofs.Common.{◌≡◌, sym, subst}
 use Rattle.std.proofs.lemmas.Result.{IfOk-weaker}
 use Rattle.ti_base.specs.Rects.{IsIn}
-use Rattle.ti_rect.proofs.RectLaws.{none_in}
+use Rattle.ti_rect.proofs.Lemmas.{none_in, covers_same}
 use Rattle.ti_domain.specs.Domains.{alone}
 use Rattle.ti_domain.specs.Pieces.{IsPiece, ArePiecesOf}
-use Rattle.ti_rect.proofs.FamilyLaws.{covers_same}
 use Rattle.ti_domain.proofs.SetLaws.{alone_covers}
 use Rattle.ti_domain.proofs.cut.beyond.Goals as goal
 

@@ -11,5 +11,6 @@ loop-other-preserved c =
     record {
       pieces = meets_more c.args.r.now.dim c.args.others.now c.loop-other.other-index c.loop-other-test.true c.requires.others c.args.r.now both
           c.loop-other.common.items c.in_ok-common.common.items refl c.loop-other.invariant.pieces m.form m.dim m.points c.in_ok-common.ensures;
-      number = let l = ap length c.in_ok-common.ensures ∙ length-append c.loop-other.common.items (alone both) in let n = alone_length both m.form in let k = c.loop-other.invariant.number in omega arith;
+      number = let l = ap length c.in_ok-common.ensures ∙ length-append c.loop-other.common.items (alone both) in let n =
+          alone_length both m.form in let k = c.loop-other.invariant.number in omega arith;
     }

@@ -1,6 +1,6 @@
 use Rattle.std.proofs.Common.{◌≡◌, true, false, ⊎_elim, refl, sym, ◌∙◌}
 use Rattle.ti_base.specs.Rects.{IsIn}
-use Rattle.ti_rect.proofs.FamilyLaws.{in_at, in_more}
+use Rattle.ti_rect.proofs.Lemmas.{in_at, in_more}
 use Rattle.ti_domain.proofs.StepLaws.{no_rect}
 use Rattle.ti_domain.proofs.members.dom_contains.Goals as goal
 

@@ -1,6 +1,6 @@
 use Rattle.std.proofs.Common.{⊎_elim}
 use Rattle.ti_base.specs.Rects.{IsIn}
-use Rattle.ti_rect.proofs.FamilyLaws.{in_more}
+use Rattle.ti_rect.proofs.Lemmas.{in_more}
 use Rattle.ti_domain.proofs.StepLaws.{no_rect}
 use Rattle.ti_domain.proofs.rest.all_lie_apart.Goals as goal
 

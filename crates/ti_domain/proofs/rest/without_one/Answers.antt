@@ -1,7 +1,7 @@
 use Rattle.std.proofs.Common.{IfOk, sym, subst}
 use Rattle.ti_base.specs.Rects.{IsIn}
 use Rattle.ti_domain.specs.Pieces.{IsPiece, ArePiecesOf, IsInSome}
-use Rattle.ti_rect.proofs.FamilyLaws.{covers_same, covers_list}
+use Rattle.ti_rect.proofs.Lemmas.{covers_same, covers_list}
 use Rattle.ti_domain.proofs.rest.without_one.Goals as goal
 
 pub returns-then-all_lie_apart : goal.returns-then-all_lie_apart

@@ -12,6 +12,7 @@ made-requires c =
 pub returns-clause-points : goal.returns-clause-points
 returns-clause-points c =
     ap (λ (d : Domain). d.points) c.made.ensures
-    ∙ meet_points_in c.args.a.now c.args.b.now c.dom_pieces-left.result.now c.dom_pieces-right.result.now c.dom_pieces-left.ensures.domain c.dom_pieces-left.ensures.pieces c.dom_pieces-left.ensures.list
+    ∙ meet_points_in c.args.a.now c.args.b.now c.dom_pieces-left.result.now c.dom_pieces-right.result.now c.dom_pieces-left.ensures.domain
+    c.dom_pieces-left.ensures.pieces c.dom_pieces-left.ensures.list
     c.dom_pieces-right.ensures.domain c.dom_pieces-right.ensures.pieces c.dom_pieces-right.ensures.list c.requires c.dim_of-dim.result c.dim_of-dim.ensures
     c.in_ok-pieces.pieces.items c.in_ok-pieces.ensures.pieces

@@ -18,7 +18,8 @@ sum_is c = (λ i. c.total.ensures i + second_total c i)
 
 pub total-requires-clause-small : goal.total-requires-clause-small
 total-requires-clause-small c =
-    let n = first_count c.args.a.now c.args.b.now c.dom_pieces-left.result.now c.dom_pieces-right.result.now c.dom_pieces-left.ensures.domain c.dom_pieces-left.ensures.pieces c.dom_pieces-left.ensures.list
+    let n = first_count c.args.a.now c.args.b.now c.dom_pieces-left.result.now c.dom_pieces-right.result.now
+    c.dom_pieces-left.ensures.domain c.dom_pieces-left.ensures.pieces c.dom_pieces-left.ensures.list
     c.dom_pieces-right.ensures.domain c.dom_pieces-right.ensures.pieces c.dom_pieces-right.ensures.list c.requires c.dim_of-dim.result c.dim_of-dim.ensures in
     let b = c.dom_pieces-left.ensures.domain.bound in
     omega arith
@@ -31,10 +32,12 @@ total-requires-2-clause-small c = subst (λ l. total_count l ≤ 1048576) (sym c
 
 pub overflow_add-total : goal.overflow_add-total
 overflow_add-total c =
-    let n = first_count c.args.a.now c.args.b.now c.dom_pieces-left.result.now c.dom_pieces-right.result.now c.dom_pieces-left.ensures.domain c.dom_pieces-left.ensures.pieces c.dom_pieces-left.ensures.list
+    let n = first_count c.args.a.now c.args.b.now c.dom_pieces-left.result.now c.dom_pieces-right.result.now
+    c.dom_pieces-left.ensures.domain c.dom_pieces-left.ensures.pieces c.dom_pieces-left.ensures.list
     c.dom_pieces-right.ensures.domain c.dom_pieces-right.ensures.pieces c.dom_pieces-right.ensures.list c.requires c.dim_of-dim.result c.dim_of-dim.ensures in
     let b = c.dom_pieces-left.ensures.domain.bound in
-    let m = more_small c.args.a.now c.args.b.now c.dom_pieces-left.result.now c.dom_pieces-right.result.now c.dom_pieces-left.ensures.domain c.dom_pieces-left.ensures.pieces c.dom_pieces-left.ensures.list
+    let m = more_small c.args.a.now c.args.b.now c.dom_pieces-left.result.now c.dom_pieces-right.result.now c.dom_pieces-left.ensures.domain
+    c.dom_pieces-left.ensures.pieces c.dom_pieces-left.ensures.list
     c.dom_pieces-right.ensures.domain c.dom_pieces-right.ensures.pieces c.dom_pieces-right.ensures.list c.requires c.dim_of-dim.result c.dim_of-dim.ensures
     c.in_ok-more.more.items c.in_ok-more.ensures in
     let e = c.total.ensures in

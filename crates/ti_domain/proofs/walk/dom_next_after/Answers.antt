@@ -2,7 +2,7 @@ use Rattle.std.proofs.Common.{◌+◌, ◌⊎◌, take, get_or, option_copied, �
 use Rattle.std.proofs.lemmas.List.Elements.{All-take}
 use Rattle.ti_base.specs.Rects.{IsIn}
 use Rattle.ti_domain.specs.Pieces.{IsShape, IsInSome}
-use Rattle.ti_rect.proofs.FamilyLaws.{in_more}
+use Rattle.ti_rect.proofs.Lemmas.{in_more}
 use Rattle.ti_domain.proofs.NextLaws.{sooner_is_next, agree, next_same, next_point, dim_in_some}
 use Rattle.ti_domain.proofs.PieceLaws.{shapes, point_in_some}
 use Rattle.ti_domain.proofs.StepLaws.{no_rect}

@@ -36,5 +36,6 @@ pub returns : goal.returns
 returns c =
     let r = c.args.r.now in
     let s = c.args.s.now in
-    let e = rect_from r s c.requires.first c.requires.second c.requires.dim (sym c.same_point.ensures ∙ c.if-not-same_point.false) (sym c.same_point-2.ensures ∙ c.if-not-same_point-2.false) c.if-r-s.false c.if-r-s-2.false c.if-r-s-3.false in
+    let e = rect_from r s c.requires.first c.requires.second c.requires.dim (sym c.same_point.ensures ∙ c.if-not-same_point.false)
+    (sym c.same_point-2.ensures ∙ c.if-not-same_point-2.false) c.if-r-s.false c.if-r-s-2.false c.if-r-s-3.false in
     rects_same r s e

@@ -18,7 +18,7 @@ use Rattle.ti_lang.specs.Meaning.Parts.{Field, fetched, indexed}
 use Rattle.ti_lang.specs.Meaning.MemberForms.{member}
 use Rattle.ti_lang.specs.Meaning.Scoping.{Env, type_of, field_selected}
 use Rattle.ti_lang.specs.Meaning.Evaluation.{eval, eval_all, eval_numbers, eval_range, eval_ranges, with_right}
-use Rattle.ti_lang.proofs.ProgramBridges.{seen_numbered_point, seen_numbered_rect, seen_numbered_member, seen_numbered_index}
+use Rattle.ti_lang.proofs.Lemmas.{seen_numbered_point, seen_numbered_rect, seen_numbered_member, seen_numbered_index}
 use Rattle.ti_eval.specs.declared.stop.Stop.{Stop}
 use Rattle.ti_eval.specs.Bounds.{bounds_of}
 use Rattle.ti_eval.specs.Comes.{Comes, ComesAs, Stops}
@@ -76,10 +76,12 @@ evaluated-returns-in-Select t c =
     let m = eval E y c.args.answers.now in
     let type = type_of E (x.Select c.in-Select.place y c.in-Select.name) in
     let through = type_of E y in
-    let p : Comes c.evaluated-in-Select.result m = subst (λ (z : Expr). Comes c.evaluated-in-Select.result (eval E (expression_of z) c.args.answers.now)) c.deref-in-Select-2.ensures c.evaluated-in-Select.ensures in
+    let p : Comes c.evaluated-in-Select.result m = subst (λ (z : Expr). Comes c.evaluated-in-Select.result
+    (eval E (expression_of z) c.args.answers.now)) c.deref-in-Select-2.ensures c.evaluated-in-Select.ensures in
     let r = c.selected.ensures type through m p in
     subst (λ (w : NumberedExp). Comes c.selected.result (eval E w c.args.answers.now)) (sym (ap expression_of c.in-Select.is))
-    (subst (λ (z : Expr). Comes c.selected.result (followed m (λ h. fetched c.in-Select.place type (Field h through (field_selected E (expression_of z) c.in-Select.name))))) c.deref-in-Select.ensures r)
+    (subst (λ (z : Expr). Comes c.selected.result (followed m (λ h. fetched c.in-Select.place type
+    (Field h through (field_selected E (expression_of z) c.in-Select.name))))) c.deref-in-Select.ensures r)
 
 pub evaluated-returns-in-Binary : goal.evaluated-returns-in-Binary
 evaluated-returns-in-Binary t c =
@@ -99,14 +101,19 @@ evaluated-returns-in-Member t c =
     let m = eval E y c.args.answers.now in
     let type = type_of E (x.Member at y name xs) in
     let through = type_of E y in
-    let p : Comes c.evaluated-got-in-Member.result m = subst (λ (z : Expr). Comes c.evaluated-got-in-Member.result (eval E (expression_of z) c.args.answers.now)) c.deref-in-Member-2.ensures c.evaluated-got-in-Member.ensures in
+    let p : Comes c.evaluated-got-in-Member.result m = subst (λ (z : Expr). Comes c.evaluated-got-in-Member.result
+    (eval E (expression_of z) c.args.answers.now)) c.deref-in-Member-2.ensures c.evaluated-got-in-Member.ensures in
     let k : option_map built_in_of c.called_member-called.result ≡ member_called E.program (this_of E.method) y name =
     c.called_member-called.ensures ∙ ap (λ (z : Expr). member_called E.program (this_of E.method) (expression_of z) name) c.deref-in-Member.ensures in
     let r = c.with_arguments.ensures type through m p in
     let b = seen_numbered_member c.args.e.now at c.in-Member.receiver name c.in-Member.args c.in-Member.is in
     subst (λ (w : NumberedExp). Comes c.with_arguments.result (eval E w c.args.answers.now)) (sym b)
-    (subst (λ (ys : List Expr). Comes c.with_arguments.result (followed m (λ h r. followed (eval_all E (numbered_exps (map expression_of ys)) r) (λ hs. member at type (member_called E.program (this_of E.method) y name) through h hs)))) c.deref-in-Member-3.ensures.value
-    (subst (λ (o : Option BuiltIn). Comes c.with_arguments.result (followed m (λ h r. followed (eval_all E (numbered_exps (map expression_of c.deref-in-Member-3.result.now)) r) (λ hs. member at type o through h hs)))) k r))
+    (subst (λ (ys : List Expr). Comes c.with_arguments.result (followed m
+    (λ h r. followed (eval_all E (numbered_exps (map expression_of ys)) r)
+    (λ hs. member at type (member_called E.program (this_of E.method) y name) through h hs)))) c.deref-in-Member-3.ensures.value
+    (subst (λ (o : Option BuiltIn). Comes c.with_arguments.result (followed m
+    (λ h r. followed (eval_all E (numbered_exps (map expression_of c.deref-in-Member-3.result.now)) r)
+    (λ hs. member at type o through h hs)))) k r))
 
 pub evaluated-returns-in-Index : goal.evaluated-returns-in-Index
 evaluated-returns-in-Index t c =
@@ -117,13 +124,18 @@ evaluated-returns-in-Index t c =
     let m = eval E y c.args.answers.now in
     let type = type_of E (x.Index at y xs) in
     let through = type_of E y in
-    let p : Comes c.evaluated-got-in-Index.result m = subst (λ (z : Expr). Comes c.evaluated-got-in-Index.result (eval E (expression_of z) c.args.answers.now)) c.deref-in-Index-2.ensures c.evaluated-got-in-Index.ensures in
+    let p : Comes c.evaluated-got-in-Index.result m = subst (λ (z : Expr). Comes c.evaluated-got-in-Index.result
+    (eval E (expression_of z) c.args.answers.now)) c.deref-in-Index-2.ensures c.evaluated-got-in-Index.ensures in
     let k : c.is_point-is_point.result ≡ is_point (type_of E y) = c.is_point-is_point.ensures ∙ ap (λ (z : Expr). is_point (type_of E (expression_of z))) c.deref-in-Index.ensures in
     let r = c.with_indices.ensures type through m p in
     let b = seen_numbered_index c.args.e.now at c.in-Index.receiver c.in-Index.indices c.in-Index.is in
     subst (λ (w : NumberedExp). Comes c.with_indices.result (eval E w c.args.answers.now)) (sym b)
-    (subst (λ (ys : List Expr). Comes c.with_indices.result (followed m (λ h r. followed (eval_numbers E (numbered_exps (map expression_of ys)) r) (λ ns. indexed (is_point (type_of E y)) at type through h ns)))) c.deref-in-Index-3.ensures.value
-    (subst (λ (o : Bool). Comes c.with_indices.result (followed m (λ h r. followed (eval_numbers E (numbered_exps (map expression_of c.deref-in-Index-3.result.now)) r) (λ ns. indexed o at type through h ns)))) k r))
+    (subst (λ (ys : List Expr). Comes c.with_indices.result (followed m
+    (λ h r. followed (eval_numbers E (numbered_exps (map expression_of ys)) r)
+    (λ ns. indexed (is_point (type_of E y)) at type through h ns)))) c.deref-in-Index-3.ensures.value
+    (subst (λ (o : Bool). Comes c.with_indices.result (followed m (λ h r. followed
+    (eval_numbers E (numbered_exps (map expression_of c.deref-in-Index-3.result.now)) r)
+    (λ ns. indexed o at type through h ns)))) k r))
 
 pub evaluate_all-returns-in-Err : goal.evaluate_all-returns-in-Err
 evaluate_all-returns-in-Err t c =
@@ -138,7 +150,8 @@ evaluate_all-loop-x-preserved t c =
     let i = c.loop-x.x-index in
     let n = all_next E xs i c.x-item.result c.loop-x.found.items c.in-Ok.h c.loop-x.left.now c.in-Ok.rest.now c.args.answers.now c.loop-x-test.true c.loop-x.invariant
     (subst (λ (z : Expr). eval E (expression_of z) c.loop-x.left.now ≡ Gives c.in-Ok.h c.in-Ok.rest.now) c.x-item.is c.in-Ok.ensures) in
-    subst (λ (fs : List Held). behind ◌++◌ fs (eval_all E (numbered_exps (map expression_of (drop (i + 1) xs))) c.in-Ok.rest.now) ≡ eval_all E (numbered_exps (map expression_of xs)) c.args.answers.now)
+    subst (λ (fs : List Held). behind ◌++◌ fs (eval_all E (numbered_exps (map expression_of (drop (i + 1) xs))) c.in-Ok.rest.now)
+    ≡ eval_all E (numbered_exps (map expression_of xs)) c.args.answers.now)
     (sym c.in_ok-push-in-Ok.ensures.items) n
 
 pub evaluate_numbers-returns-in-Err : goal.evaluate_numbers-returns-in-Err
@@ -154,7 +167,8 @@ evaluate_numbers-loop-x-preserved t c =
     let i = c.loop-x.x-index in
     let n = numbers_next E xs i c.x-item.result c.loop-x.found.items c.in-Ok.h c.loop-x.left.now c.in-Ok.rest.now c.args.answers.now c.loop-x-test.true c.loop-x.invariant
     (subst (λ (z : Expr). eval E (expression_of z) c.loop-x.left.now ≡ Gives c.in-Ok.h c.in-Ok.rest.now) c.x-item.is c.in-Ok.ensures) in
-    subst (λ (fs : List ℤ). behind ◌++◌ fs (eval_numbers E (numbered_exps (map expression_of (drop (i + 1) xs))) c.in-Ok.rest.now) ≡ eval_numbers E (numbered_exps (map expression_of xs)) c.args.answers.now)
+    subst (λ (fs : List ℤ). behind ◌++◌ fs (eval_numbers E (numbered_exps (map expression_of (drop (i + 1) xs))) c.in-Ok.rest.now)
+    ≡ eval_numbers E (numbered_exps (map expression_of xs)) c.args.answers.now)
     (sym c.in_ok-found-in-Ok.ensures) n
 
 pub evaluate_ranges-returns-in-Err : goal.evaluate_ranges-returns-in-Err
@@ -170,7 +184,9 @@ evaluate_ranges-loop-r-preserved t c =
     let i = c.loop-r.r-index in
     let n = bounds_next E rs i c.r-item.result (bounds_of c.loop-r.found) (bounds_of c.in-Ok.b) c.loop-r.left.now c.in-Ok.rest.now c.args.answers.now c.loop-r-test.true c.loop-r.invariant
     (subst (λ (z : Range). eval_range E (bound_of z) c.loop-r.left.now ≡ Gives (bounds_of c.in-Ok.b) c.in-Ok.rest.now) c.r-item.is c.in-Ok.ensures) in
-    subst (λ (fs : literal.Bounds). behind literal.joined fs (eval_ranges E (numbered_ranges (map bound_of (drop (i + 1) rs))) c.in-Ok.rest.now) ≡ eval_ranges E (numbered_ranges (map bound_of rs)) c.args.answers.now)
+    subst (λ (fs : literal.Bounds). behind literal.joined fs (eval_ranges E
+    (numbered_ranges (map bound_of (drop (i + 1) rs))) c.in-Ok.rest.now)
+    ≡ eval_ranges E (numbered_ranges (map bound_of rs)) c.args.answers.now)
     (sym c.in_ok-found-in-Ok.ensures) n
 
 pub range-returns-in-Ok : goal.range-returns-in-Ok
@@ -187,8 +203,12 @@ range-returns-in-Ok-evaluate-2 t c =
     let high = expression_of c.in-Stepped.high in
     let step = expression_of c.in-Stepped.step in
     subst (λ (q : Range). ComesAs bounds_of c.stepped_from.result (eval_range E (bound_of q) c.args.answers.now)) (sym c.in-Stepped.is)
-    (subst (λ (g : Got Held). ComesAs bounds_of c.stepped_from.result (followed g (λ a r. followed (eval E high r) (λ b u. followed (eval E step u) (λ k. gives (literal.stepped_bounds a b k)))))) (sym c.in-Ok-evaluate.ensures)
-    (subst (λ (g : Got Held). ComesAs bounds_of c.stepped_from.result (followed g (λ b u. followed (eval E step u) (λ k. gives (literal.stepped_bounds c.in-Ok-evaluate.a b k))))) (sym c.in-Ok-evaluate-2.ensures)
+    (subst (λ (g : Got Held). ComesAs bounds_of c.stepped_from.result
+    (followed g (λ a r. followed (eval E high r) (λ b u. followed (eval E step u) (λ k. gives (literal.stepped_bounds a b k))))))
+    (sym c.in-Ok-evaluate.ensures)
+    (subst (λ (g : Got Held). ComesAs bounds_of c.stepped_from.result
+    (followed g (λ b u. followed (eval E step u) (λ k. gives (literal.stepped_bounds c.in-Ok-evaluate.a b k)))))
+    (sym c.in-Ok-evaluate-2.ensures)
     (c.stepped_from.ensures _ c.evaluate-in-Ok-evaluate-2.ensures)))
 
 pub evaluate-returns-in-Some : goal.evaluate-returns-in-Some

@@ -1,6 +1,6 @@
 use Rattle.std.proofs.Common.{◌≡◌, subst}
 use Rattle.ti_lang.specs.Meaning.NextStep.{IsNext}
-use Rattle.ti_lang.proofs.MeaningLaws.Steps.{after_same, next_same}
+use Rattle.ti_lang.proofs.Lemmas.{after_same, next_same}
 use Rattle.ti_exec.specs.Standing.{begun_of}
 use Rattle.ti_exec.proofs.laws.has_one_next.Goals as goal
 

@@ -2,7 +2,7 @@ use Rattle.std.proofs.Common.{slice_index, refl, sym, subst, arith}
 use Rattle.ti_base.specs.Ranges.{Range, IsOn, IsRange}
 use Rattle.ti_base.specs.Rects.{first_range, second_range, third_range}
 use Rattle.ti_rect.specs.Axes.{range}
-use Rattle.ti_rect.proofs.RectLaws.{low_in}
+use Rattle.ti_rect.proofs.Lemmas.{low_in}
 use Rattle.ti_grid.proofs.SeenLaws.{along, stretch_along, first_form, second_form, third_form, first_inside, second_inside, third_inside, first_below, second_below, third_below}
 use Rattle.ti_grid.proofs.restrict.restricted.Goals as goal
 

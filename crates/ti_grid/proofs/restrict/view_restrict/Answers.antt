@@ -4,8 +4,7 @@ use Rattle.ti_base.specs.declared.point.Point.{Point}
 use Rattle.ti_base.specs.declared.point.Rect.{Rect}
 use Rattle.ti_base.specs.declared.action.ViewHow.TheVariants.{Restrict}
 use Rattle.ti_base.specs.Rects.{IsRect, IsIn, meet}
-use Rattle.ti_rect.proofs.RectLaws.{none_in}
-use Rattle.ti_rect.proofs.ViewLaws.{view_inside}
+use Rattle.ti_rect.proofs.Lemmas.{none_in, view_inside}
 use Rattle.ti_grid.specs.declared.layout.Layout.{Layout}
 use Rattle.ti_grid.specs.Mirrors.Numbers.{number_of}
 use Rattle.ti_grid.specs.Views.{IsSeen}

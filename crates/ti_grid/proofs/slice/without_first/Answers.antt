@@ -4,8 +4,7 @@ use Rattle.std.proofs.lemmas.Int.{to_z-of_z}
 use Rattle.ti_base.specs.Ranges.{Range, unused}
 use Rattle.ti_base.specs.Rects.{of_ranges, first_range}
 use Rattle.ti_rect.specs.Axes.{range}
-use Rattle.ti_rect.proofs.PointLists.{first_step}
-use Rattle.ti_rect.proofs.RectLaws.{on_same}
+use Rattle.ti_rect.proofs.Lemmas.{first_step, on_same}
 use Rattle.ti_grid.proofs.SeenLaws.{along, first_below}
 use Rattle.ti_grid.proofs.SliceLaws.{on_first, some_points, first_sliced}
 use Rattle.ti_grid.proofs.slice.without_first.Goals as goal

@@ -4,8 +4,7 @@ use Rattle.std.proofs.lemmas.Int.{to_z-of_z}
 use Rattle.ti_base.specs.Ranges.{Range, unused}
 use Rattle.ti_base.specs.Rects.{of_ranges, second_range}
 use Rattle.ti_rect.specs.Axes.{range}
-use Rattle.ti_rect.proofs.PointLists.{second_step}
-use Rattle.ti_rect.proofs.RectLaws.{on_same}
+use Rattle.ti_rect.proofs.Lemmas.{second_step, on_same}
 use Rattle.ti_grid.proofs.SeenLaws.{along, second_below}
 use Rattle.ti_grid.proofs.SliceLaws.{on_second, some_points, second_sliced}
 use Rattle.ti_grid.proofs.slice.without_second.Goals as goal

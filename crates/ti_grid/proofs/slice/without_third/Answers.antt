@@ -4,8 +4,7 @@ use Rattle.std.proofs.lemmas.Int.{to_z-of_z}
 use Rattle.ti_base.specs.Ranges.{Range, unused}
 use Rattle.ti_base.specs.Rects.{of_ranges, third_range}
 use Rattle.ti_rect.specs.Axes.{range}
-use Rattle.ti_rect.proofs.PointLists.{third_step}
-use Rattle.ti_rect.proofs.RectLaws.{on_same}
+use Rattle.ti_rect.proofs.Lemmas.{third_step, on_same}
 use Rattle.ti_grid.proofs.SeenLaws.{along, third_below}
 use Rattle.ti_grid.proofs.SliceLaws.{on_third, some_points, third_sliced}
 use Rattle.ti_grid.proofs.slice.without_third.Goals as goal

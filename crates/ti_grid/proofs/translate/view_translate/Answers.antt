@@ -6,9 +6,7 @@ use Rattle.ti_base.specs.declared.fault.FaultKind.TheVariants.{Range}
 use Rattle.ti_base.specs.Points.{moved_back}
 use Rattle.ti_base.specs.Rects.{IsRect, IsIn, translated}
 use Rattle.ti_base.specs.Cells.{leaves, view_fault}
-use Rattle.ti_rect.proofs.RectLaws.{full, none_in}
-use Rattle.ti_rect.proofs.TestLaws.{leaves_tests}
-use Rattle.ti_rect.proofs.ViewLaws.{view_inside}
+use Rattle.ti_rect.proofs.Lemmas.{full, none_in, leaves_tests, view_inside}
 use Rattle.ti_grid.specs.declared.layout.Layout.{Layout}
 use Rattle.ti_grid.specs.Mirrors.Numbers.{number_of}
 use Rattle.ti_grid.specs.Views.{IsSeen}

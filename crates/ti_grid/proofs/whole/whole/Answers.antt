@@ -1,7 +1,7 @@
 use Rattle.std.proofs.Common.{◌≡◌, ◌*◌, true, false, [], ◌∷◌, refl, sym, ap, ◌∙◌, arith}
 use Rattle.ti_base.specs.Ranges.{count_on}
 use Rattle.ti_base.specs.Rects.{HasPoints, second_range, third_range}
-use Rattle.ti_rect.proofs.RectLaws.{full}
+use Rattle.ti_rect.proofs.Lemmas.{full}
 use Rattle.ti_grid.specs.declared.layout.Layout.{Layout}
 use Rattle.ti_grid.proofs.WholeLaws.{plane_few, whole_place, whole_laid, whole_numbers}
 use Rattle.ti_grid.proofs.whole.whole.Goals as goal

@@ -7,5 +7,6 @@ use Rattle.ti_infer.proofs.edges.arguments.Given as goal
 
 abbrev pub invariant-loop-i : goal.invariant-loop-i
 invariant-loop-i l =
-    l.out.items ++ arguments_edges (program_at l.site) (method_at l.site) l.fn.whole (inside_of l.inside) (map numbered_param_of (drop l.i l.params)) (numbered_exps (map expression_of (drop l.i l.args)))
+    l.out.items ++ arguments_edges (program_at l.site) (method_at l.site) l.fn.whole (inside_of l.inside)
+    (map numbered_param_of (drop l.i l.params)) (numbered_exps (map expression_of (drop l.i l.args)))
     ≡ l.fn.out.items ++ arguments_edges (program_at l.site) (method_at l.site) l.fn.whole (inside_of l.inside) (map numbered_param_of l.params) (numbered_exps (map expression_of l.args))

@@ -10,5 +10,7 @@ use Rattle.ti_infer.proofs.fits.takes_mark.Goals as goal
 pub returns : goal.returns
 returns c =
     let t = type_use_of c.args.t.now in
-    c.is_unbroken.ensures ∙ ap (λ o. not (is_some o)) (c.type_words.ensures ∙ ap (λ (y : NumberedType). first_of (type_word_refusals true y)) (c.in_ok-mark_type.ensures ∙ ap (marked_type true c.args.at) c.in_ok-marked.ensures))
+    c.is_unbroken.ensures ∙ ap (λ o. not (is_some o)) (c.type_words.ensures
+    ∙ ap (λ (y : NumberedType). first_of (type_word_refusals true y)) (c.in_ok-mark_type.ensures
+    ∙ ap (marked_type true c.args.at) c.in_ok-marked.ensures))
     ∙ none_first (type_word_refusals true (marked_type true c.args.at t))

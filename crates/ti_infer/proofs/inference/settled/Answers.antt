@@ -18,4 +18,5 @@ returns c =
     (λ s h. are_inferred p s.marks.items s.blamed c.args.p.now.numbered c.requires.types c.requires.stripped
     (subst (λ (ns : List Mark). IsSettled ns (all_reasons p) (program_edges p ++ fit_edges p) s.marks.items s.blamed) (c.deref.ensures.value ∙ c.in_ok-names.ensures)
     (subst (λ (xs : List Blame). IsSettled c.deref.result.now xs (program_edges p ++ fit_edges p) s.marks.items s.blamed) (c.deref-2.ensures.value ∙ c.in_ok-found.ensures.items)
-    (subst (λ (es : List Edge). IsSettled c.deref.result.now c.deref-2.result.now es s.marks.items s.blamed) (c.deref-3.ensures.value ∙ c.in_ok-fits.ensures ∙ ap (λ l. l ++ fit_edges p) c.in_ok-found.ensures.edges) h)))) c.settle.ensures
+    (subst (λ (es : List Edge). IsSettled c.deref.result.now c.deref-2.result.now es s.marks.items s.blamed) (c.deref-3.ensures.value
+    ∙ c.in_ok-fits.ensures ∙ ap (λ l. l ++ fit_edges p) c.in_ok-found.ensures.edges) h)))) c.settle.ensures

@@ -24,7 +24,8 @@ mark_statement-returns-in_ok-mark_maybe-in-If t c =
     let d : Place → Bool = (marks_of c.args.marks.now).variables in
     let v : ValuesAt enum.parts 12 = (c.in-If.place, (c.in-If.condition, (c.in-If.then, (c.in-If.otherwise, tt)))) in
     rw (held_by 12 v v c.args.x.now c.in-If.is)
-    (if_marked f d c.args.x.now c.in-If.place c.in-If.condition c.set_uses-in-If.new.x c.in-If.then (record c.in-If.then { value = c.mark_statement.new.x }) c.in-If.otherwise c.mark_maybe.new.x c.in-If.is
+    (if_marked f d c.args.x.now c.in-If.place c.in-If.condition c.set_uses-in-If.new.x c.in-If.then
+    (record c.in-If.then { value = c.mark_statement.new.x }) c.in-If.otherwise c.mark_maybe.new.x c.in-If.is
     (c.set_uses-in-If.ensures ∙ ap (λ z. marked_exp f (expression_of z)) c.in-If.condition-is)
     (c.in_ok-mark_statement-in-If.ensures ∙ ap (λ z. marked_stm f d (statement_of z)) (c.deref_mut-in-If.ensures.value ∙ ap (λ b. b.value) c.in-If.then-is))
     (c.in_ok-mark_maybe-in-If.ensures ∙ ap (λ o. marked_maybe f d (maybe_in o)) c.in-If.otherwise-is))

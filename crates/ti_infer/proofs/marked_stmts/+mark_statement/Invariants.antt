@@ -8,4 +8,6 @@ use Rattle.ti_infer.proofs.marked_stmts.+mark_statement.Given as goal
 abbrev pub invariant-mark_statements-loop-i : goal.invariant-mark_statements-loop-i
 invariant-mark_statements-loop-i l =
     goal.unvisited-mark_statements-loop-i l
-    × ((k : ℕ) (d : Stmt) → k < l.i → statement_of (get_or l.xs.items k d) ≡ marked_stm (λ number. get_or l.variables.singles.items number false) (marks_of l.marks).variables (statement_of (get_or l.initial.xs.items k d)))
+    × ((k : ℕ) (d : Stmt) → k < l.i → statement_of (get_or l.xs.items k d)
+    ≡ marked_stm (λ number. get_or l.variables.singles.items number false) (marks_of l.marks).variables
+    (statement_of (get_or l.initial.xs.items k d)))

@@ -13,5 +13,7 @@ returns-clause-edges c =
     let p = program_of c.args.p.now.parts in
     let m = numbered_method_of c.args.m.now in
     let i = length c.args.items.now.items in
-    method_walked c.body_edges.result (one_each (own_asks m)) (λ (w : Then) (n : ℕ). edges_all p m w (parameters m.params) (first_inside m.params) (n + length (result_reasons p m m.result)) [] (numbered_stms m.body)) c.in_ok-whole.whole
-    (whole_of p m i) c.count-i.result i c.args.out.now.items c.own_edge.new.out.items c.body_edges.new.out.items c.in_ok-whole.ensures.whole c.count-i.ensures c.in_ok-own_edge.ensures c.body_edges.ensures
+    method_walked c.body_edges.result (one_each (own_asks m)) (λ (w : Then) (n : ℕ). edges_all p m w (parameters m.params)
+    (first_inside m.params) (n + length (result_reasons p m m.result)) [] (numbered_stms m.body)) c.in_ok-whole.whole
+    (whole_of p m i) c.count-i.result i c.args.out.now.items c.own_edge.new.out.items c.body_edges.new.out.items c.in_ok-whole.ensures.whole
+    c.count-i.ensures c.in_ok-own_edge.ensures c.body_edges.ensures

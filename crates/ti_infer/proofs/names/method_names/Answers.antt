@@ -18,7 +18,8 @@ pub returns : goal.returns
 returns c =
     let m = numbered_method_of c.args.m.now in
     on_ok_weaker c.of_locals.result
-    (λ k. pushed_four c.args.out.now.items c.push.new.self.items c.of_result.new.out.items c.of_params.new.out.items c.of_locals.new.out.items (method_mark m.place ∷ []) (result_names m.place m.result) (param_names m.params)
+    (λ k. pushed_four c.args.out.now.items c.push.new.self.items c.of_result.new.out.items c.of_params.new.out.items
+    c.of_locals.new.out.items (method_mark m.place ∷ []) (result_names m.place m.result) (param_names m.params)
     (declared_names_all (numbered_stms m.body)) c.in_ok-push.ensures.items c.in_ok-of_result.ensures
     (c.in_ok-of_params.ensures ∙ ap (λ l. c.of_result.new.out.items ++ l) (ap (λ (ws : List NumberedParam). map param_name ws) c.listed_params.ensures ∙ params_names_told m.params)) k)
     (subst (λ (l : List Mark). OnOk c.of_locals.result (c.of_locals.new.out.items ≡ c.of_params.new.out.items ++ l))

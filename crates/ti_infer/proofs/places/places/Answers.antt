@@ -14,5 +14,6 @@ returns c =
     let m = numbered_method_of c.args.m.now in
     let new = c.note_all.new.places.items in
     all_placed m new
-    (subst (λ (old : List (Option Place)). AreAdded old new (place_among (locals_in_all (numbered_stms m.body)))) (c.in_ok-found.ensures ∙ ap (λ (ws : List NumberedParam). places_of_params ws) c.listed_params.ensures)
+    (subst (λ (old : List (Option Place)). AreAdded old new (place_among (locals_in_all (numbered_stms m.body)))) (c.in_ok-found.ensures
+    ∙ ap (λ (ws : List NumberedParam). places_of_params ws) c.listed_params.ensures)
     (subst (λ (ls : List Local). AreAdded c.in_ok-found.found.items new (place_among ls)) (c.deref.ensures.value ∙ c.in_ok-declared.ensures) c.in_ok-note_all.ensures))

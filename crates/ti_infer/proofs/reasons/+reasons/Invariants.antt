@@ -7,4 +7,5 @@ use Rattle.ti_infer.proofs.reasons.+reasons.Given as goal
 
 abbrev pub invariant-reasons_of_all-loop-x : goal.invariant-reasons_of_all-loop-x
 invariant-reasons_of_all-loop-x l =
-    l.out.items ++ reasons_of_all (program_at l.site) (method_at l.site) (numbered_stms (map statement_of (drop l.x-index l.xs))) ≡ l.fn.out.items ++ reasons_of_all (program_at l.site) (method_at l.site) (numbered_stms (map statement_of l.xs))
+    l.out.items ++ reasons_of_all (program_at l.site) (method_at l.site) (numbered_stms (map statement_of (drop l.x-index l.xs)))
+    ≡ l.fn.out.items ++ reasons_of_all (program_at l.site) (method_at l.site) (numbered_stms (map statement_of l.xs))

@@ -11,7 +11,9 @@ use Rattle.ti_lex.proofs.lexer.lex.Goals as goal
 pub returns-then-text-gt-MOST_BYTES-clause-answer : goal.returns-then-text-gt-MOST_BYTES-clause-answer
 returns-then-text-gt-MOST_BYTES-clause-answer c =
     let text = c.args.text.now in
-    let long : IsLexicalRefusal text (record { rule = X5; place = c.first.result }) = subst (λ (p : Place). IsLexicalRefusal text (record { rule = X5; place = p })) (sym c.first.ensures) (refusals.too_long c.if-text-gt-MOST_BYTES.true) in
+    let long : IsLexicalRefusal text (record { rule = X5; place = c.first.result }) =
+    subst (λ (p : Place). IsLexicalRefusal text (record { rule = X5; place = p })) (sym c.first.ensures)
+    (refusals.too_long c.if-text-gt-MOST_BYTES.true) in
     subst (λ e. Lexes text (Err e)) (sym c.refused.ensures) long
 
 pub returns-clause-only_tokens : goal.returns-clause-only_tokens

@@ -1,6 +1,6 @@
 use Rattle.std.proofs.Common.{◌≡◌, ◌++◌, ◌∷◌, [], ℕ, ◌∙◌, subst, sym, OnOk}
 use Rattle.ti_code.specs.declared.instr.Instr.TheVariants as i
-use Rattle.ti_lang.proofs.RangeDims.{count_arguments}
+use Rattle.ti_lang.proofs.Lemmas.{count_arguments}
 use Rattle.ti_lower_expr.proofs.pieces.add_point.Goals as goal
 
 pub returns : goal.returns

@@ -8,7 +8,7 @@ use Rattle.ti_lang.specs.Program.Views.{program_of, expression_of, bound_of}
 use Rattle.ti_lang.specs.Typing.Kinds.{is_point}
 use Rattle.ti_lang.specs.Typing.Seen.{seen}
 use Rattle.ti_lang.specs.Typing.TextTypes.{how_many}
-use Rattle.ti_lang.proofs.ProgramBridges.{seen_numbered_rect, seen_numbered_member, seen_numbered_index}
+use Rattle.ti_lang.proofs.Lemmas.{seen_numbered_rect, seen_numbered_member, seen_numbered_index}
 use Rattle.ti_lower_expr.specs.Coding.{rect_instr, kind_of_ranges, how_many_ranges, member_code, index_code}
 use Rattle.ti_lower_expr.specs.Mirrors.Sites.{type_in, called_behind, walked_in, range_in, all_in, ranges_in}
 use Rattle.ti_lower_expr.proofs.Growing.{exps_at, ranges_at}

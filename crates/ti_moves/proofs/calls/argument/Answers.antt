@@ -16,5 +16,7 @@ returns-in-Ok c =
     let p = c.args.param.now in
     let type = value_type_of p.ty.ty in
     let k = subst (λ (at : Place). Comes c.converted-got.result (converted at type c.in-Ok.h c.in-Ok.answers.now)) c.place.ensures c.converted-got.ensures in
-    subst (λ (g : Got Held). ComesAs slot_of c.slot_from.result (followed (followed g (λ h. converted (place_of_numbered x) type h)) (λ h. gives (record { named = record { number = c.args.number; declared = Typed p.ty.single type }; held = h })))) (sym c.in-Ok.ensures)
+    subst (λ (g : Got Held). ComesAs slot_of c.slot_from.result (followed (followed g (λ h. converted (place_of_numbered x) type h))
+    (λ h. gives (record { named = record { number = c.args.number; declared = Typed p.ty.single type }; held = h }))))
+    (sym c.in-Ok.ensures)
     (c.slot_from.ensures _ k)

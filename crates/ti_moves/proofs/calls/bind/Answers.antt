@@ -9,7 +9,7 @@ use Rattle.ti_lang.specs.Meaning.Processes.{Variable}
 use Rattle.ti_eval.specs.Comes.{Stops}
 use Rattle.ti_eval.specs.Envs.{env_of}
 use Rattle.ti_eval.specs.Frames.{slot_of, slots_of}
-use Rattle.ti_eval.proofs.Slots.{one_more}
+use Rattle.ti_eval.proofs.Lemmas.{one_more}
 use Rattle.ti_moves.specs.Arguments.{given}
 use Rattle.ti_moves.proofs.Calling.{from_params, variable_at, bound_stops, bound_next, no_params, no_args}
 use Rattle.ti_moves.proofs.calls.bind.Goals as goal

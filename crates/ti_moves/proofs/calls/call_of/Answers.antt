@@ -6,10 +6,10 @@ use Rattle.ti_lang.specs.Meaning.Held.{Held}
 use Rattle.ti_lang.specs.Meaning.Asking.{Got, Gives, followed, gives}
 use Rattle.ti_lang.specs.Meaning.Calls.{call_of, call_by}
 use Rattle.ti_lang.specs.Meaning.Evaluation.{eval}
-use Rattle.ti_lang.proofs.ProgramBridges.{seen_static_call, seen_own_call, seen_numbered_member}
+use Rattle.ti_lang.proofs.Lemmas.{seen_static_call, seen_own_call, seen_numbered_member}
 use Rattle.ti_eval.specs.Comes.{Stops, ComesAs}
 use Rattle.ti_eval.specs.Envs.{env_of}
-use Rattle.ti_eval.proofs.Steps.{then_stops}
+use Rattle.ti_eval.proofs.Lemmas.{then_stops}
 use Rattle.ti_moves.specs.Arguments.{calls_on}
 use Rattle.ti_moves.specs.Moves.{method_at, move_of}
 use Rattle.ti_moves.proofs.calls.call_of.Goals as goal
@@ -39,7 +39,9 @@ returns-in-OwnCall c = λ x.
       made,
       is,
       subst (λ (h : Held). ComesAs (move_of E x) c.calls_with-in-OwnCall.result (calls_on E x at number xs (Some h) answers)) c.plain-this.ensures
-          (subst (λ (ys : List Expr). ComesAs (move_of E x) c.calls_with-in-OwnCall.result (calls_on E x at number (numbered_exps (map expression_of ys)) (Some c.plain-this.result) answers)) c.deref-in-OwnCall.ensures.value
+          (subst (λ (ys : List Expr). ComesAs (move_of E x) c.calls_with-in-OwnCall.result
+          (calls_on E x at number (numbered_exps (map expression_of ys)) (Some c.plain-this.result) answers))
+          c.deref-in-OwnCall.ensures.value
           (c.calls_with-in-OwnCall.ensures x)),
     )
 

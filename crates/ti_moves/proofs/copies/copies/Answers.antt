@@ -25,7 +25,8 @@ returns-in-Ok-evaluate_all c =
     let first : List Held → Option Id = λ hs. thing_of (slice_index_or hs 0 nothing) in
     let rest = c.in-Ok-evaluate_all.answers.now in
     by_view _ _ (move_named c.args.env.now at x xs) c.copy_of.result _
-    (subst (λ (g : Got Held). ComesAs (move_of_copy vs at t u) c.copy_of.result (followed g (λ h r. followed (eval_all E xs r) (λ hs. copy_named vs at t (thing_of h) u (first hs))))) (sym c.in-Ok.ensures)
+    (subst (λ (g : Got Held). ComesAs (move_of_copy vs at t u) c.copy_of.result
+    (followed g (λ h r. followed (eval_all E xs r) (λ hs. copy_named vs at t (thing_of h) u (first hs))))) (sym c.in-Ok.ensures)
     (subst (λ (g : Got (List Held)). ComesAs (move_of_copy vs at t u) c.copy_of.result (followed g (λ hs. copy_named vs at t (thing_of c.in-Ok.h) u (first hs)))) (sym c.in-Ok-evaluate_all.ensures)
     (subst (λ (a : Option Id). ComesAs (move_of_copy vs at t u) c.copy_of.result (copy_named vs at t a u (first c.in-Ok-evaluate_all.hs.items) rest)) c.thing.ensures
     (subst (λ (b : Option Id). ComesAs (move_of_copy vs at t u) c.copy_of.result (copy_named vs at t c.thing.result u b rest)) (c.first_thing.ensures ∙ ap first c.deref.ensures.value)

@@ -16,5 +16,6 @@ returns-in-Ok c = λ through m p.
     let rest = c.in-Ok.answers.now in
     goes_on_as (target_of through) (λ (d : Change). changed d E.variables) c.assigned_from.result c.args.got m _ c.in-Ok.place c.in-Ok.answers c.in-Ok.is p
     (subst
-    (λ (type : ValueType). ComesAs (λ (d : Change). changed d E.variables) c.assigned_from.result (followed (right_seen E c.args.right rest) (λ h. converted_into E c.args.at type (target_of through c.in-Ok.place) h)))
+    (λ (type : ValueType). ComesAs (λ (d : Change). changed d E.variables) c.assigned_from.result
+    (followed (right_seen E c.args.right rest) (λ h. converted_into E c.args.at type (target_of through c.in-Ok.place) h)))
     c.type_of.ensures (c.assigned_from.ensures E through _ c.value_of-got.ensures))

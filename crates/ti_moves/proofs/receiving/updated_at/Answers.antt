@@ -22,5 +22,8 @@ returns-in-Ok c = λ through m p.
     let old = subst (λ (at : Place). Comes c.held_in-got.result (held_in E at type (target_of through c.in-Ok.place) c.in-Ok.answers.now)) c.place.ensures (c.held_in-got.ensures through type) in
     goes_on_as (target_of through) (λ (d : Change). changed d E.variables) c.updated_from.result c.args.got m _ c.in-Ok.place c.in-Ok.answers c.in-Ok.is p
     (subst
-    (λ (u : ValueType). ComesAs (λ (d : Change). changed d E.variables) c.updated_from.result (followed (held_in E (place_of_numbered (expression_of c.args.target.now)) type (target_of through c.in-Ok.place) c.in-Ok.answers.now) (λ held more. followed (right_seen E c.args.right more) (λ h. operated_into E c.args.at c.args.operator u (target_of through c.in-Ok.place) held h))))
+    (λ (u : ValueType). ComesAs (λ (d : Change). changed d E.variables) c.updated_from.result
+    (followed (held_in E (place_of_numbered (expression_of c.args.target.now)) type
+    (target_of through c.in-Ok.place) c.in-Ok.answers.now) (λ held more. followed (right_seen E c.args.right more)
+    (λ h. operated_into E c.args.at c.args.operator u (target_of through c.in-Ok.place) held h))))
     c.type_of.ensures (c.updated_from.ensures through _ old))

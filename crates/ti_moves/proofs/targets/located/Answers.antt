@@ -10,10 +10,10 @@ use Rattle.ti_lang.specs.Meaning.Parts.{Field, Element}
 use Rattle.ti_lang.specs.Meaning.Scoping.{type_of, field_selected}
 use Rattle.ti_lang.specs.Meaning.Evaluation.{eval, eval_numbers}
 use Rattle.ti_lang.specs.Meaning.Targets.{Target, InPart, located}
-use Rattle.ti_lang.proofs.ProgramBridges.{seen_numbered_index}
+use Rattle.ti_lang.proofs.Lemmas.{seen_numbered_index}
 use Rattle.ti_eval.specs.Comes.{Stops}
 use Rattle.ti_eval.specs.Envs.{env_of}
-use Rattle.ti_eval.proofs.Steps.{then_stops}
+use Rattle.ti_eval.proofs.Lemmas.{then_stops}
 use Rattle.ti_moves.specs.Targets.{through_of}
 use Rattle.ti_moves.proofs.targets.located.Goals as goal
 
@@ -59,7 +59,8 @@ returns-in-Err-evaluate_numbers c =
     let answers = c.args.answers.now in
     let stop = c.in-Err-evaluate_numbers.stop in
     let rest = c.in-Ok-evaluate.answers.now in
-    let e : eval E y answers ≡ Gives c.in-Ok-evaluate.h rest = subst (λ (z : Expr). eval E (expression_of z) answers ≡ Gives c.in-Ok-evaluate.h rest) c.deref-in-Index.ensures c.in-Ok-evaluate.ensures in
+    let e : eval E y answers ≡ Gives c.in-Ok-evaluate.h rest = subst (λ (z : Expr). eval E (expression_of z) answers
+    ≡ Gives c.in-Ok-evaluate.h rest) c.deref-in-Index.ensures c.in-Ok-evaluate.ensures in
     let q = subst (λ (ys : List Expr). Stops stop (eval_numbers E (numbered_exps (map expression_of ys)) rest)) c.deref-in-Ok-evaluate.ensures.value c.in-Err-evaluate_numbers.ensures in
     let found : Held → List ℤ → Asking Target = λ h ns. gives (InPart (Element h (type_of E y) (point_of_numbers ns))) in
     let b = seen_numbered_index c.args.e.now c.in-Index.place c.in-Index.receiver c.in-Index.indices c.in-Index.is in

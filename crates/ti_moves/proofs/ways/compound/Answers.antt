@@ -9,4 +9,5 @@ use Rattle.ti_moves.proofs.ways.compound.Goals as goal
 pub returns-in-Some : goal.returns-in-Some
 returns-in-Some c = λ at.
     let r = Updated at c.args.op (expression_of c.args.target.now) in
-    put_by (env_of c.args.env.now) (stm.Update at c.args.op (expression_of c.args.target.now) (expression_of c.args.value.now)) r (held_of_scalar c.in-Some.y) c.updated.result (c.in-Some.ensures r) (c.updated.ensures at)
+    put_by (env_of c.args.env.now) (stm.Update at c.args.op (expression_of c.args.target.now) (expression_of c.args.value.now)) r
+    (held_of_scalar c.in-Some.y) c.updated.result (c.in-Some.ensures r) (c.updated.ensures at)

@@ -13,4 +13,5 @@ use Rattle.ti_moves.proofs.ways.initial.Goals as goal
 pub returns-in-Value : goal.returns-in-Value
 returns-in-Value c =
     let E = env_of c.args.env.now in
-    subst (λ (v : Init). IfSome c.right.result (λ x. (r : Receiver) (rest : List Answer) → initialized E r (initial_of v) rest ≡ receives E r (gives (held_of_scalar x)) rest)) (sym c.in-Value.is) c.right.ensures
+    subst (λ (v : Init). IfSome c.right.result (λ x. (r : Receiver) (rest : List Answer) → initialized E r (initial_of v) rest
+    ≡ receives E r (gives (held_of_scalar x)) rest)) (sym c.in-Value.is) c.right.ensures

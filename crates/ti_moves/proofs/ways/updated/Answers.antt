@@ -14,4 +14,6 @@ returns-in-Some-of_scalars c = λ at.
     let y = held_of_scalar c.args.y in
     let p = c.in-Variable.field-0 in
     subst (λ (a : Expr). PutsBy E (Updated at c.args.op (expression_of a)) y c.changed.result) (sym c.in-Variable.is)
-    (updated_there E at p (variable_of c.in-Variable.v) c.args.op (held_of_scalar c.in-Some.x) y (held_of_scalar c.in-Some-of_scalars.z) c.changed.result c.in-Some.ensures c.in-Some-of_scalars.ensures (c.changed.ensures E at p))
+    (updated_there E at p (variable_of c.in-Variable.v) c.args.op (held_of_scalar c.in-Some.x) y
+    (held_of_scalar c.in-Some-of_scalars.z) c.changed.result c.in-Some.ensures c.in-Some-of_scalars.ensures
+    (c.changed.ensures E at p))

@@ -19,9 +19,11 @@ loop-class-preserved c =
     let rest = map class_of (drop (c.loop-class.class-index + 1) c.args.classes.now) in
     let step = drop_next c.args.classes.now c.loop-class.class-index c.class-item.result (omega arith) c.class-item.is in
     ap (λ n. sooner c.sooner-found.result (first_in (classes_nodes text n rest))) c.in_ok-number.ensures
-    ∙ in_step c.loop-class.found c.sooner-found.result _ _ (node (class_site text number) (ClassName number x) ∷ fields_nodes (class_site text number) 0 (fields_in x.members)) (classes_nodes text (number + 1) rest)
+    ∙ in_step c.loop-class.found c.sooner-found.result _ _ (node (class_site text number) (ClassName number x) ∷ fields_nodes
+    (class_site text number) 0 (fields_in x.members)) (classes_nodes text (number + 1) rest)
     c.loop-class.invariant (ap (λ l. classes_nodes text number (map class_of l)) step) (c.sooner-found.ensures ∙ ap (sooner c.loop-class.found) c.in_ok-check_class.ensures)
 
 pub returns : goal.returns
 returns c =
-    in_end c.loop-class.found _ _ c.loop-class.invariant (ap (λ l. classes_nodes (text_of c.args.tables.now) c.loop-class.number (map class_of l)) (drop_all c.loop-class.class-index c.args.classes.now (omega arith)))
+    in_end c.loop-class.found _ _ c.loop-class.invariant (ap (λ l. classes_nodes (text_of c.args.tables.now) c.loop-class.number
+    (map class_of l)) (drop_all c.loop-class.class-index c.args.classes.now (omega arith)))

@@ -7,4 +7,5 @@ use Rattle.ti_names.specs.Seen.{text_of}
 use Rattle.ti_names.proofs.classes.check_classes.Given as goal
 
 abbrev pub invariant-loop-class : goal.invariant-loop-class
-invariant-loop-class l = sooner l.found (first_in (classes_nodes (text_of l.tables) l.number (map class_of (drop l.class-index l.classes)))) ≡ first_in (classes_nodes (text_of l.tables) 0 (map class_of l.classes))
+invariant-loop-class l = sooner l.found (first_in (classes_nodes (text_of l.tables) l.number (map class_of (drop l.class-index l.classes))))
+    ≡ first_in (classes_nodes (text_of l.tables) 0 (map class_of l.classes))

@@ -5,7 +5,7 @@ use Rattle.ti_rules.specs.declared.rule.Rule.TheVariants.{N3}
 use Rattle.ti_rules.specs.Refusals.{refused_if}
 use Rattle.ti_rules.specs.Mirrors.First.{first_of}
 use Rattle.ti_rules.specs.MainForm.{form_refusals}
-use Rattle.ti_rules.proofs.First.{first_nil}
+use Rattle.ti_rules.proofs.Lemmas.{first_nil}
 use Rattle.ti_names.specs.Own.{own_of}
 use Rattle.ti_names.proofs.MainPlaces.{form_within, form_beyond, class_beyond}
 use Rattle.ti_names.proofs.main_form.check_form.Goals as goal

@@ -34,7 +34,8 @@ loop-own-preserved c =
     let is_method = c.in_ok-found.ensures.part ∙ ap (λ n. number_method (method_site text x n) x) counted in
     let is_refusal = c.in_ok-found.ensures.refusal ∙ ap (λ n. first_in (method_nodes (method_site text x n) number x)) counted in
     record {
-      part = map_push numbered_method_of c.loop-own.done.items c.push.new.self.items c.in_ok-found.found.part (number_method site x) (number_methods text (length c.body.new.self.texts.items) rest) c.in_ok-push.ensures.items is_method
+      part = map_push numbered_method_of c.loop-own.done.items c.push.new.self.items c.in_ok-found.found.part (number_method site x)
+          (number_methods text (length c.body.new.self.texts.items) rest) c.in_ok-push.ensures.items is_method
           ∙ ap (λ n. done ++ (number_method site x ∷ number_methods text n rest)) longer
           ∙ sym (ap (λ l. done ++ number_methods text (length before) (map own_of l)) step) ∙ c.loop-own.invariant.part;
       literals = ap (λ z. z ++ literals) more ∙ append_assoc before texts literals

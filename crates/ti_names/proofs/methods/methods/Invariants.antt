@@ -13,7 +13,10 @@ use Rattle.ti_names.proofs.methods.methods.Given as goal
 
 abbrev pub invariant-loop-own : goal.invariant-loop-own
 invariant-loop-own l = record {
-  part : map numbered_method_of l.done.items ++ number_methods (text_of l.tables) (length l.literals.texts.items) (map own_of (drop l.own-index l.methods)) ≡ number_methods (text_of l.tables) 0 (map own_of l.methods);
-  literals : l.literals.texts.items ++ flat_map (λ (own : OwnMethod). literals_in (stms own.method.body)) (map own_of (drop l.own-index l.methods)) ≡ flat_map (λ (own : OwnMethod). literals_in (stms own.method.body)) (map own_of l.methods);
-  refusal : sooner l.refusal (first_in (methods_nodes (text_of l.tables) l.number (length l.literals.texts.items) (map own_of (drop l.own-index l.methods)))) ≡ first_in (methods_nodes (text_of l.tables) 0 0 (map own_of l.methods));
+  part : map numbered_method_of l.done.items ++ number_methods (text_of l.tables) (length l.literals.texts.items)
+      (map own_of (drop l.own-index l.methods)) ≡ number_methods (text_of l.tables) 0 (map own_of l.methods);
+  literals : l.literals.texts.items ++ flat_map (λ (own : OwnMethod). literals_in (stms own.method.body))
+      (map own_of (drop l.own-index l.methods)) ≡ flat_map (λ (own : OwnMethod). literals_in (stms own.method.body)) (map own_of l.methods);
+  refusal : sooner l.refusal (first_in (methods_nodes (text_of l.tables) l.number (length l.literals.texts.items)
+      (map own_of (drop l.own-index l.methods)))) ≡ first_in (methods_nodes (text_of l.tables) 0 0 (map own_of l.methods));
 }

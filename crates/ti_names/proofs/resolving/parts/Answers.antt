@@ -34,8 +34,10 @@ returns-clause-part c =
     let owns : map own_of c.args.own.now ≡ methods_of text = c.requires.own in
     let classes : map class_of c.deref-2.result.now ≡ text = ap (map class_of) c.deref-2.ensures.value in
     let classes_are : map numbered_class_of c.in_ok-numbered.numbered.items ≡ number_classes text text = c.in_ok-numbered.ensures ∙ (λ j. number_classes (same j) (classes j)) in
-    let methods_are : map numbered_method_of c.in_ok-methods.field-0.methods.items ≡ number_methods text 0 (methods_of text) = c.in_ok-methods.ensures.part ∙ (λ j. number_methods (same j) 0 (owns j)) in
-    let literals_are : c.in_ok-methods.field-0.literals.texts.items ≡ literals_of_text text = c.in_ok-methods.ensures.literals ∙ ap (flat_map (λ (own : OwnMethod). literals_in (stms own.method.body))) owns in
+    let methods_are : map numbered_method_of c.in_ok-methods.field-0.methods.items ≡ number_methods text 0 (methods_of text) =
+    c.in_ok-methods.ensures.part ∙ (λ j. number_methods (same j) 0 (owns j)) in
+    let literals_are : c.in_ok-methods.field-0.literals.texts.items ≡ literals_of_text text = c.in_ok-methods.ensures.literals
+    ∙ ap (flat_map (λ (own : OwnMethod). literals_in (stms own.method.body))) owns in
     let names_are : c.args.names.items ≡ names_of text = c.requires.names in
     let main_is : c.main_number-main.result ≡ unwrap_or (main_method text) 0 = c.main_number-main.ensures ∙ ap (λ t. unwrap_or (main_method t) 0) same in
     c.in_ok-part.ensures ∙ (λ j. record { classes = classes_are j; methods = methods_are j; main = main_is j; names = names_are j; literals = literals_are j })

@@ -3,8 +3,7 @@ use Rattle.std.proofs.Math.Logic.{∥∥₁_map}
 use Rattle.ti_syntax.specs.Trees.Text.{tree_of}
 use Rattle.ti_lang.specs.Numbering.{Numbers}
 use Rattle.ti_rules.specs.BrokenNames.{name_refusals, BreaksNames}
-use Rattle.ti_rules.proofs.First.{first_is}
-use Rattle.ti_rules.proofs.FirstRefusal.{first_only}
+use Rattle.ti_rules.proofs.Lemmas.{first_is, first_only}
 use Rattle.ti_names.specs.declared.error.NameErr.TheVariants.{Refused}
 use Rattle.ti_names.specs.Mirrors.Numbered.{number_program}
 use Rattle.ti_names.proofs.Law.{accepted, unbroken_program, same_program}

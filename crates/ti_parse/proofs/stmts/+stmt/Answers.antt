@@ -2,7 +2,7 @@ use Rattle.std.proofs.Common.{rules, arith, ◌≡◌, ◌∙◌, ◌-◌, ◌<�
 use Rattle.std.proofs.lemmas.Grind.{common_steps}
 use Rattle.ti_syntax.specs.declared.token.Token.{Token}
 use Rattle.ti_parse_expr.specs.Mirrors.Input.{kind, next, place}
-use Rattle.ti_parse_expr.proofs.Turns.{deeper}
+use Rattle.ti_parse_expr.proofs.Lemmas.{deeper}
 use Rattle.ti_parse.specs.Mirrors.Way.{plain}
 use Rattle.ti_parse.specs.Mirrors.Statements.{is_compound, compound, small, stmt}
 use Rattle.ti_parse.proofs.stmts.+stmt.Goals as goal

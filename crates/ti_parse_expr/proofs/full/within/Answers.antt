@@ -31,13 +31,15 @@ returns-then-is_final g c = by_front g (goal.at.returns-then-is_final g c).After
 pub returns-then-passed : goal.returns-then-passed
 returns-then-passed g c =
     let heavy : passed c.args.weight c.new-inner.result (length c.read-answer.new.arg2) ≡ true =
-    ap (λ z. passed c.args.weight z (length c.read-answer.new.arg2)) c.new-inner.ensures ∙ ap (passed c.args.weight c.front_of-front.result.now) (sym c.left.ensures) ∙ sym c.passed.ensures ∙ c.if-passed.true in
+    ap (λ z. passed c.args.weight z (length c.read-answer.new.arg2)) c.new-inner.ensures
+    ∙ ap (passed c.args.weight c.front_of-front.result.now) (sym c.left.ensures) ∙ sym c.passed.ensures ∙ c.if-passed.true in
     let shorter = c.skip.ensures ∙ ap (λ m. drop (m - 1) c.args.tokens.now) (ap length (sym c.new-inner.ensures)) in
     by_front g (goal.at.returns-then-passed g c).After-read-answer _ _ (passes (first_of (search rules, grind (arith, common_steps))) heavy shorter)
 
 pub returns : goal.returns
 returns g c =
     let light : passed c.args.weight c.new-inner.result (length c.read-answer.new.arg2) ≡ false =
-    ap (λ z. passed c.args.weight z (length c.read-answer.new.arg2)) c.new-inner.ensures ∙ ap (passed c.args.weight c.front_of-front.result.now) (sym c.left.ensures) ∙ sym c.passed.ensures ∙ c.if-passed.false in
+    ap (λ z. passed c.args.weight z (length c.read-answer.new.arg2)) c.new-inner.ensures
+    ∙ ap (passed c.args.weight c.front_of-front.result.now) (sym c.left.ensures) ∙ sym c.passed.ensures ∙ c.if-passed.false in
     let few : c.saturating_sub.result ≡ length c.new-inner.result - length c.read-answer.new.arg2 = omega (arith, c.saturating_sub.ensures, c.left-2.ensures, ap length c.new-inner.ensures) in
     by_front g (goal.at.returns g c).After-read-answer _ _ (moves (first_of (search rules, grind (arith, common_steps))) light (c.skip-2.ensures ∙ ap (λ m. drop m c.args.tokens.now) few))

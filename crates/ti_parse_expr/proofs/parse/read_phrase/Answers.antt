@@ -13,22 +13,28 @@ use Rattle.ti_parse_expr.proofs.parse.read_phrase.Goals.{After-left-unread}
 
 said_ok : (c : After-left-unread) → 0 < c.left-unread.result → SaysOk c.args.form c.args.weight (drop c.args.at c.args.toks.now) c.cut-front.result.now (exp_of c.in-Ok.tree) c.phrase.new.tokens
 said_ok c some =
-    ok_answer c.args.form c.args.weight (drop c.args.at c.args.toks.now) c.cut-front.result.now (cut_rest c.args.weight c.args.at c.args.toks.now c.cut-front.result.now c.cut-front.ensures) c.phrase.new.tokens (exp_of c.in-Ok.tree)
+    ok_answer c.args.form c.args.weight (drop c.args.at c.args.toks.now) c.cut-front.result.now
+    (cut_rest c.args.weight c.args.at c.args.toks.now c.cut-front.result.now c.cut-front.ensures) c.phrase.new.tokens
+    (exp_of c.in-Ok.tree)
     (ap (phrase (length c.cut-front.result.now + 1) c.args.form) (sym c.new-tokens.ensures) ∙ c.in-Ok.ensures) (omega (arith, c.left-unread.ensures))
 
 pub cut-front-requires : goal.cut-front-requires
 cut-front-requires c = rest_ends c.args.at c.args.toks.now c.requires.below c.requires.ended
 
 pub too_heavy-requires : goal.too_heavy-requires
-too_heavy-requires c = some_cut c.args.form c.args.weight (drop c.args.at c.args.toks.now) c.cut-front.result.now (cut_rest c.args.weight c.args.at c.args.toks.now c.cut-front.result.now c.cut-front.ensures)
+too_heavy-requires c = some_cut c.args.form c.args.weight (drop c.args.at c.args.toks.now) c.cut-front.result.now
+    (cut_rest c.args.weight c.args.at c.args.toks.now c.cut-front.result.now c.cut-front.ensures)
 
 pub too_heavy-requires-then-left-eq0 : goal.too_heavy-requires-then-left-eq0
-too_heavy-requires-then-left-eq0 c = some_cut c.args.form c.args.weight (drop c.args.at c.args.toks.now) c.cut-front.result.now (cut_rest c.args.weight c.args.at c.args.toks.now c.cut-front.result.now c.cut-front.ensures)
+too_heavy-requires-then-left-eq0 c = some_cut c.args.form c.args.weight (drop c.args.at c.args.toks.now) c.cut-front.result.now
+    (cut_rest c.args.weight c.args.at c.args.toks.now c.cut-front.result.now c.cut-front.ensures)
 
 pub returns-then-unread-eq0 : goal.returns-then-unread-eq0
 returns-then-unread-eq0 c =
     subst (λ e. Answers c.args.toks.now c.args.at c.args.form c.args.weight (Err e)) (sym (c.too_heavy.ensures c.cut-front.ensures.front c.cut-front.ensures.last c.cut-front.ensures.made))
-    (heavy_answer c.args.form c.args.weight (drop c.args.at c.args.toks.now) c.cut-front.result.now (cut_rest c.args.weight c.args.at c.args.toks.now c.cut-front.result.now c.cut-front.ensures) (Ok (exp_of c.in-Ok.tree, c.phrase.new.tokens))
+    (heavy_answer c.args.form c.args.weight (drop c.args.at c.args.toks.now) c.cut-front.result.now
+    (cut_rest c.args.weight c.args.at c.args.toks.now c.cut-front.result.now c.cut-front.ensures)
+    (Ok (exp_of c.in-Ok.tree, c.phrase.new.tokens))
     (ap (phrase (length c.cut-front.result.now + 1) c.args.form) (sym c.new-tokens.ensures) ∙ c.in-Ok.ensures) (omega (arith, c.left-unread.ensures)))
 
 pub overflow_sub-size : goal.overflow_sub-size
@@ -52,28 +58,38 @@ returns-in-Ok c =
     let after = (goal.at.returns-in-Ok c).After-left-unread in (
       length c.cut-front.result.now - c.left-unread.result,
       refl,
-      subst (λ w. IsPhrase c.args.form c.args.weight (drop c.args.at c.args.toks.now) (exp_of c.in-Ok.tree) (length c.cut-front.result.now - c.left-unread.result) (c.args.weight + w)) (sym c.weigh.ensures)
-          (subst (λ n. IsPhrase c.args.form c.args.weight (drop c.args.at c.args.toks.now) (exp_of c.in-Ok.tree) (length c.cut-front.result.now - n) (c.args.weight + weigh (take (length c.cut-front.result.now - n) c.cut-front.result.now))) (sym c.left-unread.ensures) (said_ok after (omega arith)).phrase),
+      subst (λ w. IsPhrase c.args.form c.args.weight (drop c.args.at c.args.toks.now) (exp_of c.in-Ok.tree)
+          (length c.cut-front.result.now - c.left-unread.result) (c.args.weight + w)) (sym c.weigh.ensures)
+          (subst (λ n. IsPhrase c.args.form c.args.weight (drop c.args.at c.args.toks.now) (exp_of c.in-Ok.tree)
+          (length c.cut-front.result.now - n) (c.args.weight + weigh
+          (take (length c.cut-front.result.now - n) c.cut-front.result.now))) (sym c.left-unread.ensures)
+          (said_ok after (omega arith)).phrase),
     )
 
 pub returns-then-left-eq0 : goal.returns-then-left-eq0
 returns-then-left-eq0 c =
-    subst (λ e. Answers c.args.toks.now c.args.at c.args.form c.args.weight (Err e)) (sym (c.too_heavy-then-left-eq0.ensures c.cut-front.ensures.front c.cut-front.ensures.last c.cut-front.ensures.made))
-    (heavy_answer c.args.form c.args.weight (drop c.args.at c.args.toks.now) c.cut-front.result.now (cut_rest c.args.weight c.args.at c.args.toks.now c.cut-front.result.now c.cut-front.ensures) (Err (At c.phrase.new.tokens))
+    subst (λ e. Answers c.args.toks.now c.args.at c.args.form c.args.weight (Err e))
+    (sym (c.too_heavy-then-left-eq0.ensures c.cut-front.ensures.front c.cut-front.ensures.last c.cut-front.ensures.made))
+    (heavy_answer c.args.form c.args.weight (drop c.args.at c.args.toks.now) c.cut-front.result.now
+    (cut_rest c.args.weight c.args.at c.args.toks.now c.cut-front.result.now c.cut-front.ensures) (Err (At c.phrase.new.tokens))
     (ap (phrase (length c.cut-front.result.now + 1) c.args.form) (sym c.new-tokens.ensures)
-    ∙ subst (λ e. Fails (phrase (length c.cut-front.result.now + 1) c.args.form c.new-tokens.result) e c.phrase.new.tokens) c.in-Err-Refused.field-0-is c.in-Err-Refused.ensures) (omega (arith, c.left.ensures)))
+    ∙ subst (λ e. Fails (phrase (length c.cut-front.result.now + 1) c.args.form c.new-tokens.result) e c.phrase.new.tokens)
+    c.in-Err-Refused.field-0-is c.in-Err-Refused.ensures) (omega (arith, c.left.ensures)))
 
 pub returns-in-Err-Refused : goal.returns-in-Err-Refused
 returns-in-Err-Refused c =
     subst (λ e. Answers c.args.toks.now c.args.at c.args.form c.args.weight (Err e)) (sym c.refused.ensures)
     (subst (λ p. IsNoPhrase c.args.form c.args.weight (drop c.args.at c.args.toks.now) p) (sym c.place.ensures)
-    (refused_answer c.args.form c.args.weight (drop c.args.at c.args.toks.now) c.cut-front.result.now (cut_rest c.args.weight c.args.at c.args.toks.now c.cut-front.result.now c.cut-front.ensures) c.phrase.new.tokens
+    (refused_answer c.args.form c.args.weight (drop c.args.at c.args.toks.now) c.cut-front.result.now
+    (cut_rest c.args.weight c.args.at c.args.toks.now c.cut-front.result.now c.cut-front.ensures) c.phrase.new.tokens
     (ap (phrase (length c.cut-front.result.now + 1) c.args.form) (sym c.new-tokens.ensures)
-    ∙ subst (λ e. Fails (phrase (length c.cut-front.result.now + 1) c.args.form c.new-tokens.result) e c.phrase.new.tokens) c.in-Err-Refused.field-0-is c.in-Err-Refused.ensures) (omega (arith, c.left.ensures))))
+    ∙ subst (λ e. Fails (phrase (length c.cut-front.result.now + 1) c.args.form c.new-tokens.result) e c.phrase.new.tokens)
+    c.in-Err-Refused.field-0-is c.in-Err-Refused.ensures) (omega (arith, c.left.ensures))))
 
 pub unreachable-requires : goal.unreachable-requires
 unreachable-requires c =
-    never_deep c.args.form c.args.weight (drop c.args.at c.args.toks.now) c.cut-front.result.now (cut_rest c.args.weight c.args.at c.args.toks.now c.cut-front.result.now c.cut-front.ensures) c.phrase.new.tokens
+    never_deep c.args.form c.args.weight (drop c.args.at c.args.toks.now) c.cut-front.result.now
+    (cut_rest c.args.weight c.args.at c.args.toks.now c.cut-front.result.now c.cut-front.ensures) c.phrase.new.tokens
     (ap (phrase (length c.cut-front.result.now + 1) c.args.form) (sym c.new-tokens.ensures)
     ∙ subst (λ e. Fails (phrase (length c.cut-front.result.now + 1) c.args.form c.new-tokens.result) e c.phrase.new.tokens) c.in-Err-TooDeep.field-0-is c.in-Err-TooDeep.ensures)
 

@@ -27,7 +27,8 @@ returns-then-dim-ge2 c =
     let k = to_z-of_z w32 c.in-Slice.k (search rules) in
     let j = to_z-of_z w32 c.in-Slice.j (search rules) in
     subst (λ how. SeenIf how c.args.view.now c.ok-then-dim-ge2.result) (ap₂ Slice k j ∙ sym c.in-Slice.is)
-    (by_result (Slice (to_z w32 (of_z w32 c.in-Slice.k)) (to_z w32 (of_z w32 c.in-Slice.j))) c.args.view.now c.view_slice.result c.ok-then-dim-ge2.result c.ok-then-dim-ge2.ensures.value c.view_slice.ensures.fault
+    (by_result (Slice (to_z w32 (of_z w32 c.in-Slice.k)) (to_z w32 (of_z w32 c.in-Slice.j))) c.args.view.now c.view_slice.result
+    c.ok-then-dim-ge2.result c.ok-then-dim-ge2.ensures.value c.view_slice.ensures.fault
     (two_dims _ (subst (λ (r : Rect). 2 ≤ r.dim) c.domain-dim.ensures.value c.if-dim-ge2.true)) c.view_slice.ensures.view c.domain-dim.ensures.form)
 
 pub returns-else-dim-ge2 : goal.returns-else-dim-ge2

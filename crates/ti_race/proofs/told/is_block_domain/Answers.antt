@@ -20,4 +20,5 @@ returns-in-Ok-clause-value c =
 pub returns-in-Err-clause-value : goal.returns-in-Err-clause-value
 returns-in-Err-clause-value c =
     let r = c.args.domain.now in
-    sym (block_sized r false (c.forms_are_told.ensures.rects r) (c.is_rect.ensures.0 c.if-not-is_rect.false) (too_many (size_of r) (length (points_of r)) (c.rect_counts.ensures r) (c.in-Err.ensures.large.0 refl)))
+    sym (block_sized r false (c.forms_are_told.ensures.rects r) (c.is_rect.ensures.0 c.if-not-is_rect.false)
+    (too_many (size_of r) (length (points_of r)) (c.rect_counts.ensures r) (c.in-Err.ensures.large.0 refl)))

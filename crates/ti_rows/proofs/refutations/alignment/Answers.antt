@@ -22,7 +22,7 @@ use Rattle.ti_rows.specs.Rows.Collectives as collectives
 use Rattle.ti_rows.specs.Refused.Singles as singles
 use Rattle.ti_rows.specs.Refuted.Programs as programs
 use Rattle.ti_rows.specs.Refuted.Entries as entries
-use Rattle.ti_align.proofs.OneAnswer.{one_answer}
+use Rattle.ti_align.proofs.Lemmas.{one_answer}
 use Rattle.ti_rows.proofs.Reached.{has_next, arrives, fails, can_take_next}
 use Rattle.ti_rows.proofs.SliceSimulated.{comes}
 use Rattle.ti_rows.proofs.refutations.alignment.Goals as goal

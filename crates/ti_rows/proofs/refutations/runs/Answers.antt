@@ -17,7 +17,7 @@ use Rattle.ti_lang.specs.Meaning.HeapAnswers.{Outcome, Answers, Impossible, heap
 use Rattle.ti_lang.specs.Meaning.HeapAnswers as heap
 use Rattle.ti_lang.specs.Meaning.Runs.{CanTake, IsRun, IsSolo}
 use Rattle.ti_lang.specs.Meaning.Runs as r
-use Rattle.ti_lang.proofs.MeaningLaws.Running.{taker}
+use Rattle.ti_lang.proofs.Lemmas.{taker}
 use Rattle.ti_rows.specs.Texts.{pl}
 use Rattle.ti_rows.specs.Histories.{thing}
 use Rattle.ti_rows.specs.Refuted.Programs as programs

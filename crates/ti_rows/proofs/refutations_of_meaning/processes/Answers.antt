@@ -6,8 +6,7 @@ use Rattle.ti_base.specs.declared.entry.Answer.{Answer}
 use Rattle.ti_base.specs.declared.entry.Answer.TheVariants.{Done}
 use Rattle.ti_lang.specs.Meaning.Asking.{Got, Gives}
 use Rattle.ti_lang.specs.Meaning.NextStep.{none, here}
-use Rattle.ti_lang.proofs.MeaningLaws.Costs.{after_pays}
-use Rattle.ti_lang.proofs.MeaningLaws.Running.{only_acts}
+use Rattle.ti_lang.proofs.Lemmas.{after_pays, only_acts}
 use Rattle.ti_rows.specs.Texts.{pl}
 use Rattle.ti_rows.specs.Refuted.Things.{fresh, ended, a_departure}
 use Rattle.ti_rows.proofs.Reached.{rest_of, settles}

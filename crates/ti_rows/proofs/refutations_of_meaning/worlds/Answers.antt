@@ -2,8 +2,7 @@ use Rattle.std.proofs.Common.{◌≤◌, [], ◌∷◌, refl, ap, arith}
 use Rattle.ti_base.specs.declared.entry.Answer.TheVariants.{Done}
 use Rattle.ti_base.specs.declared.entry.Entry.{Entry}
 use Rattle.ti_lang.specs.Meaning.NextStep.{none}
-use Rattle.ti_lang.proofs.MeaningLaws.Costs.{after_pays}
-use Rattle.ti_lang.proofs.MeaningLaws.Running.{entry_same}
+use Rattle.ti_lang.proofs.Lemmas.{after_pays, entry_same}
 use Rattle.ti_rows.specs.Refuted.Entries as entries
 use Rattle.ti_rows.specs.Refuted.Things.{both, fresh}
 use Rattle.ti_rows.proofs.Taking.{first_can, no_arrival, no_end_first}

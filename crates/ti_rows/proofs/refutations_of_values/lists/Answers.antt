@@ -3,7 +3,7 @@ use Rattle.std.proofs.lemmas.Int.{ints}
 use Rattle.ti_base.specs.declared.point.Point.{Point}
 use Rattle.ti_base.specs.Points.{pt_lex_lt}
 use Rattle.ti_base.specs.PointSets.{Rises}
-use Rattle.ti_base.proofs.WalkLaws.{goes_on}
+use Rattle.ti_base.proofs.Lemmas.{goes_on}
 use Rattle.ti_rows.specs.Refuted.Sets.{on_line, rising}
 use Rattle.ti_rows.proofs.refutations_of_values.lists.Goals as goal
 

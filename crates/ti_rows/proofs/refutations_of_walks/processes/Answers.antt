@@ -13,8 +13,7 @@ use Rattle.ti_lang.specs.Meaning.Histories.{is_end}
 use Rattle.ti_lang.specs.Meaning.NextStep.{After, none, here, shown}
 use Rattle.ti_lang.specs.Meaning.Processes.{Process}
 use Rattle.ti_lang.specs.Meaning.Steps.{Step, To, At, Ends, Faults, step}
-use Rattle.ti_lang.proofs.MeaningLaws.Requests.{no_end_asked}
-use Rattle.ti_lang.proofs.MeaningLaws.Total.{next_some}
+use Rattle.ti_lang.proofs.Lemmas.{no_end_asked, next_some}
 use Rattle.ti_exec.specs.Standing.{begun_of}
 use Rattle.ti_rows.specs.Refuted.Things.{fresh}
 use Rattle.ti_rows.proofs.Reached.{asks_once}

@@ -14,7 +14,13 @@ take-requires-clause-procs g c = omega (arith, c.requires.procs, c.requires.may.
 pub take-requires-clause-goes : goal.take-requires-clause-goes
 take-requires-clause-goes g c =
     let left = c.pop.new.self in
-    let inside : c.len-number.result < g.J.Terms.setting.procs = omega (arith, c.len-number.ensures ∙ left.ok.0, one_longer _ left.items c.in-Some.pass c.in-Some.ensures.items, c.loop-pass.invariant.count, c.requires.procs) in
+    let inside : c.len-number.result < g.J.Terms.setting.procs = omega (
+      arith,
+      c.len-number.ensures ∙ left.ok.0,
+      one_longer _ left.items c.in-Some.pass c.in-Some.ensures.items,
+      c.loop-pass.invariant.count,
+      c.requires.procs,
+    ) in
     begins_here g.J.ByCode.code c.args.code.now g.J.Terms.setting c.args.procs c.args.fuel c.len-number.result c.requires.may c.requires.code c.requires.procs c.requires.fuel inside
 
 pub new-mate-requires-clause-number : goal.new-mate-requires-clause-number
@@ -33,11 +39,21 @@ new-mate-requires-clause-seen g c = (last_pass (identity_of c.args.turnstile.now
 pub new-mate-requires-clause-seated : goal.new-mate-requires-clause-seated
 new-mate-requires-clause-seated g c =
     let left = c.pop.new.self in
-    let inside : c.len-number.result < g.J.Terms.setting.procs = omega (arith, c.len-number.ensures ∙ left.ok.0, one_longer _ left.items c.in-Some.pass c.in-Some.ensures.items, c.loop-pass.invariant.count, c.requires.procs) in
-    seated_here g.J.ByCode.code c.args.code.now g.J.Terms.setting c.args.procs c.args.fuel c.len-number.result c.requires.may c.requires.code c.requires.procs c.requires.fuel inside c.has_one_next.ensures c.in_ok-seat.seat c.in_ok-seat.ensures.stands c.in_ok-seat.ensures.unended
+    let inside : c.len-number.result < g.J.Terms.setting.procs = omega (
+      arith,
+      c.len-number.ensures ∙ left.ok.0,
+      one_longer _ left.items c.in-Some.pass c.in-Some.ensures.items,
+      c.loop-pass.invariant.count,
+      c.requires.procs,
+    ) in
+    seated_here g.J.ByCode.code c.args.code.now g.J.Terms.setting c.args.procs c.args.fuel c.len-number.result c.requires.may
+    c.requires.code c.requires.procs c.requires.fuel inside c.has_one_next.ensures c.in_ok-seat.seat c.in_ok-seat.ensures.stands
+    c.in_ok-seat.ensures.unended
 
 pub put-requires-clause-mate : goal.put-requires-clause-mate
-put-requires-clause-mate g c = ap (λ r. r.turnstile) c.new-mate.ensures ∙ (last_pass (identity_of c.args.turnstile.now) _ c.pop.new.self.items c.in-Some.pass c.in-Some.ensures.items c.loop-pass.invariant.passes).0
+put-requires-clause-mate g c = ap (λ r. r.turnstile) c.new-mate.ensures
+    ∙ (last_pass (identity_of c.args.turnstile.now) _ c.pop.new.self.items c.in-Some.pass c.in-Some.ensures.items
+    c.loop-pass.invariant.passes).0
 
 pub loop-pass-preserved : goal.loop-pass-preserved
 loop-pass-preserved g c =

@@ -11,5 +11,7 @@ returns-clause-groups g c =
     let table = identity_of c.args.turnstile.now in
     let groups = c.args.groups.now.items in
     let v = c.index_mut.result.now in
-    let was : All (AllOf table) v.items = subst (λ w. All (AllOf table) w.items) (sym c.index_mut.ensures.value) (All-get_or (λ w. All (AllOf table) w.items) groups c.args.group v c.requires.group c.requires.groups) in
-    All-set (λ w. All (AllOf table) w.items) groups c.args.group c.insert.new.self (fit_first table v.items c.insert.new.self.items c.args.mate was c.requires.mate c.in_ok-insert.ensures.items) c.requires.groups
+    let was : All (AllOf table) v.items = subst (λ w. All (AllOf table) w.items) (sym c.index_mut.ensures.value)
+    (All-get_or (λ w. All (AllOf table) w.items) groups c.args.group v c.requires.group c.requires.groups) in
+    All-set (λ w. All (AllOf table) w.items) groups c.args.group c.insert.new.self
+    (fit_first table v.items c.insert.new.self.items c.args.mate was c.requires.mate c.in_ok-insert.ensures.items) c.requires.groups

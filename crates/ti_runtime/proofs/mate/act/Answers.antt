@@ -18,4 +18,5 @@ act-requires-clause-next g c =
 pub returns-clause-grown : goal.returns-clause-grown
 returns-clause-grown g c =
     let seat = c.args.seat.now in
-    grown_acted c.args.store.now c.act.new.self c.args.number (place_of seat) (action_of seat) c.act.result (rw c.doing-action.ensures at c.act.ensures.ok) (rw c.doing-action.ensures at c.act.ensures.err)
+    grown_acted c.args.store.now c.act.new.self c.args.number (place_of seat) (action_of seat) c.act.result
+    (rw c.doing-action.ensures at c.act.ensures.ok) (rw c.doing-action.ensures at c.act.ensures.err)

@@ -13,13 +13,15 @@ begin-requires-clause-follows g c =
 pub returns-clause-count : goal.returns-clause-count
 returns-clause-count g c =
     let program = program_of c.args.c.now.program.parts in
-    let follows = subst (λ p. Follows c.args.code.now p) (sym (ap (λ (s : Setting). s.program) c.requires.terms)) (subst (λ code. Follows code g.J.Terms.setting.program) (sym c.requires.code) c.requires.may.follows) in
+    let follows = subst (λ p. Follows c.args.code.now p) (sym (ap (λ (s : Setting). s.program) c.requires.terms))
+    (subst (λ code. Follows code g.J.Terms.setting.program) (sym c.requires.code) c.requires.may.follows) in
     (c.in_ok-seats.ensures program follows).count ∙ ap (λ (s : Setting). s.procs) c.requires.terms
 
 pub returns-clause-seated : goal.returns-clause-seated
 returns-clause-seated g c =
     let program = program_of c.args.c.now.program.parts in
-    let follows = subst (λ p. Follows c.args.code.now p) (sym (ap (λ (s : Setting). s.program) c.requires.terms)) (subst (λ code. Follows code g.J.Terms.setting.program) (sym c.requires.code) c.requires.may.follows) in
+    let follows = subst (λ p. Follows c.args.code.now p) (sym (ap (λ (s : Setting). s.program) c.requires.terms))
+    (subst (λ code. Follows code g.J.Terms.setting.program) (sym c.requires.code) c.requires.may.follows) in
     let team = c.in_ok-seats.field-0 in
     let stands = subst (λ code. Stands code g.J.Terms.setting [] team.seats.items team.cursor) c.requires.code
     (subst (λ s. Stands c.args.code.now s [] team.seats.items team.cursor) c.requires.terms (c.in_ok-seats.ensures program follows)) in

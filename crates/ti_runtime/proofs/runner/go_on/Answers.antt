@@ -9,14 +9,16 @@ pub returns-then-ends_with_fault : goal.returns-then-ends_with_fault
 returns-then-ends_with_fault g c =
     let es = c.args.store.now.entries in
     let run = subst (λ s. IsRun s es) c.knows_terms.ensures c.history.ensures.run in
-    let fault = fault_told (setting_of c.args.store.now) es c.history.result.now c.ends_with_fault.result c.history.ensures.entries c.history.ensures.run c.ends_with_fault.ensures ∙ c.if-ends_with_fault.true in
+    let fault = fault_told (setting_of c.args.store.now) es c.history.result.now c.ends_with_fault.result c.history.ensures.entries
+    c.history.ensures.run c.ends_with_fault.ensures ∙ c.if-ends_with_fault.true in
     came_faulted g.J.ByCode.code g.J.Terms.setting es c.args.team.now.seats.items c.args.wants run c.requires.count c.requires.seated fault
 
 pub returns-then-have_ended : goal.returns-then-have_ended
 returns-then-have_ended g c =
     let es = c.args.store.now.entries in
     let run = subst (λ s. IsRun s es) c.knows_terms.ensures c.history.ensures.run in
-    let fault = fault_told (setting_of c.args.store.now) es c.history.result.now c.ends_with_fault.result c.history.ensures.entries c.history.ensures.run c.ends_with_fault.ensures ∙ c.if-ends_with_fault.false in
+    let fault = fault_told (setting_of c.args.store.now) es c.history.result.now c.ends_with_fault.result c.history.ensures.entries
+    c.history.ensures.run c.ends_with_fault.ensures ∙ c.if-ends_with_fault.false in
     let ended = sym (ap (list_all has_ended) c.deref.ensures.value) ∙ sym c.have_ended.ensures ∙ c.if-have_ended.true in
     came_ended g.J.ByCode.code g.J.Terms.setting es c.args.team.now.seats.items c.args.wants run c.requires.count c.requires.seated fault ended
 
@@ -24,6 +26,7 @@ pub returns-then-wants : goal.returns-then-wants
 returns-then-wants g c =
     let es = c.args.store.now.entries in
     let run = subst (λ s. IsRun s es) c.knows_terms.ensures c.history.ensures.run in
-    let fault = fault_told (setting_of c.args.store.now) es c.history.result.now c.ends_with_fault.result c.history.ensures.entries c.history.ensures.run c.ends_with_fault.ensures ∙ c.if-ends_with_fault.false in
+    let fault = fault_told (setting_of c.args.store.now) es c.history.result.now c.ends_with_fault.result c.history.ensures.entries
+    c.history.ensures.run c.ends_with_fault.ensures ∙ c.if-ends_with_fault.false in
     let ended = sym (ap (list_all has_ended) c.deref.ensures.value) ∙ sym c.have_ended.ensures ∙ c.if-have_ended.false in
     came_wanting g.J.ByCode.code g.J.Terms.setting es c.args.team.now.seats.items c.args.wants run c.requires.count c.requires.seated fault ended

@@ -9,14 +9,26 @@ pub begin-requires-clause-may : goal.begin-requires-clause-may
 begin-requires-clause-may g c = λ _ _.
     let code = c.args.code.now in
     let s : Setting = record { program = program_of c.args.c.now.program.parts; procs = c.args.procs; fuel = c.args.fuel } in
-    let may : MayRun code s = record { within = c.requires.within; follows = c.requires.follows; aligned = c.aligned.ensures.aligned; balance = c.rounds_balance.ensures; fit = c.answers_fit.ensures } in
+    let may : MayRun code s = record {
+      within = c.requires.within;
+      follows = c.requires.follows;
+      aligned = c.aligned.ensures.aligned;
+      balance = c.rounds_balance.ensures;
+      fit = c.answers_fit.ensures;
+    } in
     subst (λ code. MayRun code g.J.Terms.setting) c.requires.code (subst (MayRun code) c.requires.terms may)
 
 pub finish-requires-clause-may : goal.finish-requires-clause-may
 finish-requires-clause-may g c =
     let code = c.args.code.now in
     let s : Setting = record { program = program_of c.args.c.now.program.parts; procs = c.args.procs; fuel = c.args.fuel } in
-    let may : MayRun code s = record { within = c.requires.within; follows = c.requires.follows; aligned = c.aligned.ensures.aligned; balance = c.rounds_balance.ensures; fit = c.answers_fit.ensures } in
+    let may : MayRun code s = record {
+      within = c.requires.within;
+      follows = c.requires.follows;
+      aligned = c.aligned.ensures.aligned;
+      balance = c.rounds_balance.ensures;
+      fit = c.answers_fit.ensures;
+    } in
     subst (λ code. MayRun code g.J.Terms.setting) c.requires.code (subst (MayRun code) c.requires.terms may)
 
 pub returns-in-Ok-begin : goal.returns-in-Ok-begin

@@ -22,7 +22,8 @@ loop-mate-preserved-in-Some g c =
     let passes = c.loop-mate.passes.items in
     let pushed = c.push_reserved.ensures.items in
     let places = c.loop-mate.places.items in
-    let both = all_back code s places inv.places parts.result.0 parts.ensures.number.1 parts.result.1 passes c.push_reserved.new.self.items pass c.loop-mate.wants parts.result.2 c.either-wants.result c.len-last.result
+    let both = all_back code s places inv.places parts.result.0 parts.ensures.number.1 parts.result.1 passes c.push_reserved.new.self.items
+    pass c.loop-mate.wants parts.result.2 c.either-wants.result c.len-last.result
     (c.len-last.ensures ∙ c.args.places.ok.0 ∙ c.requires.places) pushed c.either-wants.ensures parts.ensures.number.2 parts.ensures.stays inv.placed inv.back in
     record {
       mates = all_before (AllOf id) old left mate out inv.mates;
@@ -49,7 +50,8 @@ loop-mate-preserved g c =
     let passes = c.loop-mate.passes.items in
     let pushed = c.push_reserved.ensures.items in
     let places = c.loop-mate.places.items in
-    let both = all_back code s places inv.places parts.result.0 parts.ensures.number.1 parts.result.1 passes c.push_reserved.new.self.items pass c.loop-mate.wants parts.result.2 c.either-wants.result c.len-last.result
+    let both = all_back code s places inv.places parts.result.0 parts.ensures.number.1 parts.result.1 passes c.push_reserved.new.self.items
+    pass c.loop-mate.wants parts.result.2 c.either-wants.result c.len-last.result
     (c.len-last.ensures ∙ c.args.places.ok.0 ∙ c.requires.places) pushed c.either-wants.ensures parts.ensures.number.2 parts.ensures.stays inv.placed inv.back in
     record {
       mates = all_before (AllOf id) old left mate out inv.mates;

@@ -6,5 +6,7 @@ use Rattle.ti_single.proofs.effects.has_effects.Goals as goal
 
 pub returns-in-Some : goal.returns-in-Some
 returns-in-Some c =
-    effects_in (program_of c.args.p.now.parts) (whereabouts_of c.args.s.now) (statement_of c.args.st.now) (numbered_method_of c.in-Some.m.now) c.this_of.result c.return_acts-returns.result c.jump_acts_at-jumps.result
-    c.has_global_effects.result (doings_of c.doings_of_statement.result) c.in-Some.ensures c.return_acts-returns.ensures c.jump_acts_at-jumps.ensures c.this_of.ensures c.doings_of_statement.ensures c.has_global_effects.ensures
+    effects_in (program_of c.args.p.now.parts) (whereabouts_of c.args.s.now) (statement_of c.args.st.now)
+    (numbered_method_of c.in-Some.m.now) c.this_of.result c.return_acts-returns.result c.jump_acts_at-jumps.result
+    c.has_global_effects.result (doings_of c.doings_of_statement.result) c.in-Some.ensures c.return_acts-returns.ensures
+    c.jump_acts_at-jumps.ensures c.this_of.ensures c.doings_of_statement.ensures c.has_global_effects.ensures

@@ -19,14 +19,17 @@ returns-in-Foreach c =
     let p = program_of c.args.p.now.parts in
     let m = numbered_method_of c.args.m.now in
     in_loop_alone p m c.this_of-this.result (statement_of c.in-Foreach.body.value) (statement_of c.args.x.now) (doings_of c.doings_of_statement-in-Foreach.result) c.this_of-this.ensures
-    (c.doings_of_statement-in-Foreach.ensures ∙ ap (λ z. doings p c.this_of-this.result (statement_of z)) c.boxed_statement-in-Foreach.ensures) (ap (λ z. doings_in_loop p m (statement_of z)) c.in-Foreach.is)
+    (c.doings_of_statement-in-Foreach.ensures ∙ ap (λ z. doings p c.this_of-this.result (statement_of z))
+    c.boxed_statement-in-Foreach.ensures) (ap (λ z. doings_in_loop p m (statement_of z)) c.in-Foreach.is)
 
 pub returns-in-Some : goal.returns-in-Some
 returns-in-Some c =
     let p = program_of c.args.p.now.parts in
     let m = numbered_method_of c.args.m.now in
-    in_loop_updated p m c.this_of-this.result (statement_of c.in-Some.update.value) (statement_of c.in-For.body.value) (statement_of c.args.x.now) (doings_of c.doings_of_statement-in-Some.result) (doings_of c.doings_of_statement-body.result)
-    (doings_of c.together.result) c.this_of-this.ensures c.together.ensures (c.doings_of_statement-in-Some.ensures ∙ ap (λ z. doings p c.this_of-this.result (statement_of z)) c.boxed_statement-in-Some.ensures)
+    in_loop_updated p m c.this_of-this.result (statement_of c.in-Some.update.value) (statement_of c.in-For.body.value)
+    (statement_of c.args.x.now) (doings_of c.doings_of_statement-in-Some.result) (doings_of c.doings_of_statement-body.result)
+    (doings_of c.together.result) c.this_of-this.ensures c.together.ensures (c.doings_of_statement-in-Some.ensures
+    ∙ ap (λ z. doings p c.this_of-this.result (statement_of z)) c.boxed_statement-in-Some.ensures)
     (c.doings_of_statement-body.ensures ∙ ap (λ z. doings p c.this_of-this.result (statement_of z)) c.boxed_statement-in-For.ensures)
     (ap (λ z. doings_in_loop p m (statement_of z)) c.in-For.is ∙ ap (λ u. doings_in_loop p m (statement_of (For c.in-For.place c.in-For.first c.in-For.condition u c.in-For.body))) c.in-Some.is)
 

@@ -8,7 +8,7 @@ use Rattle.ti_lang.specs.Typing.TextTypes.{type_in_text}
 use Rattle.ti_lang.specs.Typing.Called.{member_called}
 use Rattle.ti_lang.specs.Typing.Singleness.{tells_of_domain}
 use Rattle.ti_rules.specs.Standing.{singles_in}
-use Rattle.ti_lang.proofs.ProgramBridges.{seen_numbered_point, seen_numbered_rect, seen_numbered_member, seen_numbered_index}
+use Rattle.ti_lang.proofs.Lemmas.{seen_numbered_point, seen_numbered_rect, seen_numbered_member, seen_numbered_index}
 use Rattle.ti_single.proofs.Parts.{same_arguments, same_ranges, index_single, member_single}
 use Rattle.ti_single.proofs.singleness.+single.Goals as goal
 
@@ -31,7 +31,9 @@ is_single_part-returns-in-Index t c =
     let p = program_of c.args.p.now.parts in
     let this = c.args.scope.now.this in
     let singles = singles_in (contents_of c.args.scope.now) in
-    index_single p this singles c.in-Index.place (expression_of c.in-Index.receiver.value) (numbered_exps (map expression_of c.in-Index.indices.items)) c.is_point-of_point.result c.is_single_part-part.result c.are_single-in-Index.result
+    index_single p this singles c.in-Index.place (expression_of c.in-Index.receiver.value)
+    (numbered_exps (map expression_of c.in-Index.indices.items)) c.is_point-of_point.result c.is_single_part-part.result
+    c.are_single-in-Index.result
     c.all_hold.result c.all_hold.ensures
     (c.is_point-of_point.ensures ∙ ap is_point (c.type_in_text.ensures ∙ ap (λ z. type_in_text p this (expression_of z)) c.boxed_expression-receiver.ensures))
     (c.is_single_part-part.ensures ∙ ap (λ z. is_single_part p this singles (expression_of z)) c.boxed_expression-receiver.ensures)

@@ -4,7 +4,8 @@ use Rattle.ti_slice.proofs.acts.work_acts.Goals as goal
 
 pub returns-in-Some-stands : goal.returns-in-Some-stands
 returns-in-Some-stands c =
-    acts_in_call (program_of c.args.c.now.program.parts) c.args.call.now c.args.todo.now (numbered_method_of c.in-Some.m.now) (statement_of c.in-Some-stands.x.now) c.acts_at.result c.in-Some.ensures c.in-Some-stands.ensures
+    acts_in_call (program_of c.args.c.now.program.parts) c.args.call.now c.args.todo.now (numbered_method_of c.in-Some.m.now)
+    (statement_of c.in-Some-stands.x.now) c.acts_at.result c.in-Some.ensures c.in-Some-stands.ensures
     c.requires.inner (rw c.deref.ensures.value at c.acts_at.ensures)
 
 pub returns-in-None-stands : goal.returns-in-None-stands

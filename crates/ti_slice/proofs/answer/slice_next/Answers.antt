@@ -3,7 +3,7 @@ use Rattle.ti_lang.specs.Program.Views.{program_of}
 use Rattle.ti_lang.specs.Meaning.Processes.{Setting}
 use Rattle.ti_align.specs.Slice.{Comes, SliceAnswers}
 use Rattle.ti_exec.specs.States.{process_of}
-use Rattle.ti_exec.proofs.Works.{of_result}
+use Rattle.ti_exec.proofs.Lemmas.{of_result}
 use Rattle.ti_slice.specs.Mirrors.Answer.{Meets}
 use Rattle.ti_slice.proofs.Meeting.{begins_free, begins_all, takes_on, takes_none, taken_all}
 use Rattle.ti_slice.proofs.answer.slice_next.Goals as goal

@@ -1,7 +1,7 @@
 use Rattle.std.proofs.Common.{FitsSigned, ◌≡◌, pos, ◌+ℤ◌, arith, rules}
 use Rattle.std.specs.Int.{w32}
 use Rattle.ti_rect.specs.Axes.{range}
-use Rattle.ti_rect.proofs.ReadBack.{span_of}
+use Rattle.ti_rect.proofs.Lemmas.{span_of}
 use Rattle.ti_slice.proofs.Ranging.{spans}
 use Rattle.ti_slice.proofs.forms.is_range.Goals as goal
 

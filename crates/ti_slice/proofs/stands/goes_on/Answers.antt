@@ -1,7 +1,7 @@
 use Rattle.std.proofs.Common.{◌≡◌, ap, subst}
 use Rattle.ti_lang.specs.Program.Views.{program_of}
 use Rattle.ti_lang.specs.Meaning.Steps.{To}
-use Rattle.ti_lang.proofs.MeaningLaws.Total.{fits_bound}
+use Rattle.ti_lang.proofs.Lemmas.{fits_bound}
 use Rattle.ti_align.specs.Slice.{slice_step, judged}
 use Rattle.ti_exec.specs.States.{process_of}
 use Rattle.ti_slice.specs.Mirrors.Step.{IsSliceTurn}
@@ -33,7 +33,8 @@ steps-preserved c =
     record {
       free = goes_free g (process_of g c.steps.w) (process_of g c.slice_step.new.w) e c.steps.invariant.free;
       leads = leads_on (process_of g c.args.w.now) (process_of g c.steps.w) (process_of g c.slice_step.new.w) c.steps.invariant.leads e;
-      fitting = (free_falls g (pays (process_of g c.args.w.now)) (process_of g c.steps.w) (process_of g c.slice_step.new.w) (checked c.args.c.now) c.steps.invariant.free c.steps.invariant.fitting e).1;
+      fitting = (free_falls g (pays (process_of g c.args.w.now)) (process_of g c.steps.w) (process_of g c.slice_step.new.w)
+          (checked c.args.c.now) c.steps.invariant.free c.steps.invariant.fitting e).1;
     }
 
 pub stand_at-requires : goal.stand_at-requires

@@ -1,8 +1,7 @@
 use Rattle.std.proofs.Common.{ℕ, ◌+◌}
 use Rattle.ti_lang.specs.Program.Views.{program_of}
 use Rattle.ti_lang.specs.Meaning.Processes.{Process}
-use Rattle.ti_lang.proofs.MeaningLaws.Sizes.{needs_all, most}
-use Rattle.ti_lang.proofs.MeaningLaws.Total.{Fitting, weight}
+use Rattle.ti_lang.proofs.Lemmas.{needs_all, most, Fitting, weight}
 use Rattle.ti_exec.specs.States.{process_of}
 use Rattle.ti_slice.specs.Mirrors.Answer.{IsFree, Leads}
 use Rattle.ti_slice.proofs.stands.goes_on.Given as goal

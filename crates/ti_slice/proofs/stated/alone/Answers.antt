@@ -18,4 +18,5 @@ pub returns-in-None : goal.returns-in-None
 returns-in-None c =
     let E = env_of c.args.env.now in
     let x = expression_of c.args.e.now in
-    subst (λ (o : Option calls.Call). ComesAs (move_of E (Call x)) c.alone_uncalled.result (single_alone E x o c.args.answers.now)) (sym (c.in-None.ensures (Call x))) (c.alone_uncalled.ensures (Call x))
+    subst (λ (o : Option calls.Call). ComesAs (move_of E (Call x)) c.alone_uncalled.result (single_alone E x o c.args.answers.now))
+    (sym (c.in-None.ensures (Call x))) (c.alone_uncalled.ensures (Call x))

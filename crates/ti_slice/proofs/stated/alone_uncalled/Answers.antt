@@ -4,7 +4,7 @@ use Rattle.ti_lang.specs.Program.Expressions.{NumberedExp}
 use Rattle.ti_lang.specs.Program.Scope.{this_of}
 use Rattle.ti_lang.specs.Program.Views.{expression_of}
 use Rattle.ti_lang.specs.Typing.Called.{member_called}
-use Rattle.ti_lang.proofs.ProgramBridges.{seen_numbered_member}
+use Rattle.ti_lang.proofs.Lemmas.{seen_numbered_member}
 use Rattle.ti_align.specs.Slice.{single_alone, single_member}
 use Rattle.ti_eval.specs.Comes.{ComesAs}
 use Rattle.ti_eval.specs.Envs.{env_of}
@@ -16,5 +16,7 @@ returns-in-Member c = λ x.
     let E = env_of c.args.env.now in
     let i = c.in-Member in
     subst (λ (y : NumberedExp). ComesAs (move_of E x) c.member_alone.result (single_alone E y None c.args.answers.now)) (sym (seen_numbered_member c.args.e.now i.place i.receiver i.name i.args i.is))
-    (subst (λ (z : Expr). ComesAs (move_of E x) c.member_alone.result (single_member E i.place (expression_of z) (member_called E.program (this_of E.method) (expression_of z) i.name) c.args.answers.now))
+    (subst (λ (z : Expr). ComesAs (move_of E x) c.member_alone.result
+    (single_member E i.place (expression_of z) (member_called E.program (this_of E.method) (expression_of z) i.name)
+    c.args.answers.now))
     c.deref.ensures (c.member_alone.ensures x))

@@ -7,7 +7,7 @@ use Rattle.ti_lang.specs.Meaning.Asking.{Gives}
 use Rattle.ti_eval.specs.Comes.{Stops}
 use Rattle.ti_eval.specs.Envs.{env_of}
 use Rattle.ti_eval.specs.Frames.{slots_of}
-use Rattle.ti_moves.proofs.Calling.{from_params, variable_at}
+use Rattle.ti_moves.proofs.Lemmas.{from_params, variable_at}
 use Rattle.ti_slice.specs.Mirrors.SingleCalls.{single_found}
 use Rattle.ti_slice.proofs.StatedCalls.{found_stops, found_next, no_params, no_args}
 use Rattle.ti_slice.proofs.stated.bind.Goals as goal

@@ -4,7 +4,7 @@ use Rattle.ti_lang.specs.Program.Views.{expression_of}
 use Rattle.ti_align.specs.Slice.{single_bound}
 use Rattle.ti_eval.specs.Envs.{env_of}
 use Rattle.ti_eval.specs.Frames.{slots_of}
-use Rattle.ti_moves.proofs.Calling.{from_params}
+use Rattle.ti_moves.proofs.Lemmas.{from_params}
 use Rattle.ti_slice.proofs.stated.bind.Given as goal
 
 abbrev pub invariant-loop-i : goal.invariant-loop-i

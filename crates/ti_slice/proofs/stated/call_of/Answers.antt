@@ -3,7 +3,7 @@ use Rattle.ti_lang.specs.declared.program.exprs.Expr.{Expr}
 use Rattle.ti_lang.specs.Program.Expressions.{This, numbered_exps}
 use Rattle.ti_lang.specs.Program.Views.{expression_of}
 use Rattle.ti_lang.specs.Meaning.Calls.{call_of, call_by}
-use Rattle.ti_lang.proofs.ProgramBridges.{seen_static_call, seen_own_call, seen_numbered_member}
+use Rattle.ti_lang.proofs.Lemmas.{seen_static_call, seen_own_call, seen_numbered_member}
 use Rattle.ti_align.specs.Slice.{single_calling}
 use Rattle.ti_eval.specs.Comes.{ComesAs}
 use Rattle.ti_eval.specs.Envs.{env_of}
@@ -31,7 +31,9 @@ returns-in-OwnCall c = λ x.
     let made = λ (xs : List Expr). call_of i.place object (numbered_exps (map expression_of xs)) method in (
       made i.args.items,
       ap (λ y. call_by y (Some method)) (seen_own_call c.args.e.now i.place i.method i.args i.is),
-      subst (λ (xs : List Expr). ComesAs (move_of E x) c.calls-in-OwnCall.result (single_calling E (receiver_of x) (made xs) c.args.answers.now)) c.deref-in-OwnCall.ensures.value (c.calls-in-OwnCall.ensures object x),
+      subst (λ (xs : List Expr). ComesAs (move_of E x) c.calls-in-OwnCall.result
+          (single_calling E (receiver_of x) (made xs) c.args.answers.now)) c.deref-in-OwnCall.ensures.value
+          (c.calls-in-OwnCall.ensures object x),
     )
 
 pub returns-in-Member : goal.returns-in-Member
@@ -43,5 +45,7 @@ returns-in-Member c = λ x.
     let made = λ (xs : List Expr). call_of i.place object (numbered_exps (map expression_of xs)) method in (
       made i.args.items,
       ap (λ y. call_by y (Some method)) (seen_numbered_member c.args.e.now i.place i.receiver i.name i.args i.is),
-      subst (λ (xs : List Expr). ComesAs (move_of E x) c.calls-in-Member.result (single_calling E (receiver_of x) (made xs) c.args.answers.now)) c.deref-in-Member.ensures.value (c.calls-in-Member.ensures object x),
+      subst (λ (xs : List Expr). ComesAs (move_of E x) c.calls-in-Member.result
+          (single_calling E (receiver_of x) (made xs) c.args.answers.now)) c.deref-in-Member.ensures.value
+          (c.calls-in-Member.ensures object x),
     )

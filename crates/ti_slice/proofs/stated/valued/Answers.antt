@@ -18,4 +18,5 @@ pub returns-in-None : goal.returns-in-None
 returns-in-None c =
     let E = env_of c.args.env.now in
     let x = statement_of c.args.s.now in
-    subst (λ (o : Option Call). ComesAs (move_of E x) c.received.result (single_value E (receiver_of x) (expression_of c.args.e.now) o c.args.answers.now)) (sym (c.in-None.ensures x)) c.received.ensures
+    subst (λ (o : Option Call). ComesAs (move_of E x) c.received.result
+    (single_value E (receiver_of x) (expression_of c.args.e.now) o c.args.answers.now)) (sym (c.in-None.ensures x)) c.received.ensures

@@ -1,6 +1,6 @@
 use Rattle.std.proofs.Common.{refl}
 use Rattle.ti_lang.specs.Program.Views.{program_of}
-use Rattle.ti_exec.proofs.Works.{of_result}
+use Rattle.ti_exec.proofs.Lemmas.{of_result}
 use Rattle.ti_slice.specs.Mirrors.Step.{IsSliceTurn}
 use Rattle.ti_slice.proofs.Stepping.{slice_turn_at, waits_alike, expects_alike}
 use Rattle.ti_slice.proofs.step.act.Goals as goal
@@ -15,4 +15,6 @@ pub returns-in-Expects : goal.returns-in-Expects
 returns-in-Expects c =
     let p = program_of c.args.c.now.program.parts in
     let w = c.args.w.now in
-    of_result c.leaves-in-Expects.result _ (λ r. IsSliceTurn p w r w) (λ r h. slice_turn_at p w w _ r (expects_alike p w _ c.in-Expects.is) (h p _ c.in-Expects.is refl)) c.leaves-in-Expects.ensures.expects
+    of_result c.leaves-in-Expects.result _ (λ r. IsSliceTurn p w r w)
+    (λ r h. slice_turn_at p w w _ r (expects_alike p w _ c.in-Expects.is) (h p _ c.in-Expects.is refl))
+    c.leaves-in-Expects.ensures.expects

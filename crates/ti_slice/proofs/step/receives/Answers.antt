@@ -1,7 +1,7 @@
 use Rattle.std.proofs.Common.{◌∙◌, sym}
 use Rattle.ti_lang.specs.Program.Views.{program_of}
 use Rattle.ti_exec.specs.States.{IsTurn}
-use Rattle.ti_exec.proofs.Works.{of_result}
+use Rattle.ti_exec.proofs.Lemmas.{of_result}
 use Rattle.ti_slice.specs.Mirrors.Step.{IsSliceTurn}
 use Rattle.ti_slice.proofs.Stepping.{taken, dropped}
 use Rattle.ti_slice.proofs.step.receives.Goals as goal
@@ -11,7 +11,9 @@ returns-then-receives_single c =
     let p = program_of c.args.c.now.program.parts in
     let w = c.args.w.now in
     let new = c.receiving.new.self in
-    of_result c.receiving.result (λ t. IsTurn p w t new) (λ t. IsSliceTurn p w t new) (λ t h. taken p w new t c.requires.mode (sym c.receives_single.ensures ∙ c.if-receives_single.true) c.requires.new h) c.receiving.ensures
+    of_result c.receiving.result (λ t. IsTurn p w t new) (λ t. IsSliceTurn p w t new)
+    (λ t h. taken p w new t c.requires.mode (sym c.receives_single.ensures ∙ c.if-receives_single.true) c.requires.new h)
+    c.receiving.ensures
 
 pub returns : goal.returns
 returns c =

@@ -1,7 +1,7 @@
 use Rattle.std.proofs.Common.{◌∙◌, ap}
 use Rattle.ti_lang.specs.Program.Views.{program_of}
 use Rattle.ti_lang.specs.Meaning.Processes.{Process}
-use Rattle.ti_exec.proofs.Works.{of_result}
+use Rattle.ti_exec.proofs.Lemmas.{of_result}
 use Rattle.ti_slice.specs.Mirrors.Step.{IsSliceTurn}
 use Rattle.ti_slice.proofs.Stepping.{same_slice_turn}
 use Rattle.ti_slice.proofs.step.slice_step.Goals as goal

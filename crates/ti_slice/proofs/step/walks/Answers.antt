@@ -32,5 +32,6 @@ returns c =
     let todo = c.in-Walks.todo in
     let h : 0 < n = grind (arith, nat_tests) in
     let s : IsAtHand _ n todo = subst (AtHandIn p w.top) c.in-Walks.is c.requires.settled in
-    let l = subst (λ (y : NumberedStm). (x : Work) × (work_of site y todo ≡ x ∷ work_of site y c.past-left.result)) c.stands.ensures (c.past-left.ensures site n h (subst (λ (y : NumberedStm). IsAtHand y n todo) (sym c.stands.ensures) s)) in
+    let l = subst (λ (y : NumberedStm). (x : Work) × (work_of site y todo ≡ x ∷ work_of site y c.past-left.result)) c.stands.ensures
+    (c.past-left.ensures site n h (subst (λ (y : NumberedStm). IsAtHand y n todo) (sym c.stands.ensures) s)) in
     passing p w c.done.new.self todo c.past-left.result l.0 h c.in-Walks.is (λ ws e. sym (c.work_acts.ensures w.team.procs l.0 ws e) ∙ c.if-work_acts.false) l.1 (c.done.ensures p)

@@ -22,7 +22,9 @@ make_view-third-requires-clause-serial c =
     let row = c.make_view-row in
     let one = one_more (contents c.in_ok-heap.heap) (contents c.new_grid.new.self) k.grid _ (Some (whole_map k.grid c.args.dom.now)) k.ensures.made 0 0
     (none_made (contents c.in_ok-heap.heap) 1 c.in_ok-heap.ensures 0) in
-    has_serials (contents row.new.self) 0 2 (one_more_at_most contents row.result c.new_grid.new.self row.new.self [] (λ id. option_map (seen_map (Slice (pos 1) (pos 3))) ((contents c.new_grid.new.self).grid k.grid)) row.ensures.made row.ensures.err 0 1 one) (lit< tt)
+    has_serials (contents row.new.self) 0 2 (one_more_at_most contents row.result c.new_grid.new.self row.new.self []
+    (λ id. option_map (seen_map (Slice (pos 1) (pos 3))) ((contents c.new_grid.new.self).grid k.grid)) row.ensures.made
+    row.ensures.err 0 1 one) (lit< tt)
 
 pub make_view-far-requires-clause-serial : goal.make_view-far-requires-clause-serial
 make_view-far-requires-clause-serial c =
@@ -31,5 +33,9 @@ make_view-far-requires-clause-serial c =
     let third = c.make_view-third in
     let one = one_more (contents c.in_ok-heap.heap) (contents c.new_grid.new.self) k.grid _ (Some (whole_map k.grid c.args.dom.now)) k.ensures.made 0 0
     (none_made (contents c.in_ok-heap.heap) 1 c.in_ok-heap.ensures 0) in
-    let two = one_more_at_most contents row.result c.new_grid.new.self row.new.self [] (λ id. option_map (seen_map (Slice (pos 1) (pos 3))) ((contents c.new_grid.new.self).grid k.grid)) row.ensures.made row.ensures.err 0 1 one in
-    has_serials (contents third.new.self) 0 3 (one_more_at_most contents third.result row.new.self third.new.self [] (λ id. option_map (seen_map (Slice (pos 3) (pos 0))) ((contents row.new.self).grid k.grid)) third.ensures.made third.ensures.err 0 2 two) (lit< tt)
+    let two = one_more_at_most contents row.result c.new_grid.new.self row.new.self []
+    (λ id. option_map (seen_map (Slice (pos 1) (pos 3))) ((contents c.new_grid.new.self).grid k.grid)) row.ensures.made row.ensures.err
+    0 1 one in
+    has_serials (contents third.new.self) 0 3 (one_more_at_most contents third.result row.new.self third.new.self []
+    (λ id. option_map (seen_map (Slice (pos 3) (pos 0))) ((contents row.new.self).grid k.grid)) third.ensures.made third.ensures.err 0
+    2 two) (lit< tt)

@@ -36,5 +36,6 @@ new_obj-again-requires-clause-serial c =
     let k1 = one_more_at_most contents c.new_grid-full.result c.in_ok-heap.heap c.new_grid-full.new.self _ _ c.new_grid-full.ensures.made c.new_grid-full.ensures.err 0 0 k0 in
     let k2 = one_more_at_most contents c.new_grid-made.result c.new_grid-full.new.self c.new_grid-made.new.self _ _ c.new_grid-made.ensures.made c.new_grid-made.ensures.err 0 1 k1 in
     let k3 = one_more_at_most contents c.new_obj-object.result c.new_grid-made.new.self c.new_obj-object.new.self [] (λ id. None) c.new_obj-object.ensures.made c.new_obj-object.ensures.err 0 2 k2 in
-    let k4 = one_more_at_most contents c.new_obj-other.result c.new_obj-object.new.self c.new_obj-other.new.self (Bool false ∷ []) (λ id. None) c.new_obj-other.ensures.made c.new_obj-other.ensures.err 0 3 k3 in
+    let k4 = one_more_at_most contents c.new_obj-other.result c.new_obj-object.new.self c.new_obj-other.new.self (Bool false ∷ [])
+    (λ id. None) c.new_obj-other.ensures.made c.new_obj-other.ensures.err 0 3 k3 in
     has_serials (contents c.drop_region.new.self) 0 4 (as_many (contents c.new_obj-other.new.self) (contents c.drop_region.new.self) 5 c.drop_region.ensures 0 4 k4) (lit< tt)

@@ -28,4 +28,6 @@ new_obj-object-requires-clause-serial c =
     let view = c.make_view-view in
     let one = one_more (contents c.in_ok-heap.heap) (contents c.new_grid.new.self) k.grid _ (Some (whole_map k.grid c.args.dom.now)) k.ensures.made 0 0
     (none_made (contents c.in_ok-heap.heap) 1 c.in_ok-heap.ensures 0) in
-    has_serials (contents view.new.self) 0 2 (one_more_at_most contents view.result c.new_grid.new.self view.new.self [] (λ id. option_map (seen_map (Restrict c.args.dom.now)) ((contents c.new_grid.new.self).grid k.grid)) view.ensures.made view.ensures.err 0 1 one) (lit< tt)
+    has_serials (contents view.new.self) 0 2 (one_more_at_most contents view.result c.new_grid.new.self view.new.self []
+    (λ id. option_map (seen_map (Restrict c.args.dom.now)) ((contents c.new_grid.new.self).grid k.grid)) view.ensures.made
+    view.ensures.err 0 1 one) (lit< tt)

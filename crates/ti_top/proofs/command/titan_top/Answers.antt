@@ -8,19 +8,41 @@ use Rattle.ti_top.proofs.command.titan_top.Goals as goal
 pub returns-in-Err-Usage : goal.returns-in-Err-Usage
 returns-in-Err-Usage g c =
     meets_no_command _ (c.in-Err-Usage.ensures.usage c.in-Err-Usage.field-0-is)
-    (record { source = refl; text = c.nothing.ensures.text; nothing = record { unwritten = refl; no_entry = c.nothing.ensures.history; no_code = c.nothing.ensures.code; no_count = c.nothing.ensures.done } })
+    (record {
+      source = refl;
+      text = c.nothing.ensures.text;
+      nothing = record {
+        unwritten = refl;
+        no_entry = c.nothing.ensures.history;
+        no_code = c.nothing.ensures.code;
+        no_count = c.nothing.ensures.done;
+      };
+    })
     (subst (λ (s : ℕ). Ended NoCommand [] (g.K.Sink.state c.args.err.now) (g.K.Sink.state c.end_with.new.err) s) (sym c.nothing.ensures.status) c.end_with.ensures)
 
 pub returns-in-Err-Memory : goal.returns-in-Err-Memory
 returns-in-Err-Memory g c =
     meets_unread _ (λ job command. (in_ranges (map (string_bytes {Z = Global}) c.args.words.now) job command).within.some)
-    (record { source = refl; text = c.nothing-in-Err-Memory.ensures.text; nothing = record { unwritten = refl; no_entry = c.nothing-in-Err-Memory.ensures.history; no_code = c.nothing-in-Err-Memory.ensures.code; no_count = c.nothing-in-Err-Memory.ensures.done } })
-    (subst (λ (s : ℕ). Ended NoMemory [] (g.K.Sink.state c.args.err.now) (g.K.Sink.state c.end_with-in-Err-Memory.new.err) s) (sym c.nothing-in-Err-Memory.ensures.status) c.end_with-in-Err-Memory.ensures)
+    (record {
+      source = refl;
+      text = c.nothing-in-Err-Memory.ensures.text;
+      nothing = record {
+        unwritten = refl;
+        no_entry = c.nothing-in-Err-Memory.ensures.history;
+        no_code = c.nothing-in-Err-Memory.ensures.code;
+        no_count = c.nothing-in-Err-Memory.ensures.done;
+      };
+    })
+    (subst (λ (s : ℕ). Ended NoMemory [] (g.K.Sink.state c.args.err.now) (g.K.Sink.state c.end_with-in-Err-Memory.new.err) s)
+    (sym c.nothing-in-Err-Memory.ensures.status) c.end_with-in-Err-Memory.ensures)
 
 pub work-worked-requires-clause-ranges : goal.work-worked-requires-clause-ranges
 work-worked-requires-clause-ranges g c = λ _ _. in_ranges (map (string_bytes {Z = Global}) c.args.words.now) c.in-Ok.job c.in-Ok.ensures.job
 
 pub returns : goal.returns
 returns g c =
-    meets_command c.work-worked.result.ending c.in-Ok.job _ c.in-Ok.ensures.job (in_ranges (map (string_bytes {Z = Global}) c.args.words.now) c.in-Ok.job c.in-Ok.ensures.job).within.some c.work-worked.ensures.says c.work-worked.ensures.leaves
-    (subst (λ (file : List ℕ). Ended c.work-worked.result.ending file (g.K.Sink.state c.args.err.now) (g.K.Sink.state c.end_with-status.new.err) c.end_with-status.result) c.as_str.ensures c.end_with-status.ensures)
+    meets_command c.work-worked.result.ending c.in-Ok.job _ c.in-Ok.ensures.job
+    (in_ranges (map (string_bytes {Z = Global}) c.args.words.now) c.in-Ok.job c.in-Ok.ensures.job).within.some
+    c.work-worked.ensures.says c.work-worked.ensures.leaves
+    (subst (λ (file : List ℕ). Ended c.work-worked.result.ending file (g.K.Sink.state c.args.err.now)
+    (g.K.Sink.state c.end_with-status.new.err) c.end_with-status.result) c.as_str.ensures c.end_with-status.ensures)

@@ -1,4 +1,4 @@
-use Rattle.ti_rules.proofs.OneAnswer.{OneReading, one_program, one_refusal, never_both}
+use Rattle.ti_rules.proofs.Lemmas.{OneReading, one_program, one_refusal, never_both}
 use Rattle.ti_top.proofs.EachAnswered.{Answered, some_answer}
 use Rattle.ti_top.proofs.compiling.one_answer.Goals as goal
 

@@ -3,7 +3,7 @@ use Rattle.std.proofs.lemmas.Result.{err_from_is_err_and}
 use Rattle.ti_syntax.specs.declared.token.Token.{Token}
 use Rattle.ti_syntax.specs.Trees.Text.{tree_of}
 use Rattle.ti_lang.specs.Program.Views.{program_of}
-use Rattle.ti_rules.proofs.OneAnswer.{OneReading}
+use Rattle.ti_rules.proofs.Lemmas.{OneReading}
 use Rattle.ti_parse.specs.Answer.{Parsed}
 use Rattle.ti_top.proofs.Compiled.{has_tree, not_lexed, not_parsed, not_named}
 use Rattle.ti_top.proofs.compiling.read_program.Goals as goal

@@ -1,5 +1,5 @@
 use Rattle.std.proofs.lemmas.Result.{err_from_is_err_and}
-use Rattle.ti_io.proofs.Written.{writes_then, writes_stop}
+use Rattle.ti_io.proofs.Lemmas.{writes_then, writes_stop}
 use Rattle.ti_top.proofs.ending.write_refused.Goals as goal
 
 pub returns-in_err-write_piece : goal.returns-in_err-write_piece

@@ -1,4 +1,4 @@
-use Rattle.ti_rules.proofs.OneAnswer.{OneReading}
+use Rattle.ti_rules.proofs.Lemmas.{OneReading}
 use Rattle.ti_top.proofs.OneMarking.{OneInference, one_marking, one_refusal, never_both}
 use Rattle.ti_top.proofs.inferring.one_marking.Goals as goal
 

@@ -7,10 +7,12 @@ use Rattle.ti_top.proofs.printing.write_entries.Goals as goal
 pub returns-in_err-write_piece : goal.returns-in_err-write_piece
 returns-in_err-write_piece g c =
     let p = err_from_is_err_and c.from_residual.result c.from_residual.ensures.1 in
-    rw p.1 (lines_stop (program_of c.args.program.now.parts) _ _ _ _ _ _ _ _ _ c.entries-test.true (c.as_slice.ensures ∙ (rw c.deref.ensures.value at c.form_line.ensures.bytes)) c.entries.invariant.written c.in_err-write_piece.ensures)
+    rw p.1 (lines_stop (program_of c.args.program.now.parts) _ _ _ _ _ _ _ _ _ c.entries-test.true (c.as_slice.ensures
+    ∙ (rw c.deref.ensures.value at c.form_line.ensures.bytes)) c.entries.invariant.written c.in_err-write_piece.ensures)
 
 pub entries-preserved : goal.entries-preserved
 entries-preserved g c = record {
-  written = lines_step (program_of c.args.program.now.parts) _ _ _ _ _ _ _ c.entries-test.true (c.as_slice.ensures ∙ (rw c.deref.ensures.value at c.form_line.ensures.bytes)) c.entries.invariant.written c.in_ok-write_piece.ensures;
+  written = lines_step (program_of c.args.program.now.parts) _ _ _ _ _ _ _ c.entries-test.true (c.as_slice.ensures
+      ∙ (rw c.deref.ensures.value at c.form_line.ensures.bytes)) c.entries.invariant.written c.in_ok-write_piece.ensures;
   room = rw c.deref.ensures.value at c.form_line.ensures.room;
 }

@@ -6,7 +6,8 @@ use Rattle.ti_top.proofs.reading.read_rest.Goals as goal
 pub returns-in-Ok-eq0 : goal.returns-in-Ok-eq0
 returns-in-Ok-eq0 g c =
     let call = c.in-Ok-eq0.ensures in
-    read_end _ _ _ _ _ _ c.pieces.invariant.so_far call.cause.never_falls call.same (rw c.in-Ok-eq0.field-0-test at call.answer) (omega (arith, length-take c.min-room.result c.pieces.buf, c.pieces.invariant.room))
+    read_end _ _ _ _ _ _ c.pieces.invariant.so_far call.cause.never_falls call.same (rw c.in-Ok-eq0.field-0-test at call.answer)
+    (omega (arith, length-take c.min-room.result c.pieces.buf, c.pieces.invariant.room))
 
 pub returns : goal.returns
 returns g c = read_most _ _ _ _ c.pieces.invariant.so_far (omega (arith, c.pieces.text.ok.0))

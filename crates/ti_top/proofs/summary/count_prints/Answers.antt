@@ -8,5 +8,6 @@ use Rattle.ti_top.proofs.summary.count_prints.Goals as goal
 
 pub returns : goal.returns
 returns c =
-    count_from_yields_List c.filter.result _ c.count.ensures.ran (YieldsList-from_filter _ (λ (e : Entry). is_print e.act) (YieldsList-from_slice c.args.history.now cc) c.filter.ensures.closure (λ x b q k. search (rules, tests)))
+    count_from_yields_List c.filter.result _ c.count.ensures.ran (YieldsList-from_filter _ (λ (e : Entry). is_print e.act)
+    (YieldsList-from_slice c.args.history.now cc) c.filter.ensures.closure (λ x b q k. search (rules, tests)))
     ∙ length-filter (λ (e : Entry). is_print e.act) c.args.history.now

@@ -49,4 +49,5 @@ returns-clause-judges g c = λ tells.
     judges code s all seats end came c.either-is_complete.result
     (λ e h. complete code s all seats (came.whole e).1 c.have_ended.result c.has_fault.result ended fault (sym c.either-is_complete.ensures ∙ h))
     (λ e h. not_complete code s all seats (came.whole e).1 c.have_ended.result c.has_fault.result ended fault (sym c.either-is_complete.ensures ∙ h))
-    (g.S.Source.state c.args.source.now).left leaves c.verdict_of.result (subst (λ xs. Gives end c.either-is_complete.result xs c.verdict_of.result) c.into_history.ensures.entries c.verdict_of.ensures)
+    (g.S.Source.state c.args.source.now).left leaves c.verdict_of.result
+    (subst (λ xs. Gives end c.either-is_complete.result xs c.verdict_of.result) c.into_history.ensures.entries c.verdict_of.ensures)

@@ -13,15 +13,20 @@ pub returns-then-not-branch-clause-leaves : goal.returns-then-not-branch-clause-
 returns-then-not-branch-clause-leaves g c = λ tells.
     let s = setting_of c.args.store.now in
     let same : setting_of c.lines.store ≡ s = ap setting_of c.lines.invariant.store in
-    let off = off_of (setting_of c.lines.store) s c.lines.store.entries c.meet.new.store.entries c.as_slice-in-lines.result.now c.lines.line same c.as_slice-in-lines.ensures (rw c.if-not-branch.true at c.in_ok-meet.ensures.meets) in
-    left_off s (omega (arith, c.requires.open.within.few)) (g.S.Source.state c.args.source.now).left c.lines.line (held c.lines.pieces ++ (g.S.Source.state c.lines.source).left) c.lines.store.entries c.meet.new.store.entries c.lines.taken
-    c.lines.invariant.taken c.lines.invariant.stands.run (not_empty_line c.as_slice.result.now c.lines.line c.is_empty.result c.as_slice.ensures c.is_empty.ensures c.lines-test.true) off (c.lines.invariant.told tells)
+    let off = off_of (setting_of c.lines.store) s c.lines.store.entries c.meet.new.store.entries c.as_slice-in-lines.result.now c.lines.line
+    same c.as_slice-in-lines.ensures (rw c.if-not-branch.true at c.in_ok-meet.ensures.meets) in
+    left_off s (omega (arith, c.requires.open.within.few)) (g.S.Source.state c.args.source.now).left c.lines.line (held c.lines.pieces
+    ++ (g.S.Source.state c.lines.source).left) c.lines.store.entries c.meet.new.store.entries c.lines.taken
+    c.lines.invariant.taken c.lines.invariant.stands.run (not_empty_line c.as_slice.result.now c.lines.line c.is_empty.result
+    c.as_slice.ensures c.is_empty.ensures c.lines-test.true) off (c.lines.invariant.told tells)
 
 pub lines-preserved : goal.lines-preserved
 lines-preserved g c =
     let s = setting_of c.args.store.now in
     let same : setting_of c.lines.store ≡ s = ap setting_of c.lines.invariant.store in
-    let on = goes_of c.args.code.now (setting_of c.lines.store) s c.lines.store.entries c.lines.seats.items c.meet.new.store.entries c.meet.new.seats.items c.as_slice-in-lines.result.now c.lines.line same c.as_slice-in-lines.ensures (rw c.if-not-branch.false at c.in_ok-meet.ensures.meets) in
+    let on = goes_of c.args.code.now (setting_of c.lines.store) s c.lines.store.entries c.lines.seats.items c.meet.new.store.entries
+    c.meet.new.seats.items c.as_slice-in-lines.result.now c.lines.line same c.as_slice-in-lines.ensures
+    (rw c.if-not-branch.false at c.in_ok-meet.ensures.meets) in
     record {
       store = c.in_ok-meet.ensures.store ∙ ap (λ (st : StoreState). record st { entries = c.meet.new.store.entries }) c.lines.invariant.store;
       stands = on.stands;
@@ -30,7 +35,8 @@ lines-preserved g c =
       never_falls = omega (arith, c.lines.invariant.never_falls, c.in_ok-line-2.ensures.cause.never_falls);
       same = record { tells = c.in_ok-line-2.ensures.same.tells ∙ c.lines.invariant.same.tells; files = c.in_ok-line-2.ensures.same.files ∙ c.lines.invariant.same.files };
       told = λ tells.
-          goes c.args.code.now s (g.S.Source.state c.args.source.now).left c.lines.store.entries c.lines.seats.items c.meet.new.seats.items c.meet.new.store.entries c.lines.line (held c.lines.pieces ++ (g.S.Source.state c.lines.source).left) _ _ on
+          goes c.args.code.now s (g.S.Source.state c.args.source.now).left c.lines.store.entries c.lines.seats.items c.meet.new.seats.items
+          c.meet.new.store.entries c.lines.line (held c.lines.pieces ++ (g.S.Source.state c.lines.source).left) _ _ on
           (c.lines.invariant.told tells) (c.in_ok-line-2.ensures.line (c.lines.invariant.same.tells ∙ tells));
     }
 

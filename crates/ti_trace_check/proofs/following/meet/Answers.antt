@@ -38,14 +38,19 @@ returns-clause-meets g c = by c.eq.result refl
     took = rw c.if-not-branch.false at c.in_ok-take_turn.ensures.leaves
 
     text : c.entry_line.result ≡ entry_text (length c.args.store.now.entries) took.entry
-    text = line_is c.args.store.now.entries c.take_turn.new.store.entries c.history-number.result.now c.history.result.now took.entry _ c.entry_line.result c.history-number.ensures.entries c.history.ensures.entries took.after c.entry_line.ensures.text
+    text = line_is c.args.store.now.entries c.take_turn.new.store.entries c.history-number.result.now c.history.result.now took.entry _
+        c.entry_line.result c.history-number.ensures.entries c.history.ensures.entries took.after c.entry_line.ensures.text
 
-    by : (b : Bool) → c.eq.result ≡ b → Meets c.args.code.now (setting_of c.args.store.now) c.args.store.now.entries c.args.seats.now.items c.take_turn.new.store.entries (slice_set c.args.seats.now.items c.in-Some.p c.take_turn.new.self) c.args.line.now b
+    by : (b : Bool) → c.eq.result ≡ b → Meets c.args.code.now (setting_of c.args.store.now) c.args.store.now.entries c.args.seats.now.items
+        c.take_turn.new.store.entries (slice_set c.args.seats.now.items c.in-Some.p c.take_turn.new.self) c.args.line.now b
     by true e =
-        goes_on c.args.code.now (setting_of c.args.store.now) c.args.store.now.entries c.take_turn.new.store.entries c.args.seats.now.items c.in-Some.p c.index_mut.result.now c.take_turn.new.self took c.requires.stands (omega (arith, c.if-p-len.false, c.len.ensures)) c.index_mut.ensures.value
+        goes_on c.args.code.now (setting_of c.args.store.now) c.args.store.now.entries c.take_turn.new.store.entries c.args.seats.now.items
+        c.in-Some.p c.index_mut.result.now c.take_turn.new.self took c.requires.stands
+        (omega (arith, c.if-p-len.false, c.len.ensures)) c.index_mut.ensures.value
         c.args.line.now (sym (same_text c.as_slice.result.now c.args.line.now (sym e ∙ c.eq.ensures)) ∙ c.as_slice.ensures ∙ text)
     by false e =
         other_line (setting_of c.args.store.now) c.args.store.now.entries c.args.line.now c.requires.open.within.few c.process_in.result
-        (finds_of _ c.args.store.now.entries c.args.line.now c.process_in.result c.history-number.ensures.entries c.process_in.ensures.names) (short_of _ c.args.store.now.entries c.history-number.ensures.entries c.process_in.ensures.short)
+        (finds_of _ c.args.store.now.entries c.args.line.now c.process_in.result c.history-number.ensures.entries
+        c.process_in.ensures.names) (short_of _ c.args.store.now.entries c.history-number.ensures.entries c.process_in.ensures.short)
         c.in-Some.p took.entry c.take_turn.new.store.entries c.in-Some.is took.can took.after
         (λ h. other_text c.as_slice.result.now c.args.line.now (sym e ∙ c.eq.ensures) (c.as_slice.ensures ∙ text ∙ h)) (subst (λ l. length l ≤ 345) text c.entry_line.ensures.short)

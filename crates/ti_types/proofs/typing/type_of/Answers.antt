@@ -4,8 +4,7 @@ use Rattle.ti_lang.specs.Program.Views.{program_of, expression_of}
 use Rattle.ti_lang.specs.Typing.Expressions.{Typed, typed}
 use Rattle.ti_rules.specs.Known.{IsThere}
 use Rattle.ti_rules.specs.Broken.Expressions.{exp_refusals}
-use Rattle.ti_rules.proofs.First.{first_is, first_none}
-use Rattle.ti_rules.proofs.Sound.Expressions.{has_type}
+use Rattle.ti_rules.proofs.Lemmas.{first_is, first_none, has_type}
 use Rattle.ti_lang.specs.Typing.Seen.{seen}
 use Rattle.ti_types.proofs.typing.type_of.Goals as goal
 

@@ -9,7 +9,9 @@ pub loop-grid-init : goal.loop-grid-init
 loop-grid-init c = none_sooner _
 
 pub loop-grid-preserved : goal.loop-grid-preserved
-loop-grid-preserved c = c.loop-grid.invariant ∙ seen_step grid_of grid_refusals c.args.grids.now c.loop-grid.grid-index c.grid-item.result c.loop-grid.found c.sooner-found.result (omega arith) (c.sooner-found.ensures ∙ ap (sooner c.loop-grid.found) (c.one_grid.ensures ∙ ap (λ g. first_of (grid_refusals (grid_of g))) c.grid-item.is))
+loop-grid-preserved c = c.loop-grid.invariant ∙ seen_step grid_of grid_refusals c.args.grids.now c.loop-grid.grid-index c.grid-item.result
+    c.loop-grid.found c.sooner-found.result (omega arith) (c.sooner-found.ensures
+    ∙ ap (sooner c.loop-grid.found) (c.one_grid.ensures ∙ ap (λ g. first_of (grid_refusals (grid_of g))) c.grid-item.is))
 
 pub returns : goal.returns
 returns c = sym (c.loop-grid.invariant ∙ seen_end grid_of grid_refusals c.args.grids.now c.loop-grid.grid-index c.loop-grid.found (omega arith))

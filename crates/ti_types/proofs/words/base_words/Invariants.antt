@@ -6,4 +6,5 @@ use Rattle.ti_types.proofs.words.base_words.Given as goal
 
 abbrev pub invariant-loop-q : goal.invariant-loop-q
 invariant-loop-q l =
-    first_of (flat_map (base_word_refusals l.may_be_single (value_type_of l.ty)) l.words) ≡ sooner l.found (first_of (flat_map (base_word_refusals l.may_be_single (value_type_of l.ty)) (drop l.q-index l.words)))
+    first_of (flat_map (base_word_refusals l.may_be_single (value_type_of l.ty)) l.words)
+    ≡ sooner l.found (first_of (flat_map (base_word_refusals l.may_be_single (value_type_of l.ty)) (drop l.q-index l.words)))

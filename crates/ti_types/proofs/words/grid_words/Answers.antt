@@ -8,7 +8,8 @@ pub loop-q-init : goal.loop-q-init
 loop-q-init c = none_sooner _
 
 pub loop-q-preserved : goal.loop-q-preserved
-loop-q-preserved c = c.loop-q.invariant ∙ each_step grid_word_refusals c.args.words.now c.loop-q.q-index _ c.loop-q.found c.sooner-found.result (omega arith) (c.sooner-found.ensures ∙ ap (sooner c.loop-q.found) c.grid_word.ensures)
+loop-q-preserved c = c.loop-q.invariant ∙ each_step grid_word_refusals c.args.words.now c.loop-q.q-index _ c.loop-q.found
+    c.sooner-found.result (omega arith) (c.sooner-found.ensures ∙ ap (sooner c.loop-q.found) c.grid_word.ensures)
 
 pub returns : goal.returns
 returns c = sym (c.loop-q.invariant ∙ each_end grid_word_refusals c.args.words.now c.loop-q.q-index c.loop-q.found (omega arith))

@@ -2,7 +2,7 @@ use Rattle.std.proofs.Common.{[], sym, ap, ◌∙◌}
 use Rattle.ti_lang.specs.Program.Scope.{contents_of}
 use Rattle.ti_lang.specs.Program.Views.{statement_of}
 use Rattle.ti_lang.specs.Typing.Effects.{doings}
-use Rattle.ti_rules.proofs.First.{sooner_none}
+use Rattle.ti_rules.proofs.Lemmas.{sooner_none}
 use Rattle.ti_check.specs.declared.found.Walked.{Walked}
 use Rattle.ti_check.specs.Mirrors.Found.{below}
 use Rattle.ti_check.specs.Mirrors.Sites.{program_at, around_where, around_of}
@@ -33,7 +33,8 @@ returns-clause-found c =
     let does = c.doings_of_statement-does.result in
     let own : Walked = record { types = c.types.result; single = c.single-single.result; jumping = c.single_jumping.result; doings = does } in
     whole_walked p (around_where c.args.self) x own (doing does) own (own_first p m variables c.args.self.has_loop x own c.types.ensures c.single-single.ensures c.single_jumping.ensures)
-    (same_walked p (λ jump_has. []) (λ jump_has. below p (around_where c.args.self jump_has) x) (doing does) (λ j jump_has. simple_below p (around_where c.args.self jump_has) x c.requires j) (nothing_walked p does))
+    (same_walked p (λ jump_has. []) (λ jump_has. below p (around_where c.args.self jump_has) x) (doing does)
+    (λ j jump_has. simple_below p (around_where c.args.self jump_has) x c.requires j) (nothing_walked p does))
     (sym (sooner_none own.types)) (sym (sooner_none own.single)) (sym (sooner_none own.jumping))
 
 pub returns-clause-doings : goal.returns-clause-doings

@@ -15,7 +15,9 @@ returns-clause-found c =
     let variables = (contents_of c.args.self.scope.now).variables in
     let x = statement_of c.args.x.now in
     let own : Walked = record { types = c.types.result; single = c.single-single.result; jumping = c.single_jumping.result; doings = c.none.result } in
-    whole_walked p (around_where c.args.self) x own c.args.below c.and.result (own_first p m variables c.args.self.has_loop x own c.types.ensures c.single-single.ensures c.single_jumping.ensures) c.requires.below c.and.ensures.types
+    whole_walked p (around_where c.args.self) x own c.args.below c.and.result
+    (own_first p m variables c.args.self.has_loop x own c.types.ensures c.single-single.ensures c.single_jumping.ensures)
+    c.requires.below c.and.ensures.types
     c.and.ensures.single c.and.ensures.jumping
 
 pub returns-clause-doings : goal.returns-clause-doings

@@ -39,5 +39,6 @@ returns-in-Err c =
     let w = c.args.self.now in
     let ws : List Work = Do (here p w.top) ∷ rest p w.team.procs w.top in
     let left = left_within (site_of p w.team.procs w.top) (body_of p w.top) w.top.levels.items Here c.requires.inner in
-    of_result c.stops.result (λ t. (g : NumberedProgram) (got : Got Move) (go : Move → Step) → Stops c.in-Err.stop got → IsStep g (process_of g w) (valued (process_of g w) got go) t w) (λ t. IsTurn p w t w)
+    of_result c.stops.result (λ t. (g : NumberedProgram) (got : Got Move) (go : Move → Step) → Stops c.in-Err.stop got
+    → IsStep g (process_of g w) (valued (process_of g w) got go) t w) (λ t. IsTurn p w t w)
     (λ t h. turn_at p w w _ t (walks_at p w Here ws c.requires.mode left) (h p _ _ c.in-Err.ensures)) c.stops.ensures

@@ -16,5 +16,6 @@ returns c = λ p ws.
     let below = c.in_ok-push.ensures ∙ ap (λ (f : Call). w.below.calls.items ++ f ∷ []) c.replace-caller.ensures.value in
     let call = c.replace-caller.ensures.after in
     let begun = begun_at p w ws c.push.new.self c.replace-caller.new.dest c.args.method c.args.this c.args.parameters.items below
-    (ap (λ (f : Call). f.method) call) (ap (λ (f : Call). f.this) call) (ap (λ (f : Call). f.variables.slots.items) call ∙ c.in_ok-of.ensures) (ap (λ (f : Call). f.levels.items) call ∙ c.new.ensures.items) in
+    (ap (λ (f : Call). f.method) call) (ap (λ (f : Call). f.this) call) (ap (λ (f : Call). f.variables.slots.items) call
+    ∙ c.in_ok-of.ensures) (ap (λ (f : Call). f.levels.items) call ∙ c.new.ensures.items) in
     deeper p w ws _ c.args.at _ _ _ _ c.if-self.false d ∙ ap To (begun ∙ sym (c.proceeds.ensures p))

@@ -12,4 +12,5 @@ returns c = of_result c.arrives.result _ _ (λ t arrived p ws.
     let w = c.args.self.now in
     let left = sym (left_inside (site_of p w.team.procs w.top) (body_of p w.top) (reverse w.top.levels.items)) in
     let at_count = arrived p _ ToBeDone Nowhere (ap (λ (xs : List Work). top_of p w xs ∷ below_of p w) left) refl in
-    subst (λ (n : ℕ). IsStep p (process_of p w) (arrives (process_of p w) (top_of p w (rest p w.team.procs w.top) ∷ below_of p w) (deleting c.args.at c.args.region) (Count n)) t w) (c.named.ensures p ws) at_count) c.arrives.ensures
+    subst (λ (n : ℕ). IsStep p (process_of p w) (arrives (process_of p w) (top_of p w (rest p w.team.procs w.top) ∷ below_of p w)
+    (deleting c.args.at c.args.region) (Count n)) t w) (c.named.ensures p ws) at_count) c.arrives.ensures

@@ -2,7 +2,7 @@ use Rattle.std.proofs.Common.{◌≡◌, subst}
 use Rattle.ti_lang.specs.Program.Views.{program_of}
 use Rattle.ti_lang.specs.Meaning.Steps.{To, step}
 use Rattle.ti_lang.specs.Meaning.NextStep.{here}
-use Rattle.ti_lang.proofs.MeaningLaws.Total.{fits_bound}
+use Rattle.ti_lang.proofs.Lemmas.{fits_bound}
 use Rattle.ti_exec.specs.States.{process_of, IsTurn}
 use Rattle.ti_exec.proofs.Advances.{reaches_on, falls_on}
 use Rattle.ti_exec.proofs.process.Walker.go_on.Invariants.{pays}

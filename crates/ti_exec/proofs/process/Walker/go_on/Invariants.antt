@@ -2,8 +2,7 @@ use Rattle.std.proofs.Common.{ℕ, ◌+◌}
 use Rattle.ti_lang.specs.Program.Views.{program_of}
 use Rattle.ti_lang.specs.Meaning.Processes.{Process}
 use Rattle.ti_lang.specs.Meaning.NextStep.{Reaches}
-use Rattle.ti_lang.proofs.MeaningLaws.Sizes.{needs_all, most}
-use Rattle.ti_lang.proofs.MeaningLaws.Total.{Fitting, weight}
+use Rattle.ti_lang.proofs.Lemmas.{needs_all, most, Fitting, weight}
 use Rattle.ti_exec.specs.States.{process_of}
 use Rattle.ti_exec.proofs.process.Walker.go_on.Given as goal
 

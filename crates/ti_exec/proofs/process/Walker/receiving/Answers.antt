@@ -26,5 +26,6 @@ pub returns-in-Err : goal.returns-in-Err
 returns-in-Err c =
     let p = program_of c.args.c.now in
     let w = c.args.self.now in
-    of_result c.stops.result (λ t. (g : NumberedProgram) (got : Got Move) (go : Move → Step) → Stops c.in-Err.stop got → IsStep g (process_of g w) (valued (process_of g w) got go) t w) (λ t. IsTurn p w t w)
+    of_result c.stops.result (λ t. (g : NumberedProgram) (got : Got Move) (go : Move → Step) → Stops c.in-Err.stop got
+    → IsStep g (process_of g w) (valued (process_of g w) got go) t w) (λ t. IsTurn p w t w)
     (λ t h. turn_at p w w _ t (receives_at p w _ c.in-Receives.is) (h p _ _ c.in-Err.ensures)) c.stops.ensures

@@ -12,11 +12,13 @@ returns-then-next-self c =
 pub returns-in-Ok : goal.returns-in-Ok
 returns-in-Ok c =
     let p = program_of c.args.c.now in
-    take_went p c.args.self.now c.done-in-Ok.new.self c.args.grid c.args.next _ _ _ _ c.requires c.if-next-self.false c.stands.ensures c.member_place-at.ensures c.deref.ensures.value c.in-Ok.ensures (c.done-in-Ok.ensures p)
+    take_went p c.args.self.now c.done-in-Ok.new.self c.args.grid c.args.next _ _ _ _ c.requires c.if-next-self.false c.stands.ensures
+    c.member_place-at.ensures c.deref.ensures.value c.in-Ok.ensures (c.done-in-Ok.ensures p)
 
 pub returns-in-Err : goal.returns-in-Err
 returns-in-Err c =
     let p = program_of c.args.c.now in
     let w = c.args.self.now in
     of_result c.stops.result _ _
-    (λ r h. take_stops p w _ c.args.grid c.args.next _ _ _ c.in-Err.stop r c.requires c.if-next-self.false c.stands.ensures c.member_place-at.ensures c.deref.ensures.value c.in-Err.ensures (h p)) c.stops.ensures
+    (λ r h. take_stops p w _ c.args.grid c.args.next _ _ _ c.in-Err.stop r c.requires c.if-next-self.false c.stands.ensures
+    c.member_place-at.ensures c.deref.ensures.value c.in-Err.ensures (h p)) c.stops.ensures

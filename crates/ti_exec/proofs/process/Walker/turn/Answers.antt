@@ -11,13 +11,17 @@ pub returns-then-not-again : goal.returns-then-not-again
 returns-then-not-again c =
     let p = program_of c.args.c.now in
     let w = c.args.self.now in
-    subst (λ (b : Bool). turning p w b ≡ To (process_of p c.done.new.self)) (sym c.if-not-again.true) (turn_over p w c.done.new.self _ c.behind_loop.result c.requires c.stands-x.ensures c.behind_loop.ensures (c.done.ensures p))
+    subst (λ (b : Bool). turning p w b ≡ To (process_of p c.done.new.self)) (sym c.if-not-again.true)
+    (turn_over p w c.done.new.self _ c.behind_loop.result c.requires c.stands-x.ensures c.behind_loop.ensures (c.done.ensures p))
 
 pub returns-then-self : goal.returns-then-self
 returns-then-self c =
     let p = program_of c.args.c.now in
-    let w = c.args.self.now in
-    (ap (process_of p) c.stays.ensures, subst (λ (b : Bool). turning p w b ≡ Faults Fuel c.loop_place.result) (sym c.if-not-again.false) (turn_fails p w _ _ c.if-self.true c.stands-x.ensures c.loop_place.ensures))
+    let w = c.args.self.now in (
+      ap (process_of p) c.stays.ensures,
+      subst (λ (b : Bool). turning p w b ≡ Faults Fuel c.loop_place.result) (sym c.if-not-again.false)
+          (turn_fails p w _ _ c.if-self.true c.stands-x.ensures c.loop_place.ensures),
+    )
 
 pub returns : goal.returns
 returns c =

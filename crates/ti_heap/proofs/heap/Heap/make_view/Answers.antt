@@ -25,14 +25,24 @@ returns-clause-made c =
     let grid : Some (map_of c.in-Ok.view) ≡ option_map (seen_map c.args.how) (grid_in (thing_at c.args.self.now) c.args.grid) =
     ap Some (seen_maps c.args.how c.view.result.now c.in-Ok.view c.in-Ok.ensures.view) ∙ sym (ap (λ o. option_map (seen_map c.args.how) (option_map map_of o)) c.view.ensures.layout) in
     c.in_ok-push.ensures.ok
-    ∙ ap (λ (g : Option GridMap). with_thing (record { maker = c.next_id.result.maker; serial = c.next_id.result.serial; owner = c.args.grid.owner; region = c.next_id.result.region }) [] g (contents c.args.self.now)) grid
+    ∙ ap (λ (g : Option GridMap). with_thing (record {
+      maker = c.next_id.result.maker;
+      serial = c.next_id.result.serial;
+      owner = c.args.grid.owner;
+      region = c.next_id.result.region;
+    }) [] g (contents c.args.self.now)) grid
 
 pub returns-clause-there : goal.returns-clause-there
 returns-clause-there c =
     let grid : Some (map_of c.in-Ok.view) ≡ option_map (seen_map c.args.how) (grid_in (thing_at c.args.self.now) c.args.grid) =
     ap Some (seen_maps c.args.how c.view.result.now c.in-Ok.view c.in-Ok.ensures.view) ∙ sym (ap (λ o. option_map (seen_map c.args.how) (option_map map_of o)) c.view.ensures.layout) in
     grid_there (contents c.push.new.self) (contents c.args.self.now)
-    (record { maker = c.next_id.result.maker; serial = c.next_id.result.serial; owner = c.args.grid.owner; region = c.next_id.result.region }) [] (Some (map_of c.in-Ok.view)) c.in_ok-push.ensures.ok ∙ grid
+    (record {
+      maker = c.next_id.result.maker;
+      serial = c.next_id.result.serial;
+      owner = c.args.grid.owner;
+      region = c.next_id.result.region;
+    }) [] (Some (map_of c.in-Ok.view)) c.in_ok-push.ensures.ok ∙ grid
 
 pub returns-clause-kept : goal.returns-clause-kept
 returns-clause-kept c =

@@ -30,6 +30,7 @@ pub returns-clause-ok : goal.returns-clause-ok
 returns-clause-ok c =
     let a = (goal.at.returns-clause-ok c).After-push in
     let items = c.self.inside.shares.items in
-    subst (λ (x : List (List Thing)). OnOk c.push.result (contents (set items c.args.id.maker c.push.new.self) ≡ with_thing c.args.id (values_of c.args.thing) (option_map map_of (layout_of c.args.thing)) (contents x)))
+    subst (λ (x : List (List Thing)). OnOk c.push.result (contents (set items c.args.id.maker c.push.new.self)
+    ≡ with_thing c.args.id (values_of c.args.thing) (option_map map_of (layout_of c.args.thing)) (contents x)))
     c.self.view_is
     (pushed_contents c.push.result items c.args.id c.index_mut-share.result.now c.push.new.self c.args.thing (share a) (next a) c.requires.named c.push.ensures.ok c.push.ensures.err)

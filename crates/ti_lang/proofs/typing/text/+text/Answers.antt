@@ -15,7 +15,8 @@ dims_of_ranges-returns-else-ranges-eq1 t c = sym (many_ranges (program_of c.args
 
 pub type_over-returns-in-Rect : goal.type_over-returns-in-Rect
 type_over-returns-in-Rect f c =
-    ap t.Rc (c.dims_of_ranges.ensures ∙ ap (λ (rs : List Range). dims_of_ranges (program_of c.args.program.now) c.args.this (dims_in (reverse c.args.dims.now)) (numbered_ranges (map bound_of rs))) c.deref-in-Rect.ensures.value)
+    ap t.Rc (c.dims_of_ranges.ensures ∙ ap (λ (rs : List Range). dims_of_ranges (program_of c.args.program.now) c.args.this
+    (dims_in (reverse c.args.dims.now)) (numbered_ranges (map bound_of rs))) c.deref-in-Rect.ensures.value)
     ∙ ap (type_at (program_of c.args.program.now) c.args.this (dims_in (reverse c.args.dims.now))) (sym (seen_numbered_rect c.args.e.now c.in-Rect.field-0 c.in-Rect.ranges c.in-Rect.is))
 
 pub type_over-returns-in-Point : goal.type_over-returns-in-Point

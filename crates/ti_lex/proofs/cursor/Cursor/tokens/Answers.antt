@@ -47,12 +47,15 @@ loop-byte-preserved c =
     let told = subst (λ q. Reads (first spot.at (rest spot)) spot c.piece.new.self (Ok q)) c.in-Token.is c.in_ok-piece.ensures in
     let read = token_read text before spot c.piece.new.self c.loop-byte.invariant more kind told in
     let here : place_of text spot.at ≡ c.place-place.result = ap (λ t. place_of t spot.at) (sym c.loop-byte.invariant.same) ∙ sym c.place-place.ensures in
-    let added : before ++ record { kind = kind; place = place_of text spot.at } ∷ [] ≡ c.push.new.self.items = ap (λ (p : Place). before ++ record { kind = kind; place = p } ∷ []) here ∙ sym c.in_ok-push-in-Token.ensures.items in
+    let added : before ++ record { kind = kind; place = place_of text spot.at } ∷ [] ≡ c.push.new.self.items =
+    ap (λ (p : Place). before ++ record { kind = kind; place = p } ∷ []) here ∙ sym c.in_ok-push-in-Token.ensures.items in
     subst (λ ts. IsReadTo text ts c.piece.new.self) added read
 
 pub returns : goal.returns
 returns c =
     let text = c.args.self.now.text in
     let tokens = c.loop-byte.tokens.items in
-    let added : tokens ++ record { kind = k.End; place = place_of c.loop-byte.self.text c.loop-byte.self.at } ∷ [] ≡ c.push-2.new.self.items = ap (λ (p : Place). tokens ++ record { kind = k.End; place = p } ∷ []) (sym c.place-place-2.ensures) ∙ sym c.in_ok-push.ensures.items in
+    let added : tokens ++ record { kind = k.End; place = place_of c.loop-byte.self.text c.loop-byte.self.at } ∷ []
+    ≡ c.push-2.new.self.items = ap (λ (p : Place). tokens ++ record { kind = k.End; place = p } ∷ []) (sym c.place-place-2.ensures)
+    ∙ sym c.in_ok-push.ensures.items in
     (c.requires.short, subst (IsTokenized text) added (all_read text tokens c.loop-byte.self c.loop-byte.invariant c.in_default.ensures))

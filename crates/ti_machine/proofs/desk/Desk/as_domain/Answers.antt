@@ -2,7 +2,7 @@ use Rattle.std.proofs.Common.{subst}
 use Rattle.ti_code.specs.Effects.{top, below}
 use Rattle.ti_machine.specs.Mirrors.Desks.{spot_of, Given}
 use Rattle.ti_lang.specs.Meaning.Conversions.{to_domain}
-use Rattle.ti_lang.proofs.MeaningLaws.Silent.{to_domain_silent}
+use Rattle.ti_lang.proofs.Lemmas.{to_domain_silent}
 use Rattle.ti_machine.proofs.Tellings.{silent_tells}
 use Rattle.ti_machine.proofs.desk.Desk.as_domain.Goals as goal
 

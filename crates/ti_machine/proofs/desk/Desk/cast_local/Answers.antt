@@ -4,7 +4,7 @@ use Rattle.ti_code.specs.Effects.{top, below}
 use Rattle.ti_machine.specs.Mirrors.Desks.{spot_of, Given}
 use Rattle.std.specs.Prelude.{true}
 use Rattle.ti_lang.specs.Meaning.Evaluation.{kept_local}
-use Rattle.ti_lang.proofs.MeaningLaws.Silent.{kept_silent}
+use Rattle.ti_lang.proofs.Lemmas.{kept_silent}
 use Rattle.ti_machine.proofs.Tellings.{silent_tells}
 use Rattle.ti_machine.proofs.desk.Desk.cast_local.Goals as goal
 

@@ -5,7 +5,7 @@ use Rattle.ti_code.specs.Effects.{Spot, top, below, under, taken, numbers_of}
 use Rattle.ti_machine.specs.Mirrors.Desks.{spot_of, Given}
 use Rattle.std.specs.Prelude.{pos, slice_index_or}
 use Rattle.ti_lang.specs.Meaning.Parts.{coordinate}
-use Rattle.ti_lang.proofs.MeaningLaws.Short.{silent_coordinate}
+use Rattle.ti_lang.proofs.Lemmas.{silent_coordinate}
 use Rattle.ti_machine.proofs.Tellings.{silent_tells}
 use Rattle.ti_machine.proofs.desk.Desk.coordinate.Goals as goal
 
@@ -26,6 +26,7 @@ returns c w =
     let given : Given r (coordinate at (point_of h) (slice_index_or xs 0 (pos 0))) =
     c.value_of-got.ensures (coordinate at (point_of h) (slice_index_or xs 0 (pos 0)))
     (silent_tells (coordinate at (point_of h) (slice_index_or xs 0 (pos 0))) (silent_coordinate at (point_of h) (slice_index_or xs 0 (pos 0)))) (c.indexed.ensures Void Void) in
-    c.push_got.ensures s (below (under c.args.n s.stack)) (coordinate at (point_of (top (under c.args.n s.stack))) (slice_index_or (numbers_of (taken c.args.n s.stack [])) 0 (pos 0))) popped c.requires.next
+    c.push_got.ensures s (below (under c.args.n s.stack)) (coordinate at (point_of (top (under c.args.n s.stack)))
+    (slice_index_or (numbers_of (taken c.args.n s.stack [])) 0 (pos 0))) popped c.requires.next
     (subst (λ z. Given r (coordinate at (point_of z) (slice_index_or (numbers_of (taken c.args.n s.stack [])) 0 (pos 0)))) value
     (subst (λ zs. Given r (coordinate at (point_of h) (slice_index_or zs 0 (pos 0)))) numbers given))

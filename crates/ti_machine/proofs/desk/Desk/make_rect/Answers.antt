@@ -4,7 +4,7 @@ use Rattle.ti_machine.specs.Mirrors.Desks.{spot_of, Given}
 use Rattle.std.specs.Prelude.{refl}
 use Rattle.ti_lang.specs.Meaning.Asking.{Gives}
 use Rattle.ti_lang.specs.Meaning.Literals as literal
-use Rattle.ti_lang.proofs.MeaningLaws.Silent.{silent_guarded}
+use Rattle.ti_lang.proofs.Lemmas.{silent_guarded}
 use Rattle.ti_eval.specs.Bounds as found
 use Rattle.ti_machine.proofs.Tellings.{silent_tells}
 use Rattle.ti_machine.proofs.desk.Desk.make_rect.Goals as goal

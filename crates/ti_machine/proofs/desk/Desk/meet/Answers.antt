@@ -12,7 +12,8 @@ returns c w rs =
     let y : c.rect-2.result ≡ rect_of (top s.stack) = c.rect-2.ensures.value ∙ ap rect_of c.in_ok-x.ensures.last in
     let h : c.in_ok-h.h ≡ common_domain (rect_of (top (below s.stack))) (rect_of (top s.stack)) = c.in_ok-h.ensures ∙ (λ i. common_domain (x i) (y i)) in
     let p = c.push.new.self in
-    let pushed : spot_of p ≡ record s { stack = c.in_ok-h.h ∷ below (below s.stack) } = c.in_ok-push.ensures ∙ ap (λ (u : Spot). record { at = u.at; slots = u.slots; stack = c.in_ok-h.h ∷ u.stack }) c.in_ok-x.ensures.rest in
+    let pushed : spot_of p ≡ record s { stack = c.in_ok-h.h ∷ below (below s.stack) } = c.in_ok-push.ensures
+    ∙ ap (λ (u : Spot). record { at = u.at; slots = u.slots; stack = c.in_ok-h.h ∷ u.stack }) c.in_ok-x.ensures.rest in
     ap (λ z. Gives (on_with s s.slots (z ∷ below (below s.stack))) rs) (sym h)
     ∙ (ap (λ (u : Spot). Gives (record { at = s.at + 1; slots = u.slots; stack = u.stack }) rs) (sym pushed)
     ∙ ap (λ (n : ℕ). Gives (record { at = n; slots = (spot_of p).slots; stack = (spot_of p).stack }) rs) (sym c.requires.next))

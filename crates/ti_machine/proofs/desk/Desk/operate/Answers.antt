@@ -2,7 +2,7 @@ use Rattle.std.proofs.Common.{subst}
 use Rattle.ti_code.specs.Effects.{top, below, operator_of}
 use Rattle.ti_machine.specs.Mirrors.Desks.{spot_of, Given}
 use Rattle.ti_lang.specs.Meaning.Operators.{operated}
-use Rattle.ti_lang.proofs.MeaningLaws.Silent.{operated_silent}
+use Rattle.ti_lang.proofs.Lemmas.{operated_silent}
 use Rattle.ti_machine.proofs.Tellings.{silent_tells}
 use Rattle.ti_machine.proofs.desk.Desk.operate.Goals as goal
 

@@ -3,10 +3,12 @@ use Rattle.ti_machine.specs.Mirrors.Desks.{spot_of, who, Makes}
 use Rattle.ti_machine.proofs.desk.Desk.perform.Goals as goal
 
 pub returns-in-Const : goal.returns-in-Const
-returns-in-Const c rs = subst (λ x. Makes (who c.args.team rs) x c.constant.result (spot_of c.args.self.now) (spot_of c.constant.new.self)) (sym c.in-Const.is) (c.constant.ensures (who c.args.team rs))
+returns-in-Const c rs = subst (λ x. Makes (who c.args.team rs) x c.constant.result (spot_of c.args.self.now) (spot_of c.constant.new.self))
+    (sym c.in-Const.is) (c.constant.ensures (who c.args.team rs))
 
 pub returns-in-EmptyDom : goal.returns-in-EmptyDom
-returns-in-EmptyDom c rs = subst (λ x. Makes (who c.args.team rs) x c.empty_domain.result (spot_of c.args.self.now) (spot_of c.empty_domain.new.self)) (sym c.in-EmptyDom.is) (c.empty_domain.ensures (who c.args.team rs))
+returns-in-EmptyDom c rs = subst (λ x. Makes (who c.args.team rs) x c.empty_domain.result (spot_of c.args.self.now)
+    (spot_of c.empty_domain.new.self)) (sym c.in-EmptyDom.is) (c.empty_domain.ensures (who c.args.team rs))
 
 pub returns-in-Pop : goal.returns-in-Pop
 returns-in-Pop c rs = subst (λ x. Makes (who c.args.team rs) x c.drop_one.result (spot_of c.args.self.now) (spot_of c.drop_one.new.self)) (sym c.in-Pop.is) (c.drop_one.ensures (who c.args.team rs))
@@ -30,10 +32,12 @@ pub returns-in-NumProcs : goal.returns-in-NumProcs
 returns-in-NumProcs c rs = subst (λ x. Makes (who c.args.team rs) x c.num_procs.result (spot_of c.args.self.now) (spot_of c.num_procs.new.self)) (sym c.in-NumProcs.is) (c.num_procs.ensures rs)
 
 pub returns-in-Operate : goal.returns-in-Operate
-returns-in-Operate c rs = subst (λ x. Makes (who c.args.team rs) x c.operate.result (spot_of c.args.self.now) (spot_of c.operate.new.self)) (sym c.in-Operate.is) (c.operate.ensures (who c.args.team rs))
+returns-in-Operate c rs = subst (λ x. Makes (who c.args.team rs) x c.operate.result (spot_of c.args.self.now) (spot_of c.operate.new.self))
+    (sym c.in-Operate.is) (c.operate.ensures (who c.args.team rs))
 
 pub returns-in-Alone : goal.returns-in-Alone
-returns-in-Alone c rs = subst (λ x. Makes (who c.args.team rs) x c.operate_alone.result (spot_of c.args.self.now) (spot_of c.operate_alone.new.self)) (sym c.in-Alone.is) (c.operate_alone.ensures (who c.args.team rs))
+returns-in-Alone c rs = subst (λ x. Makes (who c.args.team rs) x c.operate_alone.result (spot_of c.args.self.now)
+    (spot_of c.operate_alone.new.self)) (sym c.in-Alone.is) (c.operate_alone.ensures (who c.args.team rs))
 
 pub returns-in-Widen : goal.returns-in-Widen
 returns-in-Widen c rs = subst (λ x. Makes (who c.args.team rs) x c.widen.result (spot_of c.args.self.now) (spot_of c.widen.new.self)) (sym c.in-Widen.is) (c.widen.ensures (who c.args.team rs))
@@ -42,31 +46,37 @@ pub returns-in-Narrow : goal.returns-in-Narrow
 returns-in-Narrow c rs = subst (λ x. Makes (who c.args.team rs) x c.narrow.result (spot_of c.args.self.now) (spot_of c.narrow.new.self)) (sym c.in-Narrow.is) (c.narrow.ensures (who c.args.team rs))
 
 pub returns-in-AsObj : goal.returns-in-AsObj
-returns-in-AsObj c rs = subst (λ x. Makes (who c.args.team rs) x c.as_object.result (spot_of c.args.self.now) (spot_of c.as_object.new.self)) (sym c.in-AsObj.is) (c.as_object.ensures (who c.args.team rs))
+returns-in-AsObj c rs = subst (λ x. Makes (who c.args.team rs) x c.as_object.result (spot_of c.args.self.now)
+    (spot_of c.as_object.new.self)) (sym c.in-AsObj.is) (c.as_object.ensures (who c.args.team rs))
 
 pub returns-in-AsGrid : goal.returns-in-AsGrid
 returns-in-AsGrid c rs = subst (λ x. Makes (who c.args.team rs) x c.as_grid.result (spot_of c.args.self.now) (spot_of c.as_grid.new.self)) (sym c.in-AsGrid.is) (c.as_grid.ensures (who c.args.team rs))
 
 pub returns-in-MakePt : goal.returns-in-MakePt
-returns-in-MakePt c rs = subst (λ x. Makes (who c.args.team rs) x c.make_point.result (spot_of c.args.self.now) (spot_of c.make_point.new.self)) (sym c.in-MakePt.is) (c.make_point.ensures (who c.args.team rs))
+returns-in-MakePt c rs = subst (λ x. Makes (who c.args.team rs) x c.make_point.result (spot_of c.args.self.now)
+    (spot_of c.make_point.new.self)) (sym c.in-MakePt.is) (c.make_point.ensures (who c.args.team rs))
 
 pub returns-in-Coord : goal.returns-in-Coord
-returns-in-Coord c rs = subst (λ x. Makes (who c.args.team rs) x c.coordinate.result (spot_of c.args.self.now) (spot_of c.coordinate.new.self)) (sym c.in-Coord.is) (c.coordinate.ensures (who c.args.team rs))
+returns-in-Coord c rs = subst (λ x. Makes (who c.args.team rs) x c.coordinate.result (spot_of c.args.self.now)
+    (spot_of c.coordinate.new.self)) (sym c.in-Coord.is) (c.coordinate.ensures (who c.args.team rs))
 
 pub returns-in-Step : goal.returns-in-Step
 returns-in-Step c rs = subst (λ x. Makes (who c.args.team rs) x c.step.result (spot_of c.args.self.now) (spot_of c.step.new.self)) (sym c.in-Step.is) (c.step.ensures (who c.args.team rs))
 
 pub returns-in-MakeRect : goal.returns-in-MakeRect
-returns-in-MakeRect c rs = subst (λ x. Makes (who c.args.team rs) x c.make_rect.result (spot_of c.args.self.now) (spot_of c.make_rect.new.self)) (sym c.in-MakeRect.is) (c.make_rect.ensures (who c.args.team rs))
+returns-in-MakeRect c rs = subst (λ x. Makes (who c.args.team rs) x c.make_rect.result (spot_of c.args.self.now)
+    (spot_of c.make_rect.new.self)) (sym c.in-MakeRect.is) (c.make_rect.ensures (who c.args.team rs))
 
 pub returns-in-RectOfPts : goal.returns-in-RectOfPts
-returns-in-RectOfPts c rs = subst (λ x. Makes (who c.args.team rs) x c.make_rect-in-RectOfPts.result (spot_of c.args.self.now) (spot_of c.make_rect-in-RectOfPts.new.self)) (sym c.in-RectOfPts.is) (c.make_rect-in-RectOfPts.ensures (who c.args.team rs))
+returns-in-RectOfPts c rs = subst (λ x. Makes (who c.args.team rs) x c.make_rect-in-RectOfPts.result (spot_of c.args.self.now)
+    (spot_of c.make_rect-in-RectOfPts.new.self)) (sym c.in-RectOfPts.is) (c.make_rect-in-RectOfPts.ensures (who c.args.team rs))
 
 pub returns-in-Common : goal.returns-in-Common
 returns-in-Common c rs = subst (λ x. Makes (who c.args.team rs) x c.meet.result (spot_of c.args.self.now) (spot_of c.meet.new.self)) (sym c.in-Common.is) (c.meet.ensures (who c.args.team rs))
 
 pub returns-in-ToDom : goal.returns-in-ToDom
-returns-in-ToDom c rs = subst (λ x. Makes (who c.args.team rs) x c.as_domain.result (spot_of c.args.self.now) (spot_of c.as_domain.new.self)) (sym c.in-ToDom.is) (c.as_domain.ensures (who c.args.team rs))
+returns-in-ToDom c rs = subst (λ x. Makes (who c.args.team rs) x c.as_domain.result (spot_of c.args.self.now)
+    (spot_of c.as_domain.new.self)) (sym c.in-ToDom.is) (c.as_domain.ensures (who c.args.team rs))
 
 pub returns-in-Member : goal.returns-in-Member
 returns-in-Member c rs = subst (λ x. Makes (who c.args.team rs) x c.member.result (spot_of c.args.self.now) (spot_of c.member.new.self)) (sym c.in-Member.is) (c.member.ensures (who c.args.team rs))
@@ -81,28 +91,36 @@ pub returns-in-JumpIf : goal.returns-in-JumpIf
 returns-in-JumpIf c rs = subst (λ x. Makes (who c.args.team rs) x c.jump_if.result (spot_of c.args.self.now) (spot_of c.jump_if.new.self)) (sym c.in-JumpIf.is) (c.jump_if.ensures (who c.args.team rs))
 
 pub returns-in-JumpIfNot : goal.returns-in-JumpIfNot
-returns-in-JumpIfNot c rs = subst (λ x. Makes (who c.args.team rs) x c.jump_if_not.result (spot_of c.args.self.now) (spot_of c.jump_if_not.new.self)) (sym c.in-JumpIfNot.is) (c.jump_if_not.ensures (who c.args.team rs))
+returns-in-JumpIfNot c rs = subst (λ x. Makes (who c.args.team rs) x c.jump_if_not.result (spot_of c.args.self.now)
+    (spot_of c.jump_if_not.new.self)) (sym c.in-JumpIfNot.is) (c.jump_if_not.ensures (who c.args.team rs))
 
 pub returns-in-Next : goal.returns-in-Next
-returns-in-Next c rs = subst (λ x. Makes (who c.args.team rs) x c.next_point.result (spot_of c.args.self.now) (spot_of c.next_point.new.self)) (sym c.in-Next.is) (c.next_point.ensures (who c.args.team rs))
+returns-in-Next c rs = subst (λ x. Makes (who c.args.team rs) x c.next_point.result (spot_of c.args.self.now)
+    (spot_of c.next_point.new.self)) (sym c.in-Next.is) (c.next_point.ensures (who c.args.team rs))
 
 pub returns-in-GetField : goal.returns-in-GetField
-returns-in-GetField c rs = subst (λ x. Makes (who c.args.team rs) x c.get_field.result (spot_of c.args.self.now) (spot_of c.get_field.new.self)) (sym c.in-GetField.is) (c.get_field.ensures (who c.args.team rs))
+returns-in-GetField c rs = subst (λ x. Makes (who c.args.team rs) x c.get_field.result (spot_of c.args.self.now)
+    (spot_of c.get_field.new.self)) (sym c.in-GetField.is) (c.get_field.ensures (who c.args.team rs))
 
 pub returns-in-PutField : goal.returns-in-PutField
-returns-in-PutField c rs = subst (λ x. Makes (who c.args.team rs) x c.put_field.result (spot_of c.args.self.now) (spot_of c.put_field.new.self)) (sym c.in-PutField.is) (c.put_field.ensures (who c.args.team rs))
+returns-in-PutField c rs = subst (λ x. Makes (who c.args.team rs) x c.put_field.result (spot_of c.args.self.now)
+    (spot_of c.put_field.new.self)) (sym c.in-PutField.is) (c.put_field.ensures (who c.args.team rs))
 
 pub returns-in-GetElem : goal.returns-in-GetElem
-returns-in-GetElem c rs = subst (λ x. Makes (who c.args.team rs) x c.get_element.result (spot_of c.args.self.now) (spot_of c.get_element.new.self)) (sym c.in-GetElem.is) (c.get_element.ensures (who c.args.team rs))
+returns-in-GetElem c rs = subst (λ x. Makes (who c.args.team rs) x c.get_element.result (spot_of c.args.self.now)
+    (spot_of c.get_element.new.self)) (sym c.in-GetElem.is) (c.get_element.ensures (who c.args.team rs))
 
 pub returns-in-PutElem : goal.returns-in-PutElem
-returns-in-PutElem c rs = subst (λ x. Makes (who c.args.team rs) x c.put_element.result (spot_of c.args.self.now) (spot_of c.put_element.new.self)) (sym c.in-PutElem.is) (c.put_element.ensures (who c.args.team rs))
+returns-in-PutElem c rs = subst (λ x. Makes (who c.args.team rs) x c.put_element.result (spot_of c.args.self.now)
+    (spot_of c.put_element.new.self)) (sym c.in-PutElem.is) (c.put_element.ensures (who c.args.team rs))
 
 pub returns-in-NewObj : goal.returns-in-NewObj
-returns-in-NewObj c rs = subst (λ x. Makes (who c.args.team rs) x c.new_object.result (spot_of c.args.self.now) (spot_of c.new_object.new.self)) (sym c.in-NewObj.is) (c.new_object.ensures (who c.args.team rs))
+returns-in-NewObj c rs = subst (λ x. Makes (who c.args.team rs) x c.new_object.result (spot_of c.args.self.now)
+    (spot_of c.new_object.new.self)) (sym c.in-NewObj.is) (c.new_object.ensures (who c.args.team rs))
 
 pub returns-in-NewGrid : goal.returns-in-NewGrid
-returns-in-NewGrid c rs = subst (λ x. Makes (who c.args.team rs) x c.new_grid.result (spot_of c.args.self.now) (spot_of c.new_grid.new.self)) (sym c.in-NewGrid.is) (c.new_grid.ensures (who c.args.team rs))
+returns-in-NewGrid c rs = subst (λ x. Makes (who c.args.team rs) x c.new_grid.result (spot_of c.args.self.now)
+    (spot_of c.new_grid.new.self)) (sym c.in-NewGrid.is) (c.new_grid.ensures (who c.args.team rs))
 
 pub returns-in-Print : goal.returns-in-Print
 returns-in-Print c rs = subst (λ x. Makes (who c.args.team rs) x c.print.result (spot_of c.args.self.now) (spot_of c.print.new.self)) (sym c.in-Print.is) (c.print.ensures (who c.args.team rs))

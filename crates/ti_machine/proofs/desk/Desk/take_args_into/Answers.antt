@@ -17,5 +17,6 @@ loop-k-preserved c =
     record {
       args = c.loop-k.invariant.args ∙ (ap (λ (j : ℕ). taken j st found) one ∙ sym (λ i. taken (n - (k + 1)) (below_is i) (found_is i)));
       rest = c.loop-k.invariant.rest ∙ (ap (λ (j : ℕ). under j st) one ∙ sym (ap (under (n - (k + 1))) below_is));
-      same = c.in_ok-h.ensures.rest ∙ (ap (λ (s : Spot). record { at = s.at; slots = s.slots; stack = below st }) c.loop-k.invariant.same ∙ sym (ap (λ xs. record (spot_of c.args.self.now) { stack = xs }) below_is));
+      same = c.in_ok-h.ensures.rest ∙ (ap (λ (s : Spot). record { at = s.at; slots = s.slots; stack = below st }) c.loop-k.invariant.same
+          ∙ sym (ap (λ xs. record (spot_of c.args.self.now) { stack = xs }) below_is));
     }

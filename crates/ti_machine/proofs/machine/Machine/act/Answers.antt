@@ -15,4 +15,5 @@ returns-in-Arrive c =
     let p = c.args.code.now in
     let n = c.arrive.new.self in
     subst (λ (x : Instr). IfOk c.arrive.result (λ t. IsTurn p (seen.done p (machine_of p m) (frame_at p m (spot_of m.top.desk)) (below_of p m) (Some x)) t (machine_of p n))) (sym c.in-Arrive.is)
-    (ok_at c.arrive.result (λ (t : Turn) (q : Code). IsTurn q (seen.done q (machine_of q m) (frame_at q m (spot_of m.top.desk)) (below_of q m) (Some (i.Arrive c.in-Arrive.kind c.in-Arrive.at))) t (machine_of q n)) c.arrive.ensures p)
+    (ok_at c.arrive.result (λ (t : Turn) (q : Code). IsTurn q (seen.done q (machine_of q m) (frame_at q m (spot_of m.top.desk))
+    (below_of q m) (Some (i.Arrive c.in-Arrive.kind c.in-Arrive.at))) t (machine_of q n)) c.arrive.ensures p)

@@ -8,14 +8,16 @@ pub unreachable-requires : goal.unreachable-requires
 unreachable-requires c =
     let p = c.args.code.now in
     let high : length p.methods ≤ p.main =
-    subst (λ (ms : List MethodCode). length ms ≤ p.main) c.methods-methods.ensures.methods (subst (λ (k : ℕ). length c.methods-methods.result.now ≤ k) c.main-method.ensures c.if-method-methods.true) in
+    subst (λ (ms : List MethodCode). length ms ≤ p.main) c.methods-methods.ensures.methods
+    (subst (λ (k : ℕ). length c.methods-methods.result.now ≤ k) c.main-method.ensures c.if-method-methods.true) in
     no_first p c.args.team.procs c.args.fuel c.args.team.number c.requires.0 (gone p.methods p.main high) c.requires.1
 
 pub returns : goal.returns
 returns c =
     let p = c.args.code.now in
     let low : p.main < length p.methods =
-    subst (λ (ms : List MethodCode). p.main < length ms) c.methods-methods.ensures.methods (subst (λ (k : ℕ). k < length c.methods-methods.result.now) c.main-method.ensures c.if-method-methods.false) in
+    subst (λ (ms : List MethodCode). p.main < length ms) c.methods-methods.ensures.methods
+    (subst (λ (k : ℕ). k < length c.methods-methods.result.now) c.main-method.ensures c.if-method-methods.false) in
     let x = some_there p.methods p.main low in
     let m : Machine = record {
       team = c.args.team;

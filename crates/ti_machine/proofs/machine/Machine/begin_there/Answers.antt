@@ -8,7 +8,8 @@ pub returns : goal.returns
 returns c =
     let p = c.args.code.now in
     let low : p.main < length p.methods =
-    subst (λ (ms : List MethodCode). p.main < length ms) c.methods-methods.ensures.methods (subst (λ (k : ℕ). k < length c.methods-methods.result.now) c.main-method.ensures c.if-method-methods.false) in
+    subst (λ (ms : List MethodCode). p.main < length ms) c.methods-methods.ensures.methods
+    (subst (λ (k : ℕ). k < length c.methods-methods.result.now) c.main-method.ensures c.if-method-methods.false) in
     let x = some_there p.methods p.main low in
     let m : Machine = record {
       team = c.args.team;

@@ -24,7 +24,9 @@ pub returns-then-method-methods : goal.returns-then-method-methods
 returns-then-method-methods c =
     let p = c.args.code.now in
     let m = c.args.self.now in
-    call_stuck p m (machine_of p m) c.args.k c.args.at c.requires.here (gone p.methods c.args.k (subst (λ (ms : List MethodCode). length ms ≤ c.args.k) c.methods-methods.ensures.methods c.if-method-methods.true))
+    call_stuck p m (machine_of p m) c.args.k c.args.at c.requires.here
+    (gone p.methods c.args.k (subst (λ (ms : List MethodCode). length ms ≤ c.args.k) c.methods-methods.ensures.methods
+    c.if-method-methods.true))
 
 pub returns : goal.returns
 returns c =
@@ -49,7 +51,8 @@ returns c =
     let slots : reverse c.in_ok-slots.slots.items ≡ reverse args ++ [] = ap reverse args_are ∙ sym (append-nil (reverse args)) in
     subst (λ (e : Asking seen.Turn). IfOk r (λ t. IsTurn p e t (machine_of p n))) (sym (call_is p q f fs k c.args.at x false found instance))
     (ok_map r
-    (λ t. (w : Code) (y : MethodCode) (u : Spot) (o args stack : List Held) → y.instrs ≡ instrs_at w k → reverse c.in_ok-slots.slots.items ≡ reverse args ++ o → spot_of c.take_args_into.new.self ≡ record u { stack = stack } → c.args.next ≡ u.at + 1
+    (λ t. (w : Code) (y : MethodCode) (u : Spot) (o args stack : List Held) → y.instrs ≡ instrs_at w k → reverse c.in_ok-slots.slots.items
+    ≡ reverse args ++ o → spot_of c.take_args_into.new.self ≡ record u { stack = stack } → c.args.next ≡ u.at + 1
     → IsTurn w (seen.entered (machine_at w m u) (frame_at w m u) (below_of w m) c.args.at y o args stack) t (machine_of w n))
     (λ t. IsTurn p (seen.entered q f fs c.args.at x [] args (under x.params s.stack)) t (machine_of p n))
     (λ (t : Turn). λ h. h p x s [] args (under x.params s.stack) own slots rest c.requires.next)
@@ -101,13 +104,15 @@ returns-then-callee c =
     let n = c.enter.new.self in
     let r = c.enter.result in
     let this = c.in-Some.this in
-    let rest2 : spot_of c.pop-then-callee.new.self ≡ record s { stack = below (under x.params s.stack) } = c.in_ok-receiver.ensures.rest ∙ ap (λ (u : Spot). record { at = u.at; slots = u.slots; stack = below u.stack }) rest in
+    let rest2 : spot_of c.pop-then-callee.new.self ≡ record s { stack = below (under x.params s.stack) } = c.in_ok-receiver.ensures.rest
+    ∙ ap (λ (u : Spot). record { at = u.at; slots = u.slots; stack = below u.stack }) rest in
     let some : thing_of (top (under x.params s.stack)) ≡ Some this = sym (ap thing_of receiver) ∙ sym c.in-Some.ensures in
     let slots : reverse c.insert.new.self.items ≡ reverse args ++ Plain (v.Obj (Some this)) ∷ [] =
     ap reverse c.in_ok-insert.ensures.items ∙ ((λ j. reverse (c.plain.ensures j ∷ args_are j)) ∙ reverse_front (Plain (v.Obj (Some this))) args) in
     subst (λ (e : Asking seen.Turn). IfOk r (λ t. IsTurn p e t (machine_of p n))) (sym (call_is p q f fs k c.args.at x true found instance ∙ call_on q f fs c.args.at x this some))
     (ok_map r
-    (λ t. (w : Code) (y : MethodCode) (u : Spot) (o args stack : List Held) → y.instrs ≡ instrs_at w k → reverse c.insert.new.self.items ≡ reverse args ++ o → spot_of c.pop-then-callee.new.self ≡ record u { stack = stack } → c.args.next ≡ u.at + 1
+    (λ t. (w : Code) (y : MethodCode) (u : Spot) (o args stack : List Held) → y.instrs ≡ instrs_at w k → reverse c.insert.new.self.items
+    ≡ reverse args ++ o → spot_of c.pop-then-callee.new.self ≡ record u { stack = stack } → c.args.next ≡ u.at + 1
     → IsTurn w (seen.entered (machine_at w m u) (frame_at w m u) (below_of w m) c.args.at y o args stack) t (machine_of w n))
     (λ t. IsTurn p (seen.entered q f fs c.args.at x (Plain (v.Obj (Some this)) ∷ []) args (below (under x.params s.stack))) t (machine_of p n))
     (λ (t : Turn). λ h. h p x s (Plain (v.Obj (Some this)) ∷ []) args (below (under x.params s.stack)) own slots rest2 c.requires.next)

@@ -8,4 +8,5 @@ use Rattle.ti_machine.specs.Mirrors.Machines.{frame_of}
 use Rattle.ti_machine.proofs.machine.Machine.named.Given as goal
 
 abbrev pub invariant-loop-f : goal.invariant-loop-f
-invariant-loop-f l = (c : Code) → l.count ≡ count_by (λ (x : Held). lies_in l.region (thing_of x)) (spot_of l.self.top.desk).slots + named_in l.region (map (frame_of c) (reverse (take l.f-index l.f-items)))
+invariant-loop-f l = (c : Code) → l.count ≡ count_by (λ (x : Held). lies_in l.region (thing_of x))
+    (spot_of l.self.top.desk).slots + named_in l.region (map (frame_of c) (reverse (take l.f-index l.f-items)))

@@ -27,7 +27,8 @@ returns-then-at-instrs c =
     let at = m.top.desk.at in
     let x = c.index-methods-method.result in
     let found : slice_get p.methods m.top.method ≡ Some x =
-    subst (λ (ms : List MethodCode). slice_get ms m.top.method ≡ Some x) c.methods-methods.ensures.methods (there c.methods-methods.result.now m.top.method x c.if-method-methods.false c.index-methods-method.is) in
+    subst (λ (ms : List MethodCode). slice_get ms m.top.method ≡ Some x) c.methods-methods.ensures.methods
+    (there c.methods-methods.result.now m.top.method x c.if-method-methods.false c.index-methods-method.is) in
     let own : c.as_slice-instrs.result.now ≡ x.instrs = c.as_slice-instrs.ensures ∙ ap (λ (y : MethodCode). y.instrs) (sym c.index-methods-method.is) in
     let same : c.as_slice-instrs.result.now ≡ instrs_at p m.top.method = own ∙ sym (instrs_there p m.top.method x found) in
     stuck_turn p m (machine_of p m) (gone (instrs_at p m.top.method) at (subst (λ (is : List Instr). length is ≤ at) same c.if-at-instrs.true))
@@ -39,7 +40,8 @@ act-requires-clause-here c =
     let at = m.top.desk.at in
     let x = c.index-methods-method.result in
     let found : slice_get p.methods m.top.method ≡ Some x =
-    subst (λ (ms : List MethodCode). slice_get ms m.top.method ≡ Some x) c.methods-methods.ensures.methods (there c.methods-methods.result.now m.top.method x c.if-method-methods.false c.index-methods-method.is) in
+    subst (λ (ms : List MethodCode). slice_get ms m.top.method ≡ Some x) c.methods-methods.ensures.methods
+    (there c.methods-methods.result.now m.top.method x c.if-method-methods.false c.index-methods-method.is) in
     let own : c.as_slice-instrs.result.now ≡ x.instrs = c.as_slice-instrs.ensures ∙ ap (λ (y : MethodCode). y.instrs) (sym c.index-methods-method.is) in
     let same : c.as_slice-instrs.result.now ≡ instrs_at p m.top.method = own ∙ sym (instrs_there p m.top.method x found) in
     let none : Instr = i.Const (v.Int (pos 0)) in
@@ -61,11 +63,13 @@ returns c =
     let at = m.top.desk.at in
     let x = c.index-methods-method.result in
     let found : slice_get p.methods m.top.method ≡ Some x =
-    subst (λ (ms : List MethodCode). slice_get ms m.top.method ≡ Some x) c.methods-methods.ensures.methods (there c.methods-methods.result.now m.top.method x c.if-method-methods.false c.index-methods-method.is) in
+    subst (λ (ms : List MethodCode). slice_get ms m.top.method ≡ Some x) c.methods-methods.ensures.methods
+    (there c.methods-methods.result.now m.top.method x c.if-method-methods.false c.index-methods-method.is) in
     let own : c.as_slice-instrs.result.now ≡ x.instrs = c.as_slice-instrs.ensures ∙ ap (λ (y : MethodCode). y.instrs) (sym c.index-methods-method.is) in
     let same : c.as_slice-instrs.result.now ≡ instrs_at p m.top.method = own ∙ sym (instrs_there p m.top.method x found) in
     let none : Instr = i.Const (v.Int (pos 0)) in
     let instr = get_or c.as_slice-instrs.result.now at (i.Const (v.Int (pos 0))) in
     let first : slice_get c.as_slice-instrs.result.now at ≡ Some instr = there_or c.as_slice-instrs.result.now at (i.Const (v.Int (pos 0))) c.if-at-instrs.false in
     let stands = subst (λ (is : List Instr). slice_get is at ≡ Some instr) same first in
-    subst (λ (o : Option Instr). IfOk c.act.result (λ t. IsTurn p (seen.done p (machine_of p m) (frame_at p m (spot_of m.top.desk)) (below_of p m) o) t (machine_of p c.act.new.self))) (sym stands) c.act.ensures
+    subst (λ (o : Option Instr). IfOk c.act.result (λ t. IsTurn p (seen.done p (machine_of p m) (frame_at p m (spot_of m.top.desk))
+    (below_of p m) o) t (machine_of p c.act.new.self))) (sym stands) c.act.ensures

@@ -27,7 +27,8 @@ returns-in-Err c =
     let d = c.perform.new.self in
     let n = record m { top = record m.top { desk = d } } in
     ok_map c.stopped.result
-    (λ t. (p : Code) (u : Spot) (e : Asking Spot) → Made {A = Unit {0}} (Err c.in-Err.stop) c.hears.result e (spot_of d) → IsTurn p (seen.within (machine_at p n u) (frame_at p n u) (below_of p n) e) t (machine_of p n))
+    (λ t. (p : Code) (u : Spot) (e : Asking Spot) → Made {A = Unit {0}} (Err c.in-Err.stop) c.hears.result e (spot_of d)
+    → IsTurn p (seen.within (machine_at p n u) (frame_at p n u) (below_of p n) e) t (machine_of p n))
     (λ t. (p : Code) → IsTurn p (seen.done p (machine_of p m) (frame_at p m s) (below_of p m) (Some x)) t (machine_of p n))
     (λ (t : Turn). λ h. λ (p : Code).
     let e = effect (seen.who_of p (machine_of p m)) x s in

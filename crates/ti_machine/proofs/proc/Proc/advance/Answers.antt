@@ -24,7 +24,10 @@ go_on-requires c =
     let s = standing_in t in
     let same : c.args.code.now ≡ s.code = c.requires.code ∙ ap (λ (u : Standing). u.code) (sym c.self.view_is) in
     let a = subst (Agrees s t.steps t.machine) c.in-Goes.is c.self.invariant.agrees in
-    record { goes = subst (λ (p : Code). (n : Next) × code.HasNext p (machine_of p t.machine) [] n) (sym same) (goes_from s t.steps (machine_of s.code t.machine) a (subst GoesOn (sym c.self.view_is) c.requires.goes)) }
+    record {
+      goes = subst (λ (p : Code). (n : Next) × code.HasNext p (machine_of p t.machine) [] n) (sym same)
+          (goes_from s t.steps (machine_of s.code t.machine) a (subst GoesOn (sym c.self.view_is) c.requires.goes));
+    }
 
 pub invariant_of-self-2 : goal.invariant_of-self-2
 invariant_of-self-2 c =
@@ -36,10 +39,16 @@ invariant_of-self-2 c =
     let same : c.args.code.now ≡ s.code = c.requires.code ∙ ap (λ (u : Standing). u.code) (sym c.self.view_is) in
     let a = subst (Agrees s t.steps t.machine) c.in-Goes.is c.self.invariant.agrees in
     let way = subst (λ (p : Code). IsWay p (machine_of p t.machine) c.in_ok-way.way (machine_of p c.go_on.new.self)) same c.in_ok-way.ensures in
-    let on = reached_on s t.steps c.in_ok-way.way.count c.saturating_add-self-inside.result (machine_of s.code t.machine) way.there way.number a way.silently way.count_is c.saturating_add-self-inside.ensures in
+    let on = reached_on s t.steps c.in_ok-way.way.count c.saturating_add-self-inside.result
+    (machine_of s.code t.machine) way.there way.number a way.silently way.count_is c.saturating_add-self-inside.ensures in
     record {
       finished = c.self.invariant.finished;
-      agrees = (way.there, reached_asks s (is_act n) c.saturating_add-self-inside.result way.there on, subst (Stood (turn s.code way.there) n w) (sym (c.in_ok-make_room.ensures.same s.code)) way.stood, c.in_ok-make_room.ensures.room);
+      agrees = (
+        way.there,
+        reached_asks s (is_act n) c.saturating_add-self-inside.result way.there on,
+        subst (Stood (turn s.code way.there) n w) (sym (c.in_ok-make_room.ensures.same s.code)) way.stood,
+        c.in_ok-make_room.ensures.room,
+      );
     }
 
 pub returns-clause-next : goal.returns-clause-next
@@ -51,5 +60,6 @@ returns-clause-next c =
     let same : c.args.code.now ≡ s.code = c.requires.code ∙ ap (λ (u : Standing). u.code) (sym c.self.view_is) in
     let a = subst (Agrees s t.steps t.machine) c.in-Goes.is c.self.invariant.agrees in
     let way = subst (λ (p : Code). IsWay p (machine_of p t.machine) c.in_ok-way.way (machine_of p c.go_on.new.self)) same c.in_ok-way.ensures in
-    let on = reached_on s t.steps c.in_ok-way.way.count c.saturating_add-self-inside.result (machine_of s.code t.machine) way.there way.number a way.silently way.count_is c.saturating_add-self-inside.ensures in
+    let on = reached_on s t.steps c.in_ok-way.way.count c.saturating_add-self-inside.result
+    (machine_of s.code t.machine) way.there way.number a way.silently way.count_is c.saturating_add-self-inside.ensures in
     subst (λ (u : Standing). HasNext u n) c.self.view_is (stood_next s c.saturating_add-self-inside.result way.there (machine_of s.code c.go_on.new.self) n w on way.stood)

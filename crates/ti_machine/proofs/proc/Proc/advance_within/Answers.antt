@@ -25,12 +25,19 @@ invariant_of-self-2 c =
     let m = c.make_room.new.self in
     let same : c.args.code.now ≡ s.code = c.requires.code ∙ ap (λ (u : Standing). u.code) (sym c.self.view_is) in
     let a = subst (Agrees s t.steps t.machine) c.in-Goes.is c.self.invariant.agrees in
-    let went = subst (λ (o : Option Way). IfSome o (λ w. IsWay c.args.code.now (machine_of c.args.code.now t.machine) w (machine_of c.args.code.now c.go_on_within.new.self))) c.in-Some.is c.in_ok-went.ensures in
+    let went = subst (λ (o : Option Way). IfSome o (λ w. IsWay c.args.code.now (machine_of c.args.code.now t.machine) w
+    (machine_of c.args.code.now c.go_on_within.new.self))) c.in-Some.is c.in_ok-went.ensures in
     let way = subst (λ (p : Code). IsWay p (machine_of p t.machine) c.in-Some.way (machine_of p c.go_on_within.new.self)) same went in
-    let on = reached_on s t.steps c.in-Some.way.count c.saturating_add-self-inside.result (machine_of s.code t.machine) way.there way.number a way.silently way.count_is c.saturating_add-self-inside.ensures in
+    let on = reached_on s t.steps c.in-Some.way.count c.saturating_add-self-inside.result
+    (machine_of s.code t.machine) way.there way.number a way.silently way.count_is c.saturating_add-self-inside.ensures in
     record {
       finished = c.self.invariant.finished;
-      agrees = (way.there, reached_asks s (is_act n) c.saturating_add-self-inside.result way.there on, subst (Stood (turn s.code way.there) n w) (sym (c.in_ok-make_room.ensures.same s.code)) way.stood, c.in_ok-make_room.ensures.room);
+      agrees = (
+        way.there,
+        reached_asks s (is_act n) c.saturating_add-self-inside.result way.there on,
+        subst (Stood (turn s.code way.there) n w) (sym (c.in_ok-make_room.ensures.same s.code)) way.stood,
+        c.in_ok-make_room.ensures.room,
+      );
     }
 
 pub returns-clause-next : goal.returns-clause-next
@@ -41,7 +48,9 @@ returns-clause-next c =
     let w = c.in-Some.way.hears in
     let same : c.args.code.now ≡ s.code = c.requires.code ∙ ap (λ (u : Standing). u.code) (sym c.self.view_is) in
     let a = subst (Agrees s t.steps t.machine) c.in-Goes.is c.self.invariant.agrees in
-    let went = subst (λ (o : Option Way). IfSome o (λ w. IsWay c.args.code.now (machine_of c.args.code.now t.machine) w (machine_of c.args.code.now c.go_on_within.new.self))) c.in-Some.is c.in_ok-went.ensures in
+    let went = subst (λ (o : Option Way). IfSome o (λ w. IsWay c.args.code.now (machine_of c.args.code.now t.machine) w
+    (machine_of c.args.code.now c.go_on_within.new.self))) c.in-Some.is c.in_ok-went.ensures in
     let way = subst (λ (p : Code). IsWay p (machine_of p t.machine) c.in-Some.way (machine_of p c.go_on_within.new.self)) same went in
-    let on = reached_on s t.steps c.in-Some.way.count c.saturating_add-self-inside.result (machine_of s.code t.machine) way.there way.number a way.silently way.count_is c.saturating_add-self-inside.ensures in
+    let on = reached_on s t.steps c.in-Some.way.count c.saturating_add-self-inside.result
+    (machine_of s.code t.machine) way.there way.number a way.silently way.count_is c.saturating_add-self-inside.ensures in
     subst (λ (u : Standing). HasNext u n) c.self.view_is (stood_next s c.saturating_add-self-inside.result way.there (machine_of s.code c.go_on_within.new.self) n w on way.stood)

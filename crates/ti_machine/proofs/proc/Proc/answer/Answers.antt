@@ -16,7 +16,9 @@ invariant_of-self c =
     let a = subst (Agrees s t.steps t.machine) c.in-Stands.is c.self.invariant.agrees in
     let m = machine_of s.code t.machine in
     record {
-      finished = subst (λ (u : Standing). HasFinished (record u { asks = false }) k) (sym c.and-self-inside.ensures) (finished_answer s t.steps k a.0 m n w c.args.a false a.1 a.2 act c.saturating_add-self-inside.ensures);
+      finished = subst (λ (u : Standing). HasFinished (record u { asks = false }) k) (sym c.and-self-inside.ensures)
+          (finished_answer s t.steps k a.0 m n w c.args.a false a.1 a.2 act c.saturating_add-self-inside.ensures);
       agrees = subst (λ (u : Standing). Reached (record u { asks = false }) k (machine_of u.code c.hear.new.self)) (sym c.and-self-inside.ensures)
-          (subst (λ x. Reached (record s { told = s.told ++ c.args.a ∷ []; asks = false }) k x) (sym (c.hear.ensures s.code)) (reached_answer s t.steps k a.0 m n w c.args.a false a.1 a.2 act c.saturating_add-self-inside.ensures));
+          (subst (λ x. Reached (record s { told = s.told ++ c.args.a ∷ []; asks = false }) k x) (sym (c.hear.ensures s.code))
+          (reached_answer s t.steps k a.0 m n w c.args.a false a.1 a.2 act c.saturating_add-self-inside.ensures));
     }

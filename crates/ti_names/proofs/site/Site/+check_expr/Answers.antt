@@ -35,7 +35,8 @@ check_ranges-loop-range-preserved t c =
 
 pub check_ranges-returns : goal.check_ranges-returns
 check_ranges-returns t c =
-    in_end c.loop-range.found _ _ c.loop-range.invariant (ap (λ l. ranges_nodes (site_of c.args.self.now) (ranges_tree (map range_of l))) (drop_all c.loop-range.range-index c.args.ranges.now (omega arith)))
+    in_end c.loop-range.found _ _ c.loop-range.invariant (ap (λ l. ranges_nodes (site_of c.args.self.now) (ranges_tree (map range_of l)))
+    (drop_all c.loop-range.range-index c.args.ranges.now (omega arith)))
 
 pub check_exp-returns-in-Call : goal.check_exp-returns-in-Call
 check_exp-returns-in-Call t c =
@@ -47,12 +48,14 @@ check_exp-returns-in-Call t c =
 pub check_exp-returns-in-Point : goal.check_exp-returns-in-Point
 check_exp-returns-in-Point t c =
     let site = site_of c.args.self.now in
-    c.check_exps-in-Point.ensures ∙ ap (λ l. first_in (exps_nodes site (exps (map exp_of l)))) c.deref-in-Point.ensures.value ∙ sym (in_point site c.args.x.now c.in-Point.field-0 c.in-Point.parts c.in-Point.is)
+    c.check_exps-in-Point.ensures ∙ ap (λ l. first_in (exps_nodes site (exps (map exp_of l)))) c.deref-in-Point.ensures.value
+    ∙ sym (in_point site c.args.x.now c.in-Point.field-0 c.in-Point.parts c.in-Point.is)
 
 pub check_exp-returns-in-Rect : goal.check_exp-returns-in-Rect
 check_exp-returns-in-Rect t c =
     let site = site_of c.args.self.now in
-    c.check_ranges.ensures ∙ ap (λ l. first_in (ranges_nodes site (ranges_tree (map range_of l)))) c.deref-in-Rect.ensures.value ∙ sym (in_rect site c.args.x.now c.in-Rect.field-0 c.in-Rect.ranges c.in-Rect.is)
+    c.check_ranges.ensures ∙ ap (λ l. first_in (ranges_nodes site (ranges_tree (map range_of l)))) c.deref-in-Rect.ensures.value
+    ∙ sym (in_rect site c.args.x.now c.in-Rect.field-0 c.in-Rect.ranges c.in-Rect.is)
 
 pub check_exp-returns-in-Index : goal.check_exp-returns-in-Index
 check_exp-returns-in-Index t c =

@@ -11,4 +11,6 @@ abbrev pub invariant-check_exps-loop-x : goal.invariant-check_exps-loop-x
 invariant-check_exps-loop-x l = sooner l.found (first_in (exps_nodes (site_of l.self) (exps (map exp_of (drop l.x-index l.xs))))) ≡ first_in (exps_nodes (site_of l.self) (exps (map exp_of l.xs)))
 
 abbrev pub invariant-check_ranges-loop-range : goal.invariant-check_ranges-loop-range
-invariant-check_ranges-loop-range l = sooner l.found (first_in (ranges_nodes (site_of l.self) (ranges_tree (map range_of (drop l.range-index l.ranges))))) ≡ first_in (ranges_nodes (site_of l.self) (ranges_tree (map range_of l.ranges)))
+invariant-check_ranges-loop-range l =
+    sooner l.found (first_in (ranges_nodes (site_of l.self) (ranges_tree (map range_of (drop l.range-index l.ranges)))))
+    ≡ first_in (ranges_nodes (site_of l.self) (ranges_tree (map range_of l.ranges)))

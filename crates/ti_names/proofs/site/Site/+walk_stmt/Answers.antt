@@ -3,7 +3,7 @@ use Rattle.std.proofs.lemmas.List.{drop_all}
 use Rattle.ti_syntax.specs.Trees.Statements.{Stm, stms}
 use Rattle.ti_syntax.specs.Trees.Statements as s
 use Rattle.ti_syntax.specs.Trees.Views.{exp_of, type_of, init_of, print_of, stm_of, maybe_of}
-use Rattle.ti_syntax.proofs.Bridges.{seen_block}
+use Rattle.ti_syntax.proofs.Lemmas.{seen_block}
 use Rattle.ti_lang.specs.declared.program.stmts.Stmt.{Block}
 use Rattle.ti_lang.specs.Program.Types.{Foreach}
 use Rattle.ti_lang.specs.Program.Statements.{numbered_stms}
@@ -11,7 +11,7 @@ use Rattle.ti_lang.specs.Program.Statements as m
 use Rattle.ti_lang.specs.Program.Views.{expression_of, statement_of}
 use Rattle.ti_lang.specs.Scopes.{declares, past, past_maybe, behind, behind_maybe, behind_all}
 use Rattle.ti_lang.specs.Nodes.{node, VariableName, exp_nodes, stm_nodes, maybe_stm_nodes, stms_nodes}
-use Rattle.ti_lang.proofs.ProgramBridges.{seen_numbered_block}
+use Rattle.ti_lang.proofs.Lemmas.{seen_numbered_block}
 use Rattle.ti_rules.specs.Mirrors.First.{sooner}
 use Rattle.ti_names.specs.Found.{first_in}
 use Rattle.ti_names.specs.Mirrors.Numbered.{number_exp, number_stm, number_maybe_stm, number_list}
@@ -27,11 +27,13 @@ use Rattle.ti_names.proofs.site.Site.+walk_stmt.Goals as goal
 
 pub inner-returns-clause-site : goal.inner-returns-clause-site
 inner-returns-clause-site measure c =
-    c.cut.ensures ∙ inner_site (site_of c.args.self.now) (site_of c.stm.new.self) c.len-len.result (stm_of c.args.x.now) (c.len-len.ensures ∙ sym (scope_length c.args.self.now.scope)) c.in_ok-x.ensures.site
+    c.cut.ensures ∙ inner_site (site_of c.args.self.now) (site_of c.stm.new.self) c.len-len.result (stm_of c.args.x.now) (c.len-len.ensures
+    ∙ sym (scope_length c.args.self.now.scope)) c.in_ok-x.ensures.site
 
 pub block-returns-clause-site : goal.block-returns-clause-site
 block-returns-clause-site measure c =
-    c.cut.ensures ∙ block_site (site_of c.args.self.now) (site_of c.stms.new.self) c.len-len.result (stms (map stm_of c.args.body.now)) (c.len-len.ensures ∙ sym (scope_length c.args.self.now.scope)) c.in_ok-body.ensures.site
+    c.cut.ensures ∙ block_site (site_of c.args.self.now) (site_of c.stms.new.self) c.len-len.result (stms (map stm_of c.args.body.now))
+    (c.len-len.ensures ∙ sym (scope_length c.args.self.now.scope)) c.in_ok-body.ensures.site
 
 pub stms-loop-x-preserved : goal.stms-loop-x-preserved
 stms-loop-x-preserved measure c =
@@ -59,7 +61,9 @@ stms-returns-clause-refusal measure c =
 pub block-returns-clause-part : goal.block-returns-clause-part
 block-returns-clause-part measure c =
     let s0 = site_of c.args.self.now in
-    seen_numbered_block (Block c.in_ok-body.body.part) c.in_ok-body.body.part refl ∙ ap (λ z. m.Block (numbered_stms z)) c.in_ok-body.ensures.part ∙ sym (ap m.Block (number_stms_list s0 (map stm_of c.args.body.now)))
+    seen_numbered_block (Block c.in_ok-body.body.part) c.in_ok-body.body.part refl
+    ∙ ap (λ z. m.Block (numbered_stms z)) c.in_ok-body.ensures.part
+    ∙ sym (ap m.Block (number_stms_list s0 (map stm_of c.args.body.now)))
 
 pub block-returns-clause-refusal : goal.block-returns-clause-refusal
 block-returns-clause-refusal measure c = c.in_ok-body.ensures.refusal
@@ -72,7 +76,8 @@ guarded-returns measure c =
     record {
       condition = c.in_ok-condition.ensures;
       body = c.in_ok-body.ensures.part;
-      refusal = c.sooner.ensures ∙ (λ j. sooner (c.check_exp-refusal.ensures j) (c.in_ok-body.ensures.refusal j)) ∙ sym (in_append (exp_nodes s0 (exp_of c.args.condition.now)) (stm_nodes s0 (stm_of c.args.body.now)));
+      refusal = c.sooner.ensures ∙ (λ j. sooner (c.check_exp-refusal.ensures j) (c.in_ok-body.ensures.refusal j))
+          ∙ sym (in_append (exp_nodes s0 (exp_of c.args.condition.now)) (stm_nodes s0 (stm_of c.args.body.now)));
       site = c.in_ok-body.ensures.site;
     }
 
@@ -119,7 +124,8 @@ stm-returns-in-Empty measure c =
 pub stm-returns-in-Assign : goal.stm-returns-in-Assign
 stm-returns-in-Assign measure c =
     let s0 = site_of c.args.self.now in
-    let e : s.Assign c.in-Assign.place (exp_of c.in-Assign.target) (init_of c.deref.result.now) ≡ stm_of c.args.x.now = ap (λ z. s.Assign c.in-Assign.place (exp_of c.in-Assign.target) (init_of z)) c.deref.ensures ∙ sym (ap stm_of c.in-Assign.is) in
+    let e : s.Assign c.in-Assign.place (exp_of c.in-Assign.target) (init_of c.deref.result.now) ≡ stm_of c.args.x.now =
+    ap (λ z. s.Assign c.in-Assign.place (exp_of c.in-Assign.target) (init_of z)) c.deref.ensures ∙ sym (ap stm_of c.in-Assign.is) in
     record {
       part = subst (λ z. IfOk c.assignment.result (λ r. statement_of r.part ≡ number_stm s0 z)) e c.assignment.ensures.part;
       refusal = subst (λ z. IfOk c.assignment.result (λ r. r.refusal ≡ first_in (stm_nodes s0 z))) e c.assignment.ensures.refusal;
@@ -129,7 +135,8 @@ stm-returns-in-Assign measure c =
 pub stm-returns-in-Block : goal.stm-returns-in-Block
 stm-returns-in-Block measure c =
     let s0 = site_of c.args.self.now in
-    let e : s.block (map stm_of c.deref-in-Block.result.now) ≡ stm_of c.args.x.now = ap (λ l. s.block (map stm_of l)) c.deref-in-Block.ensures.value ∙ sym (seen_block c.args.x.now c.in-Block.body c.in-Block.is) in
+    let e : s.block (map stm_of c.deref-in-Block.result.now) ≡ stm_of c.args.x.now =
+    ap (λ l. s.block (map stm_of l)) c.deref-in-Block.ensures.value ∙ sym (seen_block c.args.x.now c.in-Block.body c.in-Block.is) in
     record {
       part = subst (λ z. IfOk c.block.result (λ r. statement_of r.part ≡ number_stm s0 z)) e c.block.ensures.part;
       refusal = subst (λ z. IfOk c.block.result (λ r. r.refusal ≡ first_in (stm_nodes s0 z))) e c.block.ensures.refusal;
@@ -151,7 +158,9 @@ any_stm-returns-in-Empty measure c =
 pub any_stm-returns-in-Declare : goal.any_stm-returns-in-Declare
 any_stm-returns-in-Declare measure c =
     let s0 = site_of c.args.self.now in
-    let e : s.Declare c.in-Declare.place (type_of c.in-Declare.ty) c.in-Declare.name (init_of c.deref.result.now) ≡ stm_of c.args.x.now = ap (λ z. s.Declare c.in-Declare.place (type_of c.in-Declare.ty) c.in-Declare.name (init_of z)) c.deref.ensures ∙ sym (ap stm_of c.in-Declare.is) in
+    let e : s.Declare c.in-Declare.place (type_of c.in-Declare.ty) c.in-Declare.name (init_of c.deref.result.now) ≡ stm_of c.args.x.now =
+    ap (λ z. s.Declare c.in-Declare.place (type_of c.in-Declare.ty) c.in-Declare.name (init_of z)) c.deref.ensures
+    ∙ sym (ap stm_of c.in-Declare.is) in
     record {
       part = subst (λ z. IfOk c.declaration.result (λ r. statement_of r.part ≡ number_stm s0 z)) e c.declaration.ensures.part;
       refusal = subst (λ z. IfOk c.declaration.result (λ r. r.refusal ≡ first_in (stm_nodes s0 z))) e c.declaration.ensures.refusal;
@@ -161,7 +170,9 @@ any_stm-returns-in-Declare measure c =
 pub any_stm-returns-in-Assign : goal.any_stm-returns-in-Assign
 any_stm-returns-in-Assign measure c =
     let s0 = site_of c.args.self.now in
-    let e : s.Assign c.in-Assign.place (exp_of c.in-Assign.target) (init_of c.deref-in-Assign.result.now) ≡ stm_of c.args.x.now = ap (λ z. s.Assign c.in-Assign.place (exp_of c.in-Assign.target) (init_of z)) c.deref-in-Assign.ensures ∙ sym (ap stm_of c.in-Assign.is) in
+    let e : s.Assign c.in-Assign.place (exp_of c.in-Assign.target) (init_of c.deref-in-Assign.result.now) ≡ stm_of c.args.x.now =
+    ap (λ z. s.Assign c.in-Assign.place (exp_of c.in-Assign.target) (init_of z)) c.deref-in-Assign.ensures
+    ∙ sym (ap stm_of c.in-Assign.is) in
     record {
       part = subst (λ z. IfOk c.assignment.result (λ r. statement_of r.part ≡ number_stm s0 z)) e c.assignment.ensures.part;
       refusal = subst (λ z. IfOk c.assignment.result (λ r. r.refusal ≡ first_in (stm_nodes s0 z))) e c.assignment.ensures.refusal;
@@ -251,7 +262,8 @@ any_stm-returns-in-Return measure c =
 pub any_stm-returns-in-Block : goal.any_stm-returns-in-Block
 any_stm-returns-in-Block measure c =
     let s0 = site_of c.args.self.now in
-    let e : s.block (map stm_of c.deref-in-Block.result.now) ≡ stm_of c.args.x.now = ap (λ l. s.block (map stm_of l)) c.deref-in-Block.ensures.value ∙ sym (seen_block c.args.x.now c.in-Block.body c.in-Block.is) in
+    let e : s.block (map stm_of c.deref-in-Block.result.now) ≡ stm_of c.args.x.now =
+    ap (λ l. s.block (map stm_of l)) c.deref-in-Block.ensures.value ∙ sym (seen_block c.args.x.now c.in-Block.body c.in-Block.is) in
     record {
       part = subst (λ z. IfOk c.block.result (λ r. statement_of r.part ≡ number_stm s0 z)) e c.block.ensures.part;
       refusal = subst (λ z. IfOk c.block.result (λ r. r.refusal ≡ first_in (stm_nodes s0 z))) e c.block.ensures.refusal;
@@ -271,7 +283,8 @@ any_stm-returns-in_ok-head-in-If measure c =
     let is_body : statement_of head.part.body.value ≡ number_stm s0 body = c.in_ok-head-in-If.ensures.body ∙ ap (λ z. number_stm s0 (stm_of z)) c.deref-in-If.ensures in
     let found : head.refusal ≡ sooner (first_in (exp_nodes s0 condition)) (first_in (stm_nodes s0 body)) =
     c.in_ok-head-in-If.ensures.refusal ∙ ap (λ z. first_in (exp_nodes s0 condition ++ stm_nodes s0 (stm_of z))) c.deref-in-If.ensures ∙ in_append (exp_nodes s0 condition) (stm_nodes s0 body) in
-    let part = (λ j. numbered_branches at (c.in_ok-head-in-If.ensures.condition j) (is_body j) (number_maybe_stm (moved j) otherwise)) ∙ sym (number_branches s0 at condition body otherwise) ∙ ap (number_stm s0) (sym e) in
+    let part = (λ j. numbered_branches at (c.in_ok-head-in-If.ensures.condition j) (is_body j) (number_maybe_stm (moved j) otherwise))
+    ∙ sym (number_branches s0 at condition body otherwise) ∙ ap (number_stm s0) (sym e) in
     let refusal = (λ j. sooner (found j) (first_in (maybe_stm_nodes (moved j) otherwise))) ∙ sym (in_branches s0 at condition body otherwise) ∙ ap (λ z. first_in (stm_nodes s0 z)) (sym e) in
     let site = ap (λ z. past_maybe z otherwise) moved ∙ sym (behind_branches s0 at condition body otherwise) ∙ ap (behind s0) (sym e) in
     record {
@@ -314,7 +327,8 @@ any_stm-returns-in_ok-body-in-For measure c =
     record {
       part = held_for at c.in_ok-first-in-For.first.part c.in_ok-condition-in-For.condition c.in_ok-update-in-For.update.part c.in_ok-body-in-For.body.part
           ∙ for_value at first condition update body s0 s1 s2 to1 to2
-          (seen_maybe c.in_ok-first-in-For.first.part) (maybe_of expression_of c.in_ok-condition-in-For.condition) (seen_maybe c.in_ok-update-in-For.update.part) (statement_of c.in_ok-body-in-For.body.part.value)
+          (seen_maybe c.in_ok-first-in-For.first.part) (maybe_of expression_of c.in_ok-condition-in-For.condition)
+          (seen_maybe c.in_ok-update-in-For.update.part) (statement_of c.in_ok-body-in-For.body.part.value)
           c.in_ok-first-in-For.ensures.part c.in_ok-condition-in-For.ensures c.in_ok-update-in-For.ensures.part is_body
           ∙ ap (number_stm s0) e;
       refusal = c.sooner-in-For.ensures ∙ ap (λ z. sooner z c.in_ok-body-in-For.body.refusal) (c.sooner.ensures ∙ ap (λ z. sooner z c.in_ok-update-in-For.update.refusal) c.sooner-refusal.ensures)
@@ -329,7 +343,10 @@ any_stm-returns-in_ok-body-in-For measure c =
 pub any_stm-returns-in-Foreach : goal.any_stm-returns-in-Foreach
 any_stm-returns-in-Foreach measure c =
     let s0 = site_of c.args.self.now in
-    let e : s.Foreach c.in-Foreach.place c.in-Foreach.name_place c.in-Foreach.name (exp_of c.in-Foreach.domain) (stm_of c.deref-in-Foreach.result.now) ≡ stm_of c.args.x.now = ap (λ z. s.Foreach c.in-Foreach.place c.in-Foreach.name_place c.in-Foreach.name (exp_of c.in-Foreach.domain) (stm_of z)) c.deref-in-Foreach.ensures ∙ sym (ap stm_of c.in-Foreach.is) in
+    let e : s.Foreach c.in-Foreach.place c.in-Foreach.name_place c.in-Foreach.name (exp_of c.in-Foreach.domain)
+    (stm_of c.deref-in-Foreach.result.now) ≡ stm_of c.args.x.now =
+    ap (λ z. s.Foreach c.in-Foreach.place c.in-Foreach.name_place c.in-Foreach.name (exp_of c.in-Foreach.domain) (stm_of z))
+    c.deref-in-Foreach.ensures ∙ sym (ap stm_of c.in-Foreach.is) in
     record {
       part = subst (λ z. IfOk c.foreach.result (λ r. statement_of r.part ≡ number_stm s0 z)) e c.foreach.ensures.part;
       refusal = subst (λ z. IfOk c.foreach.result (λ r. r.refusal ≡ first_in (stm_nodes s0 z))) e c.foreach.ensures.refusal;

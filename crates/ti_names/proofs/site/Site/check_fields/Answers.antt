@@ -21,7 +21,8 @@ loop-member-preserved c =
           let f = w.in-Field.field in
           let step = fields_with_field c.args.members.now c.loop-member.member-index c.member-item.result f (omega arith) c.member-item.is w.in-Field.is in
           ap (λ n. sooner c.match-member.found (first_in (fields_nodes site n rest))) (w.number-is ∙ w.in_ok-number-in-Field.ensures)
-          ∙ in_step c.loop-member.found c.match-member.found _ _ (node site (FieldName number (field_of f)) ∷ type_nodes site (type_of f.ty)) (fields_nodes site (number + 1) rest) c.loop-member.invariant
+          ∙ in_step c.loop-member.found c.match-member.found _ _ (node site (FieldName number (field_of f)) ∷ type_nodes site
+          (type_of f.ty)) (fields_nodes site (number + 1) rest) c.loop-member.invariant
           (ap (λ l. fields_nodes site number l) step) (w.found-is ∙ w.sooner-found.ensures ∙ ap (sooner c.loop-member.found) w.check_field.ensures)
       | in-Method w ↦
           let step = fields_with_method c.args.members.now c.loop-member.member-index c.member-item.result _ (omega arith) c.member-item.is w.in-Method.is in
@@ -31,4 +32,5 @@ loop-member-preserved c =
 
 pub returns : goal.returns
 returns c =
-    in_end c.loop-member.found _ _ c.loop-member.invariant (ap (λ l. fields_nodes (site_of c.args.self.now) c.loop-member.number (fields_in (map member_of l))) (drop_all c.loop-member.member-index c.args.members.now (omega arith)))
+    in_end c.loop-member.found _ _ c.loop-member.invariant (ap (λ l. fields_nodes (site_of c.args.self.now) c.loop-member.number
+    (fields_in (map member_of l))) (drop_all c.loop-member.member-index c.args.members.now (omega arith)))

@@ -8,4 +8,6 @@ use Rattle.ti_names.specs.Seen.{site_of}
 use Rattle.ti_names.proofs.site.Site.check_fields.Given as goal
 
 abbrev pub invariant-loop-member : goal.invariant-loop-member
-invariant-loop-member l = sooner l.found (first_in (fields_nodes (site_of l.self) l.number (fields_in (map member_of (drop l.member-index l.members))))) ≡ first_in (fields_nodes (site_of l.self) 0 (fields_in (map member_of l.members)))
+invariant-loop-member l =
+    sooner l.found (first_in (fields_nodes (site_of l.self) l.number (fields_in (map member_of (drop l.member-index l.members)))))
+    ≡ first_in (fields_nodes (site_of l.self) 0 (fields_in (map member_of l.members)))

@@ -7,4 +7,6 @@ use Rattle.ti_names.specs.Seen.{text_of}
 use Rattle.ti_names.proofs.site.Site.fields.Given as goal
 
 abbrev pub invariant-loop-member : goal.invariant-loop-member
-invariant-loop-member l = map numbered_field_of l.fields.items ++ number_fields (text_of l.self.tables.now) (fields_in (map member_of (drop l.member-index l.members))) ≡ number_fields (text_of l.self.tables.now) (fields_in (map member_of l.members))
+invariant-loop-member l = map numbered_field_of l.fields.items ++ number_fields (text_of l.self.tables.now)
+    (fields_in (map member_of (drop l.member-index l.members))) ≡ number_fields (text_of l.self.tables.now)
+    (fields_in (map member_of l.members))

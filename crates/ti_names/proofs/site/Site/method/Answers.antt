@@ -17,6 +17,7 @@ returns-clause-refusal c =
     let head = node site (MethodName c.args.number own) ∷ result_nodes site own.method.result in
     let params = params_nodes site own.method.params in
     let body = stms_nodes (body_site site own.method.params) (stms own.method.body) in
-    let is_body : c.in_ok-body.body.refusal ≡ first_in body = c.in_ok-body.ensures.refusal ∙ (λ j. first_in (stms_nodes (c.in_ok-params.ensures.site j) (stms (map stm_of (c.deref.ensures.value j))))) in
+    let is_body : c.in_ok-body.body.refusal ≡ first_in body = c.in_ok-body.ensures.refusal
+    ∙ (λ j. first_in (stms_nodes (c.in_ok-params.ensures.site j) (stms (map stm_of (c.deref.ensures.value j))))) in
     c.sooner-2.ensures ∙ ap (λ z. sooner z c.in_ok-body.body.refusal) c.sooner.ensures ∙ (λ j. sooner (sooner (c.check_head-head.ensures j) (c.in_ok-params.ensures.refusal j)) (is_body j))
     ∙ ap (λ z. sooner z (first_in body)) (sym (in_append head params)) ∙ sym (in_append (head ++ params) body)

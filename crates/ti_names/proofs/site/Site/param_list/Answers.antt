@@ -27,15 +27,20 @@ loop-param-preserved c =
     let same : text_of behind.tables.now ≡ text = ap (λ (z : scopes.Site). z.text) moved in
     record {
       text = same ∙ c.loop-param.invariant.text;
-      part = map_push numbered_param_of c.loop-param.done.items c.push.new.self.items c.in_ok-param.param.part (number_param text (param_of x)) (number_param_list (text_of behind.tables.now) rest) c.in_ok-push.ensures.items c.in_ok-param.ensures.part
+      part = map_push numbered_param_of c.loop-param.done.items c.push.new.self.items c.in_ok-param.param.part
+          (number_param text (param_of x)) (number_param_list (text_of behind.tables.now) rest) c.in_ok-push.ensures.items
+          c.in_ok-param.ensures.part
           ∙ ap (λ t. done ++ (number_param text (param_of x) ∷ number_param_list t rest)) same
           ∙ sym (ap (λ l. done ++ number_param_list text (map param_of l)) step) ∙ c.loop-param.invariant.part;
       refusal = ap (λ z. sooner c.sooner-refusal.result (first_in (param_list_nodes z rest))) moved
-          ∙ in_step c.loop-param.refusal c.sooner-refusal.result _ _ (type_nodes site (type_of x.ty) ++ node site (VariableName x.place x.name) ∷ []) (param_list_nodes inner rest) c.loop-param.invariant.refusal
+          ∙ in_step c.loop-param.refusal c.sooner-refusal.result _ _ (type_nodes site (type_of x.ty)
+          ++ node site (VariableName x.place x.name) ∷ []) (param_list_nodes inner rest) c.loop-param.invariant.refusal
           (ap (λ l. param_list_nodes site (map param_of l)) step) (c.sooner-refusal.ensures ∙ ap (sooner c.loop-param.refusal) c.in_ok-param.ensures.refusal);
       site = ap (λ z. behind_params z rest) moved ∙ sym (ap (λ l. behind_params site (map param_of l)) step) ∙ c.loop-param.invariant.site;
     }
 
 pub returns-clause-refusal : goal.returns-clause-refusal
 returns-clause-refusal c =
-    in_end c.loop-param.refusal _ _ c.loop-param.invariant.refusal (ap (λ l. param_list_nodes (site_of c.loop-param.self) (map param_of l)) (drop_all c.loop-param.param-index c.args.params.now (omega arith)))
+    in_end c.loop-param.refusal _ _ c.loop-param.invariant.refusal
+    (ap (λ l. param_list_nodes (site_of c.loop-param.self) (map param_of l))
+    (drop_all c.loop-param.param-index c.args.params.now (omega arith)))

@@ -12,7 +12,8 @@ use Rattle.ti_names.proofs.site.Site.param_list.Given as goal
 abbrev pub invariant-loop-param : goal.invariant-loop-param
 invariant-loop-param l = record {
   text : text_of l.self.tables.now ≡ text_of l.initial.self.tables.now;
-  part : map numbered_param_of l.done.items ++ number_param_list (text_of l.self.tables.now) (map param_of (drop l.param-index l.params)) ≡ number_param_list (text_of l.initial.self.tables.now) (map param_of l.params);
+  part : map numbered_param_of l.done.items ++ number_param_list (text_of l.self.tables.now) (map param_of (drop l.param-index l.params))
+      ≡ number_param_list (text_of l.initial.self.tables.now) (map param_of l.params);
   refusal : sooner l.refusal (first_in (param_list_nodes (site_of l.self) (map param_of (drop l.param-index l.params)))) ≡ first_in (param_list_nodes (site_of l.initial.self) (map param_of l.params));
   site : behind_params (site_of l.self) (map param_of (drop l.param-index l.params)) ≡ behind_params (site_of l.initial.self) (map param_of l.params);
 }

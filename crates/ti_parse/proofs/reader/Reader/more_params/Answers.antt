@@ -3,7 +3,7 @@ use Rattle.std.proofs.lemmas.Grind.{common_steps}
 use Rattle.ti_parse.specs.Mirrors.Way.{plain}
 use Rattle.ti_parse.specs.Mirrors.Seen.{param_list_of}
 use Rattle.ti_parse.specs.Mirrors.Classes.{more_params}
-use Rattle.ti_parse_expr.proofs.Turns.{one_more}
+use Rattle.ti_parse_expr.proofs.Lemmas.{one_more}
 use Rattle.ti_parse.proofs.reader.Reader.more_params.Goals as goal
 
 pub loop-turn-preserved : goal.loop-turn-preserved

@@ -11,13 +11,17 @@ use Rattle.ti_race.proofs.told.Told.note_grid.Goals as goal
 pub returns-in_ok-insert-clause-grids : goal.returns-in_ok-insert-clause-grids
 returns-in_ok-insert-clause-grids c h counted tells id =
     grids_more c.args.self.now.grids c.insert.new.self c.args.e.now h c.in-Some.made c.grid_made-lying.result (sym c.makes_grid.ensures ∙ c.if-makes_grid.true) (sym c.grid_of.ensures ∙ c.in-Some.is)
-    (subst (λ (k : Name). Updates (name_eq.ghosts).eq c.args.self.now.grids c.insert.new.self k (Some c.grid_made-lying.result)) c.name_of.ensures c.in_ok-insert.ensures.updates) (c.grid_made-lying.ensures c.args.e.now h counted tells refl) tells id
+    (subst (λ (k : Name). Updates (name_eq.ghosts).eq c.args.self.now.grids c.insert.new.self k (Some c.grid_made-lying.result))
+    c.name_of.ensures c.in_ok-insert.ensures.updates) (c.grid_made-lying.ensures c.args.e.now h counted tells refl) tells id
 
 pub returns-in_default-clause-grids : goal.returns-in_default-clause-grids
-returns-in_default-clause-grids c h counted tells id = grids_stay c.args.e.now h id _ (no_name c.args.e.now id (sym c.grid_of.ensures ∙ no_some c.grid_of.result (λ made is. c.in_default.not-Some made is))) (tells id)
+returns-in_default-clause-grids c h counted tells id = grids_stay c.args.e.now h id _
+    (no_name c.args.e.now id (sym c.grid_of.ensures ∙ no_some c.grid_of.result (λ made is. c.in_default.not-Some made is))) (tells id)
 
 pub returns-else-makes_grid-clause-grids : goal.returns-else-makes_grid-clause-grids
 returns-else-makes_grid-clause-grids c h counted tells id = grids_stay c.args.e.now h id _ (no_making c.args.e.now id (sym c.makes_grid.ensures ∙ c.if-makes_grid.false)) (tells id)
 
 pub returns-in_err-insert-clause-kept : goal.returns-in_err-insert-clause-kept
-returns-in_err-insert-clause-kept c = on_err c.from_residual.result (λ h tells id. subst (λ (l : Option (Option Lying)). Lies h (lying_in l) (grid_told id h)) (sym (same_at (name_eq.ghosts).eq c.args.self.now.grids c.insert.new.self (name_key id) c.in_err-insert.ensures.err)) (tells id))
+returns-in_err-insert-clause-kept c = on_err c.from_residual.result
+    (λ h tells id. subst (λ (l : Option (Option Lying)). Lies h (lying_in l) (grid_told id h))
+    (sym (same_at (name_eq.ghosts).eq c.args.self.now.grids c.insert.new.self (name_key id) c.in_err-insert.ensures.err)) (tells id))

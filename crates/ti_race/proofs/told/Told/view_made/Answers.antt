@@ -10,10 +10,13 @@ use Rattle.ti_race.proofs.told.Told.view_made.Goals as goal
 
 pub returns-then-not-is_view : goal.returns-then-not-is_view
 returns-then-not-is_view c h tells =
-    formless_view h c.args.how (spec.grid_told c.args.grid h) (view_tested c.args.how c.forms_are_told.ensures.points c.forms_are_told.ensures.rects) (λ f. true_false (sym (c.is_view.ensures.1 f) ∙ c.if-not-is_view.true))
+    formless_view h c.args.how (spec.grid_told c.args.grid h) (view_tested c.args.how c.forms_are_told.ensures.points
+    c.forms_are_told.ensures.rects) (λ f. true_false (sym (c.is_view.ensures.1 f) ∙ c.if-not-is_view.true))
 
 pub returns-in-Some-Some : goal.returns-in-Some-Some
 returns-in-Some-Some c h tells =
     told_view h c.args.how c.in-Some-Some.lying (spec.grid_told c.args.grid h) c.viewed.result (view_tested c.args.how c.forms_are_told.ensures.points c.forms_are_told.ensures.rects)
     (c.is_view.ensures.0 c.if-not-is_view.false)
-    (subst (λ l. Lies h l (spec.grid_told c.args.grid h)) (ap lying_in (ap (λ (k : Name). get (name_eq.ghosts).eq c.args.self.now.grids k) (sym c.name_of.ensures) ∙ sym c.in-Some-Some.ensures.value ∙ ap (λ l. Some l) c.in-Some-Some.field-0-is)) (tells c.args.grid)) c.viewed.ensures
+    (subst (λ l. Lies h l (spec.grid_told c.args.grid h)) (ap lying_in
+    (ap (λ (k : Name). get (name_eq.ghosts).eq c.args.self.now.grids k) (sym c.name_of.ensures) ∙ sym c.in-Some-Some.ensures.value
+    ∙ ap (λ l. Some l) c.in-Some-Some.field-0-is)) (tells c.args.grid)) c.viewed.ensures

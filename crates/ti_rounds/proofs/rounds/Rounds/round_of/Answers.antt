@@ -13,4 +13,5 @@ returns-clause-own c = λ courses keeps.
 pub returns-clause-all : goal.returns-clause-all
 returns-clause-all c = λ courses keeps.
     let is : (seat_at c.args.self.now c.args.p).latest ≡ Some c.in-Some.arrival = ap (λ (s : Seat). s.latest) (sym c.seat.ensures.value) ∙ c.in-Some.is in
-    subst (AllSay courses (round_at c.args.self.now c.args.p)) (sym c.collective.ensures) (all_said c.args.self.now courses c.args.p c.in-Some.arrival keeps c.requires.process c.seat.ensures.in_step is)
+    subst (AllSay courses (round_at c.args.self.now c.args.p)) (sym c.collective.ensures)
+    (all_said c.args.self.now courses c.args.p c.in-Some.arrival keeps c.requires.process c.seat.ensures.in_step is)

@@ -6,7 +6,9 @@ use Rattle.ti_runtime.proofs.mate.Mate.halt.Goals as goal
 
 pub leave-pass-requires-clause-grown : goal.leave-pass-requires-clause-grown
 leave-pass-requires-clause-grown g c =
-    grown_by_none _ _ c.value.result.now.entries c.halt_for_memory.new.self.entries (c.enter-inside.ensures.found ∙ ap (λ (x : StoreState). log_of x.entries) (sym c.value.ensures.value)) (ap (λ (x : StoreState). x.entries) c.halt_for_memory.ensures)
+    grown_by_none _ _ c.value.result.now.entries c.halt_for_memory.new.self.entries (c.enter-inside.ensures.found
+    ∙ ap (λ (x : StoreState). log_of x.entries) (sym c.value.ensures.value))
+    (ap (λ (x : StoreState). x.entries) c.halt_for_memory.ensures)
 
 pub invariant_of-result : goal.invariant_of-result
 invariant_of-result g c =

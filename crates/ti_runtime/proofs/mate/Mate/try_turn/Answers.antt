@@ -61,7 +61,9 @@ invariant_of-mate g c =
       c.leave-pass.ensures.number ∙ c.enter-inside.ensures.number ∙ inv.1,
       stays_seen code s behind.entries me.number (seen_by c.leave-pass.result) c.go_on.new.self false c.leave-pass.ensures.seen
           (stays_well code s behind.entries me.number c.go_on.new.self
-          (seated_gone code s store me.number me.seat c.requires.may c.act-acted.ensures.terms c.act-acted.ensures.run inv.0 c.if-self.false y behind c.in-Ok.answer c.in-Ok.ensures.done c.has_one_next.ensures c.go_on.new.self c.in-Ok-go_on.field-0 c.in-Ok-go_on.ensures.moves)),
+          (seated_gone code s store me.number me.seat c.requires.may c.act-acted.ensures.terms c.act-acted.ensures.run inv.0 c.if-self.false
+          y behind c.in-Ok.answer c.in-Ok.ensures.done c.has_one_next.ensures c.go_on.new.self c.in-Ok-go_on.field-0
+          c.in-Ok-go_on.ensures.moves)),
     )
 
 pub invariant_of-mate-in-Err-go_on : goal.invariant_of-mate-in-Err-go_on
@@ -77,7 +79,9 @@ invariant_of-mate-in-Err-go_on g c =
       inv.0,
       c.leave-pass.ensures.number ∙ c.enter-inside.ensures.number ∙ inv.1,
       stays_seen code s behind.entries me.number (seen_by c.leave-pass.result) c.go_on.new.self true c.leave-pass.ensures.seen
-          (wants_gone code s store me.number me.seat c.requires.may c.act-acted.ensures.terms c.act-acted.ensures.run inv.0 c.if-self.false y behind c.in-Ok.answer c.in-Ok.ensures.done c.go_on.new.self c.in-Err-go_on.ensures.memory c.in-Err-go_on.ensures.kept c.in-Err-go_on.ensures.told),
+          (wants_gone code s store me.number me.seat c.requires.may c.act-acted.ensures.terms c.act-acted.ensures.run inv.0 c.if-self.false
+          y behind c.in-Ok.answer c.in-Ok.ensures.done c.go_on.new.self c.in-Err-go_on.ensures.memory c.in-Err-go_on.ensures.kept
+          c.in-Err-go_on.ensures.told),
     )
 
 pub invariant_of-mate-in-Err : goal.invariant_of-mate-in-Err

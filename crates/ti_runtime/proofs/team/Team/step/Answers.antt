@@ -13,7 +13,8 @@ returns-in-Ok-clause-leaves g c =
     let balance = law_of RoundsBalance (setting_of store) store.entries c.requires.open.may.balance c.requires.open.may.within c.requires.stands.run in
     let on = turned code (setting_of store) store.entries team.seats.items team.cursor c.requires.stands c.requires.some_left c.index_mut.result.now c.index_mut.ensures.value balance
     c.take_turn.new.store.entries c.take_turn.new.self c.in-Ok.turn c.in-Ok.ensures.leaves in
-    subst (StandsOn code (setting_of store) store.entries team.seats.items team.cursor c.take_turn.new.store.entries (slice_set team.seats.items team.cursor.at c.take_turn.new.self)) (sym c.after-self.ensures) on
+    subst (StandsOn code (setting_of store) store.entries team.seats.items team.cursor c.take_turn.new.store.entries
+    (slice_set team.seats.items team.cursor.at c.take_turn.new.self)) (sym c.after-self.ensures) on
 
 pub returns-in-Err-clause-leaves : goal.returns-in-Err-clause-leaves
 returns-in-Err-clause-leaves g c =

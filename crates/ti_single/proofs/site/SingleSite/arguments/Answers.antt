@@ -10,7 +10,8 @@ loop-i-init c = none_sooner _
 
 pub loop-i-preserved : goal.loop-i-preserved
 loop-i-preserved c =
-    argument_step (program_at c.args.self) (around_of c.args.self) c.args.params.now c.args.args.now c.loop-i.i c.index-params-i.result c.index-args-i.result _ c.loop-i.found c.sooner-found.result (omega arith) (omega arith)
+    argument_step (program_at c.args.self) (around_of c.args.self) c.args.params.now c.args.args.now c.loop-i.i c.index-params-i.result
+    c.index-args-i.result _ c.loop-i.found c.sooner-found.result (omega arith) (omega arith)
     c.index-params-i.is c.index-args-i.is c.loop-i.invariant (c.sooner-found.ensures ∙ ap (sooner c.loop-i.found) c.argument.ensures)
 
 pub returns : goal.returns

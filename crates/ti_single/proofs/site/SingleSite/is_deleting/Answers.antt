@@ -6,4 +6,5 @@ use Rattle.ti_single.specs.Sites.{program_at}
 use Rattle.ti_single.proofs.site.SingleSite.is_deleting.Goals as goal
 
 pub returns : goal.returns
-returns c = c.is_delete.ensures ∙ ap is_delete (c.member_called-member.ensures ∙ ap (λ this. member_called (program_at c.args.self) this (expression_of c.args.receiver.now) c.args.name) c.this-this.ensures)
+returns c = c.is_delete.ensures ∙ ap is_delete (c.member_called-member.ensures
+    ∙ ap (λ this. member_called (program_at c.args.self) this (expression_of c.args.receiver.now) c.args.name) c.this-this.ensures)

@@ -10,5 +10,7 @@ pub returns-in-Some : goal.returns-in-Some
 returns-in-Some c =
     let p = program_at c.args.self in
     let this = this_of (numbered_method_of c.args.self.method.now) in
-    ap (λ (d : Doings). d.jumps) (c.doings_of_statement.ensures ∙ ap (λ t. doings p t (statement_of c.boxed_statement.result.now)) c.this.ensures ∙ ap (λ z. doings p this (statement_of z)) c.boxed_statement.ensures)
+    ap (λ (d : Doings). d.jumps) (c.doings_of_statement.ensures ∙ ap
+    (λ t. doings p t (statement_of c.boxed_statement.result.now)) c.this.ensures
+    ∙ ap (λ z. doings p this (statement_of z)) c.boxed_statement.ensures)
     ∙ sym (ap (λ o. (doings_of_maybe p this (maybe_in o)).jumps) c.in-Some.is)

@@ -6,8 +6,8 @@ use Rattle.ti_lang.specs.Program.Views.{expression_of, numbered_method_of}
 use Rattle.ti_lang.specs.Typing.Called.{called_method}
 use Rattle.ti_rules.specs.Mirrors.First.{sooner, first_of}
 use Rattle.ti_rules.specs.SingleRules.{call_refusals, delete_refusals, whole_refusals}
-use Rattle.ti_rules.proofs.First.{first_append}
-use Rattle.ti_lang.proofs.ProgramBridges.{seen_numbered_member}
+use Rattle.ti_rules.proofs.Lemmas.{first_append}
+use Rattle.ti_lang.proofs.Lemmas.{seen_numbered_member}
 use Rattle.ti_single.specs.Sites.{program_at, around_of}
 use Rattle.ti_single.proofs.site.SingleSite.whole.Goals as goal
 

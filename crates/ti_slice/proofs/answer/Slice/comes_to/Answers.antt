@@ -14,5 +14,7 @@ returns c =
     elim c.match-branch-2.branch [
       | in-Arrives w ↦ comes_ok p old _ _ w.result-is (comes_there p old new _ _ _ _ (gone_as p old.walker new _ _ _ _ c.deref.ensures.value w.in-Arrives.is c.in_ok-kind.ensures))
       | in-Ends w ↦ comes_ok p old _ _ w.result-is (comes_end p old new (gone_as p old.walker new _ _ _ _ c.deref.ensures.value w.in-Ends.is c.in_ok-kind.ensures))
-      | in-Fails w ↦ comes_ok p old _ _ w.result-is (subst (λ x. (k : ℕ) → Comes (process_of p old.walker) old.gone.items k [] x) (sym w.at_fault.ensures) (comes_fault p old new _ _ (gone_as p old.walker new _ _ _ _ c.deref.ensures.value w.in-Fails.is c.in_ok-kind.ensures)))
+      | in-Fails w ↦ comes_ok p old _ _ w.result-is (subst (λ x. (k : ℕ) → Comes (process_of p old.walker) old.gone.items k [] x)
+          (sym w.at_fault.ensures)
+          (comes_fault p old new _ _ (gone_as p old.walker new _ _ _ _ c.deref.ensures.value w.in-Fails.is c.in_ok-kind.ensures)))
     ]

@@ -1,7 +1,7 @@
 use Rattle.std.proofs.Common.{subst}
 use Rattle.ti_lang.specs.Program.Views.{program_of}
 use Rattle.ti_exec.specs.States.{wait_in}
-use Rattle.ti_exec.proofs.Formed.{fits_formed}
+use Rattle.ti_exec.proofs.Lemmas.{fits_formed}
 use Rattle.ti_slice.specs.Mirrors.Answer.{wanted_of, Fits}
 use Rattle.ti_slice.proofs.Meeting.{no_tick, no_fit, leaving}
 use Rattle.ti_slice.proofs.answer.Slice.departs.Goals as goal
@@ -20,7 +20,9 @@ pub returns-then-fitting : goal.returns-then-fitting
 returns-then-fitting c =
     let p = program_of c.args.c.now.program.parts in
     let s = c.args.self.now in
-    leaving p s c.requires c.args.outcome.now c.leaves.new.self c.if-self.false (subst (Fits (wanted_of (wait_in p s.walker s.walker.mode)) c.args.outcome.now) c.if-fitting.true c.in_ok-fitting.ensures) (c.in_ok-leaves.ensures.told p) (c.in_ok-leaves.ensures.gone p)
+    leaving p s c.requires c.args.outcome.now c.leaves.new.self c.if-self.false
+    (subst (Fits (wanted_of (wait_in p s.walker s.walker.mode)) c.args.outcome.now) c.if-fitting.true c.in_ok-fitting.ensures)
+    (c.in_ok-leaves.ensures.told p) (c.in_ok-leaves.ensures.gone p)
 
 pub returns : goal.returns
 returns c =

@@ -2,7 +2,7 @@ use Rattle.std.proofs.Common.{refl}
 use Rattle.ti_lang.specs.Program.Views.{program_of}
 use Rattle.ti_slice.specs.declared.answer.Slice.{Slice}
 use Rattle.ti_slice.specs.Mirrors.Answer.{Departs, Meets}
-use Rattle.ti_exec.proofs.Works.{of_result}
+use Rattle.ti_exec.proofs.Lemmas.{of_result}
 use Rattle.ti_slice.proofs.Coming.{checked}
 use Rattle.ti_slice.proofs.Meeting.{gone_as, arrival_tick, arrival_waits, meets, meets_end, meets_fault}
 use Rattle.ti_slice.proofs.answer.Slice.meets.Goals as goal

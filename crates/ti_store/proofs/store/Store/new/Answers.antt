@@ -30,7 +30,8 @@ invariant_of-result g c =
         run = subst (IsRun s) (sym empty) none;
         faulted_is = sym (ap has_fault empty);
         kept = subst (λ es. KeepsParts program c.args.procs (history_of es) (contents c.in_ok-heap.heap) c.in_ok-rounds.rounds c.in_ok-makings.makings c.new-regions.result) (sym empty)
-            (new_parts program c.args.procs (contents c.in_ok-heap.heap) c.in_ok-rounds.rounds c.in_ok-makings.makings c.new-regions.result c.in_ok-heap.ensures c.in_ok-rounds.ensures c.in_ok-makings.ensures c.new-regions.ensures);
+            (new_parts program c.args.procs (contents c.in_ok-heap.heap) c.in_ok-rounds.rounds c.in_ok-makings.makings c.new-regions.result
+            c.in_ok-heap.ensures c.in_ok-rounds.ensures c.in_ok-makings.ensures c.new-regions.ensures);
       };
       terms_are = terms_begin program _ c.args.procs c.args.fuel _ c.in_ok-program.ensures c.requires.terms;
     }

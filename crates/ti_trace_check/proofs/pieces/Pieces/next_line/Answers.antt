@@ -8,7 +8,10 @@ pub returns-then-is_empty-clause-line : goal.returns-then-is_empty-clause-line
 returns-then-is_empty-clause-line g c = λ tells.
     let now = c.pieces.invariant.same.tells ∙ tells in
     let fills = c.in_ok-fill.ensures.fills now in
-    taken_all _ c.pieces.line (held c.fill.new.self) _ c.front-is_ended.result.0.now _ (omega (arith, c.pieces-test.true, ap length c.as_slice.ensures, ap length c.as_slice-in-pieces.ensures)) c.front-is_ended.ensures.line (nil_from_length c.front-is_ended.result.0.now (eqb-true _ 0 (sym c.is_empty.ensures ∙ c.if-is_empty.true))) fills.at_end
+    taken_all _ c.pieces.line (held c.fill.new.self) _ c.front-is_ended.result.0.now _
+    (omega (arith, c.pieces-test.true, ap length c.as_slice.ensures, ap length c.as_slice-in-pieces.ensures))
+    c.front-is_ended.ensures.line (nil_from_length c.front-is_ended.result.0.now
+    (eqb-true _ 0 (sym c.is_empty.ensures ∙ c.if-is_empty.true))) fills.at_end
     (filled _ c.pieces.line _ _ _ _ fills (c.pieces.invariant.told tells))
 
 pub text-requires : goal.text-requires

@@ -35,7 +35,8 @@ pub unreachable-requires-in-None : goal.unreachable-requires-in-None
 unreachable-requires-in-None g c =
     let inv = c.loop-pass.invariant in
     let left = c.loop-pass.passes in
-    let t = closing g.V.Kept.log c.args.self.table.shared.key c.loop-pass.seat.id c.loop-pass.seat.me c.args.passes.items left.items inv.2.0 _ _ inv.2.1 (sym left.ok.0 ∙ c.in_default-pop.ensures.cases.0) inv.2.2 c.requires.all c.close_with-closed.ensures.values.2 in
+    let t = closing g.V.Kept.log c.args.self.table.shared.key c.loop-pass.seat.id c.loop-pass.seat.me c.args.passes.items left.items inv.2.0
+    _ _ inv.2.1 (sym left.ok.0 ∙ c.in_default-pop.ensures.cases.0) inv.2.2 c.requires.all c.close_with-closed.ensures.values.2 in
     let same = some-injective _ _ (sym t.1 ∙ c.take-value.ensures.value) in
     cc (same, c.in-None.is)
 
@@ -43,26 +44,30 @@ pub returns-clause-legal : goal.returns-clause-legal
 returns-clause-legal g c =
     let inv = c.loop-pass.invariant in
     let left = c.loop-pass.passes in
-    let t = closing g.V.Kept.log c.args.self.table.shared.key c.loop-pass.seat.id c.loop-pass.seat.me c.args.passes.items left.items inv.2.0 _ _ inv.2.1 (sym left.ok.0 ∙ c.in_default-pop.ensures.cases.0) inv.2.2 c.requires.all c.close_with-closed.ensures.values.2 in
+    let t = closing g.V.Kept.log c.args.self.table.shared.key c.loop-pass.seat.id c.loop-pass.seat.me c.args.passes.items left.items inv.2.0
+    _ _ inv.2.1 (sym left.ok.0 ∙ c.in_default-pop.ensures.cases.0) inv.2.2 c.requires.all c.close_with-closed.ensures.values.2 in
     (closed g.V.Kept.log c.args.self.table.shared.key c.args.passes.items _ c.in-Some-value.value t (c.take-value.ensures.value ∙ ap some c.in-Some-value.is)).0
 
 pub returns-clause-whole : goal.returns-clause-whole
 returns-clause-whole g c =
     let inv = c.loop-pass.invariant in
     let left = c.loop-pass.passes in
-    let t = closing g.V.Kept.log c.args.self.table.shared.key c.loop-pass.seat.id c.loop-pass.seat.me c.args.passes.items left.items inv.2.0 _ _ inv.2.1 (sym left.ok.0 ∙ c.in_default-pop.ensures.cases.0) inv.2.2 c.requires.all c.close_with-closed.ensures.values.2 in
+    let t = closing g.V.Kept.log c.args.self.table.shared.key c.loop-pass.seat.id c.loop-pass.seat.me c.args.passes.items left.items inv.2.0
+    _ _ inv.2.1 (sym left.ok.0 ∙ c.in_default-pop.ensures.cases.0) inv.2.2 c.requires.all c.close_with-closed.ensures.values.2 in
     (closed g.V.Kept.log c.args.self.table.shared.key c.args.passes.items _ c.in-Some-value.value t (c.take-value.ensures.value ∙ ap some c.in-Some-value.is)).1
 
 pub returns-clause-all : goal.returns-clause-all
 returns-clause-all g c =
     let inv = c.loop-pass.invariant in
     let left = c.loop-pass.passes in
-    let t = closing g.V.Kept.log c.args.self.table.shared.key c.loop-pass.seat.id c.loop-pass.seat.me c.args.passes.items left.items inv.2.0 _ _ inv.2.1 (sym left.ok.0 ∙ c.in_default-pop.ensures.cases.0) inv.2.2 c.requires.all c.close_with-closed.ensures.values.2 in
+    let t = closing g.V.Kept.log c.args.self.table.shared.key c.loop-pass.seat.id c.loop-pass.seat.me c.args.passes.items left.items inv.2.0
+    _ _ inv.2.1 (sym left.ok.0 ∙ c.in_default-pop.ensures.cases.0) inv.2.2 c.requires.all c.close_with-closed.ensures.values.2 in
     (closed g.V.Kept.log c.args.self.table.shared.key c.args.passes.items _ c.in-Some-value.value t (c.take-value.ensures.value ∙ ap some c.in-Some-value.is)).2
 
 pub returns-clause-distinct : goal.returns-clause-distinct
 returns-clause-distinct g c =
     let inv = c.loop-pass.invariant in
     let left = c.loop-pass.passes in
-    let t = closing g.V.Kept.log c.args.self.table.shared.key c.loop-pass.seat.id c.loop-pass.seat.me c.args.passes.items left.items inv.2.0 _ _ inv.2.1 (sym left.ok.0 ∙ c.in_default-pop.ensures.cases.0) inv.2.2 c.requires.all c.close_with-closed.ensures.values.2 in
+    let t = closing g.V.Kept.log c.args.self.table.shared.key c.loop-pass.seat.id c.loop-pass.seat.me c.args.passes.items left.items inv.2.0
+    _ _ inv.2.1 (sym left.ok.0 ∙ c.in_default-pop.ensures.cases.0) inv.2.2 c.requires.all c.close_with-closed.ensures.values.2 in
     (closed g.V.Kept.log c.args.self.table.shared.key c.args.passes.items _ c.in-Some-value.value t (c.take-value.ensures.value ∙ ap some c.in-Some-value.is)).3

@@ -25,5 +25,7 @@ loop-i-preserved g c =
       c.cut.ensures.table.0 ∙ inv.0,
       c.cut.ensures.left ∙ ap (λ (v : View g.row.V-Item.Denot). (view false (drop 1 v.parts), [])) was ∙ ap (λ ps. (view false ps, [])) (cut_left g.row.V-Item.Denot i (c.args.n - (i + 1))),
       search (arith, items),
-      subst (AreNew table) (sym items) (one_more table c.loop-i.passes.items c.cut.result i inv.2 (c.cut.ensures.table.1 ∙ inv.0) (c.cut.ensures.right ∙ ap (λ (v : View g.row.V-Item.Denot). (outside (first_number v.parts) [], [])) was ∙ ap (λ k. (outside k [], [])) (cut_number g.row.V-Item.Denot i (c.args.n - (i + 1)))) inv.3),
+      subst (AreNew table) (sym items) (one_more table c.loop-i.passes.items c.cut.result i inv.2 (c.cut.ensures.table.1 ∙ inv.0)
+          (c.cut.ensures.right ∙ ap (λ (v : View g.row.V-Item.Denot). (outside (first_number v.parts) [], [])) was
+          ∙ ap (λ k. (outside k [], [])) (cut_number g.row.V-Item.Denot i (c.args.n - (i + 1)))) inv.3),
     )

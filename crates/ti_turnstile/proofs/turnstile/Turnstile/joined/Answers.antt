@@ -13,5 +13,6 @@ join_seat-requires g c =
       c.requires.table.1,
       ap (λ m. m.1) c.requires.other,
       omega (arith, shape.0),
-      joins_from g.V.Kept.log shared.key c.args.pass.seat.id c.args.other.id c.args.pass.seat.me.0 c.args.other.me.0 (is.0 ∙ ap (λ (v : View _). view false v.parts) (sym is.0)) (ap (λ m. m.0) c.requires.other),
+      joins_from g.V.Kept.log shared.key c.args.pass.seat.id c.args.other.id c.args.pass.seat.me.0 c.args.other.me.0 (is.0
+          ∙ ap (λ (v : View _). view false v.parts) (sym is.0)) (ap (λ m. m.0) c.requires.other),
     )

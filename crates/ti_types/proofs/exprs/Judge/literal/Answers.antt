@@ -6,8 +6,8 @@ use Rattle.ti_rules.specs.Mirrors.First.{sooner, first_of}
 use Rattle.ti_rules.specs.Parts.{parts_of_ranges}
 use Rattle.ti_rules.specs.Broken.Expressions.{refusals_at}
 use Rattle.ti_rules.specs.Broken.Misplaced.{bounds_misplaced}
-use Rattle.ti_rules.proofs.First.{first_append}
-use Rattle.ti_lang.proofs.RangeDims.{count_ranges}
+use Rattle.ti_rules.proofs.Lemmas.{first_append}
+use Rattle.ti_lang.proofs.Lemmas.{count_ranges}
 use Rattle.ti_types.specs.Mirrors.Nodes.{ranges_told, told_literal}
 use Rattle.ti_types.proofs.ToldNodes.{literal_is}
 use Rattle.ti_types.proofs.exprs.Judge.literal.Goals as goal
@@ -18,7 +18,8 @@ returns-clause-first c =
     let s = contents_of c.args.scope.now in
     let rs = numbered_ranges (map bound_of c.args.ranges.now) in
     let inner = flat_map (refusals_at p s) (parts_of_ranges rs) in
-    c.literal.ensures.first ∙ ap (λ a. sooner a c.ranges-found.result.misplaced) c.ranges-found.ensures.0 ∙ ap (sooner (first_of inner)) c.ranges-found.ensures.1 ∙ sym (first_append inner (bounds_misplaced p s rs))
+    c.literal.ensures.first ∙ ap (λ a. sooner a c.ranges-found.result.misplaced) c.ranges-found.ensures.0
+    ∙ ap (sooner (first_of inner)) c.ranges-found.ensures.1 ∙ sym (first_append inner (bounds_misplaced p s rs))
 
 pub returns-clause-types : goal.returns-clause-types
 returns-clause-types c =

@@ -7,4 +7,5 @@ returns-then-contains_key c = kept c.args.self.now c.self.inside.map.entries (c.
 
 pub returns : goal.returns
 returns c =
-    added c.args.self.now c.self.inside.map (c.args.class, c.args.name) c.args.number c.insert.new.self.entries c.self.view_is (sym c.contains_key.ensures ∙ c.if-contains_key.false) c.in-Ok.ensures.entries
+    added c.args.self.now c.self.inside.map (c.args.class, c.args.name) c.args.number c.insert.new.self.entries c.self.view_is
+    (sym c.contains_key.ensures ∙ c.if-contains_key.false) c.in-Ok.ensures.entries

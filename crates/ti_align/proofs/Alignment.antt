@@ -1,0 +1,15 @@
+-- Alignment by single values.
+pub mod Single
+pub mod Slice
+pub mod Fine
+pub mod Jumping
+pub mod Fitting
+pub mod Liking
+pub mod Moving
+pub mod Stepping
+pub mod Passing
+pub mod Aligning
+pub mod Rounds
+pub mod Possible
+pub mod Checked
+pub mod Stopping

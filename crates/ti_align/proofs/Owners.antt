@@ -1,0 +1,3 @@
+-- Cells and owners.
+pub mod Counted
+pub mod Owned

@@ -1,0 +1,13 @@
+-- Regions, and what dangles.
+pub mod Living
+pub mod Leaving
+pub mod Lasting
+pub mod Results
+pub mod Regional
+pub mod Handing
+pub mod Deleting
+pub mod Deleted
+pub mod Presence
+pub mod Regioned
+pub mod Ended
+pub mod Dangling

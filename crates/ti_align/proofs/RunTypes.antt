@@ -1,0 +1,27 @@
+-- Types of runs: work, steps, the heap, entries, answers.
+pub mod Ranged
+pub mod Placed
+pub mod Giving
+pub mod Computing
+pub mod Operating
+pub mod Evaluating
+pub mod Heaping
+pub mod Making
+pub mod Storing
+pub mod Performed
+pub mod Working
+pub mod Stated
+pub mod Dimmed
+pub mod Framed
+pub mod Staying
+pub mod Pending
+pub mod Steps
+pub mod Kept
+pub mod Forms
+pub mod Acting
+pub mod Holding
+pub mod Taking
+pub mod Departed
+pub mod Told
+pub mod Answered
+pub mod Formed

@@ -1,0 +1,13 @@
+-- Runs, ways and what is counted.
+pub mod Vars
+pub mod Asks
+pub mod Ways
+pub mod Balance
+pub mod Entries
+pub mod Arrived
+pub mod Given
+pub mod Running
+pub mod Paying
+pub mod Acted
+pub mod Waiting
+pub mod EveryRun
