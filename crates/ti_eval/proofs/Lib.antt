@@ -5,6 +5,7 @@ mod MemberLaws
 mod Nexts
 mod Operands
 mod Points
+mod PointsAbove
 mod Sizes
 mod Slots
 mod Steps

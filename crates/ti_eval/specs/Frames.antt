@@ -124,6 +124,11 @@ abbrev pub points_above : Held → Option Point → List Point
 points_above h None = points_in h
 points_above h (Some p) = if p.dim == dim_of h then filter (is_lex_lt p) (points_in h) else []
 
+-- a point, if there is one, and those above it
+abbrev pub from_point : Held → Option Point → List Point
+from_point domain None = []
+from_point domain (Some p) = p ∷ points_above domain (Some p)
+
 -- a thing with the type of the expression that named it
 abbrev pub reference : Site → NumberedExp → Id → Reference
 reference site x id = record { thing = id; type = type_in_text site.program site.this x }

@@ -43,4 +43,4 @@ pub use stop::Stop;
 pub use team::Team;
 pub use told::{Told, value_told};
 pub use variables::{change, empty_rect, find, same};
-pub use walking::next_above;
+pub use walking::{next_above, next_point};

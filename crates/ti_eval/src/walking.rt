@@ -5,6 +5,7 @@ ghost use Rattle.ti_base.specs.Points.{IsPoint};
 ghost use Rattle.ti_base.specs.PointSets.{IsAmong, IsDomain, IsNextAfter, NoneAfter};
 ghost use Rattle.ti_base.specs.Rects.{IsRect, points_of};
 ghost use Rattle.ti_lang.specs.Meaning.Held.{points_in, dim_of};
+ghost use Rattle.ti_eval.specs.Frames.{from_point, points_above};
 
 use crate::held::Held;
 use ti_base::{Point, Rect, Value};
@@ -48,5 +49,22 @@ pub fn next_above(domain: &Held, p: Option<&Point>) -> Option<Point>
         Kept::Plain(Value::Rc(r)) => next_in_rect(r, p),
         Kept::Plain(_) => None,
         Kept::Dm(d) => next_in_domain(d, p),
+    }
+}
+
+/// The first point of a domain above another one, or the first of all where none is given; none also where
+/// the other one is of another dimension.
+#[tactic(auto, using(crate::proofs::PointsAbove::points))]
+pub fn next_point(domain: &Held, last: Option<Point>) -> Option<Point>
+    ensures value { points_above domain.now last ≡ from_point domain.now result }
+    ensures form { IfSome result IsPoint }
+{
+    match last {
+        Some(p) => if p.dim == domain.dim() {
+            next_above(domain, Some(&p))
+        } else {
+            None
+        },
+        None => next_above(domain, None),
     }
 }

@@ -17,9 +17,9 @@ ghost use Rattle.ti_exec.specs.Walking.{walking, turning, Decides, IsTurnAt};
 use crate::process::{Mode, Turn, Walker};
 use std::alloc::Global;
 use ti_base::{FaultKind, Id, Memory, Place, Point};
-use ti_eval::{Copy, Held, Part, Spot, Stop, Todo};
+use ti_eval::{Copy, Held, Part, Spot, Stop, Todo, next_point};
 use ti_lang::program::{Expr, Parts, Stmt};
-use ti_moves::{condition, copy_element, has_update, is_for, loop_place, next_point, take_element};
+use ti_moves::{condition, copy_element, has_update, is_for, loop_place, take_element};
 
 // The place of the member that a statement calls.
 fn member_place(x: Option<&Stmt>) -> Place

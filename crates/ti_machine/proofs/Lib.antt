@@ -3,7 +3,6 @@ mod Fieldless
 mod Going
 mod Numbers
 mod Paths
-mod PointsAbove
 mod Reversed
 mod SameRects
 mod Sending

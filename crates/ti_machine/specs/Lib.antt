@@ -1,4 +1,3 @@
 pub mod Mirrors
-pub mod Points
 pub mod Standing
 pub mod Telling

@@ -7,18 +7,16 @@ ghost use Rattle.ti_base.specs.declared.value.Value.TheVariants.{Int, Pt};
 ghost use Rattle.ti_lang.specs.Meaning.Held.{nothing, plain_of, point_of, thing_of, Plain};
 ghost use Rattle.ti_lang.specs.Meaning.Asking.{Gives};
 ghost use Rattle.ti_lang.specs.Meaning.Parts.{coordinate};
-ghost use Rattle.ti_eval.specs.Frames.{points_above};
 ghost use Rattle.ti_eval.specs.Scalars.{held_of_scalar};
 ghost use Rattle.ti_code.specs.Effects.{one_step as one_step_of, ones as ones_of};
 ghost use Rattle.ti_machine.specs.Mirrors.Operands.{Took};
-ghost use Rattle.ti_machine.specs.Points.{from_point};
 
 use crate::ints::{Number, int_in};
 use crate::pieces::{coordinate_in, scalar_in};
 use std::alloc::Global;
 use std::marker::Model;
 use ti_base::{Id, Memory, Place, Point, Value};
-use ti_eval::{Held, Scalar, next_above};
+use ti_eval::{Held, Scalar, next_point};
 
 /// An operand: a value or a domain as it is, or the points of a domain that are above one of them.
 #[derive(Drop)]
@@ -42,22 +40,6 @@ impl Model for Operand {
     ghost use Rattle.ti_machine.specs.Mirrors.Operands.{operand_of};
 
     ghost view = { λ o. operand_of o.kept };
-}
-
-// The first point of a domain above another one, or the first.
-#[tactic(auto, using(crate::proofs::PointsAbove::points))]
-fn next_point(domain: &Held, last: Option<Point>) -> Option<Point>
-    ensures value { points_above domain.now last ≡ from_point domain.now result }
-    ensures form { IfSome result IsPoint }
-{
-    match last {
-        Some(p) => if p.dim == domain.dim() {
-            next_above(domain, Some(&p))
-        } else {
-            None
-        },
-        None => next_above(domain, None),
-    }
 }
 
 // The point whose coordinates are 1, of the same dimension.

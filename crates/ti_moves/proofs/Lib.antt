@@ -5,7 +5,6 @@ mod Entering
 mod Goings
 mod Leaving
 mod MethodLaws
-mod PointsAbove
 mod SameRects
 mod Silent
 mod Teams

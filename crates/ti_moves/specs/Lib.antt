@@ -3,7 +3,6 @@ pub mod Arriving
 pub mod Callees
 pub mod Copying
 pub mod Moves
-pub mod Points
 pub mod Receiving
 pub mod Scopes
 pub mod Targets

@@ -11,8 +11,7 @@ use Rattle.ti_base.specs.PointSets.{same_number, is_lex_lt, IsAmong, Rises, IsAb
 use Rattle.ti_base.proofs.Lemmas.{filter_in, below_from, from_below, below_trans, one_list}
 use Rattle.ti_domain.proofs.Lemmas.{dim_of as dim_among}
 use Rattle.ti_lang.specs.Meaning.Held.{Held, points_in, dim_of}
-use Rattle.ti_eval.specs.Frames.{points_above}
-use Rattle.ti_moves.specs.Points.{from_point}
+use Rattle.ti_eval.specs.Frames.{points_above, from_point}
 
 -- ---- the test of the order
 
