@@ -6,8 +6,10 @@ mod Nexts
 mod Operands
 mod Points
 mod PointsAbove
+mod SameRects
 mod Sizes
 mod Slots
 mod Steps
+mod TeamRects
 mod Turning
 pub mod Lemmas

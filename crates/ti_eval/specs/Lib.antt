@@ -3,6 +3,7 @@ pub mod Comes
 pub mod Envs
 pub mod Forms
 pub mod Frames
+pub mod Mirrors
 pub mod Operators
 pub mod Places
 pub mod Scalars

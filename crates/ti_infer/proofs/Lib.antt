@@ -26,7 +26,6 @@ pub mod FitEdges
 pub mod Inferring
 pub mod StrippedResults
 pub mod LocalsTold
-pub mod TextKnown
 pub mod OnlyChanges
 pub mod NoMainCalls
 pub mod Answering

@@ -1,7 +1,7 @@
 -- In a stripped program in which no rule of types is broken no statement calls a single method: `main` alone is one, and is never called.
-use Rattle.std.proofs.Common.{◌≡◌, ◌⊎◌, inl, inr, ℕ, zero, suc, ◌+◌, ◌≤◌, ◌==◌, Bool, true, false, not, ◌&&◌, ◌||◌, cond, if◌then◌else◌}
-use Rattle.std.proofs.Common.{find, length, flat_map, is_some, slice_get, option_map, option_and_then, Option, Some, None, List, [], ◌∷◌}
-use Rattle.std.proofs.Common.{◌++◌, refl, ap, ap₂, sym, ◌∙◌, subst, arith, eqb-true, eq-eqb}
+use Rattle.std.proofs.Common.{◌≡◌, ◌⊎◌, inl, inr, ℕ, zero, suc, ◌+◌, ◌==◌, Bool, true, false, not, ◌&&◌, ◌||◌, cond, if◌then◌else◌}
+use Rattle.std.proofs.Common.{find, length, flat_map, is_some, slice_get, option_and_then, Option, Some, None, List, [], ◌∷◌}
+use Rattle.std.proofs.Common.{◌++◌, refl, ap, ap₂, sym, ◌∙◌, subst, arith, eqb-true}
 use Rattle.std.proofs.Math.Bool.{Bool-set}
 use Rattle.std.proofs.Math.Logic.{∥∥₁_elim}
 use Rattle.std.specs.List.{list_any}
@@ -9,22 +9,22 @@ use Rattle.std.proofs.lemmas.List.Folds.{list_any-append}
 use Rattle.ti_base.specs.declared.place.Place.{Place}
 use Rattle.ti_syntax.specs.Trees.Expressions.{Exp}
 use Rattle.ti_syntax.specs.Trees.Statements.{InitTree, Stm, MaybeStm, Stms, stms}
-use Rattle.ti_syntax.specs.Trees.Classes.{ParamTree, ParamsTree, TextTree}
-use Rattle.ti_lang.specs.Program.Types.{ValueType, Declaration, Typed, Foreach, VariableUse}
+use Rattle.ti_syntax.specs.Trees.Classes.{ParamsTree, TextTree}
+use Rattle.ti_lang.specs.Program.Types.{ValueType, Declaration, Typed, Foreach}
 use Rattle.ti_lang.specs.Program.Types as t
-use Rattle.ti_lang.specs.Program.Expressions.{NumberedExp, NumberedExps, place_of_numbered}
+use Rattle.ti_lang.specs.Program.Expressions.{NumberedExp, place_of_numbered}
 use Rattle.ti_lang.specs.Program.Expressions as e
 use Rattle.ti_lang.specs.Program.Statements.{NumberedInit, NumberedStm, MaybeNumbered, NumberedStms, numbered_stms}
 use Rattle.ti_lang.specs.Program.Statements as s
-use Rattle.ti_lang.specs.Program.Classes.{NumberedParam, NumberedParams, Words, NumberedMethod, NumberedProgram}
-use Rattle.ti_lang.specs.Program.Scope.{ScopeVariable, ScopeContents, parameters_from, parameters, this_of}
+use Rattle.ti_lang.specs.Program.Classes.{NumberedParams, Words, NumberedMethod, NumberedProgram}
+use Rattle.ti_lang.specs.Program.Scope.{ScopeVariable, ScopeContents, parameters, this_of}
 use Rattle.ti_lang.specs.MainForm.{is_words, is_void, is_public, has_main_modifiers, has_main_form}
 use Rattle.ti_lang.specs.Members.{OwnMethod, methods_of, is_static, is_single, name_number}
-use Rattle.ti_lang.specs.Scopes.{Site, Known, typed_as, declares, past, past_maybe, behind, behind_maybe, behind_params, method_site, body_site}
+use Rattle.ti_lang.specs.Scopes.{Site, declares, past, past_maybe, behind, behind_maybe, method_site, body_site}
 use Rattle.ti_lang.specs.Numbering as number
-use Rattle.ti_lang.specs.Numbering.{NumbersExp, NumbersInit, NumbersMaybe, NumbersStm, NumbersMaybeStm, NumbersStms, NumbersParamList, NumbersParams, NumbersMethod, NumbersMethods, Numbers, IsNumbered}
+use Rattle.ti_lang.specs.Numbering.{NumbersExp, NumbersInit, NumbersStm, NumbersMaybeStm, NumbersStms, NumbersParams, NumbersMethod, NumbersMethods, Numbers, IsNumbered}
 use Rattle.ti_lang.specs.Typing.Kinds.{domain_dim}
-use Rattle.ti_lang.specs.Typing.Declared.{in_scope, declared_type, instance_method, is_static_method}
+use Rattle.ti_lang.specs.Typing.Declared.{instance_method, is_static_method}
 use Rattle.ti_lang.specs.Typing.TextTypes.{type_in_text}
 use Rattle.ti_lang.specs.Typing.Called.{called_method, method_behind}
 use Rattle.ti_lang.specs.Typing.Effects.{is_collective_call}
@@ -42,6 +42,8 @@ use Rattle.ti_rules.specs.Broken.Targets.{write_refusals}
 use Rattle.ti_rules.specs.Broken.Statements.{update_refusals, standing_refusals}
 use Rattle.ti_rules.specs.TypeRules.{class_refusals, head_refusals, end_refusals, method_refusals, type_refusals}
 use Rattle.ti_rules.proofs.Lemmas.{nil_left, nil_right, each_left, each_right, not_mistaken, operand_there, and_left, and_right, has_type}
+use Rattle.ti_rules.proofs.Lemmas.{none_some, some_same, only_if_there, TextFits, text_fits, SiteFits, past_fits, past_maybe_fits}
+use Rattle.ti_rules.proofs.Lemmas.{behind_fits, behind_maybe_fits, own_there, static_there, exp_known, point_fits, body_fits}
 use Rattle.ti_blame.specs.declared.blame.Blame.{Blame}
 use Rattle.ti_blame.specs.declared.blame.Blame.TheVariants.{OfMethod, OfCollective, Always}
 use Rattle.ti_blame.specs.Marks.{Marks}
@@ -52,7 +54,6 @@ use Rattle.ti_infer.specs.Descent.{is_always}
 use Rattle.ti_infer.proofs.Truths.{true_false}
 use Rattle.ti_infer.proofs.Within.{never_blamed}
 use Rattle.ti_infer.proofs.OnlyChanges.{text_still}
-use Rattle.ti_infer.proofs.TextKnown.{none_some, some_same, only_if_there, TextFits, text_fits, VariableKnown, AllVariables, with_known, SiteFits, past_fits, past_maybe_fits, behind_fits, behind_maybe_fits, own_there, static_there, exp_known}
 
 abbrev acts_always : List Blame → Bool
 acts_always xs = list_any is_always xs
@@ -152,70 +153,6 @@ module _ (p : NumberedProgram) (plain : MethodsPlain p.methods) (s : ScopeConten
       ap (λ (o : Option NumberedMethod). acts_always (method_reasons o)) c.1 ∙ instance_calm c.0 (get_plain p.methods plain method c.0 c.1) (c.2 ∙ z)
   called_calm x y (number.member {y = a} {name = name} n i h) r = behind_calm p plain (type_in_text p s.this_class a) _
   called_calm x y _ r = refl
-
--- ---- in the body of a foreach
-
-find_more : {B : Type 0} (f : ScopeVariable → B) (test : ScopeVariable → Bool) (vs ws : List ScopeVariable) (b : B)
-    → option_map f (find test vs) ≡ Some b → option_map f (find test (vs ++ ws)) ≡ Some b
-find_more f test [] ws b h = absurd (none_some b h)
-find_more {B} f test (v ∷ vs) ws b h = by (test v) h (find_more f test vs ws b)
-  where
-    by : (c : Bool) → option_map f (cond c (Some v) (find test vs)) ≡ Some b → (option_map f (find test vs) ≡ Some b → option_map f (find test (vs ++ ws)) ≡ Some b)
-        → option_map f (cond c (Some v) (find test (vs ++ ws))) ≡ Some b
-    by true h ih = h
-    by false h ih = ih h
-
-find_last : (test : ScopeVariable → Bool) (vs : List ScopeVariable) (w : ScopeVariable) → find test vs ≡ None → find test (vs ++ w ∷ []) ≡ cond (test w) (Some w) None
-find_last test [] w h = refl
-find_last test (v ∷ vs) w h = by (test v) h (find_last test vs w)
-  where
-    by : (c : Bool) → cond c (Some v) (find test vs) ≡ None → (find test vs ≡ None → find test (vs ++ w ∷ []) ≡ cond (test w) (Some w) None)
-        → cond c (Some v) (find test (vs ++ w ∷ [])) ≡ cond (test w) (Some w) None
-    by true h ih = absurd (none_some v (sym h))
-    by false h ih = ih h
-
-more_known : (this : Option ℕ) (vs ws : List ScopeVariable) (number : ℕ) (d : Declaration) → VariableKnown (record { this_class = this; variables = vs }) number d
-    → VariableKnown (record { this_class = this; variables = vs ++ ws }) number d
-more_known this vs ws number (Typed is_single type) k = tt
-more_known this vs ws number Foreach k = (k.0, find_more (λ (v : ScopeVariable). v.type) (λ (v : ScopeVariable). v.number == number) vs ws (t.Pt k.0) k.1)
-
-all_more : (this : Option ℕ) (vs ws : List ScopeVariable) (scope : List Known)
-    → AllVariables (record { this_class = this; variables = vs }) scope
-    → AllVariables (record { this_class = this; variables = vs ++ ws }) scope
-all_more this vs ws [] a = tt
-all_more this vs ws (known ∷ rest) a = (more_known this vs ws known.1.number known.1.declared a.0, all_more this vs ws rest a.1)
-
-abbrev point_in : Site → ℕ → Bool → ScopeVariable
-point_in site n b = record { number = site.variables; type = t.Pt n; is_single = b }
-
-abbrev with_last : Option ℕ → List ScopeVariable → ScopeVariable → ScopeContents
-with_last this vs w = record { this_class = this; variables = vs ++ w ∷ [] }
-
-point_fits : (p : NumberedProgram) (this : Option ℕ) (vs : List ScopeVariable) (site : Site) (name : List ℕ) (n : ℕ) (b : Bool) → SiteFits p (record { this_class = this; variables = vs }) site
-    → SiteFits p (with_last this vs (point_in site n b)) (declares site name Foreach)
-point_fits p this vs site name n b k = record {
-  text = k.text;
-  this = k.this;
-  scope = with_known (with_last this vs (point_in site n b)) site.scope name (record { number = site.variables; declared = Foreach })
-      (all_more this vs (point_in site n b ∷ []) site.scope k.scope) (n, there);
-  fresh = free;
-}
-  where
-    there : declared_type (with_last this vs (point_in site n b)) site.variables Foreach ≡ Some (t.Pt n)
-    there =
-        let low : site.variables ≤ site.variables = omega arith in
-        ap (λ (o : Option ScopeVariable). option_map (λ (v : ScopeVariable). v.type) o)
-        (find_last (λ (v : ScopeVariable). v.number == site.variables) vs (point_in site n b) (k.fresh site.variables low)
-        ∙ ap (λ c. cond c (Some (point_in site n b)) None) (eq-eqb site.variables site.variables refl))
-
-    free : (i : ℕ) → site.variables + 1 ≤ i → in_scope (with_last this vs (point_in site n b)) i ≡ None
-    free i l =
-        let low : site.variables ≤ i = omega (arith, l) in
-        find_last (λ (v : ScopeVariable). v.number == i) vs (point_in site n b) (k.fresh i low) ∙ by (site.variables == i) refl
-      where
-        by : (c : Bool) → (site.variables == i) ≡ c → cond c (Some (point_in site n b)) None ≡ None
-        by true e = let same = eqb-true site.variables i e in absurd (omega (arith, same, l))
-        by false e = refl
 
 -- ---- statements
 
@@ -350,54 +287,6 @@ module _ (p : NumberedProgram) (plain : MethodsPlain p.methods) (m : NumberedMet
     stms_calm vs j site k xs ys (number.cons {x = x} {y = y} {xs = us} {ys = rest} h more) r =
         both_calm (reasons p m y) (reasons_of_all p m rest) (stm_calm vs j site k x y h (each_left (standing_refusals p) (inside p (here vs j) y) (inside_all p (here vs j) rest) r))
         (stms_calm vs j (behind site x) (behind_fits p (scope vs) site x k) us rest more (each_right (standing_refusals p) (inside p (here vs j) y) (inside_all p (here vs j) rest) r))
-
--- ---- the site of a body
-
--- no parameter has a number behind the last
-params_above : (n : ℕ) (ys : List NumberedParam) (k : ℕ) → n + length ys ≤ k → find (λ (v : ScopeVariable). v.number == k) (parameters_from n ys) ≡ None
-params_above n [] k h = refl
-params_above n (y ∷ ys) k h =
-    ap (λ b. cond b (Some (record { number = n; type = y.ty.type; is_single = y.ty.is_single })) (find (λ (v : ScopeVariable). v.number == k) (parameters_from (n + 1) ys))) (other (n == k) refl)
-    ∙ params_above (n + 1) ys k (omega (arith, h))
-  where
-    other : (b : Bool) → (n == k) ≡ b → b ≡ false
-    other true e = let same = eqb-true n k e in absurd (omega (arith, same, h))
-    other false e = refl
-
--- behind parameters, which have types and the next numbers
-record Behind (s : ScopeContents) (a b : Site) (n : ℕ) : Type 0 where
-  text : b.text ≡ a.text
-  class : b.class ≡ a.class
-  static : b.static ≡ a.static
-  scope : AllVariables s b.scope
-  variables : b.variables ≡ a.variables + n
-
-params_behind : (s : ScopeContents) (site : Site) (ps : List ParamTree) (ys : List NumberedParam) → NumbersParamList site ps ys
-    → AllVariables s site.scope → Behind s site (behind_params site ps) (length ys)
-params_behind s site ps ys number.none a = record { text = refl; class = refl; static = refl; scope = a; variables = omega arith }
-params_behind s site ps ys (number.more {param = param} {params = params} {ys = rest} type fresh room h) a =
-    let inside = declares site param.name (typed_as site.text param.ty) in
-    let q = params_behind s inside params rest h (with_known s site.scope param.name (record { number = site.variables; declared = typed_as site.text param.ty }) a tt) in
-    record { text = q.text; class = q.class; static = q.static; scope = q.scope; variables = q.variables ∙ plus site.variables (length rest) }
-  where
-    plus : (a b : ℕ) → (a + 1) + b ≡ a + suc b
-    plus a b = omega arith
-
-body_fits : (p : NumberedProgram) (this : Option ℕ) (site : Site) (ps : ParamsTree) (params : NumberedParams) → NumbersParams site ps params
-    → TextFits p site.text → (site.static ≡ false → this ≡ Some site.class)
-    → AllVariables (record { this_class = this; variables = parameters params }) site.scope → site.variables ≡ 0
-    → SiteFits p (record { this_class = this; variables = parameters params }) (body_site site ps)
-body_fits p this site ps params number.words k h a z = record { text = k; this = h; scope = a; fresh = λ i l. refl }
-body_fits p this site ps params (number.params {params = trees} {ys = ys} n) k h a z =
-    let q = params_behind (record { this_class = this; variables = parameters_from 0 ys }) site trees ys n a in
-    let count = q.variables in
-    let last : 0 + length ys ≡ (behind_params site trees).variables = omega (arith, count, z) in
-    record {
-      text = subst (TextFits p) (sym q.text) k;
-      this = λ e. h (sym q.static ∙ e) ∙ ap Some (sym q.class);
-      scope = q.scope;
-      fresh = λ i l. params_above 0 ys i (omega (arith, last, l));
-    }
 
 -- ---- methods
 

@@ -21,7 +21,6 @@ mod Teams
 mod Programs
 mod Premises
 mod PremisesSpelled
-mod PremisesNamed
 mod PremisesCalls
 mod PremisesStated
 mod PremisesHold

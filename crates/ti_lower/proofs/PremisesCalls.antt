@@ -26,11 +26,11 @@ use Rattle.ti_rules.specs.declared.rule.Rule.TheVariants.{Y6}
 use Rattle.ti_rules.specs.Broken.Misplaced.{gives_nothing, misplaced}
 use Rattle.ti_rules.specs.Broken.Expressions.{exp_refusals}
 use Rattle.ti_rules.specs.Broken.RightSides.{inner_refusals, value_refusals}
-use Rattle.ti_rules.proofs.Lemmas.{nil_left, nil_right, not_refused, operand_there, and_right, has_type}
+use Rattle.ti_rules.proofs.Lemmas.{nil_left, nil_right, not_refused, operand_there, and_right, has_type, none_some, some_same, SiteFits}
+use Rattle.ti_rules.proofs.Lemmas.{dims_in, exp_known, exp_dims, own_there, static_there}
 use Rattle.ti_lower.specs.Calling.{number_called}
 use Rattle.ti_lower.proofs.Arguments.{AreArgs, IsObject, method_is}
 use Rattle.ti_lower.proofs.Working.{IsCalled, IsNoCall, IsRight}
-use Rattle.ti_lower.proofs.PremisesNamed.{none_some, some_same, SiteFits, dims_in, exp_known, exp_dims, own_there, static_there}
 
 where_some : {A : Type 0} (b : Bool) (x y : A) → where_true b x ≡ Some y → (b ≡ true) × (x ≡ y)
 where_some true x y e = (refl, some_same x y e)

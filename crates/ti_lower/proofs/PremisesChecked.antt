@@ -16,7 +16,7 @@ use Rattle.ti_lang.specs.Typing.Kinds.{is_void}
 use Rattle.ti_lang.specs.Meaning.Calls.{Call, call_by, parameters_of}
 use Rattle.ti_lang.specs.Meaning.Performing.{declared_alone, declared_among}
 use Rattle.ti_rules.specs.ProgramRefusals.{IsChecked}
-use Rattle.ti_rules.proofs.Lemmas.{and_left, and_right}
+use Rattle.ti_rules.proofs.Lemmas.{and_left, and_right, none_some}
 use Rattle.ti_lower_expr.specs.Slots.{Name, This, Of, Hidden}
 use Rattle.ti_lower_expr.specs.Slots as slot_of
 use Rattle.ti_lower_expr.specs.Methods.{names_of}
@@ -26,7 +26,6 @@ use Rattle.ti_lower.proofs.Arguments.{AreArgs, IsObject}
 use Rattle.ti_lower.proofs.Cutting.{Stay}
 use Rattle.ti_lower.proofs.Working.{IsCalled, IsNoCall, IsRight, InitFine, IsClosed, StmFine, MaybeFine, StmsFine}
 use Rattle.ti_lower.proofs.Premises.{IsReturn, EndOf, IsEnded, MethodFine, MainFine}
-use Rattle.ti_lower.proofs.PremisesNamed.{none_some}
 use Rattle.ti_lower.proofs.PremisesHold.{program_fine}
 
 -- ---- what is found, or isn't

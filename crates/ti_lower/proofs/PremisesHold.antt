@@ -1,18 +1,18 @@
 -- A program of a text that breaks no rule meets what the theorem on code asks of it.
-use Rattle.std.proofs.Common.{◌≡◌, true≢false, ℕ, zero, suc, ◌+◌, ◌≤◌, ◌==◌, Bool, true, false, not, ◌&&◌, cond, if◌then◌else◌, length, find, flat_map, slice_get, Option, Some, None, List, [], ◌∷◌, ◌++◌, refl, ap, sym, ◌∙◌, subst, arith, eqb-true}
+use Rattle.std.proofs.Common.{◌≡◌, true≢false, ℕ, zero, suc, ◌+◌, ◌==◌, Bool, true, false, not, ◌&&◌, if◌then◌else◌, length, flat_map, slice_get, Option, Some, None, List, [], ◌∷◌, ◌++◌, refl, ap, sym, ◌∙◌, subst, arith}
 use Rattle.ti_syntax.specs.Trees.Statements.{stms}
-use Rattle.ti_syntax.specs.Trees.Classes.{ParamTree, ParamsTree, ResultTree, TextTree}
+use Rattle.ti_syntax.specs.Trees.Classes.{ParamsTree, ResultTree, TextTree}
 use Rattle.ti_lang.specs.Program.Types as t
-use Rattle.ti_lang.specs.Program.Statements.{NumberedStm, NumberedStms, numbered_stms}
+use Rattle.ti_lang.specs.Program.Statements.{NumberedStm, numbered_stms}
 use Rattle.ti_lang.specs.Program.Statements as s
 use Rattle.ti_lang.specs.Program.Classes.{NumberedParam, NumberedParams, Words, Params, NumberedResult, NumberedMethod, NumberedProgram}
-use Rattle.ti_lang.specs.Program.Scope.{ScopeVariable, ScopeContents, parameters_from, parameters, this_of}
+use Rattle.ti_lang.specs.Program.Scope.{ScopeContents, parameters_from, parameters, this_of}
 use Rattle.ti_lang.specs.MainForm as form
 use Rattle.ti_lang.specs.MainForm.{is_words, is_public, has_main_modifiers, has_main_form}
 use Rattle.ti_lang.specs.Members.{OwnMethod, methods_of, is_static, is_single, name_number}
-use Rattle.ti_lang.specs.Scopes.{Site, typed_as, declares, behind_params, method_site, body_site}
+use Rattle.ti_lang.specs.Scopes.{Site, behind_params, method_site, body_site}
 use Rattle.ti_lang.specs.Numbering as number
-use Rattle.ti_lang.specs.Numbering.{NumbersResult, NumbersParamList, NumbersParams, NumbersStms, NumbersMethod, NumbersMethods, HasMain, Numbers, IsNumbered}
+use Rattle.ti_lang.specs.Numbering.{NumbersResult, NumbersParams, NumbersMethod, NumbersMethods, IsNumbered}
 use Rattle.ti_lang.specs.Typing.Kinds.{is_void}
 use Rattle.ti_lang.specs.Typing.Declared.{type_of_result, result_type}
 use Rattle.ti_lang.specs.Meaning.Calls as calls
@@ -22,47 +22,17 @@ use Rattle.ti_rules.specs.Standing.{standing_in_method}
 use Rattle.ti_rules.specs.Broken.Statements.{standing_refusals}
 use Rattle.ti_rules.specs.TypeRules.{class_refusals, head_refusals, is_return, ends_with_return, end_refusals, method_refusals}
 use Rattle.ti_rules.specs.ProgramRefusals.{BreaksNothing}
-use Rattle.ti_rules.proofs.Lemmas.{nil_left, nil_right, not_refused, and_left, and_right}
+use Rattle.ti_rules.proofs.Lemmas.{nil_left, nil_right, not_refused, and_left, and_right, none_some, some_same, TextFits, text_fits}
+use Rattle.ti_rules.proofs.Lemmas.{AllVariables, params_behind, body_fits}
 use Rattle.ti_lower_expr.specs.Slots.{Name, Of}
 use Rattle.ti_lower_expr.specs.Methods.{this_names, param_names, names_of}
 use Rattle.ti_lower.proofs.Working.{StmFine, StmsFine}
 use Rattle.ti_lower.proofs.Premises.{IsReturn, EndOf, IsEnded, MethodFine, MainFine}
 use Rattle.ti_lower.proofs.PremisesSpelled.{AllBranched, MethodsBranched, spelled_branched}
-use Rattle.ti_lower.proofs.PremisesNamed.{none_some, some_same, TextFits, text_fits, AllVariables, with_known, SiteFits}
 use Rattle.ti_lower.proofs.PremisesCalls.{MainWords}
 use Rattle.ti_lower.proofs.PremisesStated.{Below, below_more, stms_fine}
 
 -- ---- the site of a body
-
--- no parameter has a number behind the last
-params_above : (n : ℕ) (ys : List NumberedParam) (k : ℕ) → n + length ys ≤ k → find (λ (v : ScopeVariable). v.number == k) (parameters_from n ys) ≡ None
-params_above n [] k h = refl
-params_above n (y ∷ ys) k h =
-    ap (λ b. cond b (Some (record { number = n; type = y.ty.type; is_single = y.ty.is_single })) (find (λ (v : ScopeVariable). v.number == k) (parameters_from (n + 1) ys))) (other (n == k) refl)
-    ∙ params_above (n + 1) ys k (omega (arith, h))
-  where
-    other : (b : Bool) → (n == k) ≡ b → b ≡ false
-    other true e = let same = eqb-true n k e in absurd (omega (arith, same, h))
-    other false e = refl
-
--- behind parameters, which have types and the next numbers
-record Behind (s : ScopeContents) (a b : Site) (n : ℕ) : Type 0 where
-  text : b.text ≡ a.text
-  class : b.class ≡ a.class
-  static : b.static ≡ a.static
-  scope : AllVariables s b.scope
-  variables : b.variables ≡ a.variables + n
-
-params_behind : (s : ScopeContents) (site : Site) (ps : List ParamTree) (ys : List NumberedParam) → NumbersParamList site ps ys
-    → AllVariables s site.scope → Behind s site (behind_params site ps) (length ys)
-params_behind s site ps ys number.none a = record { text = refl; class = refl; static = refl; scope = a; variables = omega arith }
-params_behind s site ps ys (number.more {param = param} {params = params} {ys = rest} type fresh room h) a =
-    let inside = declares site param.name (typed_as site.text param.ty) in
-    let q = params_behind s inside params rest h (with_known s site.scope param.name (record { number = site.variables; declared = typed_as site.text param.ty }) a tt) in
-    record { text = q.text; class = q.class; static = q.static; scope = q.scope; variables = q.variables ∙ plus site.variables (length rest) }
-  where
-    plus : (a b : ℕ) → (a + 1) + b ≡ a + suc b
-    plus a b = omega arith
 
 this_below : (n : ℕ) (o : Option ℕ) → Below n (this_names o)
 this_below n None = tt
@@ -82,23 +52,13 @@ scope_with this params = record { this_class = this; variables = parameters para
 abbrev names_with : Option ℕ → NumberedParams → List Name
 names_with this params = param_names (parameters_of params) (this_names this)
 
-body_fits : (p : NumberedProgram) (this : Option ℕ) (site : Site) (ps : ParamsTree) (params : NumberedParams) → NumbersParams site ps params
-    → TextFits p site.text → (site.static ≡ false → this ≡ Some site.class)
-    → AllVariables (scope_with this params) site.scope → site.variables ≡ 0
-    → SiteFits p (scope_with this params) (body_site site ps) × Below (body_site site ps).variables (names_with this params)
-body_fits p this site ps params number.words k h a z = (record { text = k; this = h; scope = a; fresh = λ i l. refl }, this_below site.variables this)
-body_fits p this site ps params (number.params {params = trees} {ys = ys} n) k h a z =
-    let q = params_behind (scope_with this (Params ys)) site trees ys n a in
-    let count = q.variables in
-    let last : 0 + length ys ≡ (behind_params site trees).variables = omega (arith, count, z) in (
-      record {
-        text = subst (TextFits p) (sym q.text) k;
-        this = λ e. h (sym q.static ∙ e) ∙ ap Some (sym q.class);
-        scope = q.scope;
-        fresh = λ i l. params_above 0 ys i (omega (arith, last, l));
-      },
-      subst (λ k. Below k (names_with this (Params ys))) last (params_below 0 ys (this_names this) (this_below 0 this)),
-    )
+body_below : (s : ScopeContents) (this : Option ℕ) (site : Site) (ps : ParamsTree) (params : NumberedParams) → NumbersParams site ps params
+    → AllVariables s site.scope → site.variables ≡ 0 → Below (body_site site ps).variables (names_with this params)
+body_below s this site ps params number.words a z = this_below site.variables this
+body_below s this site ps params (number.params {params = trees} {ys = ys} n) a z =
+    let count = (params_behind s site trees ys n a).variables in
+    let last : 0 + length ys ≡ (behind_params site trees).variables = omega (arith, count, z) in
+    subst (λ k. Below k (names_with this (Params ys))) last (params_below 0 ys (this_names this) (this_below 0 this))
 
 -- ---- the end of a body
 
@@ -150,7 +110,8 @@ method_fine p words text before own m k (number.method {result = result} {params
     let heads = head_refusals m ++ end_refusals m in
     let inner = flat_map (standing_refusals p) (standing_in_method p m) in
     let fine = stms_fine p words m (parameters params) None (body_site (method_site text own before) own.method.params)
-    (names_of m) fits.0 fits.1 (stms own.method.body) (numbered_stms body) h b (nil_right heads inner e) in
+    (names_of m) fits
+    (body_below (scope_with (this_of m) params) (this_of m) (method_site text own before) own.method.params params ps tt refl) (stms own.method.body) (numbered_stms body) h b (nil_right heads inner e) in
     let ends = not_refused (not (is_void (result_type m)) && not (ends_with_return body)) Y6 m.place (nil_right (head_refusals m) (end_refusals m) (nil_left heads inner e)) in
     record { stms = fine; ended = ended_fine p (this_of m) (result_type m) body (names_of m) ends fine }
 

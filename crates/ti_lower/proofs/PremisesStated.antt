@@ -1,20 +1,20 @@
 -- The statements of a method in which no rule of types is broken are fine.
-use Rattle.std.proofs.Common.{◌≡◌, ℕ, ◌+◌, ◌<◌, ◌≤◌, ◌==◌, Bool, true, false, not, ◌&&◌, ◌||◌, cond, if◌then◌else◌, find, flat_map, is_some, option_map, option_and_then, Option, Some, None, List, [], ◌∷◌, ◌++◌, refl, ap, sym, ◌∙◌, subst, arith, eqb-true, eq-eqb}
+use Rattle.std.proofs.Common.{◌≡◌, ℕ, ◌+◌, ◌<◌, ◌≤◌, ◌==◌, Bool, true, false, not, ◌&&◌, ◌||◌, if◌then◌else◌, flat_map, is_some, option_and_then, Option, Some, None, List, [], ◌∷◌, ◌++◌, refl, ap, sym, ◌∙◌, subst, arith, eqb-true}
 use Rattle.ti_base.specs.declared.place.Place.{Place}
 use Rattle.ti_syntax.specs.Trees.Expressions.{Exp}
 use Rattle.ti_syntax.specs.Trees.Statements.{InitTree, Stm, MaybeStm, Stms}
-use Rattle.ti_lang.specs.Program.Types.{ValueType, Declaration, VariableUse}
+use Rattle.ti_lang.specs.Program.Types.{ValueType, VariableUse}
 use Rattle.ti_lang.specs.Program.Types as t
 use Rattle.ti_lang.specs.Program.Expressions.{NumberedExp}
 use Rattle.ti_lang.specs.Program.Statements.{NumberedInit, NumberedStm, MaybeNumbered, NumberedStms}
 use Rattle.ti_lang.specs.Program.Statements as s
 use Rattle.ti_lang.specs.Program.Classes.{NumberedMethod, NumberedProgram}
 use Rattle.ti_lang.specs.Program.Scope.{ScopeVariable, ScopeContents, this_of}
-use Rattle.ti_lang.specs.Scopes.{Site, Known, declares, past, past_maybe, behind}
+use Rattle.ti_lang.specs.Scopes.{Site, declares, past, past_maybe, behind}
 use Rattle.ti_lang.specs.Numbering as number
 use Rattle.ti_lang.specs.Numbering.{NumbersInit, NumbersMaybe, NumbersStm, NumbersMaybeStm, NumbersStms}
 use Rattle.ti_lang.specs.Typing.Kinds.{is_void, domain_dim}
-use Rattle.ti_lang.specs.Typing.Declared.{in_scope, declared_type, result_type}
+use Rattle.ti_lang.specs.Typing.Declared.{result_type}
 use Rattle.ti_lang.specs.Typing.Expressions.{operand_type}
 use Rattle.ti_lang.specs.Meaning.Scoping.{same_variable, same_declaration}
 use Rattle.ti_lang.specs.Meaning.Performing.{declared_alone, declared_among}
@@ -30,14 +30,14 @@ use Rattle.ti_rules.specs.Broken.Expressions.{exp_refusals}
 use Rattle.ti_rules.specs.Broken.RightSides.{inner_refusals, value_refusals, initial_refusals}
 use Rattle.ti_rules.specs.Broken.Targets.{write_refusals}
 use Rattle.ti_rules.specs.Broken.Statements.{given_back, update_refusals, standing_refusals}
-use Rattle.ti_rules.proofs.Lemmas.{nil_left, nil_right, each_left, each_right, not_refused, not_mistaken}
+use Rattle.ti_rules.proofs.Lemmas.{nil_left, nil_right, each_left, each_right, not_refused, not_mistaken, SiteFits, past_keeps}
+use Rattle.ti_rules.proofs.Lemmas.{past_maybe_keeps, behind_more, past_fits, past_maybe_fits, behind_fits, point_fits}
 use Rattle.ti_lower_expr.specs.Slots.{Name, This, Of, Hidden}
 use Rattle.ti_lower_expr.specs.Slots as slot_of
 use Rattle.ti_lower.specs.Laying.{names_after}
 use Rattle.ti_lower.proofs.Cutting.{leaves, Stay}
 use Rattle.ti_lower.proofs.Working.{InitFine, IsClosed, StmFine, MaybeFine, StmsFine}
 use Rattle.ti_lower.proofs.PremisesSpelled.{IsPlain, IsPlainMaybe, Branched, MaybeBranched, AllBranched}
-use Rattle.ti_lower.proofs.PremisesNamed.{none_some, VariableKnown, AllVariables, with_known, SiteFits, past_keeps, past_maybe_keeps, behind_more, past_fits, past_maybe_fits, behind_fits}
 use Rattle.ti_lower.proofs.PremisesCalls.{MainWords, call_fine, right_fine, inner_there}
 
 -- ---- names that stay
@@ -106,71 +106,6 @@ below_behind site x y ns h z = below_more site.variables (behind site x).variabl
 closed : (p : NumberedProgram) (this : Option ℕ) (result : ValueType) (site : Site) (x : Stm) (y : NumberedStm) → NumbersStm site x y → IsPlain x → IsClosed p this result y
 closed p this result site x y (number.declare b fresh room h) z = elim z [ ]
 closed p this result site x y _ z = tt
-
--- ---- in the body of a foreach
-
-find_more : {B : Type 0} (f : ScopeVariable → B) (test : ScopeVariable → Bool) (vs ws : List ScopeVariable) (b : B)
-    → option_map f (find test vs) ≡ Some b → option_map f (find test (vs ++ ws)) ≡ Some b
-find_more f test [] ws b h = absurd (none_some b h)
-find_more {B} f test (v ∷ vs) ws b h = by (test v) h (find_more f test vs ws b)
-  where
-    by : (c : Bool) → option_map f (cond c (Some v) (find test vs)) ≡ Some b → (option_map f (find test vs) ≡ Some b → option_map f (find test (vs ++ ws)) ≡ Some b)
-        → option_map f (cond c (Some v) (find test (vs ++ ws))) ≡ Some b
-    by true h ih = h
-    by false h ih = ih h
-
-find_last : (test : ScopeVariable → Bool) (vs : List ScopeVariable) (w : ScopeVariable) → find test vs ≡ None → find test (vs ++ w ∷ []) ≡ cond (test w) (Some w) None
-find_last test [] w h = refl
-find_last test (v ∷ vs) w h = by (test v) h (find_last test vs w)
-  where
-    by : (c : Bool) → cond c (Some v) (find test vs) ≡ None → (find test vs ≡ None → find test (vs ++ w ∷ []) ≡ cond (test w) (Some w) None)
-        → cond c (Some v) (find test (vs ++ w ∷ [])) ≡ cond (test w) (Some w) None
-    by true h ih = absurd (none_some v (sym h))
-    by false h ih = ih h
-
-more_known : (this : Option ℕ) (vs ws : List ScopeVariable) (number : ℕ) (d : Declaration) → VariableKnown (record { this_class = this; variables = vs }) number d
-    → VariableKnown (record { this_class = this; variables = vs ++ ws }) number d
-more_known this vs ws number (t.Typed is_single type) k = tt
-more_known this vs ws number t.Foreach k = (k.0, find_more (λ (v : ScopeVariable). v.type) (λ (v : ScopeVariable). v.number == number) vs ws (t.Pt k.0) k.1)
-
-all_more : (this : Option ℕ) (vs ws : List ScopeVariable) (scope : List Known)
-    → AllVariables (record { this_class = this; variables = vs }) scope
-    → AllVariables (record { this_class = this; variables = vs ++ ws }) scope
-all_more this vs ws [] a = tt
-all_more this vs ws (known ∷ rest) a = (more_known this vs ws known.1.number known.1.declared a.0, all_more this vs ws rest a.1)
-
--- the variable of a foreach in a scope
-abbrev point_in : Site → ℕ → Bool → ScopeVariable
-point_in site n b = record { number = site.variables; type = t.Pt n; is_single = b }
-
-abbrev with_last : Option ℕ → List ScopeVariable → ScopeVariable → ScopeContents
-with_last this vs w = record { this_class = this; variables = vs ++ w ∷ [] }
-
-point_fits : (p : NumberedProgram) (this : Option ℕ) (vs : List ScopeVariable) (site : Site) (name : List ℕ) (n : ℕ) (b : Bool) → SiteFits p (record { this_class = this; variables = vs }) site
-    → SiteFits p (with_last this vs (point_in site n b)) (declares site name t.Foreach)
-point_fits p this vs site name n b k = record {
-  text = k.text;
-  this = k.this;
-  scope = with_known (with_last this vs (point_in site n b)) site.scope name (record { number = site.variables; declared = t.Foreach })
-      (all_more this vs (point_in site n b ∷ []) site.scope k.scope) (n, there);
-  fresh = free;
-}
-  where
-    there : declared_type (with_last this vs (point_in site n b)) site.variables t.Foreach ≡ Some (t.Pt n)
-    there =
-        let low : site.variables ≤ site.variables = omega arith in
-        ap (λ (o : Option ScopeVariable). option_map (λ (v : ScopeVariable). v.type) o)
-        (find_last (λ (v : ScopeVariable). v.number == site.variables) vs (point_in site n b) (k.fresh site.variables low)
-        ∙ ap (λ c. cond c (Some (point_in site n b)) None) (eq-eqb site.variables site.variables refl))
-
-    free : (i : ℕ) → site.variables + 1 ≤ i → in_scope (with_last this vs (point_in site n b)) i ≡ None
-    free i l =
-        let low : site.variables ≤ i = omega (arith, l) in
-        find_last (λ (v : ScopeVariable). v.number == i) vs (point_in site n b) (k.fresh i low) ∙ by (site.variables == i) refl
-      where
-        by : (c : Bool) → (site.variables == i) ≡ c → cond c (Some (point_in site n b)) None ≡ None
-        by true e = let same = eqb-true site.variables i e in absurd (omega (arith, same, l))
-        by false e = refl
 
 -- ---- statements
 

@@ -4,10 +4,8 @@ mod Going
 mod Numbers
 mod Paths
 mod Reversed
-mod SameRects
 mod Sending
 mod Striding
-mod Teams
 mod Tellings
 mod Weights
 mod Withins

@@ -1,7 +1,6 @@
 -- Definitions that mirror code, as its private contracts speak of it: nobody has to believe them.
 pub mod Conversions
 pub mod Desks
-pub mod Domains
 pub mod GoingOn
 pub mod Instrs
 pub mod Machines

@@ -1,23 +1,18 @@
 // Points, ranges and rectangular domains from operands.
 
-ghost use Rattle.std.specs.Prelude.{◌≡◌, ◌<◌, ◌^◌, ◌++◌, [], IfOk, OnOk};
-ghost use Rattle.ti_base.specs.Points.{IsDim, IsPoint};
-ghost use Rattle.ti_base.specs.Rects.{IsRect, IsIn, points_of};
+ghost use Rattle.std.specs.Prelude.{◌≡◌, ◌++◌, [], IfOk, OnOk};
+ghost use Rattle.ti_base.specs.Points.{IsDim};
+ghost use Rattle.ti_base.specs.Rects.{IsRect};
 ghost use Rattle.ti_lang.specs.Meaning.Held.{Dm};
 ghost use Rattle.ti_lang.specs.Meaning.Literals as literal;
-ghost use Rattle.ti_lang.specs.Meaning.Collectives as collectives;
-ghost use Rattle.ti_lang.specs.Meaning.Copies.{element_at as element_at_spec};
-ghost use Rattle.ti_lang.specs.Meaning.Operands.{same_points};
 ghost use Rattle.ti_eval.specs.Bounds.{bounds_of};
 ghost use Rattle.ti_code.specs.Effects as effects;
-ghost use Rattle.ti_machine.specs.Mirrors.Domains.{last_of};
 
 use std::alloc::Global;
-use ti_base::{Memory, Point, Rect, Value};
+use ti_base::{Memory, Rect, Value};
 use ti_domain::{DomErr, dom_of};
 use ti_eval::{Bounds, Held, empty_rect};
-use ti_rect::rect::is_empty;
-use ti_rect::{rect_make, rect_meet};
+use ti_rect::rect_meet;
 
 /// The domain without points.
 pub(crate) fn no_points(alloc: Global, dim: u8) -> Result<Held, Memory>
@@ -97,58 +92,4 @@ pub(crate) fn bounds(alloc: Global, args: &[Held]) -> Result<Bounds, Memory>
         add_range(&mut found, &args[3 * k], &args[3 * k + 1], &args[3 * k + 2])?;
     }
     Ok(found)
-}
-
-// The element of a process.
-fn element_at(number: u32) -> Point
-    requires { number < 2 ^ 31 }
-    ensures value { result ≡ element_at_spec number }
-    ensures form { IsPoint result }
-{
-    Point {
-        dim: 1,
-        x1: number as i32,
-        x2: 0,
-        x3: 0,
-    }
-}
-
-// The element of the last of so many processes.
-fn last_element(procs: u32) -> Point
-    requires { procs < 2 ^ 31 }
-    ensures value { result ≡ last_of procs }
-    ensures form { IsPoint result }
-{
-    Point {
-        dim: 1,
-        x1: procs as i32 - 1,
-        x2: 0,
-        x3: 0,
-    }
-}
-
-/// One element for each process.
-pub(crate) fn team(procs: u32) -> Rect
-    requires { procs < 2 ^ 31 }
-    ensures value { result ≡ collectives.team procs }
-    ensures form { IsRect result }
-    ensures first { 0 < procs → IsIn result (element_at_spec 0) }
-{
-    match rect_make(&element_at(0), &last_element(procs), &element_at(1)) {
-        Ok(r) => r,
-        Err(_) => unreachable!(),
-    }
-}
-
-/// Whether a rectangular domain has one element for each process.
-pub(crate) fn is_of_team(r: &Rect, procs: u32) -> bool
-    requires form { IsRect r.now }
-    requires small { procs < 2 ^ 31 }
-    ensures { result ≡ same_points (points_of r.now) (points_of (collectives.team procs)) }
-{
-    if procs == 0 {
-        is_empty(r)
-    } else {
-        *r == team(procs)
-    }
 }

@@ -12,13 +12,13 @@ ghost use Rattle.ti_machine.specs.Mirrors.Desks.{spot_of, who, Given, Made, Make
 ghost use Rattle.ti_machine.specs.Telling.{Tells};
 
 use crate::desk::Desk;
-use crate::domains::{bounds, common, is_of_team, numbers_of, team as rect_of_team};
+use crate::domains::{bounds, common, numbers_of};
 use std::alloc::Global;
 use ti_base::{FaultKind, Place, Value};
 use ti_code::{Member, OneOperand, Operation};
 use ti_eval::{
-    Held, Stop, Team, Told, as_int, as_long, indexed, kept_local, member, operated, operated_alone,
-    point_of_numbers, rect_from, to_domain,
+    Held, Stop, Team, Told, as_int, as_long, indexed, is_of_team, kept_local, member, operated,
+    operated_alone, point_of_numbers, rect_from, rect_of_team, to_domain,
 };
 use ti_lang::program::Ty;
 use ti_lang::typing::BuiltIn;

@@ -25,15 +25,18 @@ pub record OneReading : Type 0 where
   pub one_misfit : (list : List Token) (a b : Option (Misfit × Place)) → IsGrammarRefusal list a → IsGrammarRefusal list b → a ≡ b
   pub one_numbered : (tree : TextTree) (p q : NumberedProgram) → Numbers tree p → Numbers tree q → p ≡ q
 
-tokens_or_bytes : OneReading → (text : List ℕ) (tokens : List Token) (refusal : Refusal) → HasTokens text tokens → IsLexicalRefusal text refusal → ⊥
+-- a text that is tokens has no flaw of bytes
+pub tokens_or_bytes : OneReading → (text : List ℕ) (tokens : List Token) (refusal : Refusal) → HasTokens text tokens → IsLexicalRefusal text refusal → ⊥
 tokens_or_bytes known text tokens refusal has is = known.not_both text tokens refusal has.short has.tokenized is
 
-tree_or_misfit : OneReading → (text : List ℕ) (tree : TextTree) (tokens : List Token) (misfit : Misfit × Place) → HasTree text tree → HasTokens text tokens → IsGrammarRefusal tokens (Some misfit) → ⊥
+-- a text that is a tree has tokens that fit the grammar
+pub tree_or_misfit : OneReading → (text : List ℕ) (tree : TextTree) (tokens : List Token) (misfit : Misfit × Place) → HasTree text tree → HasTokens text tokens → IsGrammarRefusal tokens (Some misfit) → ⊥
 tree_or_misfit known text tree tokens misfit has others is =
     let same = known.one_list text tokens has.tokens others.tokenized has.has_tokens.tokenized in
     none-some misfit (known.one_misfit has.tokens None (Some misfit) (fits has.spells has.shallow) (subst (λ (list : List Token). IsGrammarRefusal list (Some misfit)) same is))
 
-one_tree_of : OneReading → (text : List ℕ) (a b : TextTree) → HasTree text a → HasTree text b → a ≡ b
+-- a text is one tree
+pub one_tree_of : OneReading → (text : List ℕ) (a b : TextTree) → HasTree text a → HasTree text b → a ≡ b
 one_tree_of known text a b has other =
     let same = known.one_list text has.tokens other.tokens has.has_tokens.tokenized other.has_tokens.tokenized in
     known.one_tree other.tokens a b (subst (λ (list : List Token). Spells list a) same has.spells) other.spells

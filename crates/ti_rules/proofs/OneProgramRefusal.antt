@@ -25,7 +25,7 @@ nothing_found p e = by (first_of (type_refusals p)) refl e
     by None is e = record { types = first_none (type_refusals p) is; single = first_none (single_refusals p) e }
     by (Some t) is e = cc
 
-not_among : (xs : List Refusal) (r : Refusal) → xs ≡ [] → Contains xs r → ⊥
+pub not_among : (xs : List Refusal) (r : Refusal) → xs ≡ [] → Contains xs r → ⊥
 not_among xs r e c = omega (arith, c.1, ap length e)
 
 pub one_first : (p : NumberedProgram) (r s : Refusal) → IsProgramRefusal p r → IsProgramRefusal p s → r ≡ s

@@ -13,7 +13,7 @@ use Rattle.ti_syntax.specs.Trees.Text.{tree_of}
 use Rattle.ti_rules.specs.declared.checked.Checked.{Checked}
 use Rattle.ti_rules.specs.declared.rule.Rule.{Rule}
 use Rattle.ti_rules.specs.declared.refusal.Refusal.{Refusal}
-use Rattle.ti_rules.proofs.Lemmas.{OneReading}
+use Rattle.ti_rules.proofs.Lemmas.{OneReading, tokens_or_bytes, tree_or_misfit}
 use Rattle.ti_rules.specs.RefusalOf.{of_names as of_names_first, of_program, HasTokens, HasTree, rule_of_misfit, IsRefusal, of_bytes, of_tokens, of_tree, HasProgram}
 use Rattle.ti_lex.specs.declared.error.LexErr.{LexErr}
 use Rattle.ti_lex.specs.declared.error.LexErr.TheVariants as lexer
@@ -31,7 +31,6 @@ use Rattle.ti_top.specs.declared.compiling.CompileErr.{CompileErr}
 use Rattle.ti_top.specs.declared.compiling.CompileErr.TheVariants.{Refused, Memory}
 use Rattle.ti_top.specs.Inference.{of_names as of_unmarked_names, of_text, of_tree as of_unmarked_tree}
 use Rattle.ti_top.specs.Mirrors.Compiling.{IsRead, ReadsProgram, Compiles, of_lexer, of_parser, of_names, of_check}
-use Rattle.ti_top.proofs.OneMarking.{no_tree_of_bytes, no_tree_of_tokens}
 
 -- that a text has one answer
 pub record OneAnswer : Type 0 where
@@ -48,7 +47,7 @@ has_tree text tokens tree lexed parsed = record { tokens = tokens.items; has_tok
 
 -- the text has no tokens
 pub not_lexed : OneReading → (text : List ℕ) (e : LexErr) → Lexes text (Err e) → ReadsProgram text (Err (of_lexer e))
-not_lexed known text (lexer.Refused refusal) lexed = (of_bytes lexed, of_text (no_tree_of_bytes known text refusal lexed) (of_bytes lexed))
+not_lexed known text (lexer.Refused refusal) lexed = (of_bytes lexed, of_text (λ tree has. tokens_or_bytes known text has.tokens refusal has.has_tokens lexed) (of_bytes lexed))
 not_lexed known text lexer.Memory lexed = tt
 
 -- its tokens have no tree
@@ -58,7 +57,7 @@ not_parsed known text tokens (parser.Refused refusal) lexed (misfit, rule, is) =
     let same : rule_of_misfit misfit ≡ refusal.rule = sym rule in
     let has = has_tokens text tokens lexed in
     let refused : IsRefusal text refusal = subst (IsRefusal text) (ap (λ r. refusal_at r refusal.place) same) (of_tokens has is) in
-    (refused, of_text (no_tree_of_tokens known text tokens.items (misfit, refusal.place) has is) refused)
+    (refused, of_text (λ tree read. tree_or_misfit known text tree tokens.items (misfit, refusal.place) read has is) refused)
   where
     refusal_at : Rule → Place → Refusal
     refusal_at rule place = record { rule = rule; place = place }

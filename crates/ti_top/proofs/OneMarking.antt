@@ -1,20 +1,16 @@
 -- A text has at most one greatest marking or one refusal whatever marks it has, by what is known of its bytes, tokens, names and markings.
-use Rattle.std.proofs.Common.{◌≡◌, ℕ, List, [], length, Contains, None, Some, ap, subst, arith}
-use Rattle.std.proofs.lemmas.Option.{none-some}
+use Rattle.std.proofs.Common.{◌≡◌, ℕ, List, [], Contains, ap, subst}
 use Rattle.ti_base.specs.declared.place.Place.{Place}
-use Rattle.ti_syntax.specs.declared.token.Token.{Token}
 use Rattle.ti_syntax.specs.Trees.Classes.{TextTree}
-use Rattle.ti_syntax.specs.Spelling.{Spells, Misfit, IsGrammarRefusal, fits}
 use Rattle.ti_lang.specs.Program.Classes.{NumberedProgram}
 use Rattle.ti_lang.specs.Numbering.{Numbers}
 use Rattle.ti_rules.specs.declared.rule.Rule.TheVariants.{B1}
 use Rattle.ti_rules.specs.declared.refusal.Refusal.{Refusal}
-use Rattle.ti_rules.specs.LexicalRefusals.{IsLexicalRefusal}
 use Rattle.ti_rules.specs.Refusals.{IsFirstRefusal}
 use Rattle.ti_rules.specs.BrokenNames.{BreaksNames}
 use Rattle.ti_rules.specs.TypeRules.{type_refusals}
-use Rattle.ti_rules.specs.RefusalOf.{HasTokens, HasTree, IsRefusal}
-use Rattle.ti_rules.proofs.Lemmas.{first_only, OneReading}
+use Rattle.ti_rules.specs.RefusalOf.{HasTree, IsRefusal}
+use Rattle.ti_rules.proofs.Lemmas.{first_only, OneReading, one_tree_of, not_among}
 use Rattle.ti_blame.specs.declared.mark.Mark.{Mark}
 use Rattle.ti_infer.specs.Stripped.{stripped}
 use Rattle.ti_infer.specs.Answer.{IsGreatest, IsFirstUnaligned}
@@ -25,25 +21,6 @@ pub record OneInference : Type 0 where
   pub one_marking : (p : NumberedProgram) (m n : List Mark) → IsGreatest p m → IsGreatest p n → m ≡ n
   pub one_place : (p : NumberedProgram) (a b : Place) → IsFirstUnaligned p a → IsFirstUnaligned p b → a ≡ b
   pub never_both : (p : NumberedProgram) (m : List Mark) (a : Place) → IsGreatest p m → IsFirstUnaligned p a → ⊥
-
--- ---- texts without a tree
-
--- a text that isn't tokens has none
-pub no_tree_of_bytes : OneReading → (text : List ℕ) (refusal : Refusal) → IsLexicalRefusal text refusal → (tree : TextTree) → HasTree text tree → ⊥
-no_tree_of_bytes known text refusal is tree has = known.not_both text has.tokens refusal has.has_tokens.short has.has_tokens.tokenized is
-
--- nor one whose tokens fit no grammar
-pub no_tree_of_tokens : OneReading → (text : List ℕ) (tokens : List Token) (misfit : Misfit × Place) → HasTokens text tokens → IsGrammarRefusal tokens (Some misfit)
-    → (tree : TextTree) → HasTree text tree → ⊥
-no_tree_of_tokens known text tokens misfit others is tree has =
-    let same = known.one_list text tokens has.tokens others.tokenized has.has_tokens.tokenized in
-    none-some misfit
-    (known.one_misfit has.tokens None (Some misfit) (fits has.spells has.shallow) (subst (λ (list : List Token). IsGrammarRefusal list (Some misfit)) same is))
-
-one_tree_of : OneReading → (text : List ℕ) (a b : TextTree) → HasTree text a → HasTree text b → a ≡ b
-one_tree_of known text a b has other =
-    let same = known.one_list text has.tokens other.tokens has.has_tokens.tokenized other.has_tokens.tokenized in
-    known.one_tree other.tokens a b (subst (λ (list : List Token). Spells list a) same has.spells) other.spells
 
 -- a text with two trees has one program
 one_program_of : OneReading → (text : List ℕ) (a b : TextTree) (p q : NumberedProgram) → HasTree text a → HasTree text b → Numbers a p → Numbers b q → p ≡ q
@@ -58,9 +35,6 @@ one_marking known infers text a b has other =
     infers.one_marking (stripped other.program) a b (subst (λ (p : NumberedProgram). IsGreatest (stripped p) a) same has.greatest) other.greatest
 
 -- ---- one refusal
-
-not_among : (xs : List Refusal) (r : Refusal) → xs ≡ [] → Contains xs r → ⊥
-not_among xs r e c = omega (arith, c.1, ap length e)
 
 -- where no rule of types is broken, none is the first
 none_of_typed : (p : NumberedProgram) (r : Refusal) → type_refusals (stripped p) ≡ [] → IsFirstRefusal (Contains (type_refusals (stripped p))) r → ⊥

@@ -1,6 +1,6 @@
 use Rattle.ti_lang.specs.Meaning.Copies.{element_at}
-use Rattle.ti_machine.proofs.Teams.{first_spanned}
-use Rattle.ti_machine.proofs.domains.team.Goals as goal
+use Rattle.ti_eval.proofs.TeamRects.{first_spanned}
+use Rattle.ti_eval.proofs.teams.rect_of_team.Goals as goal
 
 pub returns-clause-first : goal.returns-clause-first
 returns-clause-first c = λ some.

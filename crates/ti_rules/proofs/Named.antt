@@ -20,8 +20,10 @@ use Rattle.ti_lang.specs.Members as members
 use Rattle.ti_lang.specs.Members.{only_if, fields_in, fields_of, field_named, OwnMethod, methods_of, method_named, is_static}
 use Rattle.ti_lang.specs.Scopes.{Site, Known, with_variable, declares, past, past_maybe, past_all, past_variable, behind, behind_maybe, own_field_named, own_method_named, static_method_named}
 use Rattle.ti_lang.specs.Numbering as number
-use Rattle.ti_lang.specs.Numbering.{NumbersExp, NumbersExps, NumbersRange, NumbersRanges, NumbersStm, NumbersMaybeStm, NumbersFields, NumbersClasses, NumbersMethod, NumbersMethods, Numbers}
+use Rattle.ti_lang.specs.Numbering.{NumbersExp, NumbersExps, NumbersRange, NumbersRanges, NumbersFields, NumbersClasses, NumbersMethod, NumbersMethods, Numbers}
+use Rattle.ti_lang.specs.Typing.Kinds.{dim_of_type}
 use Rattle.ti_lang.specs.Typing.Declared.{in_scope, declared_type, field_type, is_static_method}
+use Rattle.ti_lang.specs.Typing.TextTypes.{IsDimOf, AreDims, IsRangeDims, AreRangesDims}
 use Rattle.ti_rules.specs.Known.{IsThere, IsKnown, AreKnown, IsKnownRange, AreKnownRanges}
 
 pub none_some : {A : Type 0} (a : A) → ◌≡◌ {A = Option A} None (Some a) → ⊥
@@ -114,6 +116,14 @@ AllVariables s (known ∷ rest) = VariableKnown s known.1.number known.1.declare
 variable_there : (s : ScopeContents) (number : ℕ) (d : Declaration) → VariableKnown s number d → IsThere (declared_type s number d)
 variable_there s number (t.Typed is_single type) k = (type, refl)
 variable_there s number t.Foreach k = (t.Pt k.0, k.1)
+
+-- how many dimensions a scope says of the points of loops
+abbrev pub dims_in : ScopeContents → ℕ → ℕ
+dims_in s number = option_map_or dim_of_type (declared_type s number t.Foreach) 1
+
+variable_dims : (s : ScopeContents) (number : ℕ) (d : Declaration) → VariableKnown s number d → IsDimOf s (dims_in s) number d
+variable_dims s number (t.Typed is_single type) k = tt
+variable_dims s number t.Foreach k = λ type e. sym (some_same (t.Pt k.0) type (sym k.1 ∙ e)) ∙ ap t.Pt (sym (ap (λ (o : Option ValueType). option_map_or dim_of_type o 1) k.1))
 
 found_known : (s : ScopeContents) (test : List ℕ → Bool) (scope : List Known) (v : VariableUse) → AllVariables s scope → lookup test scope ≡ Some v → VariableKnown s v.number v.declared
 found_known s test [] v a h = absurd (none_some v h)
@@ -289,3 +299,22 @@ module _ (p : NumberedProgram) (s : ScopeContents) (site : Site) (k : SiteFits p
     ranges_known : (rs : RangeTrees) (qs : NumberedRanges) → NumbersRanges site rs qs → AreKnownRanges p s qs
     ranges_known rs qs number.no_ranges = tt
     ranges_known rs qs (number.more_ranges h rest) = (range_known _ _ h, ranges_known _ _ rest)
+
+  mutual
+    pub exp_dims : (x : Exp) (y : NumberedExp) → NumbersExp site x y → AreDims s (dims_in s) y
+    exp_dims x y (number.variable {name = name} {v = v} h) = variable_dims s v.number v.declared (found_known s (bytes_eq name) site.scope v k.scope h)
+    exp_dims x y (number.rect h) = ranges_dims _ _ h
+    exp_dims x y (number.unary h) = exp_dims _ _ h
+    exp_dims x y (number.binary h i) = (exp_dims _ _ h, exp_dims _ _ i)
+    exp_dims x y (number.select h i) = exp_dims _ _ i
+    exp_dims x y (number.member h i xs) = exp_dims _ _ i
+    exp_dims x y (number.index h xs) = exp_dims _ _ h
+    exp_dims x y _ = tt
+
+    range_dims : (r : RangeTree) (q : NumberedRange) → NumbersRange site r q → IsRangeDims s (dims_in s) q
+    range_dims r q (number.plain h i) = exp_dims _ _ h
+    range_dims r q (number.stepped h i j) = exp_dims _ _ h
+
+    ranges_dims : (rs : RangeTrees) (qs : NumberedRanges) → NumbersRanges site rs qs → AreRangesDims s (dims_in s) qs
+    ranges_dims rs qs number.no_ranges = tt
+    ranges_dims rs qs (number.more_ranges h rest) = (range_dims _ _ h, ranges_dims _ _ rest)

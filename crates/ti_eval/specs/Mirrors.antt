@@ -1,0 +1,2 @@
+-- Definitions that mirror code, as its private contracts speak of it: nobody has to believe them.
+pub mod Teams
