@@ -10,14 +10,13 @@ use Rattle.ti_lang.specs.Meaning.Processes.{Setting}
 use Rattle.ti_lang.specs.Meaning.Histories.{is_end, is_fault, has_end, has_fault}
 use Rattle.ti_lang.specs.Meaning.Runs.{IsRun, none, more, AllEnded}
 use Rattle.ti_lang.proofs.Lemmas.{taker}
-use Rattle.ti_store.proofs.Lemmas.{fault_more}
+use Rattle.ti_store.proofs.Lemmas.{fault_more, end_more}
 use Rattle.ti_code.specs.Programs.{Code}
 use Rattle.ti_runtime.specs.declared.cursor.Cursor.{Cursor}
 use Rattle.ti_runtime.specs.declared.seat.Seat.{Seat}
 use Rattle.ti_runtime.specs.declared.runner.How.TheVariants as how
 use Rattle.ti_runtime.specs.Mirrors.Team.{Seated, AllTold, Stands, CameTo}
 use Rattle.ti_runtime.specs.Mirrors.Settled.{AreSeated}
-use Rattle.ti_runtime.proofs.Entries.{end_more}
 use Rattle.ti_runtime.proofs.Endings.{some_seat, starts}
 use Rattle.ti_runtime.proofs.Mates.{stays_well}
 

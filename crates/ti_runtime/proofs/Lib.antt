@@ -1,5 +1,4 @@
 mod Endings
-mod Entries
 mod Finishing
 mod Following
 mod Seats

@@ -13,6 +13,7 @@ use Rattle.ti_turnstile.specs.Passes.{items_of, GrownBy, IsLegal}
 use Rattle.ti_store.specs.declared.act_err.ActErr.{ActErr}
 use Rattle.ti_store.specs.declared.act_err.ActErr.TheVariants as err
 use Rattle.ti_store.specs.Stores.{StoreState, setting_of, log_of, fault_entry, IsDone, IsRefused}
+use Rattle.ti_store.proofs.Lemmas.{end_more, answers_still}
 use Rattle.ti_code.specs.Programs.{Code}
 use Rattle.ti_machine.specs.Standing.{Standing, GoesOn, is_act}
 use Rattle.ti_runtime.specs.declared.cursor.Turn.{Turn}
@@ -21,7 +22,6 @@ use Rattle.ti_runtime.specs.Mirrors.Team.{place_of, action_of, told_more, IsTold
 use Rattle.ti_runtime.specs.Ran.{standing_of}
 use Rattle.ti_runtime.specs.Mirrors.Stays.{entries_in, Stays}
 use Rattle.ti_runtime.proofs.Endings.{told_seated}
-use Rattle.ti_runtime.proofs.Entries.{end_more, answers_still}
 use Rattle.ti_runtime.proofs.Following.{OneNext}
 use Rattle.ti_runtime.proofs.Seats.{answered_act, seated_with, goes, told_behind, went_with}
 use Rattle.ti_runtime.proofs.Turns.{seated_still}

@@ -20,7 +20,7 @@ use Rattle.ti_align.proofs.Lemmas.{after_pays, or_right}
 use Rattle.ti_store.specs.Conditions as store
 use Rattle.ti_store.specs.Stores.{StoreState, setting_of, next_of, Becomes, fault_entry, IsDone, IsRefused}
 use Rattle.ti_store.specs.declared.act_err.ActErr.TheVariants as err
-use Rattle.ti_store.proofs.Lemmas.{next_acts}
+use Rattle.ti_store.proofs.Lemmas.{next_acts, end_more, answers_more, answers_still, world_more}
 use Rattle.ti_code.specs.Programs.{Code}
 use Rattle.ti_machine.specs.Standing.{Standing, HasNext, is_act}
 use Rattle.ti_machine.specs.Standing as machine
@@ -31,8 +31,7 @@ use Rattle.ti_runtime.specs.declared.seat.Stop.TheVariants as stop
 use Rattle.ti_runtime.specs.Ran.{standing_of}
 use Rattle.ti_runtime.specs.Mirrors.Waiting.{Waits}
 use Rattle.ti_runtime.specs.Mirrors.Team.{doing_of, place_of, action_of, told_more, StandsAt, Seated, Hears, Moves, IsOpen, steps_left, GoesOn, StopsAt, TurnLeaves}
-use Rattle.ti_runtime.proofs.Entries.{end_more, answers_more, answers_still}
-use Rattle.ti_runtime.proofs.Following.{OneNext, world_more, code_goes_on, seated}
+use Rattle.ti_runtime.proofs.Following.{OneNext, code_goes_on, seated}
 
 true_false : true ≡ false → ⊥
 true_false e = cc

@@ -15,7 +15,7 @@ use Rattle.ti_align.specs.Stopping.{RoundsBalance}
 use Rattle.ti_align.proofs.Lemmas.{or_right}
 use Rattle.ti_store.specs.Conditions.{IsWithin}
 use Rattle.ti_store.specs.Stores.{StoreState, setting_of}
-use Rattle.ti_store.proofs.Lemmas.{fault_more}
+use Rattle.ti_store.proofs.Lemmas.{fault_more, end_more, other_more}
 use Rattle.ti_code.specs.Programs.{Code}
 use Rattle.ti_runtime.specs.declared.cursor.Cursor.{Cursor}
 use Rattle.ti_runtime.specs.declared.cursor.Turn.{Turn}
@@ -25,7 +25,6 @@ use Rattle.ti_runtime.specs.declared.seat.Stop.{Stop}
 use Rattle.ti_runtime.specs.declared.seat.Stop.TheVariants as stop
 use Rattle.ti_runtime.specs.Mirrors.Waiting.{Waits, Rests}
 use Rattle.ti_runtime.specs.Mirrors.Team.{IsOpen, Seated, AllSeated, Takes, steps_left, all_steps_left, GoesOn, StopsAt, TurnLeaves, cursor_after, Points, Stands, StandsOn, Stopped}
-use Rattle.ti_runtime.proofs.Entries.{end_more, other_more}
 use Rattle.ti_runtime.proofs.Seats.{seated_with}
 use Rattle.ti_runtime.proofs.Waiting.{rest_takes_none, rests_still, wait_together}
 use Rattle.ti_runtime.proofs.Endings.{none_below}

@@ -23,4 +23,6 @@ mod Running
 mod Stepping
 mod Ticks
 mod Using
+mod Appended
+mod Fitted
 pub mod Lemmas

@@ -2,7 +2,6 @@ pub mod FirstLines
 pub mod Names
 pub mod LineEnds
 pub mod Texts
-pub mod Entries
 pub mod ByCode
 pub mod Seats
 pub mod Turns

@@ -22,11 +22,10 @@ use Rattle.ti_machine.specs.Standing as machine
 use Rattle.ti_store.specs.Conditions as store
 use Rattle.ti_store.specs.Stores.{StoreState, setting_of, next_of, Becomes, fault_entry, IsDone, IsRefused}
 use Rattle.ti_store.specs.declared.act_err.ActErr.TheVariants as err
-use Rattle.ti_store.proofs.Lemmas.{next_acts, fault_more}
+use Rattle.ti_store.proofs.Lemmas.{next_acts, fault_more, end_more, answers_more, answers_still, world_more}
 use Rattle.ti_trace_check.specs.declared.seat.Seat.{Seat}
 use Rattle.ti_trace_check.specs.Mirrors.Seats.{doing_of, place_of, action_of, standing_of, StandsAt, Seated, told_more, Hears, Moves, steps_left, faults_left, IsOpen, TurnLeaves}
-use Rattle.ti_trace_check.proofs.Entries.{end_more, answers_more, answers_still}
-use Rattle.ti_trace_check.proofs.ByCode.{OneNext, world_more, code_goes_on, seated}
+use Rattle.ti_trace_check.proofs.ByCode.{OneNext, code_goes_on, seated}
 
 true_false : true ≡ false → ⊥
 true_false e = cc

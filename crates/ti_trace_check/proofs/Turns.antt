@@ -14,9 +14,9 @@ use Rattle.ti_lang.proofs.Lemmas.{taker}
 use Rattle.ti_code.specs.Programs.{Code}
 use Rattle.ti_machine.specs.Standing.{is_act}
 use Rattle.ti_watch.specs.Reports.{entry_text}
+use Rattle.ti_store.proofs.Lemmas.{other_more}
 use Rattle.ti_trace_check.specs.declared.seat.Seat.{Seat}
 use Rattle.ti_trace_check.specs.Mirrors.Seats.{standing_of, Seated, steps_left, faults_left, Takes, AllSeated, Stands, turns_left, GoesOn}
-use Rattle.ti_trace_check.proofs.Entries.{other_more}
 
 -- the seat of a process tells where it stands still, where the run went on elsewhere
 seated_still : (code : Code) (s : Setting) (es all : List Entry) (i : ℕ) (seat : Seat) → entries_of i all ≡ entries_of i es → Seated code s es i seat → Seated code s all i seat
