@@ -9,14 +9,14 @@ use ti_lang::typing::same_elements;
 
 /// Lists of variables that are out of use. Most of what a foreach has in scope is what an earlier one had, so it takes over its list.
 #[derive(Drop)]
-pub struct Unused {
+pub(crate) struct Unused {
     alloc: Global,
     lists: Vec<Vec<InScope>>,
 }
 
 impl Unused {
     /// No lists.
-    pub fn none(alloc: Global) -> Unused {
+    pub(crate) fn none(alloc: Global) -> Unused {
         Unused {
             alloc,
             lists: Vec::new(alloc),
@@ -24,7 +24,7 @@ impl Unused {
     }
 
     /// The list that was kept last, or an empty one.
-    pub fn take(&mut self) -> Vec<InScope> {
+    pub(crate) fn take(&mut self) -> Vec<InScope> {
         match self.lists.pop() {
             Some(list) => list,
             None => Vec::new(self.alloc),
@@ -32,7 +32,7 @@ impl Unused {
     }
 
     /// Keeps a list.
-    pub fn keep(&mut self, list: Vec<InScope>) -> Result<(), Memory> {
+    pub(crate) fn keep(&mut self, list: Vec<InScope>) -> Result<(), Memory> {
         Ok(self.lists.push(list)?)
     }
 }

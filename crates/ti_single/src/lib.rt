@@ -14,10 +14,10 @@ pub use boxes::{
     listed_ranges, listed_statements,
 };
 pub use doings::{
-    Doings, doings_of_method, doings_of_statement, doings_of_statements, has_global_effects,
-    has_single_result, jump_acts, return_acts, this_of,
+    Doings, doings_of_method, doings_of_statement, has_global_effects, has_single_result,
+    jump_acts, return_acts, this_of,
 };
 pub use effects::has_effects;
 pub use loops::doings_in_loop;
-pub use singleness::{is_single, is_single_initial, is_single_part, is_single_target};
+pub use singleness::{is_single, is_single_part, is_single_target};
 pub use site::SingleSite;
