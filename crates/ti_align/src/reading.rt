@@ -176,9 +176,8 @@ fn read_statement(x: &Stmt)
         } => {
             read(condition);
             read_statement(then);
-            match otherwise {
-                Some(otherwise) => read_statement(otherwise),
-                None => {}
+            if let Some(otherwise) = otherwise {
+                read_statement(otherwise);
             }
         }
         Stmt::While {
@@ -196,14 +195,12 @@ fn read_statement(x: &Stmt)
             body,
             ..
         } => {
-            match first {
-                Some(first) => read_statement(first),
-                None => {}
+            if let Some(first) = first {
+                read_statement(first);
             }
             read_option(condition);
-            match update {
-                Some(update) => read_statement(update),
-                None => {}
+            if let Some(update) = update {
+                read_statement(update);
             }
             read_statement(body);
         }

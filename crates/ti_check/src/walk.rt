@@ -324,12 +324,8 @@ fn compound<'a>(
         } => {
             let scope = site.inside_foreach(alloc, unused.take(), *variable, domain)?;
             let within = site.in_loop();
-            let body = statement(
-                alloc,
-                unused,
-                within.with_scope(&scope),
-                boxed_statement(body),
-            )?;
+            let inside = within.with_scope(&scope);
+            let body = statement(alloc, unused, inside, boxed_statement(body))?;
             unused.keep(scope.variables)?;
             let below = site.looped(Walked::doing(Doings::none()), body);
             Ok(site.whole(x, below, body.doings))

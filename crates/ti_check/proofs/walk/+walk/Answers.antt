@@ -202,14 +202,14 @@ compound-whole-requires-in-Foreach-clause-below t c =
     let body = statement_of c.in-Foreach.body.value in
     let within = with_these (variables_inside p (scope_of around) c.in-Foreach.variable (expression_of c.in-Foreach.domain)) in
     let with_scope : (Bool → Around) → Bool → Around = λ a jump_has. record (a jump_has) { variables = (contents_of c.in_ok-scope-in-Foreach.scope).variables } in
-    let is_around : around_where c.with_scope.result ≡ within =
-    c.with_scope.ensures.around ∙ ap with_scope c.in_loop-within.ensures.around
+    let is_around : around_where c.with_scope-inside.result ≡ within =
+    c.with_scope-inside.ensures.around ∙ ap with_scope c.in_loop-within.ensures.around
     ∙ ap with_these c.in_ok-scope-in-Foreach.ensures.variables in
-    let is_program = c.with_scope.ensures.program ∙ c.in_loop-within.ensures.program in
-    let found = moved_walked p (program_at c.with_scope.result) (around_where c.with_scope.result) within
+    let is_program = c.with_scope-inside.ensures.program ∙ c.in_loop-within.ensures.program in
+    let found = moved_walked p (program_at c.with_scope-inside.result) (around_where c.with_scope-inside.result) within
     (statement_of c.boxed_statement-in-Foreach.result.now) body c.in_ok-body-in-Foreach.body is_program is_around
     (ap statement_of c.boxed_statement-in-Foreach.ensures) c.in_ok-body-in-Foreach.ensures.found in
-    let does = moved_doings p (program_at c.with_scope.result) (around_where c.with_scope.result) within
+    let does = moved_doings p (program_at c.with_scope-inside.result) (around_where c.with_scope-inside.result) within
     (statement_of c.boxed_statement-in-Foreach.result.now) body (doings_of c.in_ok-body-in-Foreach.body.doings) is_program is_around
     (ap statement_of c.boxed_statement-in-Foreach.ensures) c.in_ok-body-in-Foreach.ensures.doings in
     subst (λ z. IsWalked p (λ jump_has. below p (around_where c.args.site jump_has) (statement_of z)) c.looped-below-in-Foreach.result) (sym c.in-Foreach.is)
@@ -224,11 +224,11 @@ compound-whole-requires-in-Foreach-clause-own t c =
     let with_these : Bool → Around = λ jump_has. record { method = around.method; variables = (contents_of c.in_ok-scope-in-Foreach.scope).variables; jump_has = Some jump_has } in
     let body = statement_of c.in-Foreach.body.value in
     let with_scope : (Bool → Around) → Bool → Around = λ a jump_has. record (a jump_has) { variables = (contents_of c.in_ok-scope-in-Foreach.scope).variables } in
-    let is_around : around_where c.with_scope.result ≡ with_these =
-    c.with_scope.ensures.around ∙ ap with_scope c.in_loop-within.ensures.around in
-    let does = moved_doings p (program_at c.with_scope.result) (around_where c.with_scope.result) with_these
+    let is_around : around_where c.with_scope-inside.result ≡ with_these =
+    c.with_scope-inside.ensures.around ∙ ap with_scope c.in_loop-within.ensures.around in
+    let does = moved_doings p (program_at c.with_scope-inside.result) (around_where c.with_scope-inside.result) with_these
     (statement_of c.boxed_statement-in-Foreach.result.now) body (doings_of c.in_ok-body-in-Foreach.body.doings)
-    (c.with_scope.ensures.program ∙ c.in_loop-within.ensures.program) is_around (ap statement_of c.boxed_statement-in-Foreach.ensures) c.in_ok-body-in-Foreach.ensures.doings in
+    (c.with_scope-inside.ensures.program ∙ c.in_loop-within.ensures.program) is_around (ap statement_of c.boxed_statement-in-Foreach.ensures) c.in_ok-body-in-Foreach.ensures.doings in
     alone_does p around.method body c.none-in-Foreach.result c.doing-in-Foreach.result c.in_ok-body-in-Foreach.body
     c.looped-below-in-Foreach.result c.doing-in-Foreach.ensures c.none-in-Foreach.ensures does
     c.looped-below-in-Foreach.ensures.doings
@@ -240,9 +240,9 @@ compound-whole-requires-in-Foreach-clause-inside t c =
     let around = around_of c.args.site in
     let with_these : Bool → Around = λ jump_has. record { method = around.method; variables = (contents_of c.in_ok-scope-in-Foreach.scope).variables; jump_has = Some jump_has } in
     let with_scope : (Bool → Around) → Bool → Around = λ a jump_has. record (a jump_has) { variables = (contents_of c.in_ok-scope-in-Foreach.scope).variables } in
-    let is_around : around_where c.with_scope.result ≡ with_these =
-    c.with_scope.ensures.around ∙ ap with_scope c.in_loop-within.ensures.around in
-    moved_doings p (program_at c.with_scope.result) (around_where c.with_scope.result) with_these (statement_of c.boxed_statement-in-Foreach.result.now) (statement_of c.in-Foreach.body.value)
-    (doings_of c.in_ok-body-in-Foreach.body.doings) (c.with_scope.ensures.program ∙ c.in_loop-within.ensures.program) is_around
+    let is_around : around_where c.with_scope-inside.result ≡ with_these =
+    c.with_scope-inside.ensures.around ∙ ap with_scope c.in_loop-within.ensures.around in
+    moved_doings p (program_at c.with_scope-inside.result) (around_where c.with_scope-inside.result) with_these (statement_of c.boxed_statement-in-Foreach.result.now) (statement_of c.in-Foreach.body.value)
+    (doings_of c.in_ok-body-in-Foreach.body.doings) (c.with_scope-inside.ensures.program ∙ c.in_loop-within.ensures.program) is_around
     (ap statement_of c.boxed_statement-in-Foreach.ensures) c.in_ok-body-in-Foreach.ensures.doings
     ∙ sym (ap (λ z. doings_in_loop p around.method (statement_of z)) c.in-Foreach.is)
