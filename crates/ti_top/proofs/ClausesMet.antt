@@ -72,11 +72,8 @@ calm before c (inr cut) h = absurd (h cut.1)
 -- of a run that hasn't begun nothing is written
 nothing_of_unbegun : (mode : Mode) (run : Setting) → Runs mode → (IsCompleteRun run [] → ⊥) → output_in mode run [] [] ≡ []
 nothing_of_unbegun Run run runs cut = refl
-nothing_of_unbegun Check run runs cut = absurd runs
-nothing_of_unbegun Code run runs cut = absurd runs
 nothing_of_unbegun Gen run runs cut = append-nil (summary run []) ∙ no_summary run [] (λ ended. cut (inr ended))
-nothing_of_unbegun Verify run runs cut = absurd runs
-nothing_of_unbegun Infer run runs cut = absurd runs
+nothing_of_unbegun _ run runs cut = absurd runs
 
 -- where nothing was written, the status owes nothing, and an empty history isn't complete
 output_nothing : (c : Call) → (c.status ≡ 0 → WhereAccepted c (λ job program. output job program c.history (wanted job c.watchers) ≡ []))
@@ -123,19 +120,14 @@ none_some code e = cc
 pub runs_has : (mode : Mode) → Runs mode → HasCode mode
 runs_has Run runs = tt
 runs_has Check runs = runs
-runs_has Code runs = absurd runs
 runs_has Gen runs = tt
-runs_has Verify runs = absurd runs
-runs_has Infer runs = absurd runs
+runs_has _ runs = absurd runs
 
 -- no mode both runs a program and holds a trace against it
 pub runs_unverified : (mode : Mode) → Runs mode → Verifies mode → ⊥
-runs_unverified Run runs verifies = verifies
-runs_unverified Check runs verifies = verifies
-runs_unverified Code runs verifies = verifies
-runs_unverified Gen runs verifies = verifies
 runs_unverified Verify runs verifies = runs
 runs_unverified Infer runs verifies = runs
+runs_unverified _ runs verifies = verifies
 
 -- no trace is held against the program
 no_trace : (job : Job) (c : Call) → (Verifies job.mode → ⊥) → (c.status ≡ 7 → ⊥) → VerifiesTrace job c
@@ -308,21 +300,13 @@ clauses_refused refusal job c some from whole is no_program x = record {
 
 -- where a file is named, the whole text is there only if it was read whole
 pub was_read : (mode : Mode) (job : Job) (c : Call) → HasFile mode → IsWholeIn mode job c → IsReadWhole job c
-was_read Run job c named whole = whole
-was_read Check job c named whole = whole
-was_read Code job c named whole = whole
 was_read Gen job c named whole = absurd named
-was_read Verify job c named whole = whole
-was_read Infer job c named whole = whole
+was_read _ job c named whole = whole
 
 -- where a file is named, a text that was read whole is whole
 whole_read : (mode : Mode) (job : Job) (c : Call) → HasFile mode → IsReadWhole job c → IsWholeIn mode job c
-whole_read Run job c named whole = whole
-whole_read Check job c named whole = whole
-whole_read Code job c named whole = whole
 whole_read Gen job c named whole = absurd named
-whole_read Verify job c named whole = whole
-whole_read Infer job c named whole = whole
+whole_read _ job c named whole = whole
 
 -- behind a text without a refusal the trace is missing
 complete_behind : (job : Job) (c : Call) → HasFile job.mode → StatusFrom CantRead c → NothingFailed job c → LacksBehind job c → IsComplete job c
@@ -1090,12 +1074,8 @@ told_file before Read.NoMemory job c named unverified command some read says fro
 
 -- the clause on the text where a file is named
 gets_read : (mode : Mode) (job : Job) (c : Call) → HasFile mode → ReadsText job c → GetsText mode job c
-gets_read Run job c named reads = reads
-gets_read Check job c named reads = reads
-gets_read Code job c named reads = reads
 gets_read Gen job c named reads = absurd named
-gets_read Verify job c named reads = reads
-gets_read Infer job c named reads = reads
+gets_read _ job c named reads = reads
 
 told_read : (before : Ending) (job : Job) (c : Call) → HasFile job.mode → (Verifies job.mode → ⊥) → IsCommand c job → 1 ≤ job.procs
     → FileDone job before (work_of job c) → StatusFrom before c → Told before job c
@@ -1202,12 +1182,9 @@ told_made before job c gen command some work from = elim work.says [
 
 told_in : (mode : Mode) (before : Ending) (job : Job) (c : Call) → job.mode ≡ mode → IsCommand c job → 1 ≤ job.procs
     → WorkSays mode job before (work_of job c) → StatusFrom before c → Told before job c
-told_in Run before job c mode command some work from = told_read before job c (subst HasFile (sym mode) tt) (λ verifies. subst Verifies mode verifies) command some work from
-told_in Check before job c mode command some work from = told_read before job c (subst HasFile (sym mode) tt) (λ verifies. subst Verifies mode verifies) command some work from
-told_in Code before job c mode command some work from = told_read before job c (subst HasFile (sym mode) tt) (λ verifies. subst Verifies mode verifies) command some work from
 told_in Gen before job c mode command some work from = told_made before job c mode command some work from
 told_in Verify before job c mode command some work from = told_traced before job c mode command some work from
-told_in Infer before job c mode command some work from = told_read before job c (subst HasFile (sym mode) tt) (λ verifies. subst Verifies mode verifies) command some work from
+told_in _ before job c mode command some work from = told_read before job c (subst HasFile (sym mode) tt) (λ verifies. subst Verifies mode verifies) command some work from
 
 told : (before : Ending) (job : Job) (c : Call) → Commanded before job c → StatusFrom before c → Told before job c
 told before job c x from = told_in job.mode before job c refl x.command x.some x.work from
@@ -1270,12 +1247,8 @@ makes_nothing : (job : Job) (c : Call) → DidNothing c → StatusFrom NoMemory 
 makes_nothing job c x from = makes_text NoMemory job c x.source (inr (x.text, refl)) (λ e. let y = e in cc) from
 
 gets_nothing : (mode : Mode) (job : Job) (c : Call) → DidNothing c → StatusFrom NoMemory c → GetsText mode job c
-gets_nothing Run job c x from = reads_nothing job c x from
-gets_nothing Check job c x from = reads_nothing job c x from
-gets_nothing Code job c x from = reads_nothing job c x from
 gets_nothing Gen job c x from = makes_nothing job c x from
-gets_nothing Verify job c x from = reads_nothing job c x from
-gets_nothing Infer job c x from = reads_nothing job c x from
+gets_nothing _ job c x from = reads_nothing job c x from
 
 -- it answers as one whose words are a command, and as one whose words are none
 beside_unread : (c : Call) → ((job : Job) → IsCommand c job → 1 ≤ job.procs) → DidNothing c → StatusFrom NoMemory c → MeetsBesideErr c

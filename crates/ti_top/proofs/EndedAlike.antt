@@ -277,12 +277,8 @@ verified_alike job c d m n ask u v x y whole all same verifies a b program has =
     })
       where
         uncoded : (mode : Mode) → Verifies mode → HasCode mode → ⊥
-        uncoded Run verifies has = verifies
-        uncoded Check verifies has = verifies
-        uncoded Code verifies has = verifies
-        uncoded Gen verifies has = verifies
         uncoded Verify verifies has = has
-        uncoded Infer verifies has = verifies
+        uncoded _ verifies has = verifies
 
     -- the trace is missing
     four : (e : Call) → Meets e → IsUndisturbed e → IsCommand e job → Accepts job e → IsMissing e.source job.against → (e.status ≡ 4) × (e.history ≡ [])
@@ -427,12 +423,8 @@ judged_alike : OneAnswer → (job : Job) (c d : Call) → Meets c → Meets d �
 judged_alike known job c d m n ask u v x y whole all same readable = by job.mode refl
   where
     by : (mode : Mode) → job.mode ≡ mode → EndAlike c d
-    by Run e = marked_alike known job c d m n ask u v x y whole all same (λ infers. subst Infers e infers)
-    by Check e = marked_alike known job c d m n ask u v x y whole all same (λ infers. subst Infers e infers)
-    by Code e = marked_alike known job c d m n ask u v x y whole all same (λ infers. subst Infers e infers)
-    by Gen e = marked_alike known job c d m n ask u v x y whole all same (λ infers. subst Infers e infers)
-    by Verify e = marked_alike known job c d m n ask u v x y whole all same (λ infers. subst Infers e infers)
     by Infer e = inferred_alike known job c d m n u v x y whole all same e (readable (subst Infers (sym e) tt))
+    by _ e = marked_alike known job c d m n ask u v x y whole all same (λ infers. subst Infers e infers)
 
 -- ---- the text is read
 

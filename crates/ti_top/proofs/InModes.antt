@@ -4,7 +4,7 @@ use Rattle.ti_rules.specs.declared.refusal.Refusal.{Refusal}
 use Rattle.ti_rules.specs.RefusalOf.{IsRefusal}
 use Rattle.ti_words.specs.declared.job.Job.{Job}
 use Rattle.ti_words.specs.declared.job.Mode.{Mode}
-use Rattle.ti_words.specs.declared.job.Mode.TheVariants.{Run, Check, Code, Gen, Verify, Infer}
+use Rattle.ti_words.specs.declared.job.Mode.TheVariants.{Infer}
 use Rattle.ti_top.specs.Run.{Runs, Verifies, Infers}
 use Rattle.ti_top.specs.Call.{Call}
 use Rattle.ti_top.specs.Inference.{marks_text}
@@ -13,45 +13,25 @@ use Rattle.ti_top.specs.Mirrors.Work.{RanNothing, kept_in}
 
 -- no mode both runs a program and infers its marks
 pub runs_marked : (mode : Mode) → Runs mode → Infers mode → ⊥
-runs_marked Run runs infers = infers
-runs_marked Check runs infers = infers
-runs_marked Code runs infers = infers
-runs_marked Gen runs infers = infers
-runs_marked Verify runs infers = infers
 runs_marked Infer runs infers = runs
+runs_marked _ runs infers = infers
 
 -- nor holds a trace against it
 pub verifies_marked : (mode : Mode) → Verifies mode → Infers mode → ⊥
-verifies_marked Run verifies infers = infers
-verifies_marked Check verifies infers = infers
-verifies_marked Code verifies infers = infers
-verifies_marked Gen verifies infers = infers
-verifies_marked Verify verifies infers = infers
 verifies_marked Infer verifies infers = verifies
+verifies_marked _ verifies infers = infers
 
 pub refusal_here : (mode : Mode) (text : List ℕ) (refusal : Refusal) → (Infers mode → ⊥) → IsRefusalIn mode text refusal → IsRefusal text refusal
-refusal_here Run text refusal marked is = is
-refusal_here Check text refusal marked is = is
-refusal_here Code text refusal marked is = is
-refusal_here Gen text refusal marked is = is
-refusal_here Verify text refusal marked is = is
 refusal_here Infer text refusal marked is = absurd (marked tt)
+refusal_here _ text refusal marked is = is
 
 pub refusal_in : (mode : Mode) (text : List ℕ) (refusal : Refusal) → (Infers mode → ⊥) → IsRefusal text refusal → IsRefusalIn mode text refusal
-refusal_in Run text refusal marked is = is
-refusal_in Check text refusal marked is = is
-refusal_in Code text refusal marked is = is
-refusal_in Gen text refusal marked is = is
-refusal_in Verify text refusal marked is = is
 refusal_in Infer text refusal marked is = absurd (marked tt)
+refusal_in _ text refusal marked is = is
 
 pub accepted_in : (mode : Mode) (text : List ℕ) → (Infers mode → ⊥) → IsAccepted text → IsAcceptedIn mode text
-accepted_in Run text marked has = has
-accepted_in Check text marked has = has
-accepted_in Code text marked has = has
-accepted_in Gen text marked has = has
-accepted_in Verify text marked has = has
 accepted_in Infer text marked has = absurd (marked tt)
+accepted_in _ text marked has = has
 
 -- marks aren't inferred
 pub no_inference : (job : Job) (c : Call) → (Infers job.mode → ⊥) → InfersMarks job c

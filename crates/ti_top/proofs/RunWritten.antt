@@ -16,7 +16,7 @@ use Rattle.ti_lower.specs.Programs.{program_code}
 use Rattle.ti_runtime.specs.Ran.{IsDone}
 use Rattle.ti_words.specs.declared.job.Job.{Job}
 use Rattle.ti_words.specs.declared.job.Mode.{Mode}
-use Rattle.ti_words.specs.declared.job.Mode.TheVariants.{Run, Check, Code, Gen, Verify, Infer}
+use Rattle.ti_words.specs.declared.job.Mode.TheVariants.{Run, Gen}
 use Rattle.ti_top.specs.declared.fault.Fault.{Fault}
 use Rattle.ti_top.specs.declared.reports.ReportEnd.{ReportEnd}
 use Rattle.ti_top.specs.declared.reports.ReportEnd.TheVariants as Report
@@ -163,11 +163,8 @@ run_known ended ending s h ends (inr other) = inr (inr other)
 output_is : (mode : Mode) (ended : Ending) (s : Setting) (h : List Entry) (ws : List Watcher) → Runs mode → IsRun s h → RunEnds s h ended
     → output_in mode s h ws ≡ head_after mode ended s.program h ++ reports ws h
 output_is Run ended s h ws runs run ends = refl
-output_is Check ended s h ws runs run ends = absurd runs
-output_is Code ended s h ws runs run ends = absurd runs
 output_is Gen ended s h ws runs run ends = ap (λ t. t ++ reports ws h) (summary_is ended s h run ends)
-output_is Verify ended s h ws runs run ends = absurd runs
-output_is Infer ended s h ws runs run ends = absurd runs
+output_is _ ended s h ws runs run ends = absurd runs
 
 -- the program was run by its code, and the instructions of a run that ended so are counted
 pub record IsByCode (p : NumberedProgram) (job : Job) (ended : Ending) (k : Kept) : Type 0 where

@@ -96,11 +96,8 @@ done_by_trace m job ending w is done = subst (λ (m : Mode). WorkSays m job endi
 pub run_in_mode : (mode : Mode) (ending : Ending) (job : Job) (ws : List Watcher) (text : List ℕ) (out after : SinkState) (k : Kept) → Runs mode
     → RunTextSays ending job ws text out after k → TextSays mode ending job ws text out after k
 run_in_mode Run ending job ws text out after k runs says = says
-run_in_mode Check ending job ws text out after k runs says = absurd runs
-run_in_mode Code ending job ws text out after k runs says = absurd runs
 run_in_mode Gen ending job ws text out after k runs says = says
-run_in_mode Verify ending job ws text out after k runs says = absurd runs
-run_in_mode Infer ending job ws text out after k runs says = absurd runs
+run_in_mode _ ending job ws text out after k runs says = absurd runs
 
 -- what was checked is said in the modes that do no more with a text
 pub checked_in_mode : (mode : Mode) (ending : Ending) (job : Job) (ws : List Watcher) (text : List ℕ) (out after : SinkState) (k : Kept)

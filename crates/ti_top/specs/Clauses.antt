@@ -18,7 +18,7 @@ use Rattle.ti_blame.specs.declared.mark.Mark.{Mark}
 use Rattle.ti_rules.specs.RefusalOf.{HasNone, HasProgram, IsRefusal}
 use Rattle.ti_words.specs.declared.job.Job.{Job}
 use Rattle.ti_words.specs.declared.job.Mode.{Mode}
-use Rattle.ti_words.specs.declared.job.Mode.TheVariants.{Run, Check, Code, Gen, Verify, Infer}
+use Rattle.ti_words.specs.declared.job.Mode.TheVariants.{Check, Code, Gen, Infer}
 use Rattle.ti_top.specs.declared.fault.Fault.{Fault}
 use Rattle.ti_top.specs.declared.ending.Ending.{Ending}
 use Rattle.ti_top.specs.declared.ending.Ending.TheVariants.{Done, Refused, Faulted, NoCommand, CantRead, CantWrite, NoMemory, NoRun}
@@ -56,12 +56,8 @@ IsMade job c = c.text ≡ source_text job.seed
 
 -- the whole text is there: it was read whole, or in mode gen made
 abbrev pub IsWholeIn : Mode → Job → Call → Type 0
-IsWholeIn Run job c = IsReadWhole job c
-IsWholeIn Check job c = IsReadWhole job c
-IsWholeIn Code job c = IsReadWhole job c
 IsWholeIn Gen job c = IsMade job c
-IsWholeIn Verify job c = IsReadWhole job c
-IsWholeIn Infer job c = IsReadWhole job c
+IsWholeIn _ job c = IsReadWhole job c
 
 abbrev pub HasText : Job → Call → Type 0
 HasText job c = IsWholeIn job.mode job c
@@ -89,12 +85,8 @@ pub record MakesText (job : Job) (c : Call) : Type 0 where
 
 -- the text in a mode
 abbrev pub GetsText : Mode → Job → Call → Type 0
-GetsText Run job c = ReadsText job c
-GetsText Check job c = ReadsText job c
-GetsText Code job c = ReadsText job c
 GetsText Gen job c = MakesText job c
-GetsText Verify job c = ReadsText job c
-GetsText Infer job c = ReadsText job c
+GetsText _ job c = ReadsText job c
 
 -- the text has a program
 abbrev pub IsAccepted : List ℕ → Type 0
@@ -102,21 +94,13 @@ IsAccepted text = (program : NumberedProgram) × HasProgram text program
 
 -- the text is accepted in a mode: it has a program, or in mode infer, where its marks don't count, a greatest marking
 abbrev pub IsAcceptedIn : Mode → List ℕ → Type 0
-IsAcceptedIn Run text = IsAccepted text
-IsAcceptedIn Check text = IsAccepted text
-IsAcceptedIn Code text = IsAccepted text
-IsAcceptedIn Gen text = IsAccepted text
-IsAcceptedIn Verify text = IsAccepted text
 IsAcceptedIn Infer text = HasSomeMarking text
+IsAcceptedIn _ text = IsAccepted text
 
 -- what it is refused for in a mode
 abbrev pub IsRefusalIn : Mode → List ℕ → Refusal → Type 0
-IsRefusalIn Run text refusal = IsRefusal text refusal
-IsRefusalIn Check text refusal = IsRefusal text refusal
-IsRefusalIn Code text refusal = IsRefusal text refusal
-IsRefusalIn Gen text refusal = IsRefusal text refusal
-IsRefusalIn Verify text refusal = IsRefusal text refusal
 IsRefusalIn Infer text refusal = IsUnmarkedRefusal text refusal
+IsRefusalIn _ text refusal = IsRefusal text refusal
 
 -- The whole text is there, and this is its refusal.
 pub record IsRefused (job : Job) (c : Call) (refusal : Refusal) : Type 0 where

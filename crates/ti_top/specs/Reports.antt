@@ -11,7 +11,7 @@ use Rattle.ti_code.specs.CodeText.{code_text}
 use Rattle.ti_lower.specs.Programs.{program_code}
 use Rattle.ti_words.specs.declared.job.Job.{Job}
 use Rattle.ti_words.specs.declared.job.Mode.{Mode}
-use Rattle.ti_words.specs.declared.job.Mode.TheVariants.{Run, Check, Code, Gen, Verify, Infer}
+use Rattle.ti_words.specs.declared.job.Mode.TheVariants.{Run, Code, Gen}
 use Rattle.ti_top.specs.Run.{run_of}
 use Rattle.ti_top.specs.Summary.{summary}
 
@@ -45,11 +45,9 @@ reports watchers history = flat_map (report_of history) watchers
 -- the program's code. In mode infer it isn't written of the program that the text has: it is in `Inference`.
 abbrev pub output_in : Mode → Setting → List Entry → List Watcher → List ℕ
 output_in Run run history watchers = lines_of run.program history ++ reports watchers history
-output_in Check run history watchers = []
 output_in Code run history watchers = code_text (program_code run.program)
 output_in Gen run history watchers = summary run history ++ reports watchers history
-output_in Verify run history watchers = []
-output_in Infer run history watchers = []
+output_in _ run history watchers = []
 
 -- what is written for a job and a program
 abbrev pub output : Job → NumberedProgram → List Entry → List Watcher → List ℕ

@@ -12,57 +12,38 @@ use Rattle.ti_top.specs.declared.fault.Fault.{Fault}
 
 -- in these modes a file is named, and its text read
 abbrev pub HasFile : Mode → Type 0
-HasFile Run = Unit {0}
-HasFile Check = Unit {0}
-HasFile Code = Unit {0}
 HasFile Gen = ⊥
-HasFile Verify = Unit {0}
-HasFile Infer = Unit {0}
+HasFile _ = Unit {0}
 
 -- in these modes the program of the text is run
 abbrev pub Runs : Mode → Type 0
 Runs Run = Unit {0}
-Runs Check = ⊥
-Runs Code = ⊥
 Runs Gen = Unit {0}
-Runs Verify = ⊥
-Runs Infer = ⊥
+Runs _ = ⊥
 
 -- in these modes the program has code
 abbrev pub HasCode : Mode → Type 0
-HasCode Run = Unit {0}
 HasCode Check = ⊥
-HasCode Code = Unit {0}
-HasCode Gen = Unit {0}
 HasCode Verify = ⊥
 HasCode Infer = ⊥
+HasCode _ = Unit {0}
 
 -- in this mode a trace is named, and held against the program of the text
 abbrev pub Verifies : Mode → Type 0
-Verifies Run = ⊥
-Verifies Check = ⊥
-Verifies Code = ⊥
-Verifies Gen = ⊥
 Verifies Verify = Unit {0}
-Verifies Infer = ⊥
+Verifies _ = ⊥
 
 -- in this mode the marks of single values of the text don't count, and are inferred
 abbrev pub Infers : Mode → Type 0
-Infers Run = ⊥
-Infers Check = ⊥
-Infers Code = ⊥
-Infers Gen = ⊥
-Infers Verify = ⊥
 Infers Infer = Unit {0}
+Infers _ = ⊥
 
 -- in these modes there is a history: that of the run, or that of the trace
 abbrev pub HasHistory : Mode → Type 0
-HasHistory Run = Unit {0}
 HasHistory Check = ⊥
 HasHistory Code = ⊥
-HasHistory Gen = Unit {0}
-HasHistory Verify = Unit {0}
 HasHistory Infer = ⊥
+HasHistory _ = Unit {0}
 
 -- the program, run by as many processes as the job asks for, with as many ticks each
 abbrev pub run_of : NumberedProgram → Job → Setting

@@ -82,11 +82,8 @@ summary_after ended history = []
 -- what is written before the reports on a run that ended so
 abbrev pub head_after : Mode → Ending → NumberedProgram → List Entry → List ℕ
 head_after Run ended program history = lines_of program history
-head_after Check ended program history = []
-head_after Code ended program history = []
 head_after Gen ended program history = summary_after ended history
-head_after Verify ended program history = []
-head_after Infer ended program history = []
+head_after _ ended program history = []
 
 -- these watchers reported on a run that ended so, and the work then ends so; where memory was wanting in the run, none did
 pub record ReportedAfter (ended : Ending) (watchers : List Watcher) (history : List Entry) (out out_after : SinkState) (ending : Ending) : Type 0 where
@@ -267,12 +264,9 @@ pub record TraceDone (job : Job) (ending : Ending) (w : Work) : Type 0 where
 
 -- what was done for a command, in a mode
 abbrev pub WorkSays : Mode → Job → Ending → Work → Type 0
-WorkSays Run job ending w = FileDone job ending w
-WorkSays Check job ending w = FileDone job ending w
-WorkSays Code job ending w = FileDone job ending w
 WorkSays Gen job ending w = SeedDone job ending w
 WorkSays Verify job ending w = TraceDone job ending w
-WorkSays Infer job ending w = FileDone job ending w
+WorkSays _ job ending w = FileDone job ending w
 
 -- what is kept of a call
 abbrev pub kept_in : Call → Kept
