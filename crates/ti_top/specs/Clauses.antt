@@ -42,8 +42,8 @@ pub record AnswersWords (c : Call) : Type 0 where
   pub no_history : IsNoCommand c → c.history ≡ []
   pub no_count : IsNoCommand c → c.done ≡ []
 
--- The text was read whole: the file isn't missing, and the text is what it holds, or its first bytes where it holds more
--- than is read. Over a source that doesn't tell its bytes a text counts as read whole with every status but 3 and 4.
+-- The text was read whole: the file isn't missing, and the text is what it holds, or its first bytes where it holds more than is read. Over
+-- a source that doesn't tell its bytes a text counts as read whole with every status but 3 and 4.
 pub record IsReadWhole (job : Job) (c : Call) : Type 0 where
   pub there : IsMissing c.source job.file → ⊥
   pub told : (bytes : List ℕ) → Holds c.source job.file bytes → c.text ≡ take most_read bytes
@@ -122,10 +122,8 @@ pub record RefusesExactly (job : Job) (c : Call) : Type 0 where
   pub accepted_at_seven : c.status ≡ 7 → IsAcceptedIn job.mode c.text
 
 -- The run: whatever the status, the history is a run of the text's program, by however many workers, and by one worker, as far as it goes,
--- the one in
--- which each entry is that of the lowest-numbered process that can take one; where there is no program, or the mode isn't one that runs it
--- or
--- reads its trace, it is empty.
+-- the one in which each entry is that of the lowest-numbered process that can take one; where there is no program, or the mode isn't one
+-- that runs it or reads its trace, it is empty.
 pub record KeepsRun (job : Job) (c : Call) : Type 0 where
   pub run : (program : NumberedProgram) → HasProgram c.text program → IsRun (run_of program job) c.history
   pub solo : Runs job.mode → job.workers ≡ 1 → (program : NumberedProgram) → HasProgram c.text program
@@ -193,8 +191,7 @@ pub record WritesOutput (c : Call) : Type 0 where
       (wanted job c.watchers) c.history c.out c.out_after)
 
 -- Inference, in mode infer: with status 0 the text has a greatest marking, and out grew by a line for each of its marks. Where a sink
--- failed, it
--- grew by a front of these lines, and with no other status it grew.
+-- failed, it grew by a front of these lines, and with no other status it grew.
 pub record InfersMarks (job : Job) (c : Call) : Type 0 where
   pub done : c.status ≡ 0 → Infers job.mode → (marks : List Mark) × HasMarking c.text marks
       × (c.out.tells ≡ true → GrewBy c.out c.out_after (marks_text marks))
@@ -209,16 +206,14 @@ pub record IsAlignedRun (c : Call) : Type 0 where
   pub wrong : c.status ≡ 7 → (program : NumberedProgram) → HasProgram c.text program → IsAligned program
 
 -- Determinacy: where the program is run, all processes have their end and nothing in the history stands in a race, what each process does
--- in
--- every run of the program, by as many processes with as many ticks each, is a front of what it does in the history. What stands in a race
--- is
--- what the report on the history alone lists.
+-- in every run of the program, by as many processes with as many ticks each, is a front of what it does in the history. What stands in a
+-- race is what the report on the history alone lists.
 pub record IsDeterminate (job : Job) (c : Call) : Type 0 where
   pub followed : Runs job.mode → (program : NumberedProgram) → HasProgram c.text program → Determines (run_of program job) c.history
   pub told : races_told c.history ≡ races c.history
 
--- The end: where the text is run, all processes have their end with status 0, and status 2 says that the last entry is a fault,
--- which the line on err names with its process and place; status 6 never comes with a complete history, unless a watcher is wanted.
+-- The end: where the text is run, all processes have their end with status 0, and status 2 says that the last entry is a fault, which the
+-- line on err names with its process and place; status 6 never comes with a complete history, unless a watcher is wanted.
 pub record EndsRun (job : Job) (c : Call) : Type 0 where
   pub ended : c.status ≡ 0 → Runs job.mode → (program : NumberedProgram) → HasProgram c.text program
       → AllEnded (run_of program job) c.history
@@ -268,8 +263,8 @@ TellsEnding c = (ending : Ending) × (c.status ≡ status_of ending) × Says c e
 abbrev pub before_err : Call → Ending → Call
 before_err c ending = record c { status = status_of ending; err_after = c.err }
 
--- err grew by a front of the line of the ending that the call had before err failed: one that is true of the call, and with whose
--- status the call kept its promises on everything else
+-- err grew by a front of the line of the ending that the call had before err failed: one that is true of the call, and with whose status
+-- the call kept its promises on everything else
 abbrev pub TellsFront : Call → Type 0
 TellsFront c = (before : Ending) × Says c before × MeetsBesideErr (before_err c before) × GrewByFront c.err c.err_after (line c before)
 
@@ -290,8 +285,7 @@ pub record NothingFailed (job : Job) (c : Call) : Type 0 where
   pub memory : c.status ≡ 6 → ⊥
 
 -- Completeness: where nothing failed the whole text is there and decides, and one without a refusal has a program; where it is to be run,
--- it is
--- run until all processes have their end, or one has a fault; and where a trace is held against it, the trace decides, unless it is
+-- it is run until all processes have their end, or one has a fault; and where a trace is held against it, the trace decides, unless it is
 -- missing.
 pub record IsComplete (job : Job) (c : Call) : Type 0 where
   pub whole : HasText job c

@@ -41,8 +41,7 @@ abbrev pub reports : List Watcher → List Entry → List ℕ
 reports watchers history = flat_map (report_of history) watchers
 
 -- what is written of a program in a mode: the lines of the history or the summary of the run, and then the reports of watchers; or the text
--- of
--- the program's code. In mode infer it isn't written of the program that the text has: it is in `Inference`.
+-- of the program's code. In mode infer it isn't written of the program that the text has: it is in `Inference`.
 abbrev pub output_in : Mode → Setting → List Entry → List Watcher → List ℕ
 output_in Run run history watchers = lines_of run.program history ++ reports watchers history
 output_in Code run history watchers = code_text (program_code run.program)

@@ -37,9 +37,8 @@ pub record IsWrongTrace (job : Job) (c : Call) (line : ℕ) : Type 0 where
       → IsWrongAt (run_of program job) bytes line c.history
 
 -- The trace: in mode verify, status 0 says that it is that of a complete run, which is the history. Status 7, which comes in this mode
--- alone,
--- says that it is wrong at a line, and the history is the run of the lines before. With every other status there is no history, unless the
--- line on err of a wrong trace wasn't written. Nothing is written to out.
+-- alone, says that it is wrong at a line, and the history is the run of the lines before. With every other status there is no history,
+-- unless the line on err of a wrong trace wasn't written. Nothing is written to out.
 pub record VerifiesTrace (job : Job) (c : Call) : Type 0 where
   pub traced : c.status ≡ 0 → Verifies job.mode → IsTraced job c
   pub wrong : c.status ≡ 7 → (line : ℕ) × IsWrongTrace job c line
@@ -49,8 +48,7 @@ pub record VerifiesTrace (job : Job) (c : Call) : Type 0 where
   pub unwritten : Verifies job.mode → c.out_after.taken ≡ c.out.taken
 
 -- These bytes decide the status: it is 0 where they are the trace of a complete run, and that run is the history; else it is 7, and where
--- the
--- bytes are wrong at a line, the run of the lines before is the history.
+-- the bytes are wrong at a line, the run of the lines before is the history.
 pub record TraceDecides (s : Setting) (bytes : List ℕ) (c : Call) : Type 0 where
   pub run : (es : List Entry) → IsTraceOf s bytes es → (c.status ≡ 0) × (c.history ≡ es)
   pub no_run : ((es : List Entry) → IsTraceOf s bytes es → ⊥) → c.status ≡ 7
