@@ -10,12 +10,6 @@ use Rattle.ti_lang.specs.Meaning.Answers.{HasForm, FitsWanted}
 use Rattle.ti_eval.specs.Forms.{IsFormedValue, IsFormedAnswer}
 
 formed : (value : Value) (type : ValueType) → HasForm type value → IsFormedValue value
-formed (v.Int n) type h = tt
-formed (v.Long n) type h = tt
-formed (v.Bool b) type h = tt
-formed (v.Region n) type h = tt
-formed (v.Obj id) type h = tt
-formed (v.Grid id) type h = tt
 formed (v.Pt p) (t.Pt dim) h = h.form
 formed (v.Pt p) t.Int h = absurd h
 formed (v.Pt p) t.Long h = absurd h
@@ -38,6 +32,7 @@ formed (v.Rc r) (t.Class class is_local) h = absurd h
 formed (v.Rc r) (t.Grid element dim is_local) h = absurd h
 formed (v.Rc r) t.Null h = absurd h
 formed (v.Rc r) t.Void h = absurd h
+formed _ type h = tt
 
 pub fits_formed : (wanted : Wanted) (r : Answer) → FitsWanted wanted r → IsFormedAnswer r
 fits_formed ToBeDone r h = subst IsFormedAnswer (sym h) tt

@@ -58,28 +58,13 @@ has_in_body [] = refl
 has_in_body (x ∷ xs) = has_in_body xs
 
 has_in_work : (site : Site) (x : NumberedStm) (t : Todo) (ws : List Work) → has_mark (work_of site x t ++ ws) ≡ (is_mark t || has_mark ws)
-has_in_work site x todo.Here ws = refl
-has_in_work site x todo.Inside ws = refl
 has_in_work site x (todo.From n) ws = has_in_list (drop n (list_in x)) x ws
-has_in_work site x todo.Ending ws = refl
 has_in_work site x todo.Before ws = at_end_of_for (λ es. has_mark (es ++ ws) ≡ has_mark ws) x refl refl
-has_in_work site x todo.Behind ws = refl
-has_in_work site x (todo.Each variable domain last) ws = refl
-has_in_work site x (todo.Turn variable domain at) ws = refl
-has_in_work site x (todo.Copying copy last) ws = refl
-has_in_work site x (todo.Taking grid next) ws = refl
+has_in_work site x _ ws = refl
 
 none_in_body : (body : NumberedStms) (t : Todo) → has_mark (work_of_body body t) ≡ false
 none_in_body body (todo.From n) = has_in_body (drop n (list_of body))
-none_in_body body todo.Here = refl
-none_in_body body todo.Inside = refl
-none_in_body body todo.Ending = refl
-none_in_body body todo.Before = refl
-none_in_body body todo.Behind = refl
-none_in_body body (todo.Each variable domain last) = refl
-none_in_body body (todo.Turn variable domain at) = refl
-none_in_body body (todo.Copying copy last) = refl
-none_in_body body (todo.Taking grid next) = refl
+none_in_body body _ = refl
 
 -- a level behind which the mark of a loop is left
 abbrev has_level : Level → Bool
@@ -127,40 +112,21 @@ from_in_list (y ∷ xs) x ws = from_in_list xs x ws
 
 -- what is left of a statement is passed, where it isn't a mark
 pub from_passed : (site : Site) (x : NumberedStm) (t : Todo) (ws : List Work) → is_mark t ≡ false → from_mark (work_of site x t ++ ws) ≡ from_mark ws
-from_passed site x todo.Here ws h = refl
-from_passed site x todo.Inside ws h = refl
 from_passed site x (todo.From n) ws h = from_in_list (drop n (list_in x)) x ws
-from_passed site x todo.Ending ws h = refl
 from_passed site x todo.Before ws h = at_end_of_for (λ es. from_mark (es ++ ws) ≡ from_mark ws) x refl refl
 from_passed site x todo.Behind ws h = cc
-from_passed site x (todo.Each variable domain last) ws h = refl
 from_passed site x (todo.Turn variable domain at) ws h = cc
-from_passed site x (todo.Copying copy last) ws h = refl
-from_passed site x (todo.Taking grid next) ws h = refl
+from_passed site x _ ws h = refl
 
 at_mark : (site : Site) (x : NumberedStm) (t : Todo) (ws : List Work) → is_mark t ≡ true → from_mark (work_of site x t ++ ws) ≡ work_of site x t ++ ws
 at_mark site x todo.Behind ws h = refl
 at_mark site x (todo.Turn variable domain at) ws h = refl
-at_mark site x todo.Here ws h = cc
-at_mark site x todo.Inside ws h = cc
-at_mark site x (todo.From n) ws h = cc
-at_mark site x todo.Ending ws h = cc
-at_mark site x todo.Before ws h = cc
-at_mark site x (todo.Each variable domain last) ws h = cc
-at_mark site x (todo.Copying copy last) ws h = cc
-at_mark site x (todo.Taking grid next) ws h = cc
+at_mark site x _ ws h = cc
 
 same_at_mark : (site : Site) (x : NumberedStm) (t : Todo) (ws : List Work) (vs : List Variable) → is_mark t ≡ true → variables_at_mark (work_of site x t ++ ws) vs ≡ vs
 same_at_mark site x todo.Behind ws vs h = refl
 same_at_mark site x (todo.Turn variable domain at) ws vs h = refl
-same_at_mark site x todo.Here ws vs h = cc
-same_at_mark site x todo.Inside ws vs h = cc
-same_at_mark site x (todo.From n) ws vs h = cc
-same_at_mark site x todo.Ending ws vs h = cc
-same_at_mark site x todo.Before ws vs h = cc
-same_at_mark site x (todo.Each variable domain last) ws vs h = cc
-same_at_mark site x (todo.Copying copy last) ws vs h = cc
-same_at_mark site x (todo.Taking grid next) ws vs h = cc
+same_at_mark site x _ ws vs h = cc
 
 -- at a mark all is left
 pub left_at_mark : (site : Site) (body : NumberedStms) (xs : List Level) (t : Todo) → 0 < length xs → is_mark t ≡ true → from_mark (left_of site body (reverse xs) t) ≡ left_of site body (reverse xs) t

@@ -58,17 +58,6 @@ next_item site body xs n h = rw reverse-append (next_left site body (reverse xs)
 pub not_in_list : (c : NumberedProgram) (f : Call) (m : Mode) → ((n : ℕ) → m ≡ mode.Walks (todo.From n) → ⊥) → (m ≡ mode.Walks todo.Inside → length f.levels.items ≡ 0) → AtHandIn c f m
 not_in_list c f (mode.Walks (todo.From n)) other done = absurd (other n refl)
 not_in_list c f (mode.Walks todo.Inside) other done = done refl
-not_in_list c f (mode.Walks todo.Here) other done = tt
-not_in_list c f (mode.Walks todo.Ending) other done = tt
-not_in_list c f (mode.Walks todo.Before) other done = tt
-not_in_list c f (mode.Walks todo.Behind) other done = tt
-not_in_list c f (mode.Walks (todo.Each variable domain last)) other done = tt
-not_in_list c f (mode.Walks (todo.Turn variable domain at)) other done = tt
-not_in_list c f (mode.Walks (todo.Copying copy last)) other done = tt
-not_in_list c f (mode.Walks (todo.Taking grid next)) other done = tt
-not_in_list c f (mode.Receives h) other done = tt
-not_in_list c f (mode.Waits meeting t) other done = tt
-not_in_list c f (mode.Expects meeting) other done = tt
-not_in_list c f mode.Ended other done = tt
+not_in_list c f _ other done = tt
 
 pub ruleset settling = (next_item, not_in_list)

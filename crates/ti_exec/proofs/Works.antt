@@ -61,15 +61,7 @@ all_left b = before_list b [] ∙ append-nil (map Do (list_of b))
 
 none_of_body : (body : NumberedStms) (t : Todo) → IsAtHand (inside body []) 0 t → work_of_body body t ≡ []
 none_of_body body (todo.From n) h = ap (map Do) (drop_of_length-le (list_of body) h)
-none_of_body body todo.Here h = refl
-none_of_body body todo.Inside h = refl
-none_of_body body todo.Ending h = refl
-none_of_body body todo.Before h = refl
-none_of_body body todo.Behind h = refl
-none_of_body body (todo.Each variable domain last) h = refl
-none_of_body body (todo.Turn variable domain at) h = refl
-none_of_body body (todo.Copying copy last) h = refl
-none_of_body body (todo.Taking grid next) h = refl
+none_of_body body _ h = refl
 
 -- the body of a method is done
 pub none_left : (site : Site) (body : NumberedStms) (xs : List Level) (t : Todo) → length xs ≡ 0 → IsAtHand (inside body (reverse xs)) (length xs) t → left_of site body (reverse xs) t ≡ []

@@ -131,17 +131,12 @@ truth_itself true = refl
 truth_itself false = refl
 
 type_itself : (type : ValueType) → same_type type type ≡ true
-type_itself t.Int = refl
-type_itself t.Long = refl
-type_itself t.Boolean = refl
 type_itself (t.Pt n) = same_number n n refl
 type_itself (t.Rc n) = same_number n n refl
 type_itself (t.Dm n) = same_number n n refl
-type_itself t.Region = refl
 type_itself (t.Class n l) = ap₂ (λ a b. a && b) (same_number n n refl) (truth_itself l)
 type_itself (t.Grid e n l) = ap₂ (λ a b. a && b) (ap₂ (λ a b. a && b) (type_itself e) (same_number n n refl)) (truth_itself l)
-type_itself t.Null = refl
-type_itself t.Void = refl
+type_itself _ = refl
 
 declaration_itself : (d : Declaration) → same_declaration d d ≡ true
 declaration_itself (Typed s type) = ap₂ (λ a b. a && b) (truth_itself s) (type_itself type)

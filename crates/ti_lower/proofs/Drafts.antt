@@ -43,22 +43,7 @@ cut_longer more names (p, is) =
 
 longer_after : (x : NumberedStm) (names : List Name) → Longer (names_after x names) names
 longer_after (s.Declare p type variable value) names = (Of (declared_as type variable) ∷ [], refl)
-longer_after s.Empty names = ([], refl)
-longer_after (s.Assign p t value) names = ([], refl)
-longer_after (s.Update p op t x) names = ([], refl)
-longer_after (s.Step p op t) names = ([], refl)
-longer_after (s.Call x) names = ([], refl)
-longer_after (s.Print p what) names = ([], refl)
-longer_after (s.Barrier p) names = ([], refl)
-longer_after (s.Break p) names = ([], refl)
-longer_after (s.Continue p) names = ([], refl)
-longer_after (s.Return p value) names = ([], refl)
-longer_after (s.Block body) names = ([], refl)
-longer_after (s.If p c x) names = ([], refl)
-longer_after (s.IfElse p c x y) names = ([], refl)
-longer_after (s.While p c body) names = ([], refl)
-longer_after (s.For p first c update body) names = ([], refl)
-longer_after (s.Foreach p x d body) names = ([], refl)
+longer_after _ names = ([], refl)
 
 longer_both : (a b c : List Name) → Longer a b → Longer b c → Longer a c
 longer_both a b c (p, is) (q, it) = (p ++ q, is ∙ ap (λ z. p ++ z) it ∙ sym (append_assoc p q c))

@@ -626,18 +626,14 @@ module _ (code : Code) (s : Setting) (number : ℕ) (end : Place) (m0 : Machine)
         asks_next n asked_for asked_for go u (nat_lt spent s.fuel) refl refl refl (reached u runs) turned k
 
     moved_next : (n : Next) (move : Move) (u : Spot) → Moved t left vs move u → Ahead u → tree_shown (moves process here_frame t.below left move) ≡ Some n → HasNext code m0 all n
-    moved_next n (Goes new works) u z runs k = absurd (none_some n k)
     moved_next n (Turns at new works) u z runs k = tick_next n at u _ (nat_lt spent s.fuel) refl z.0 (reached u runs) k
-    moved_next n Breaks u z runs k = absurd (none_some n k)
-    moved_next n Continues u z runs k = absurd (none_some n k)
-    moved_next n (Returns None) u z runs k = absurd (none_some n k)
-    moved_next n (Returns (Some h)) u z runs k = absurd (none_some n k)
     moved_next n (Calls at m th ps r) u z runs k =
         call_next n at u _ _ (nat_lt spent s.fuel) (nat_lt (length (here_frame ∷ t.below)) most_frames) (reached u runs)
         (call_turns t all spent vs w left answers u sim.fed runs sim.waiting at m th ps r z []) k
     moved_next n (Meets wait deposit more) u z runs k = arrives_next n wait deposit u z.2 _ z.0 (z.3 (machine t spent u) (placed t u) refl refl) runs k
     moved_next n (Deletes at region) u z runs k =
         arrives_next n (deleting at region) (deposit.Count (tree_named region (here_frame ∷ t.below))) u z.3 _ z.0 (delete_hands at region u z) runs k
+    moved_next n _ u z runs k = absurd (none_some n k)
 
     next_by : (n : Next) (g : Got Move) → work answers ≡ g → tree_shown (valued process g (moves process here_frame t.below left)) ≡ Some n → HasNext code m0 all n
     next_by n (Gives move rest) z k =

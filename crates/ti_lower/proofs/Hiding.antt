@@ -103,15 +103,7 @@ module _ (program : NumberedProgram) (this : Option ℕ) (names : List Name) whe
 
   mutual
     same : (x : NumberedExp) (at : ℕ) → one x at ≡ none x at
-    same (e.Int p n) at = refl
-    same (e.Long p n) at = refl
-    same (e.Truth p b) at = refl
-    same (e.Null p) at = refl
-    same (e.This p) at = refl
     same (e.Variable p x) at = ap (λ k. loaded k x ∷ []) (found_one x.declared x names)
-    same (e.OwnField p field) at = refl
-    same (e.ThisProc p) at = refl
-    same (e.NumProcs p) at = refl
     same (e.Point p parts) at = front_same _ _ _ (all_same parts at)
     same (e.Rect p ranges) at = front_same _ _ _ (ranges_same ranges at)
     same (e.Unary p op x) at = front_same _ _ _ (same x at)
@@ -129,8 +121,7 @@ module _ (program : NumberedProgram) (this : Option ℕ) (names : List Name) whe
         let last = index_code (is_point (type_in_text program this x)) (how_many parts) p in
         both_same at (one x at) (none x at) (λ j. code_of_all program this (Hidden ∷ names) parts j ++ last) (λ j. code_of_all program this names parts j ++ last) (same x at)
         (λ j. front_same (code_of_all program this (Hidden ∷ names) parts j) (code_of_all program this names parts j) last (all_same parts j))
-    same (e.Call p method args) at = refl
-    same (e.OwnCall p method args) at = refl
+    same _ at = refl
 
     all_same : (xs : NumberedExps) (at : ℕ) → code_of_all program this (Hidden ∷ names) xs at ≡ code_of_all program this names xs at
     all_same e.NoExp at = refl

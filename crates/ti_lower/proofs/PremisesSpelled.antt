@@ -8,7 +8,7 @@ use Rattle.ti_syntax.specs.Spelling.{IsSpelled}
 use Rattle.ti_syntax.specs.Spelling.Statements as st
 use Rattle.ti_syntax.specs.Spelling.Statements.{Declared, declared, Changed, First, Update, Stated, Items}
 use Rattle.ti_syntax.specs.Spelling.Classes as k
-use Rattle.ti_syntax.specs.Spelling.Classes.{Method, Member, Members, Class, AllClasses}
+use Rattle.ti_syntax.specs.Spelling.Classes.{Method, Members, Class, AllClasses}
 use Rattle.ti_lang.specs.Members.{OwnMethod, methods_in, methods_from, methods_of}
 
 -- ---- statements
@@ -61,19 +61,13 @@ update_branched l a (st.change w) = changed_branched _ _ w
 mutual
   stated_branched : (open_if : Bool) (l : List Token) (a : Stm) → Stated open_if l a → IsPlain a × Branched a
   stated_branched open_if l a (st.block o c i w j) = (tt, items_branched _ _ w)
-  stated_branched open_if l a (st.empty t i) = (tt, tt)
   stated_branched open_if l a (st.if_alone t i w v) = (tt, stated_branched _ _ _ v)
   stated_branched open_if l a (st.if_else t d i w v j z) = (tt, (stated_branched _ _ _ v, stated_branched _ _ _ z))
   stated_branched open_if l a (st.while t i w v) = (tt, stated_branched _ _ _ v)
   stated_branched open_if l a (st.for f o p q c i j v m w n u k z) = (tt, (first_branched _ _ v, update_branched _ _ u, stated_branched _ _ _ z))
   stated_branched open_if l a (st.foreach f o t i c j k m n w v z) = (tt, stated_branched _ _ _ z)
   stated_branched open_if l a (st.change t w i) = changed_branched _ _ w
-  stated_branched open_if l a (st.call t w i) = (tt, tt)
-  stated_branched open_if l a (st.print p o c t i j w k m) = (tt, tt)
-  stated_branched open_if l a (st.barrier i d b o c t j k m n v w) = (tt, tt)
-  stated_branched open_if l a (st.break b t i j) = (tt, tt)
-  stated_branched open_if l a (st.continue c t i j) = (tt, tt)
-  stated_branched open_if l a (st.return r t i w j) = (tt, tt)
+  stated_branched open_if l a _ = (tt, tt)
 
   items_branched : (l : List Token) (xs : List Stm) → Items l xs → AllBranched (stms xs)
   items_branched l xs st.no_item = tt

@@ -96,22 +96,7 @@ operation_means op.Multiply Rects Numbers = refl
 operation_means op.Multiply Rects Points = refl
 operation_means op.Multiply Rects Domains = refl
 operation_means op.Multiply Domains k = refl
-operation_means op.Divide j k = refl
-operation_means op.Remainder j k = refl
-operation_means op.ShiftLeft j k = refl
-operation_means op.ShiftRight j k = refl
-operation_means op.UnsignedShiftRight j k = refl
-operation_means op.And j k = refl
-operation_means op.Or j k = refl
-operation_means op.Xor j k = refl
-operation_means op.Equal j k = refl
-operation_means op.NotEqual j k = refl
-operation_means op.Less j k = refl
-operation_means op.LessEqual j k = refl
-operation_means op.Greater j k = refl
-operation_means op.GreaterEqual j k = refl
-operation_means op.AndThen j k = refl
-operation_means op.OrElse j k = refl
+operation_means _ j k = refl
 
 -- whether a reference is kept local hangs on its type's word alone
 unfoldable kept_where : (n : ℕ) (at : Place) (b : Bool) (h : Held) → Asking Held

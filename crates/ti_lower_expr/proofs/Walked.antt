@@ -69,15 +69,7 @@ module _ (program : NumberedProgram) (this : Option ℕ) (names : List Name) whe
 
   mutual
     pub walked_is : (x : NumberedExp) (code : List Instr) → on x code ≡ code ++ of x (length code)
-    walked_is (e.Int p n) code = refl
-    walked_is (e.Long p n) code = refl
-    walked_is (e.Truth p b) code = refl
-    walked_is (e.Null p) code = refl
-    walked_is (e.This p) code = refl
-    walked_is (e.Variable p x) code = refl
     walked_is (e.OwnField p field) code = append_assoc code (own (has_this names) ∷ []) (i.GetField field p ∷ [])
-    walked_is (e.ThisProc p) code = refl
-    walked_is (e.NumProcs p) code = refl
     walked_is (e.Point p parts) code = two code (walked_all program this names parts code)
         (code_of_all program this names parts (length code)) (λ j. i.MakePt (how_many parts) ∷ []) (all_is parts code)
     walked_is (e.Rect p ranges) code = two code (walked_ranges program this names ranges code) (code_of_ranges program this names ranges (length code))
@@ -102,8 +94,7 @@ module _ (program : NumberedProgram) (this : Option ℕ) (names : List Name) whe
         ++ index_code (is_point (type_in_text program this x)) (how_many parts) p) (walked_is x code)
         (two (on x code) (walked_all program this names parts (on x code)) (code_of_all program this names parts (length (on x code)))
         (λ j. index_code (is_point (type_in_text program this x)) (how_many parts) p) (all_is parts (on x code)))
-    walked_is (e.Call p method args) code = refl
-    walked_is (e.OwnCall p method args) code = refl
+    walked_is _ code = refl
 
     pub all_is : (xs : NumberedExps) (code : List Instr) → walked_all program this names xs code ≡ code ++ code_of_all program this names xs (length code)
     all_is e.NoExp code = sym (append-nil code)

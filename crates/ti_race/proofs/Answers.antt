@@ -228,23 +228,17 @@ module _ (p : NumberedProgram) (n : ℕ) (kept : History) (whole : Course p n ke
         (ap (λ (id : Id). v.Grid (Some id)) (view_like s grid))))))
     answer_with x (act.DomainOf grid) z =
         some_both x (grid_of grid k) (grid_of grid h) _ _ (λ a b y w. equal x _ _ (ap (λ (g : Grid). Answers (Val (v.Rc g.domain))) (sym (grid_like grid a b y w))))
-    answer_with x (act.Print l value) z = equal x _ _ refl
     answer_with x (act.Arrive coll.DeleteRegion arg d) z =
         let s = ap is_departure z in
         some_both x arg arg _ _ (λ r q y w. subst (λ m. Same x (possible_if (is_made r k)
         (faults_if (is_gone r k) fault.RegionGone (Answers Done)))
         (possible_if (is_made m h) (faults_if (is_gone m h) fault.RegionGone (Answers Done)))) (some_same r q (sym y ∙ w))
         (possible_same x (is_made r k) (is_made r h) _ _ (faults_same x (is_gone r k) (is_gone r h) fault.RegionGone _ _ (gone_like s r) (equal x _ _ refl))))
-    answer_with x (act.Arrive coll.Barrier arg d) z = equal x _ _ refl
-    answer_with x (act.Arrive coll.Broadcast arg d) z = equal x _ _ refl
-    answer_with x (act.Arrive coll.Exchange arg d) z = equal x _ _ refl
-    answer_with x (act.Arrive coll.MakeRegion arg d) z = equal x _ _ refl
     answer_with x act.Depart z =
         some_both x (last_arrival i k) (last_arrival i h) _ _ (λ a b y w.
         subst (λ (q : Arrival). Same x (departs p k i a.kind a.arg) (departs p h i q.kind q.arg)) (some_same a b (sym y ∙ sym last_like ∙ w)) (departs_like x a.kind a z y refl))
     answer_with x (act.Take who) z = given_like x who
-    answer_with x act.End z = equal x _ _ refl
-    answer_with x (act.Fault kind) z = equal x _ _ refl
+    answer_with x _ z = equal x _ _ refl
 
     -- the process is answered the same
     pub same_answer : (heap_answer p h e.proc e.act ≡ Impossible → ⊥) → heap_answer p h e.proc e.act ≡ Answers e.answer

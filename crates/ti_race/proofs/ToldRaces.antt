@@ -323,16 +323,7 @@ both_used p h e (more a said) f = by e.act refl
         let q = possible_then _ _ e.answer s.2 in
         let r = element grid at s.0 s.1 (not_not _ (not_faulted _ _ _ e.answer q.1)) in
         inr (r.0, r.1, r.2, r.3, r.4)
-    by (act.NewObj c r) k = inl (refl, refl)
-    by (act.NewGrid zero d r) k = inl (refl, refl)
-    by (act.MakeView g how) k = inl (refl, refl)
-    by (act.DomainOf g) k = inl (refl, refl)
-    by (act.Print l v) k = inl (refl, refl)
-    by (act.Arrive kind arg given) k = inl (refl, refl)
-    by act.Depart k = inl (refl, refl)
-    by (act.Take who) k = inl (refl, refl)
-    by act.End k = inl (refl, refl)
-    by (act.Fault kind) k = inl (refl, refl)
+    by _ k = inl (refl, refl)
 
 -- ---- lists of both
 

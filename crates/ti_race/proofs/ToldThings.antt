@@ -8,7 +8,7 @@ use Rattle.ti_base.specs.declared.action.Action.TheVariants as act
 use Rattle.ti_base.specs.declared.action.ViewHow.{ViewHow}
 use Rattle.ti_base.specs.declared.action.ViewHow.TheVariants.{Restrict, Translate, Slice}
 use Rattle.ti_base.specs.declared.entry.Answer.{Answer}
-use Rattle.ti_base.specs.declared.entry.Answer.TheVariants.{Val, Done}
+use Rattle.ti_base.specs.declared.entry.Answer.TheVariants.{Val}
 use Rattle.ti_base.specs.declared.entry.Entry.{Entry}
 use Rattle.ti_base.specs.declared.point.Point.{Point}
 use Rattle.ti_base.specs.declared.point.Rect.{Rect}
@@ -139,27 +139,11 @@ named id made (Val (v.Grid (Some m))) e = ap (same_id id) (some_same m made e)
   where
     some_same : (a b : Id) → Some a ≡ Some b → a ≡ b
     some_same a b e = cc
-named id made (Val (v.Grid None)) e = cc
-named id made (Val (v.Int n)) e = cc
-named id made (Val (v.Long n)) e = cc
-named id made (Val (v.Bool b)) e = cc
-named id made (Val (v.Pt p)) e = cc
-named id made (Val (v.Rc r)) e = cc
-named id made (Val (v.Obj o)) e = cc
-named id made (Val (v.Region n)) e = cc
-named id made Done e = cc
+named id made _ e = cc
 
 unnamed : (id : Id) (r : Answer) → grid_in r ≡ None → is_grid id r ≡ false
 unnamed id (Val (v.Grid (Some m))) e = cc
-unnamed id (Val (v.Grid None)) e = refl
-unnamed id (Val (v.Int n)) e = refl
-unnamed id (Val (v.Long n)) e = refl
-unnamed id (Val (v.Bool b)) e = refl
-unnamed id (Val (v.Pt p)) e = refl
-unnamed id (Val (v.Rc r)) e = refl
-unnamed id (Val (v.Obj o)) e = refl
-unnamed id (Val (v.Region n)) e = refl
-unnamed id Done e = refl
+unnamed id _ e = refl
 
 pub no_some : (o : Option Id) → ((made : Id) → o ≡ Some made → ⊥) → o ≡ None
 no_some None f = refl

@@ -87,37 +87,13 @@ ready : (s : Setting) (es : List Entry) (i : ℕ) (at : Place) (a : Action) → 
 ready s es i at act.Depart e = λ j l.
     let same : 0 + j ≡ j = omega arith in
     subst (λ k. departures i es < arrivals k es) same (arrived_all es (departures i es) 0 s.procs j e l)
-ready s es i at (act.GetField obj field) e = tt
-ready s es i at (act.PutField obj field value) e = tt
-ready s es i at (act.NewObj class region) e = tt
-ready s es i at (act.NewGrid element domain region) e = tt
-ready s es i at (act.GetElem grid p) e = tt
-ready s es i at (act.PutElem grid p value) e = tt
-ready s es i at (act.MakeView grid how) e = tt
-ready s es i at (act.DomainOf grid) e = tt
-ready s es i at (act.Print literal value) e = tt
-ready s es i at (act.Arrive kind arg deposit) e = tt
-ready s es i at (act.Take who) e = tt
-ready s es i at act.End e = tt
-ready s es i at (act.Fault kind) e = tt
+ready s es i at _ e = tt
 
 is_ready_then : (s : Setting) (es : List Entry) (i : ℕ) (at : Place) (a : Action) → IsReady s es i (next.Act at a) → is_ready s es i a ≡ true
 is_ready_then s es i at act.Depart f = all_arrived es (departures i es) 0 s.procs (λ d l.
     let same : d ≡ 0 + d = omega arith in
     subst (λ k. departures i es < arrivals k es) same (f d l))
-is_ready_then s es i at (act.GetField obj field) f = refl
-is_ready_then s es i at (act.PutField obj field value) f = refl
-is_ready_then s es i at (act.NewObj class region) f = refl
-is_ready_then s es i at (act.NewGrid element domain region) f = refl
-is_ready_then s es i at (act.GetElem grid p) f = refl
-is_ready_then s es i at (act.PutElem grid p value) f = refl
-is_ready_then s es i at (act.MakeView grid how) f = refl
-is_ready_then s es i at (act.DomainOf grid) f = refl
-is_ready_then s es i at (act.Print literal value) f = refl
-is_ready_then s es i at (act.Arrive kind arg deposit) f = refl
-is_ready_then s es i at (act.Take who) f = refl
-is_ready_then s es i at act.End f = refl
-is_ready_then s es i at (act.Fault kind) f = refl
+is_ready_then s es i at _ f = refl
 
 -- ---- one entry more
 

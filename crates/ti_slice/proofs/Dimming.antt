@@ -55,28 +55,14 @@ module _ (program : NumberedProgram) (this : Option ℕ) where
   none_at_end (s.Return at value) ws = refl
 
   dims_left : (site : Site) (x : NumberedStm) (t : Todo) (ws : List Work) → dims_at program this (work_of site x t ++ ws) ≡ dims_behind x t (dims_at program this ws)
-  dims_left site x todo.Here ws = refl
-  dims_left site x todo.Inside ws = refl
   dims_left site x (todo.From n) ws = none_in_list (drop n (list_in x)) x ws
-  dims_left site x todo.Ending ws = refl
   dims_left site x todo.Before ws = none_at_end x ws
   dims_left site x todo.Behind ws = none_at_end x ws
-  dims_left site x (todo.Each variable domain last) ws = refl
-  dims_left site x (todo.Turn variable domain at) ws = refl
-  dims_left site x (todo.Copying copy last) ws = refl
-  dims_left site x (todo.Taking grid next) ws = refl
+  dims_left site x _ ws = refl
 
   dims_of_body : (body : NumberedStms) (t : Todo) → dims_at program this (work_of_body body t) ≡ (λ number. 1)
   dims_of_body body (todo.From n) = none_alone (drop n (list_of body))
-  dims_of_body body todo.Here = refl
-  dims_of_body body todo.Inside = refl
-  dims_of_body body todo.Ending = refl
-  dims_of_body body todo.Before = refl
-  dims_of_body body todo.Behind = refl
-  dims_of_body body (todo.Each variable domain last) = refl
-  dims_of_body body (todo.Turn variable domain at) = refl
-  dims_of_body body (todo.Copying copy last) = refl
-  dims_of_body body (todo.Taking grid next) = refl
+  dims_of_body body _ = refl
 
   -- the dimensions around the innermost of these levels, the outermost first
   abbrev pub dims_rest : Site → NumberedStms → List Level → ℕ → ℕ
@@ -116,16 +102,8 @@ module _ (program : NumberedProgram) (this : Option ℕ) where
       (listed ∙ ap (λ t. dims_behind y t (dims_rest site body (take m xs))) (sym is) ∙ sym (one_level site body xs m d h k))
 
   skips : (t : Todo) → ((variable : ℕ) (domain : Box Held Global) (at : Spot) → t ≡ todo.Turn variable domain at → ⊥) → (x : NumberedStm) (dims : ℕ → ℕ) → dims_behind x t dims ≡ dims
-  skips todo.Here differs x dims = refl
-  skips todo.Inside differs x dims = refl
-  skips (todo.From n) differs x dims = refl
-  skips todo.Ending differs x dims = refl
-  skips todo.Before differs x dims = refl
-  skips todo.Behind differs x dims = refl
-  skips (todo.Each variable domain last) differs x dims = refl
   skips (todo.Turn variable domain at) differs x dims = absurd (differs variable domain at refl)
-  skips (todo.Copying copy last) differs x dims = refl
-  skips (todo.Taking grid next) differs x dims = refl
+  skips _ differs x dims = refl
 
   -- what is left is no turn
   pub no_turn : (site : Site) (body : NumberedStms) (xs : List Level) (m : ℕ) (d : Level) (ds : List ForeachDims) → m < length xs → 0 < m

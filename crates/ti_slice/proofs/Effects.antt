@@ -70,16 +70,11 @@ past_end p m (s.Continue at) ws = refl
 past_end p m (s.Return at value) ws = refl
 
 no_mark : (p : NumberedProgram) (m : NumberedMethod) (site : Site) (x : NumberedStm) (t : Todo) (ws : List Work) → is_mark t ≡ false → jump_at p m (work_of site x t ++ ws) ≡ jump_at p m ws
-no_mark p m site x todo.Here ws h = refl
-no_mark p m site x todo.Inside ws h = refl
 no_mark p m site x (todo.From n) ws h = past_block p m (drop n (list_in x)) x ws
-no_mark p m site x todo.Ending ws h = refl
 no_mark p m site x todo.Before ws h = past_end p m x ws
 no_mark p m site x todo.Behind ws h = cc
-no_mark p m site x (todo.Each variable domain last) ws h = refl
 no_mark p m site x (todo.Turn variable domain at) ws h = cc
-no_mark p m site x (todo.Copying copy last) ws h = refl
-no_mark p m site x (todo.Taking grid next) ws h = refl
+no_mark p m site x _ ws h = refl
 
 none_in_body : (p : NumberedProgram) (m : NumberedMethod) (xs : List NumberedStm) → jump_at p m (map Do xs) ≡ None
 none_in_body p m [] = refl
@@ -87,15 +82,7 @@ none_in_body p m (x ∷ xs) = none_in_body p m xs
 
 no_mark_in_body : (p : NumberedProgram) (m : NumberedMethod) (body : NumberedStms) (t : Todo) → jump_at p m (work_of_body body t) ≡ None
 no_mark_in_body p m body (todo.From n) = none_in_body p m (drop n (list_of body))
-no_mark_in_body p m body todo.Here = refl
-no_mark_in_body p m body todo.Inside = refl
-no_mark_in_body p m body todo.Ending = refl
-no_mark_in_body p m body todo.Before = refl
-no_mark_in_body p m body todo.Behind = refl
-no_mark_in_body p m body (todo.Each variable domain last) = refl
-no_mark_in_body p m body (todo.Turn variable domain at) = refl
-no_mark_in_body p m body (todo.Copying copy last) = refl
-no_mark_in_body p m body (todo.Taking grid next) = refl
+no_mark_in_body p m body _ = refl
 
 -- one level more, which isn't the outermost
 one_level : (site : Site) (body : NumberedStms) (xs : List Level) (k : ℕ) (d : Level) → k < length xs → 0 < k
@@ -147,16 +134,11 @@ block_done site x n h = ap (λ xs. map Do xs ++ End x ∷ []) (drop_of_length-le
 
 -- one piece of work is left of the statement
 pub one_left : (site : Site) (x : NumberedStm) (t : Todo) (levels : ℕ) → (t ≡ todo.Before → ⊥) → (t ≡ todo.Behind → ⊥) → 0 < levels → IsAtHand x levels t → (w : Work) × (work_of site x t ≡ w ∷ [])
-one_left site x todo.Here levels b e h a = (_, refl)
 one_left site x todo.Inside levels b e h a = absurd (omega arith)
 one_left site x (todo.From n) levels b e h a = (_, block_done site x n a)
-one_left site x todo.Ending levels b e h a = (_, refl)
 one_left site x todo.Before levels b e h a = absurd (b refl)
 one_left site x todo.Behind levels b e h a = absurd (e refl)
-one_left site x (todo.Each variable domain last) levels b e h a = (_, refl)
-one_left site x (todo.Turn variable domain at) levels b e h a = (_, refl)
-one_left site x (todo.Copying copy last) levels b e h a = (_, refl)
-one_left site x (todo.Taking grid next) levels b e h a = (_, refl)
+one_left site x _ levels b e h a = (_, refl)
 
 -- a loop is left, and its end
 pub before_end : (site : Site) (x : NumberedStm) (t after : Todo) → t ≡ todo.Before → work_of site x after ≡ end_of_for x → (w : Work) × (work_of site x t ≡ w ∷ work_of site x after)
@@ -194,16 +176,9 @@ turn_acts p m has x t variable domain at is acts site ws =
 -- a statement that isn't there has none
 nothing_acts : (p : NumberedProgram) (m : NumberedMethod) (site : Site) (t : Todo) (levels : ℕ) (ws : List Work) → 0 < levels
     → IsAtHand s.Empty levels t → first_acts p m (work_of site s.Empty t ++ ws) ≡ false
-nothing_acts p m site todo.Here levels ws h a = refl
 nothing_acts p m site todo.Inside levels ws h a = absurd (omega arith)
 nothing_acts p m site (todo.From n) levels ws h a = list_acts p m site s.Empty n ws a
-nothing_acts p m site todo.Ending levels ws h a = refl
-nothing_acts p m site todo.Before levels ws h a = refl
-nothing_acts p m site todo.Behind levels ws h a = refl
-nothing_acts p m site (todo.Each variable domain last) levels ws h a = refl
-nothing_acts p m site (todo.Turn variable domain at) levels ws h a = refl
-nothing_acts p m site (todo.Copying copy last) levels ws h a = refl
-nothing_acts p m site (todo.Taking grid next) levels ws h a = refl
+nothing_acts p m site _ levels ws h a = refl
 
 -- the work that is left in a call
 pub acts_in_call : (p : NumberedProgram) (f : Call) (t : Todo) (m : NumberedMethod) (x : NumberedStm) (has : Bool) → m ≡ method_at p f.method → x ≡ here p f → 0 < length f.levels.items

@@ -66,13 +66,7 @@ pub first : (c : NumberedProgram) (w : Walker) (t : Todo) → 0 < length w.top.l
 first c w todo.Here h s = record { work = Do (here c w.top); more = []; is = refl; begun = λ b. absurd b }
 first c w todo.Inside h s = absurd (omega (arith, h, s))
 first c w (todo.From n) h s = record { work = End (here c w.top); more = []; is = block_done (site_of c w.team.procs w.top) (here c w.top) n s; begun = λ b env answers. refl }
-first c w todo.Ending h s = record { work = _; more = _; is = refl; begun = λ b env answers. refl }
-first c w todo.Before h s = record { work = _; more = _; is = refl; begun = λ b env answers. refl }
-first c w todo.Behind h s = record { work = _; more = _; is = refl; begun = λ b env answers. refl }
-first c w (todo.Each variable domain last) h s = record { work = _; more = _; is = refl; begun = λ b env answers. refl }
-first c w (todo.Turn variable domain at) h s = record { work = _; more = _; is = refl; begun = λ b env answers. refl }
-first c w (todo.Copying copy last) h s = record { work = _; more = _; is = refl; begun = λ b env answers. refl }
-first c w (todo.Taking grid next) h s = record { work = _; more = _; is = refl; begun = λ b env answers. refl }
+first c w _ h s = record { work = _; more = _; is = refl; begun = λ b env answers. refl }
 
 -- what is left in the innermost call then
 first_left : (c : NumberedProgram) (w : Walker) (t : Todo) (f : First c w t) → 0 < length w.top.levels.items → left_in c w.team.procs w.top t ≡ f.work ∷ (f.more ++ rest c w.team.procs w.top)

@@ -144,13 +144,9 @@ value (v.Grid (Some i)) = grid i
 value (v.Region n) = plus (codes "region") (decimal n) (record { is = refl }) (number n)
 
 zero_of : (x : Zero) → No (zero_text x)
-zero_of z.Int = record { is = refl }
-zero_of z.Long = record { is = refl }
-zero_of z.Bool = record { is = refl }
 zero_of (z.Pt dim) = plus (codes "point") (decimal dim) (record { is = refl }) (number dim)
 zero_of (z.Rc dim) = plus (codes "rect") (decimal dim) (record { is = refl }) (number dim)
-zero_of z.Obj = record { is = refl }
-zero_of z.Grid = record { is = refl }
+zero_of _ = record { is = refl }
 
 -- ---- acts and answers
 

@@ -156,13 +156,8 @@ Agree p m xs ys = (jump_at p m xs ≡ jump_at p m ys) × (turns_at xs ≡ turns_
 
 -- before one piece of work more
 pub agree_on : (p : NumberedProgram) (m : NumberedMethod) (w : Work) (xs ys : List Work) → Agree p m xs ys → Agree p m (w ∷ xs) (w ∷ ys)
-agree_on p m (Do x) xs ys e = e
-agree_on p m (End x) xs ys e = e
-agree_on p m (Before loop) xs ys e = e
 agree_on p m (Behind loop) xs ys e = (refl, ap (turn_before loop) e.1, ap (dims_inside p (this_of m) loop) e.2)
-agree_on p m (Receive receiver held) xs ys e = e
-agree_on p m (CopyAll at to from points) xs ys e = e
-agree_on p m (TakeAll at grid procs) xs ys e = e
+agree_on p m _ xs ys e = e
 
 pub agree_before : (p : NumberedProgram) (m : NumberedMethod) (ws xs ys : List Work) → Agree p m xs ys → Agree p m (ws ++ xs) (ws ++ ys)
 agree_before p m [] xs ys e = e
@@ -175,11 +170,7 @@ effects_agree p m x j k e = ap (λ (o : Option Bool). has_global_effects (return
 pub acts_agree : (p : NumberedProgram) (m : NumberedMethod) (xs ys : List Work) (w : Work) → jump_at p m xs ≡ jump_at p m ys → work_acts p m xs w ≡ work_acts p m ys w
 acts_agree p m xs ys (Do x) e = effects_agree p m x _ _ e
 acts_agree p m xs ys (End x) e = effects_agree p m x _ _ e
-acts_agree p m xs ys (Before loop) e = refl
-acts_agree p m xs ys (Behind loop) e = refl
-acts_agree p m xs ys (Receive receiver held) e = refl
-acts_agree p m xs ys (CopyAll at to from points) e = refl
-acts_agree p m xs ys (TakeAll at grid procs) e = refl
+acts_agree p m xs ys _ e = refl
 
 -- ---- what is kept
 

@@ -242,13 +242,6 @@ module _ (s : Setting) (es : List Entry) (w : IsRun s es) (agree : ArrivalsAgree
       ≡ Impossible → ⊥
   never there i l p v at act.Depart n r k o = depart_possible i p v at n r o
   never there i l p v at (act.Take who) n r k o = take_possible i who p v at n o
-  never there i l p v at (act.Print literal value) n r k o = answer_not _ o
-  never there i l p v at act.End n r k o = answer_not _ o
-  never there i l p v at (act.Fault kind) n r k o = answer_not _ o
-  never there i l p v at (act.Arrive coll.Barrier arg d) n r k o = answer_not _ o
-  never there i l p v at (act.Arrive coll.Broadcast arg d) n r k o = answer_not _ o
-  never there i l p v at (act.Arrive coll.Exchange arg d) n r k o = answer_not _ o
-  never there i l p v at (act.Arrive coll.MakeRegion arg d) n r k o = answer_not _ o
   never there i l p v at (act.Arrive coll.DeleteRegion arg d) n r k o = absurd (true_false k)
   never there i l p v at (act.GetField obj field) n r k o = there i p at (act.GetField obj field) l v n refl o
   never there i l p v at (act.PutField obj field value) n r k o = there i p at (act.PutField obj field value) l v n refl o
@@ -258,3 +251,4 @@ module _ (s : Setting) (es : List Entry) (w : IsRun s es) (agree : ArrivalsAgree
   never there i l p v at (act.PutElem grid index value) n r k o = there i p at (act.PutElem grid index value) l v n refl o
   never there i l p v at (act.MakeView grid how) n r k o = there i p at (act.MakeView grid how) l v n refl o
   never there i l p v at (act.DomainOf grid) n r k o = there i p at (act.DomainOf grid) l v n refl o
+  never there i l p v at _ n r k o = answer_not _ o

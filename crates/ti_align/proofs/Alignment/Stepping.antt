@@ -14,7 +14,7 @@ use Rattle.ti_lang.specs.Typing.Singleness.{has_single_result}
 use Rattle.ti_lang.specs.Typing.Effects.{doings_of_method, return_acts, has_global_effects}
 use Rattle.ti_lang.specs.Meaning.Held.{Held}
 use Rattle.ti_lang.specs.Meaning.Asking.{Got, Gives, Asks, Fails}
-use Rattle.ti_lang.specs.Meaning.Processes.{Setting, Variable, Receiver, Nowhere, Work, Do, End, Before, Behind, Receive, CopyAll, TakeAll, Frame, frame_of, Wait, Process, all_before, begin}
+use Rattle.ti_lang.specs.Meaning.Processes.{Setting, Variable, Receiver, Nowhere, Work, End, Behind, Receive, Frame, frame_of, Wait, Process, all_before, begin}
 use Rattle.ti_lang.specs.Meaning.Turns.{Turn}
 use Rattle.ti_lang.specs.Meaning.Scoping.{Env, env_of}
 use Rattle.ti_lang.specs.Meaning.Moves.{Move, Goes, Turns, Breaks, Continues, Calls, Returns, Meets, Deletes}
@@ -500,13 +500,8 @@ pub nil_cons : (w : Work) (ws : List Work) → w ∷ ws ≡ [] → ⊥
 nil_cons w ws e = cc
 
 pub deep_on : (p : NumberedProgram) (m : NumberedMethod) (w : Work) (left : List Work) → work_acts p m left w ≡ true → Deep (jump_at p m left) → Deep (jump_at p m (w ∷ left))
-deep_on p m (Do x) left h d = d
-deep_on p m (End x) left h d = d
-deep_on p m (Before loop) left h d = d
 deep_on p m (Behind loop) left h d = h
-deep_on p m (Receive r v) left h d = d
-deep_on p m (CopyAll at to from points) left h d = d
-deep_on p m (TakeAll at grid procs) left h d = d
+deep_on p m _ left h d = d
 
 -- where the slice evaluates a frame's next work
 pub env_same : (q : Process) (f : Frame) (left : List Work) → Agree q.setting.program f.method (kept q.setting.program f.method left) left

@@ -167,18 +167,7 @@ module _ (p : NumberedProgram) (h : History) (e : Entry) (answered : IsAnswered 
       let is : view how s.0 ≡ g = some_same (view how s.0) g (sym (ap (option_map (view how)) s.1) ∙ m) in
       let inside = view_inside how s.0.domain (old.forms viewed s.0 s.1) f t.0 (no_fault (view_fault how s.0.domain) made e.answer t.1) in
       subst (λ x. OverRect x Counts) is (inside.0, λ at k. stays (cell_of (view how s.0) at) (old.points viewed s.0 (seen_point how at) s.1 (inside.1 at k)))
-  made_grid id g (act.NewObj class region) z f q i m = absurd (none_some g m)
-  made_grid id g (act.GetField obj field) z f q i m = absurd (none_some g m)
-  made_grid id g (act.PutField obj field value) z f q i m = absurd (none_some g m)
-  made_grid id g (act.GetElem grid at) z f q i m = absurd (none_some g m)
-  made_grid id g (act.PutElem grid at value) z f q i m = absurd (none_some g m)
-  made_grid id g (act.DomainOf grid) z f q i m = absurd (none_some g m)
-  made_grid id g (act.Print literal value) z f q i m = absurd (none_some g m)
-  made_grid id g (act.Arrive kind arg given) z f q i m = absurd (none_some g m)
-  made_grid id g act.Depart z f q i m = absurd (none_some g m)
-  made_grid id g (act.Take who) z f q i m = absurd (none_some g m)
-  made_grid id g act.End z f q i m = absurd (none_some g m)
-  made_grid id g (act.Fault kind) z f q i m = absurd (none_some g m)
+  made_grid id g _ z f q i m = absurd (none_some g m)
 
   grids : (id : Id) (g : Grid) → grid_of id (e ∷ h) ≡ Some g → OverRect g Counts
   grids id g m = by (is_making e.act && is_grid id e.answer) refl m
@@ -202,18 +191,7 @@ module _ (p : NumberedProgram) (h : History) (e : Entry) (answered : IsAnswered 
       inside : (b : Bool) → faults_if (not b) fault.Bounds (Answers Done) ≡ Answers e.answer → b ≡ true
       inside true z = refl
       inside false z = cc
-  writes (act.GetField obj field) q c x w = absurd (none_some (c, x) w)
-  writes (act.NewObj class region) q c x w = absurd (none_some (c, x) w)
-  writes (act.NewGrid first domain region) q c x w = absurd (none_some (c, x) w)
-  writes (act.GetElem grid at) q c x w = absurd (none_some (c, x) w)
-  writes (act.MakeView grid how) q c x w = absurd (none_some (c, x) w)
-  writes (act.DomainOf grid) q c x w = absurd (none_some (c, x) w)
-  writes (act.Print literal value) q c x w = absurd (none_some (c, x) w)
-  writes (act.Arrive kind arg given) q c x w = absurd (none_some (c, x) w)
-  writes act.Depart q c x w = absurd (none_some (c, x) w)
-  writes (act.Take who) q c x w = absurd (none_some (c, x) w)
-  writes act.End q c x w = absurd (none_some (c, x) w)
-  writes (act.Fault kind) q c x w = absurd (none_some (c, x) w)
+  writes _ q c x w = absurd (none_some (c, x) w)
 
   written_now : (c : Cell) (x : Value) (o : Option (Cell × Value)) → written_by e.act h ≡ o → or_else (written_to c o) (last_written c h) ≡ Some x → Counts c
   written_now c x None w z = stays c (old.written c x z)

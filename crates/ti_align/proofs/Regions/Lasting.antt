@@ -31,7 +31,7 @@ use Rattle.ti_lang.specs.Meaning.RoundsOf.{arrival_at, last_arrival, value_in, i
 use Rattle.ti_lang.specs.Meaning.RegionsOf.{is_gone, is_place}
 use Rattle.ti_lang.specs.Meaning.RegionUse.{names}
 use Rattle.ti_lang.specs.Meaning.HeapOf.{new_id, view_id, is_grid, grid_made, grid_of, last_written, zeros_of, zero_of, cell_value}
-use Rattle.ti_lang.specs.Meaning.HeapAnswers.{Answers, where_some, possible_if, faults_if, makes, places, at_point, views, answers_value, heap_answer, IsAnswered, more}
+use Rattle.ti_lang.specs.Meaning.HeapAnswers.{Answers, possible_if, faults_if, makes, places, at_point, views, answers_value, heap_answer, IsAnswered, more}
 use Rattle.ti_lang.specs.Meaning.HeapAnswers as heap
 use Rattle.ti_lang.specs.Meaning.Runs.{World, CanTake, IsRun}
 use Rattle.ti_lang.proofs.Lemmas.{possible_then, some_then, fault_then, answer_same, views_then, placed, same_name}
@@ -240,12 +240,7 @@ module _ (p : NumberedProgram) (h later : History) (i : ℕ) (r : Answer) (w u :
   fits_living gone (act.DomainOf grid) wanted is there q k = λ element n f. k element n (grid_in element n grid f)
   fits_living gone (act.PutField obj field value) wanted is there q k = tt
   fits_living gone (act.PutElem grid at value) wanted is there q k = tt
-  fits_living gone (act.Print literal value) wanted is there q k = absurd (true_false (sym is))
-  fits_living gone (act.Arrive kind arg given) wanted is there q k = absurd (true_false (sym is))
-  fits_living gone act.Depart wanted is there q k = absurd (true_false (sym is))
-  fits_living gone (act.Take who) wanted is there q k = absurd (true_false (sym is))
-  fits_living gone act.End wanted is there q k = absurd (true_false (sym is))
-  fits_living gone (act.Fault kind) wanted is there q k = absurd (true_false (sym is))
+  fits_living gone _ wanted is there q k = absurd (true_false (sym is))
 
 -- ---- over an entry
 

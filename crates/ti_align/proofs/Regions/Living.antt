@@ -87,15 +87,9 @@ module _ (h : History) (w : Things) where
       by : (o : Option Id) → ((id : Id) → o ≡ Some id → IsGridOf (living h w) e n id) → IfNamedLives h o
       by None f = tt
       by (Some id) f = let g = f id refl in grid_lives id g.0 g.1
-  value_lives t.Int x v k = subst (λ y. IfNamedLives h (thing_of y)) (sym k.1) tt
-  value_lives t.Long x v k = subst (λ y. IfNamedLives h (thing_of y)) (sym k.1) tt
-  value_lives t.Boolean x v k = subst (λ y. IfNamedLives h (thing_of y)) (sym k.1) tt
-  value_lives (t.Pt n) x v k = subst (λ y. IfNamedLives h (thing_of y)) (sym k.1) tt
-  value_lives (t.Rc n) x v k = subst (λ y. IfNamedLives h (thing_of y)) (sym k.1) tt
-  value_lives (t.Dm n) x v k = subst (λ y. IfNamedLives h (thing_of y)) (sym k.1) tt
-  value_lives t.Region x v k = subst (λ y. IfNamedLives h (thing_of y)) (sym k.1) tt
   value_lives t.Null x v k = subst (λ y. IfNamedLives h (thing_of y)) (sym k) tt
   value_lives t.Void x v k = absurd (true_false v)
+  value_lives _ x v k = subst (λ y. IfNamedLives h (thing_of y)) (sym k.1) tt
 
   pub grid_living : (e : ValueType) (n : ℕ) (id : Id) → Lives h id → IsGridOf w e n id → IsGridOf (living h w) e n id
   grid_living e n id l k = (k.0, if_false (is_gone id.region h) None (w.grid_at id) l ∙ k.1, k.2, k.3, k.4, k.5)
@@ -104,15 +98,7 @@ module _ (h : History) (w : Things) where
   pub of_living : (type : ValueType) (x : Held) → IsOf w type x → (is_void type ≡ false → IfNamedLives h (thing_of x)) → IsOf (living h w) type x
   of_living (t.Class c l) x k f = (k.0, k.1, (λ id z. if_false (is_gone id.region h) None (w.class_at id) (subst (IfNamedLives h) (ap thing_of k.1 ∙ z) (f refl)) ∙ k.2 id z), k.3)
   of_living (t.Grid e n l) x k f = (k.0, k.1, (λ id z. grid_living e n id (subst (IfNamedLives h) (ap thing_of k.1 ∙ z) (f refl)) (k.2 id z)), k.3)
-  of_living t.Int x k f = k
-  of_living t.Long x k f = k
-  of_living t.Boolean x k f = k
-  of_living (t.Pt n) x k f = k
-  of_living (t.Rc n) x k f = k
-  of_living (t.Dm n) x k f = k
-  of_living t.Region x k f = k
-  of_living t.Null x k f = k
-  of_living t.Void x k f = k
+  of_living _ x k f = k
 
 -- ---- actions
 
@@ -125,14 +111,7 @@ module _ (h : History) (w : Things) where
   used_lives p (act.PutElem grid at value) wanted k = grid_lives h w grid k.2.0 k.2.1
   used_lives p (act.MakeView grid how) wanted k = grid_lives h w grid k.2.0 k.2.1
   used_lives p (act.DomainOf grid) wanted k = grid_lives h w grid k.2.0 k.2.1
-  used_lives p (act.NewObj class region) wanted k = tt
-  used_lives p (act.NewGrid zero domain region) wanted k = tt
-  used_lives p (act.Print literal value) wanted k = tt
-  used_lives p (act.Arrive kind arg given) wanted k = tt
-  used_lives p act.Depart wanted k = tt
-  used_lives p (act.Take who) wanted k = tt
-  used_lives p act.End wanted k = tt
-  used_lives p (act.Fault kind) wanted k = tt
+  used_lives p _ wanted k = tt
 
   pub field_lives : (p : NumberedProgram) (obj : Id) (field : ℕ) (value : _) (wanted : Wanted) → FieldsStorable p
       → IsThere p (living h w) (act.PutField obj field value) wanted → IfNamedLives h (thing_of (Plain value))

@@ -21,7 +21,7 @@ use Rattle.ti_lang.specs.Meaning.Steps.{Step, At, Faults, ticks, valued, most_fr
 use Rattle.ti_lang.specs.Meaning.NextStep.{here, IsNext}
 use Rattle.ti_lang.specs.Meaning.Histories.{history_of, is_arrival}
 use Rattle.ti_lang.specs.Meaning.RegionsOf.{is_made, is_gone}
-use Rattle.ti_lang.specs.Meaning.HeapAnswers.{Outcome, Answers, Impossible, where_some, possible_if, faults_if, heap_answer}
+use Rattle.ti_lang.specs.Meaning.HeapAnswers.{Answers, Impossible, where_some, possible_if, faults_if, heap_answer}
 use Rattle.ti_lang.specs.Meaning.HeapAnswers as heap
 use Rattle.ti_lang.specs.Meaning.Runs.{World, IsRun}
 use Rattle.ti_lang.proofs.Lemmas.{Giving}
@@ -109,16 +109,9 @@ module _ (w : Things) (q : Process) (methods : MethodsAreSuch q.setting.program 
       (scope_over q.setting.program (method_scope f.method) left) x) (taken_type x)
       (scope_over q.setting.program (method_scope f.method) left) w mv) g
       → Giving (MoveIsSuch q.setting.program f.method) g → Giving (MovePlaced w) g
-  both_placed f left x (Gives (Goes vs ws) rest) k h = tt
-  both_placed f left x (Gives (Turns at vs ws) rest) k h = tt
-  both_placed f left x (Gives Breaks rest) k h = tt
-  both_placed f left x (Gives Continues rest) k h = tt
-  both_placed f left x (Gives (Calls at c this ps r) rest) k h = tt
-  both_placed f left x (Gives (Returns value) rest) k h = tt
   both_placed f left x (Gives (Meets wait given behind) rest) k h = h.3
   both_placed f left x (Gives (Deletes at region) rest) k h = k
-  both_placed f left x (Asks request) k h = tt
-  both_placed f left x (Fails kind at) k h = tt
+  both_placed f left x _ k h = tt
 
   works_placed : (f : Frame) (fs : List Frame) (ws : List Work) → WorkSound w q f ws → FirstUses f.variables ws → AllGood f.variables
       → WorksAreSuch q.setting.program f.method ws → StepPlaced w (works q f fs ws)

@@ -4,7 +4,7 @@ use Rattle.std.proofs.Math.Logic.{∥∥₁_elim}
 use Rattle.ti_base.specs.declared.place.Place.{Place}
 use Rattle.ti_syntax.specs.declared.tree.exprs.BinaryOperator.{BinaryOperator}
 use Rattle.ti_lang.specs.Members.{only_if}
-use Rattle.ti_lang.specs.Program.Types.{ValueType, Declaration, VariableUse}
+use Rattle.ti_lang.specs.Program.Types.{ValueType, Declaration}
 use Rattle.ti_lang.specs.Program.Types as t
 use Rattle.ti_lang.specs.Program.Expressions.{NumberedExp, NumberedExps}
 use Rattle.ti_lang.specs.Program.Expressions as e
@@ -65,56 +65,20 @@ none_such type u h g = by (is_region type) refl
 -- what fits a region is one
 fits_region : (u : ValueType) → fits u t.Region ≡ true → u ≡ t.Region
 fits_region t.Region h = refl
-fits_region t.Int h = absurd (true_false (sym h))
-fits_region t.Long h = absurd (true_false (sym h))
-fits_region t.Boolean h = absurd (true_false (sym h))
-fits_region (t.Pt n) h = absurd (true_false (sym h))
-fits_region (t.Rc n) h = absurd (true_false (sym h))
-fits_region (t.Dm n) h = absurd (true_false (sym h))
-fits_region (t.Class c l) h = absurd (true_false (sym h))
-fits_region (t.Grid x n l) h = absurd (true_false (sym h))
-fits_region t.Null h = absurd (true_false (sym h))
-fits_region t.Void h = absurd (true_false (sym h))
+fits_region _ h = absurd (true_false (sym h))
 
 casts_region : (u : ValueType) → casts t.Region u ≡ true → u ≡ t.Region
 casts_region t.Region h = refl
-casts_region t.Int h = absurd (true_false (sym h))
-casts_region t.Long h = absurd (true_false (sym h))
-casts_region t.Boolean h = absurd (true_false (sym h))
-casts_region (t.Pt n) h = absurd (true_false (sym h))
-casts_region (t.Rc n) h = absurd (true_false (sym h))
-casts_region (t.Dm n) h = absurd (true_false (sym h))
-casts_region (t.Class c l) h = absurd (true_false (sym h))
-casts_region (t.Grid x n l) h = absurd (true_false (sym h))
-casts_region t.Null h = absurd (true_false (sym h))
-casts_region t.Void h = absurd (true_false (sym h))
+casts_region _ h = absurd (true_false (sym h))
 
 -- what is stored is none, and no reference to it is
 global_other : (type : ValueType) → storable type ≡ true → is_region (as_global type) ≡ false
-global_other t.Int h = refl
-global_other t.Long h = refl
-global_other t.Boolean h = refl
-global_other (t.Pt n) h = refl
-global_other (t.Rc n) h = refl
-global_other (t.Dm n) h = refl
 global_other t.Region h = absurd (true_false (sym h))
-global_other (t.Class c l) h = refl
-global_other (t.Grid x n l) h = refl
-global_other t.Null h = refl
-global_other t.Void h = refl
+global_other _ h = refl
 
 stored_other : (type : ValueType) → storable type ≡ true → is_region type ≡ false
 stored_other t.Region h = absurd (true_false (sym h))
-stored_other t.Int h = refl
-stored_other t.Long h = refl
-stored_other t.Boolean h = refl
-stored_other (t.Pt n) h = refl
-stored_other (t.Rc n) h = refl
-stored_other (t.Dm n) h = refl
-stored_other (t.Class c l) h = refl
-stored_other (t.Grid x n l) h = refl
-stored_other t.Null h = refl
-stored_other t.Void h = refl
+stored_other _ h = refl
 
 read_other : (l : Bool) (type : ValueType) → storable type ≡ true → is_region (read_through l type) ≡ false
 read_other true type h = stored_other type h
@@ -122,16 +86,7 @@ read_other false type h = global_other type h
 
 sent_other : (type : ValueType) → can_broadcast type ≡ true → is_region (as_global type) ≡ false
 sent_other t.Region h = absurd (true_false (sym h))
-sent_other t.Int h = refl
-sent_other t.Long h = refl
-sent_other t.Boolean h = refl
-sent_other (t.Pt n) h = refl
-sent_other (t.Rc n) h = refl
-sent_other (t.Dm n) h = refl
-sent_other (t.Class c l) h = refl
-sent_other (t.Grid x n l) h = refl
-sent_other t.Null h = refl
-sent_other t.Void h = refl
+sent_other _ h = refl
 
 -- a member of the language that is a value is none
 member_other : (b : BuiltIn) (a r : ValueType) (ts : List ValueType) → member_type b a ts ≡ Some r → is_region r ≡ false
@@ -390,7 +345,6 @@ module _ (p : NumberedProgram) (fields : FieldsMeant p) (m : NumberedMethod) (s 
 module _ (p : NumberedProgram) (fields : FieldsMeant p) (m : NumberedMethod) where
   mutual
     stm_such : (s : ScopeContents) (turns : List ℕ) → Surrounds m s turns → Points m s → (x : NumberedStm) → StmMeant p m turns x → StmFits p m s x → StmIsSuch p m x
-    stm_such s turns a g st.Empty k f = tt
     stm_such s turns a g (st.Declare at type variable value) k f =
         init_such p fields m s turns a g value type.type f.0 k f.1 (λ r. fits_region f.0 (ap (fits f.0) (sym (region_is type.type r)) ∙ f.2))
     stm_such s turns a g (st.Assign at target value) k f =
@@ -399,11 +353,6 @@ module _ (p : NumberedProgram) (fields : FieldsMeant p) (m : NumberedMethod) whe
         (updated_such p fields m s turns a g op target f.0 at k.0.0 f.2, init_such p fields m s turns a g (st.Value x) t.Void f.0 k.1 f.1 (λ r. absurd (true_false (sym r))))
     stm_such s turns a g (st.Step at op target) k f = updated_such p fields m s turns a g (one_more op) target t.Int at k.0 f
     stm_such s turns a g (st.Call x) k f = (call_such p fields m s turns a g t.Void f.0 x k.0 f.1 (λ r. absurd (true_false (sym r))), deletes_such p fields m s turns a g x f.0 k.0 f.1)
-    stm_such s turns a g (st.Print at what) k f = tt
-    stm_such s turns a g (st.Barrier at) k f = tt
-    stm_such s turns a g (st.Break at) k f = tt
-    stm_such s turns a g (st.Continue at) k f = tt
-    stm_such s turns a g (st.Return at None) k f = tt
     stm_such s turns a g (st.Return at (Some x)) k f = such p fields m s turns a x f.0 (result_type m) k f.1.1 f.2
     stm_such s turns a g (st.Block body) k f = stms_such s turns a g body k f
     stm_such s turns a g (st.If at c x) k f = stm_such s turns a g x k.1 f.1
@@ -416,6 +365,7 @@ module _ (p : NumberedProgram) (fields : FieldsMeant p) (m : NumberedMethod) whe
         stm_such (record s { variables = variables_inside p s number domain }) (number ∷ turns)
         (surrounds_inside p m s turns a number domain f.0.0 k.1 k.2 i (dim_is f.0.0 d.2))
         (inside_points p m s number domain g) body k.3 f.1
+    stm_such s turns a g _ k f = tt
 
     maybe_such : (s : ScopeContents) (turns : List ℕ) → Surrounds m s turns → Points m s → (x : MaybeNumbered) → MaybeMeant p m turns x → MaybeFits p m s x → MaybeIsSuch p m x
     maybe_such s turns a g NoStm k f = tt

@@ -49,17 +49,10 @@ place_stays u w r g (inr h) = inr (g.regions r h)
 
 -- a value stays of its type
 pub of_stays : (u w : Things) (type : ValueType) (h : Held) → Grows u w → IsOf u type h → IsOf w type h
-of_stays u w t.Int h g k = k
-of_stays u w t.Long h g k = k
-of_stays u w t.Boolean h g k = k
-of_stays u w (t.Pt n) h g k = k
-of_stays u w (t.Rc n) h g k = k
-of_stays u w (t.Dm n) h g k = k
 of_stays u w t.Region h g k = (k.0, k.1, place_stays u w k.0 g k.2)
 of_stays u w (t.Class c l) h g k = (k.0, k.1, (λ id z. g.classes id c (k.2 id z)), own_stays u w l k.0 g k.3)
 of_stays u w (t.Grid e n l) h g k = (k.0, k.1, (λ id z. grid_stays u w e n id g (k.2 id z)), own_stays u w l k.0 g k.3)
-of_stays u w t.Null h g k = k
-of_stays u w t.Void h g k = k
+of_stays u w _ h g k = k
 
 -- so does a thing
 pub thing_stays : (u w : Things) (type : ValueType) (id : Id) → Grows u w → IsThingOf u type id → IsThingOf w type id
@@ -77,17 +70,9 @@ same_owner i j o e k = subst (λ n. is_own n o ≡ true) e k
 
 -- what one process has another one has too, if it's the same process wherever the type is local
 pub seen_from : (w : Things) (i : ℕ) (a : ValueType) (h : Held) → (is_local a ≡ true → w.owner ≡ i) → IsOf w a h → IsOf (seen_by i w) a h
-seen_from w i t.Int h f k = k
-seen_from w i t.Long h f k = k
-seen_from w i t.Boolean h f k = k
-seen_from w i (t.Pt n) h f k = k
-seen_from w i (t.Rc n) h f k = k
-seen_from w i (t.Dm n) h f k = k
-seen_from w i t.Region h f k = k
 seen_from w i (t.Class c l) h f k = (k.0, k.1, k.2, λ z. same_owner w.owner i k.0 (f z) (k.3 z))
 seen_from w i (t.Grid e n l) h f k = (k.0, k.1, k.2, λ z. same_owner w.owner i k.0 (f z) (k.3 z))
-seen_from w i t.Null h f k = k
-seen_from w i t.Void h f k = k
+seen_from w i _ h f k = k
 
 -- what a value of a local type names
 pub own_of : (w : Things) (a : ValueType) (h : Held) → IsOf w a h → IsOwn w (is_local a) (thing_of h)

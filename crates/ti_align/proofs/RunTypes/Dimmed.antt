@@ -1,6 +1,6 @@
 -- In work that fits an expression has the type in the text that the rules give it, with the dimensions of the foreach loops around.
 use Rattle.std.proofs.Common.{◌≡◌, ℕ, ◌==◌, find, is_none, Bool, true, false, if◌then◌else◌, Option, Some, None, List, [], ◌∷◌, ◌++◌, option_map, option_and_then, refl, ap, sym, ◌∙◌, subst, eqb-true}
-use Rattle.ti_lang.specs.Program.Types.{ValueType, Declaration, Typed, VariableUse}
+use Rattle.ti_lang.specs.Program.Types.{ValueType, Declaration, Typed}
 use Rattle.ti_lang.specs.Program.Types as t
 use Rattle.ti_lang.specs.Program.Expressions.{NumberedExp, NumberedRange, NumberedRanges}
 use Rattle.ti_lang.specs.Program.Expressions as e
@@ -93,18 +93,7 @@ module _ (m : NumberedMethod) (s : ScopeContents) (dims : ℕ → ℕ) (dimmed :
     are_dims (e.Select at x name) k = are_dims x k
     are_dims (e.Member at x name args) k = are_dims x k.0
     are_dims (e.Index at x parts) k = are_dims x k.0
-    are_dims (e.Int at n) k = tt
-    are_dims (e.Long at n) k = tt
-    are_dims (e.Truth at c) k = tt
-    are_dims (e.Null at) k = tt
-    are_dims (e.This at) k = tt
-    are_dims (e.OwnField at field) k = tt
-    are_dims (e.Call at method args) k = tt
-    are_dims (e.OwnCall at method args) k = tt
-    are_dims (e.ThisProc at) k = tt
-    are_dims (e.NumProcs at) k = tt
-    are_dims (e.Point at parts) k = tt
-    are_dims (e.Cast at to x) k = tt
+    are_dims _ k = tt
 
     is_range : (r : NumberedRange) → IsRangeWritten (uses_of m) r → IsRangeDims s dims r
     is_range (e.Plain low high) k = are_dims low k.0

@@ -13,7 +13,6 @@ use Rattle.ti_base.specs.declared.place.Place.{Place}
 use Rattle.ti_base.specs.declared.point.Point.{Point}
 use Rattle.ti_base.specs.declared.value.Id.{Id}
 use Rattle.ti_base.specs.declared.value.Value.TheVariants as v
-use Rattle.ti_base.specs.declared.fault.FaultKind.TheVariants.{NullRef}
 use Rattle.ti_base.specs.declared.fault.FaultKind.TheVariants as fault
 use Rattle.ti_base.specs.declared.action.Action.TheVariants as act
 use Rattle.ti_base.specs.declared.action.ViewHow.{ViewHow}
@@ -247,31 +246,18 @@ three : (p : Point) → p.dim ≤ 3 → length (coordinates_of p) ≡ p.dim
 three p h = length-take-le p.dim (p.x1 ∷ p.x2 ∷ p.x3 ∷ []) h
 
 numbers_count : (w : Things) (type : ValueType) (h : Held) → is_void type ≡ false → DimsFine type → IsOf w type h → length (numbers_in h) ≡ count_of type
-numbers_count w t.Int h z d k = ap (λ x. length (numbers_in x)) k.1
-numbers_count w t.Long h z d k = ap (λ x. length (numbers_in x)) k.1
-numbers_count w t.Boolean h z d k = ap (λ x. length (numbers_in x)) k.1
 numbers_count w (t.Pt n) h z d k = ap (λ x. length (numbers_in x)) k.1 ∙ three k.0 (subst (λ m. m ≤ 3) (sym k.2.dim_is) d.1) ∙ k.2.dim_is
-numbers_count w (t.Rc n) h z d k = ap (λ x. length (numbers_in x)) k.1
-numbers_count w (t.Dm n) h z d k = ap (λ x. length (numbers_in x)) k.1
-numbers_count w t.Region h z d k = ap (λ x. length (numbers_in x)) k.1
-numbers_count w (t.Class c l) h z d k = ap (λ x. length (numbers_in x)) k.1
-numbers_count w (t.Grid e n l) h z d k = ap (λ x. length (numbers_in x)) k.1
 numbers_count w t.Null h z d k = ap (λ x. length (numbers_in x)) k
 numbers_count w t.Void h z d k = absurd (true_false z)
+numbers_count w _ h z d k = ap (λ x. length (numbers_in x)) k.1
 
 -- they are of 32 bits
 numbers_fit : (w : Things) (type : ValueType) (h : Held) → is_void type ≡ false → IsOf w type h → AllFit (numbers_in h)
 numbers_fit w t.Int h z k = subst (λ x. AllFit (numbers_in x)) (sym k.1) (k.2, tt)
-numbers_fit w t.Long h z k = subst (λ x. AllFit (numbers_in x)) (sym k.1) (zero_fits, tt)
-numbers_fit w t.Boolean h z k = subst (λ x. AllFit (numbers_in x)) (sym k.1) (zero_fits, tt)
 numbers_fit w (t.Pt n) h z k = subst (λ x. AllFit (numbers_in x)) (sym k.1) (coordinates_fit k.0 k.2.coordinates)
-numbers_fit w (t.Rc n) h z k = subst (λ x. AllFit (numbers_in x)) (sym k.1) (zero_fits, tt)
-numbers_fit w (t.Dm n) h z k = subst (λ x. AllFit (numbers_in x)) (sym k.1) (zero_fits, tt)
-numbers_fit w t.Region h z k = subst (λ x. AllFit (numbers_in x)) (sym k.1) (zero_fits, tt)
-numbers_fit w (t.Class c l) h z k = subst (λ x. AllFit (numbers_in x)) (sym k.1) (zero_fits, tt)
-numbers_fit w (t.Grid e n l) h z k = subst (λ x. AllFit (numbers_in x)) (sym k.1) (zero_fits, tt)
 numbers_fit w t.Null h z k = subst (λ x. AllFit (numbers_in x)) (sym k) (zero_fits, tt)
 numbers_fit w t.Void h z k = absurd (true_false z)
+numbers_fit w _ h z k = subst (λ x. AllFit (numbers_in x)) (sym k.1) (zero_fits, tt)
 
 pub ints_count : (ts : List ValueType) → all_ints ts ≡ true → counts ts ≡ length ts
 ints_count [] h = refl
@@ -705,12 +691,6 @@ binary_dims o a u r e d = by o e
     by op.Or e = bits e
     by op.Xor e = bits e
     by op.And e = bits e
-    by op.Equal e = tested _ t.Boolean tt e
-    by op.NotEqual e = tested _ t.Boolean tt e
-    by op.Less e = tested _ t.Boolean tt e
-    by op.LessEqual e = tested _ t.Boolean tt e
-    by op.Greater e = tested _ t.Boolean tt e
-    by op.GreaterEqual e = tested _ t.Boolean tt e
     by op.ShiftLeft e = tested _ a d e
     by op.ShiftRight e = tested _ a d e
     by op.UnsignedShiftRight e = tested _ a d e
@@ -719,6 +699,7 @@ binary_dims o a u r e d = by o e
     by op.Multiply e = product e
     by op.Divide e = whole_dims a u r e
     by op.Remainder e = whole_dims a u r e
+    by _ e = tested _ t.Boolean tt e
 
 unary_dims : (o : UnaryOperator) (a r : ValueType) → unary_type o a ≡ Some r → DimsFine a → DimsFine r
 unary_dims un.Not t.Boolean r e d = subst DimsFine (some_same t.Boolean r e) tt
@@ -776,14 +757,8 @@ pub not_object : (type u : ValueType) → is_object type ≡ false → Seen type
 not_object (t.Pt n) u z i = ap is_object i.1
 not_object (t.Rc n) u z i = ap is_object i.1
 not_object (t.Dm n) u z i = ap is_object i.1
-not_object t.Int u z i = ap is_object i
-not_object t.Long u z i = ap is_object i
-not_object t.Boolean u z i = ap is_object i
-not_object t.Region u z i = ap is_object i
 not_object (t.Class c l) u z i = absurd (true_false z)
-not_object (t.Grid x n l) u z i = ap is_object i
-not_object t.Null u z i = ap is_object i
-not_object t.Void u z i = ap is_object i
+not_object _ u z i = ap is_object i
 
 built_in_seen : (p : NumberedProgram) (name : ℕ) (u : ValueType) → is_object u ≡ false → member_seen p name u ≡ built_in_type (built_in p name) u
 built_in_seen p name (t.Class c l) z = absurd (true_false z)

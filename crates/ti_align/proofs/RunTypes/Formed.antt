@@ -26,14 +26,8 @@ use Rattle.ti_align.proofs.RunTypes.Acting.{next_there, next_handed}
 
 -- a value of a type
 value_formed : (w : Things) (type : ValueType) (x : Value) → is_void type ≡ false → IsOf w type (Plain x) → IsFormed x
-value_formed w t.Int x z k = subst IsFormed (sym (ap plain_of k.1)) tt
-value_formed w t.Long x z k = subst IsFormed (sym (ap plain_of k.1)) tt
-value_formed w t.Boolean x z k = subst IsFormed (sym (ap plain_of k.1)) tt
 value_formed w (t.Pt n) x z k = subst IsFormed (sym (ap plain_of k.1)) k.2.form
 value_formed w (t.Rc n) x z k = subst IsFormed (sym (ap plain_of k.1)) k.2.form
-value_formed w t.Region x z k = subst IsFormed (sym (ap plain_of k.1)) tt
-value_formed w (t.Class c l) x z k = subst IsFormed (sym (ap plain_of k.1)) tt
-value_formed w (t.Grid e n l) x z k = subst IsFormed (sym (ap plain_of k.1)) tt
 value_formed w t.Null x z k = subst IsFormed (sym (ap plain_of k)) tt
 value_formed w (t.Dm n) x z k = absurd (never k.1)
   where
@@ -43,6 +37,7 @@ value_formed w t.Void x z k = absurd (never z)
   where
     never : is_void t.Void ≡ false → ⊥
     never z = cc
+value_formed w _ x z k = subst IsFormed (sym (ap plain_of k.1)) tt
 
 deposit_formed : (w : Things) (type : ValueType) (given : Deposit) → DepositFits w type given → IsFormedDeposit given
 deposit_formed w type (deposit.One value) k = value_formed w type value k.1 k.0

@@ -13,7 +13,7 @@ use Rattle.ti_base.specs.Forms.{is_dim}
 use Rattle.ti_lang.specs.Meaning.Held.{Plain}
 use Rattle.ti_lang.specs.Meaning.Turns.{turns_at, point_at}
 use Rattle.ti_lang.specs.Meaning.Processes.{Process, Frame, While, Foreach, Work, Do, End, Before, Behind, Receive, CopyAll, TakeAll}
-use Rattle.ti_lang.specs.Meaning.Scoping.{Env, env_of, find_variable, value_by}
+use Rattle.ti_lang.specs.Meaning.Scoping.{env_of, find_variable, value_by}
 use Rattle.ti_rules.specs.Standing.{singles_in, with_point, variables_inside}
 use Rattle.ti_align.specs.Things.{Things, IsOf, DimsFine, VariablesFit, ThisFits}
 use Rattle.ti_align.specs.Mirrors.Fitting.{EnvFits}
@@ -38,13 +38,7 @@ dims_fine (t.Pt n) h = dims_are n h
 dims_fine (t.Rc n) h = dims_are n h
 dims_fine (t.Dm n) h = dims_are n h
 dims_fine (t.Grid x n l) h = (dims_are n (and_left (is_dim n) (has_dims x) h), dims_fine x (and_right (is_dim n) (has_dims x) h))
-dims_fine t.Int h = tt
-dims_fine t.Long h = tt
-dims_fine t.Boolean h = tt
-dims_fine t.Region h = tt
-dims_fine (t.Class c l) h = tt
-dims_fine t.Null h = tt
-dims_fine t.Void h = tt
+dims_fine _ h = tt
 
 -- ---- foreach variables
 

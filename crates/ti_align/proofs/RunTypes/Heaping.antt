@@ -232,12 +232,7 @@ module _ (p : NumberedProgram) (elements : Elements) (h : History) (fits : HeapF
   is_possible (act.MakeView grid how) wanted t k z =
       some_not (grid_of grid h) k.2.0 _ k.2.1 (possible_not _ _ (suits_is how k.1 k.2.0.domain k.3 (rect_dims k.1 k.2.0.domain k.2.2)) (views_not _ _ (makes_not (act.MakeView grid how) _))) z
   is_possible (act.DomainOf grid) wanted t k z = some_not (grid_of grid h) k.2.0 _ k.2.1 (answer_not _) z
-  is_possible (act.Print literal value) wanted t k z = absurd (true_false (sym t))
-  is_possible (act.Arrive kind arg given) wanted t k z = absurd (true_false (sym t))
-  is_possible act.Depart wanted t k z = absurd (true_false (sym t))
-  is_possible (act.Take who) wanted t k z = absurd (true_false (sym t))
-  is_possible act.End wanted t k z = absurd (true_false (sym t))
-  is_possible (act.Fault kind) wanted t k z = absurd (true_false (sym t))
+  is_possible _ wanted t k z = absurd (true_false (sym t))
 
 -- ---- what is kept
 
@@ -266,18 +261,7 @@ may_write p elements h i (act.PutElem grid at value) wanted k c x z =
     let y = sym (ap (option_map (λ (g : Grid). (cell_of g at, value))) k.2.1) ∙ z in
     subst (λ d. HoldsIn p elements h d x) (pair_first _ _ _ _ y) (subst (λ y. HoldsIn p elements h (cell_of k.2.0 at) y)
     (pair_second _ _ _ _ y) (k.0, k.2.3, subst (λ n. IsOf (things_of n elements h) k.0 (Plain value)) (sym k.2.5) k.4))
-may_write p elements h i (act.GetField obj field) wanted k c x z = absurd (none_some (c, x) z)
-may_write p elements h i (act.NewObj class region) wanted k c x z = absurd (none_some (c, x) z)
-may_write p elements h i (act.NewGrid first domain region) wanted k c x z = absurd (none_some (c, x) z)
-may_write p elements h i (act.GetElem grid at) wanted k c x z = absurd (none_some (c, x) z)
-may_write p elements h i (act.MakeView grid how) wanted k c x z = absurd (none_some (c, x) z)
-may_write p elements h i (act.DomainOf grid) wanted k c x z = absurd (none_some (c, x) z)
-may_write p elements h i (act.Print literal value) wanted k c x z = absurd (none_some (c, x) z)
-may_write p elements h i (act.Arrive kind arg given) wanted k c x z = absurd (none_some (c, x) z)
-may_write p elements h i act.Depart wanted k c x z = absurd (none_some (c, x) z)
-may_write p elements h i (act.Take who) wanted k c x z = absurd (none_some (c, x) z)
-may_write p elements h i act.End wanted k c x z = absurd (none_some (c, x) z)
-may_write p elements h i (act.Fault kind) wanted k c x z = absurd (none_some (c, x) z)
+may_write p elements h i _ wanted k c x z = absurd (none_some (c, x) z)
 
 -- behind an entry that got its answer, where the blocks that are new have grids
 module _ (p : NumberedProgram) (h : History) (e : Entry) (a : IsAnswered p (e ∷ h)) (elements after : Elements) (more : (id : Id) (type : ValueType) → elements id ≡ Some type → after id ≡ Some type) where

@@ -49,7 +49,7 @@ use Rattle.ti_align.proofs.Runs.Ways.{Asked, asking}
 use Rattle.ti_align.proofs.RunTypes.Operating.{none_some, some_same}
 use Rattle.ti_align.proofs.Alignment.Fitting.{FineMethods}
 use Rattle.ti_align.proofs.Runs.Entries.{answers_now}
-use Rattle.ti_align.proofs.Runs.Given.{Stands, ActsFine, step_fine}
+use Rattle.ti_align.proofs.Runs.Given.{Stands, step_fine}
 use Rattle.ti_align.proofs.Runs.Given as given_facts
 use Rattle.ti_align.proofs.Runs.Arrived.{is_own, more_own, more_other, back, Comes, before, now, comes, last_kind, made}
 use Rattle.ti_align.proofs.Runs.Running.{after_more, at_action}
@@ -150,18 +150,7 @@ given_lives h (deposit.Count n) value z k = absurd (none_some value z)
 makes_formed : (p : NumberedProgram) (w : Things) (a : Action) (wanted : Wanted) → IsThere p w a wanted → MakesFormed a
 makes_formed p w (act.NewGrid first domain region) wanted k = k.4.form
 makes_formed p w (act.MakeView grid how) wanted k = is_view how k.1 k.3
-makes_formed p w (act.GetField obj field) wanted k = tt
-makes_formed p w (act.PutField obj field value) wanted k = tt
-makes_formed p w (act.NewObj class region) wanted k = tt
-makes_formed p w (act.GetElem grid at) wanted k = tt
-makes_formed p w (act.PutElem grid at value) wanted k = tt
-makes_formed p w (act.DomainOf grid) wanted k = tt
-makes_formed p w (act.Print literal value) wanted k = tt
-makes_formed p w (act.Arrive kind arg given) wanted k = tt
-makes_formed p w act.Depart wanted k = tt
-makes_formed p w (act.Take who) wanted k = tt
-makes_formed p w act.End wanted k = tt
-makes_formed p w (act.Fault kind) wanted k = tt
+makes_formed p w _ wanted k = tt
 
 no_departure : (a : Action) → is_of_heap a ≡ true → is_departure a ≡ false
 no_departure act.Depart z = absurd (true_false (sym z))
@@ -265,18 +254,7 @@ module _ (s : Setting)
           by : (o : Option Grid) → option_map {U = Cell × Value} (λ (g : Grid). (cell_of g at, value)) o ≡ Some (c, x) → IfNamedLives later (named_by x)
           by None z = absurd (none_some (c, x) z)
           by (Some g) z = subst (λ y. IfNamedLives later (named_by y)) (pair_second (cell_of g at) c value x z) (element_lives later there_now s.program grid at value wanted k)
-      writes_live (act.GetField obj field) k c x z = absurd (none_some (c, x) z)
-      writes_live (act.NewObj class region) k c x z = absurd (none_some (c, x) z)
-      writes_live (act.NewGrid first domain region) k c x z = absurd (none_some (c, x) z)
-      writes_live (act.GetElem grid at) k c x z = absurd (none_some (c, x) z)
-      writes_live (act.MakeView grid how) k c x z = absurd (none_some (c, x) z)
-      writes_live (act.DomainOf grid) k c x z = absurd (none_some (c, x) z)
-      writes_live (act.Print literal value) k c x z = absurd (none_some (c, x) z)
-      writes_live (act.Arrive kind arg given) k c x z = absurd (none_some (c, x) z)
-      writes_live act.Depart k c x z = absurd (none_some (c, x) z)
-      writes_live (act.Take who) k c x z = absurd (none_some (c, x) z)
-      writes_live act.End k c x z = absurd (none_some (c, x) z)
-      writes_live (act.Fault kind) k c x z = absurd (none_some (c, x) z)
+      writes_live _ k c x z = absurd (none_some (c, x) z)
 
       cells_live : CellsLive later later
       cells_live c value l z = by (written_by e.act h) refl z

@@ -104,43 +104,20 @@ pub seen_same : (type : ValueType) → Seen type type
 seen_same (t.Pt n) = (n, refl)
 seen_same (t.Rc n) = (n, refl)
 seen_same (t.Dm n) = (n, refl)
-seen_same t.Int = refl
-seen_same t.Long = refl
-seen_same t.Boolean = refl
-seen_same t.Region = refl
-seen_same (t.Class c l) = refl
-seen_same (t.Grid e n l) = refl
-seen_same t.Null = refl
-seen_same t.Void = refl
+seen_same _ = refl
 
 -- ---- global and local references
 
 pub to_global : (w : there.Things) (a : ValueType) (h : Held) → IsOf w a h → IsOf w (as_global a) h
 to_global w (t.Class c l) h k = (k.0, k.1, k.2, λ z. false_true z)
 to_global w (t.Grid e n l) h k = (k.0, k.1, k.2, λ z. false_true z)
-to_global w t.Int h k = k
-to_global w t.Long h k = k
-to_global w t.Boolean h k = k
-to_global w (t.Pt n) h k = k
-to_global w (t.Rc n) h k = k
-to_global w (t.Dm n) h k = k
-to_global w t.Region h k = k
-to_global w t.Null h k = k
-to_global w t.Void h k = k
+to_global w _ h k = k
 
 -- what names a thing of the process, if the type is local
 pub to_local : (w : there.Things) (a : ValueType) (h : Held) → IsOf w (as_global a) h → there.IsOwn w (is_local a) (thing_of h) → IsOf w a h
 to_local w (t.Class c l) h k own = (k.0, k.1, k.2, λ z. subst (λ o. is_own w.owner o ≡ true) (ap thing_of k.1) (own z))
 to_local w (t.Grid e n l) h k own = (k.0, k.1, k.2, λ z. subst (λ o. is_own w.owner o ≡ true) (ap thing_of k.1) (own z))
-to_local w t.Int h k own = k
-to_local w t.Long h k own = k
-to_local w t.Boolean h k own = k
-to_local w (t.Pt n) h k own = k
-to_local w (t.Rc n) h k own = k
-to_local w (t.Dm n) h k own = k
-to_local w t.Region h k own = k
-to_local w t.Null h k own = k
-to_local w t.Void h k own = k
+to_local w _ h k own = k
 
 -- no global type is local
 pub global_type : (a : ValueType) → is_local (as_global a) ≡ false
@@ -172,14 +149,7 @@ module _ (p : NumberedProgram) (w : there.Things) where
 
   pub to_any : (at : Place) (h : Held) → Sound p (λ u k. Unit {0}) w (to_domain at h)
   to_any at (Plain (v.Rc r)) = sound_guarded p _ w _ _ at _ tt
-  to_any at (Plain (v.Int n)) = sound_value p _ w _ tt
-  to_any at (Plain (v.Long n)) = sound_value p _ w _ tt
-  to_any at (Plain (v.Bool b)) = sound_value p _ w _ tt
-  to_any at (Plain (v.Pt q)) = sound_value p _ w _ tt
-  to_any at (Plain (v.Region n)) = sound_value p _ w _ tt
-  to_any at (Plain (v.Obj o)) = sound_value p _ w _ tt
-  to_any at (Plain (v.Grid o)) = sound_value p _ w _ tt
-  to_any at (Dm n ps) = sound_value p _ w _ tt
+  to_any at _ = sound_value p _ w _ tt
 
   -- of a rectangular domain, or of one that is none
   abbrev pub IsSet : ℕ → Held → Type 0
@@ -766,15 +736,11 @@ module _ (p : NumberedProgram) (w : there.Things) where
       same : (to : ValueType) → IsOf w (as_global to) h → Sound p (λ x k. IsOf x (as_global to) k) w (converted at to h)
       same t.Int k = sound_value p _ w _ (k.0, ap (as_type t.Int) k.1, k.2)
       same t.Long k = sound_value p _ w _ (k.0, ap (as_type t.Long) k.1, k.2)
-      same t.Boolean k = sound_value p _ w h k
-      same (t.Pt n) k = sound_value p _ w h k
-      same (t.Rc n) k = sound_value p _ w h k
       same (t.Dm n) k = to_fine at n h (inr k)
-      same t.Region k = sound_value p _ w h k
       same (t.Class c l) k = subst (λ y. Sound p (λ x k. IsOf x (t.Class c false) k) w (gives (as_type (t.Class c l) y))) (sym k.1) (sound_value p _ w _ (k.0, refl, k.2, k.3))
       same (t.Grid e n l) k = subst (λ y. Sound p (λ x k. IsOf x (t.Grid e n false) k) w (gives (as_type (t.Grid e n l) y))) (sym k.1) (sound_value p _ w _ (k.0, refl, k.2, k.3))
-      same t.Null k = sound_value p _ w h k
       same t.Void k = sound_value p _ w h tt
+      same _ k = sound_value p _ w h k
 
       by : ((same_type (as_global to) (as_global a) || (is_reference to && is_null a)) ≡ true) ⊎ ((is_whole to && is_whole a) ≡ true) → Sound p (λ x k. IsOf x (as_global to) k) w (converted at to h)
       by (inr q) = whole to a q k

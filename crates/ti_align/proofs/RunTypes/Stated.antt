@@ -8,7 +8,7 @@ use Rattle.ti_lang.specs.Program.Types.{ValueType}
 use Rattle.ti_lang.specs.Program.Types as t
 use Rattle.ti_lang.specs.Program.Expressions.{NumberedExp, NumberedExps}
 use Rattle.ti_lang.specs.Program.Expressions as e
-use Rattle.ti_lang.specs.Program.Statements.{NumberedStm, MaybeNumbered}
+use Rattle.ti_lang.specs.Program.Statements.{NumberedStm}
 use Rattle.ti_lang.specs.Program.Statements as st
 use Rattle.ti_lang.specs.Program.Classes.{NumberedProgram}
 use Rattle.ti_lang.specs.Program.Scope.{ScopeContents, this_of}
@@ -17,12 +17,12 @@ use Rattle.ti_lang.specs.Typing.TextTypes.{element_seen}
 use Rattle.ti_lang.specs.Typing.Fits.{fits}
 use Rattle.ti_lang.specs.Typing.BuiltIn.{BuiltIn, Size, Min, Max, Contains, Domain, Restrict, Translate, Slice, Copy, Exchange, Delete, built_in, same_grids, has_local_elements, can_copy, can_exchange, member_type}
 use Rattle.ti_lang.specs.Typing.Declared.{instance_method}
-use Rattle.ti_lang.specs.Typing.Expressions.{joined, one, known, member_given, operands, operand_type}
+use Rattle.ti_lang.specs.Typing.Expressions.{one, known, operands, operand_type}
 use Rattle.ti_lang.specs.Typing.Expressions as typing
 use Rattle.ti_lang.specs.Typing.Called as called
 use Rattle.ti_lang.specs.Typing.Called.{member_called}
 use Rattle.ti_lang.specs.Meaning.Held.{Held, Plain, nothing, rect_of, region_of, plain_of, as_type, truth_of}
-use Rattle.ti_lang.specs.Meaning.Asking.{Asking, ◌>>=◌, gives, guarded, needed}
+use Rattle.ti_lang.specs.Meaning.Asking.{gives, needed}
 use Rattle.ti_lang.specs.Meaning.Asking as ask
 use Rattle.ti_lang.specs.Meaning.Parts.{domain_asked}
 use Rattle.ti_lang.specs.Meaning.Processes.{Nowhere, Declared, Assigned, Updated, Work, Do, End, Before, Behind, Receive, CopyAll, TakeAll}
@@ -83,17 +83,11 @@ as_fine p w a t.Void h s f k = absurd s
 
 -- what is stored is a value
 pub stored_value : (d : ValueType) → IsStorable d → is_void d ≡ false
-stored_value t.Int k = refl
-stored_value t.Long k = refl
-stored_value t.Boolean k = refl
-stored_value (t.Pt n) k = refl
-stored_value (t.Rc n) k = refl
-stored_value (t.Class c l) k = refl
-stored_value (t.Grid x n l) k = refl
 stored_value (t.Dm n) k = absurd k
 stored_value t.Region k = absurd k
 stored_value t.Null k = absurd k
 stored_value t.Void k = absurd k
+stored_value _ k = refl
 
 -- a member that is only read
 abbrev is_read : BuiltIn → Bool

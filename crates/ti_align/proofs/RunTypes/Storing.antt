@@ -90,12 +90,7 @@ has_form w t.Long value n k = subst (HasForm t.Long) (sym (ap plain_of k.1)) k.2
 has_form w t.Boolean value n k = subst (HasForm t.Boolean) (sym (ap plain_of k.1)) tt
 has_form w (t.Pt m) value n k = subst (HasForm (t.Pt m)) (sym (ap plain_of k.1)) k.2
 has_form w (t.Rc m) value n k = subst (HasForm (t.Rc m)) (sym (ap plain_of k.1)) k.2
-has_form w t.Region value n k = absurd n
-has_form w (t.Dm m) value n k = absurd n
-has_form w (t.Class c l) value n k = absurd n
-has_form w (t.Grid x m l) value n k = absurd n
-has_form w t.Null value n k = absurd n
-has_form w t.Void value n k = absurd n
+has_form w _ value n k = absurd n
 
 -- ---- variables
 

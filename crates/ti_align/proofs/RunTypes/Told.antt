@@ -53,17 +53,11 @@ global_sent t.Null = refl
 global_sent t.Void = refl
 
 storable_sent : (a : ValueType) → IsStorable a → can_broadcast a ≡ true
-storable_sent t.Int k = refl
-storable_sent t.Long k = refl
-storable_sent t.Boolean k = refl
-storable_sent (t.Pt n) k = refl
-storable_sent (t.Rc n) k = refl
-storable_sent (t.Class c l) k = refl
-storable_sent (t.Grid e n l) k = refl
 storable_sent (t.Dm n) k = absurd k
 storable_sent t.Region k = absurd k
 storable_sent t.Null k = absurd k
 storable_sent t.Void k = absurd k
+storable_sent _ k = refl
 
 -- a value of a type that may be stored has the form of each type like it
 form_like : (h : History) (elements : Elements) (i : ℕ) → NamesFit h → (u type : ValueType) → SameForm u type → IsStorable type

@@ -10,7 +10,7 @@ use Rattle.ti_base.specs.WholeNumbers.{Fits}
 use Rattle.ti_lang.specs.Program.Types.{ValueType}
 use Rattle.ti_lang.specs.Program.Types as t
 use Rattle.ti_lang.specs.Program.Expressions.{NumberedExp}
-use Rattle.ti_lang.specs.Program.Statements.{NumberedDims, NumberedInit, NumberedPrint, NumberedStm, MaybeNumbered, NumberedStms}
+use Rattle.ti_lang.specs.Program.Statements.{NumberedDims, NumberedInit, NumberedPrint, NumberedStms}
 use Rattle.ti_lang.specs.Program.Statements as st
 use Rattle.ti_lang.specs.Program.Classes.{NumberedProgram}
 use Rattle.ti_lang.specs.Program.Scope.{ScopeContents}
@@ -23,7 +23,7 @@ use Rattle.ti_lang.specs.Meaning.Answers.{IsPointOf, IsRectOf}
 use Rattle.ti_lang.specs.Meaning.Conversions.{converted}
 use Rattle.ti_lang.specs.Meaning.Zeros.{zero_of_type}
 use Rattle.ti_lang.specs.Meaning.Makers.{region_for, spread, new_object, new_grid}
-use Rattle.ti_lang.specs.Meaning.Processes.{Variable, Receiver, Nowhere, Declared, Assigned, Updated, Loop, While, Foreach, Work, Do, End, Before, Behind, Receive, CopyAll, TakeAll}
+use Rattle.ti_lang.specs.Meaning.Processes.{Receiver, Loop, While, Foreach, Work, Do, Before, Behind, CopyAll, TakeAll}
 use Rattle.ti_lang.specs.Meaning.Scoping.{Env, type_here}
 use Rattle.ti_lang.specs.Meaning.Evaluation.{eval}
 use Rattle.ti_lang.specs.Meaning.Moves.{Goes, Turns}
@@ -60,17 +60,10 @@ sent w t.Void h z k = cc
 
 -- what is handed on is a value
 given_value : (u : ValueType) → can_broadcast u ≡ true → is_void (as_global u) ≡ false
-given_value t.Int z = refl
-given_value t.Long z = refl
-given_value t.Boolean z = refl
-given_value (t.Pt n) z = refl
-given_value (t.Rc n) z = refl
-given_value (t.Class c l) z = refl
-given_value (t.Grid x n l) z = refl
-given_value t.Null z = refl
 given_value (t.Dm n) z = cc
 given_value t.Region z = cc
 given_value t.Void z = cc
+given_value _ z = refl
 
 -- the points of a domain
 pub points_fit : (w : Things) (u : ValueType) (n : ℕ) (h : Held) → domain_dim u ≡ Some n → IsOf w u h → ArePoints n (points_in h)

@@ -37,7 +37,7 @@ use Rattle.ti_lang.specs.Meaning.Steps.{Step, To, At, Ends, Faults, ticks, value
 use Rattle.ti_lang.specs.Meaning.RoundsOf.{value_in}
 use Rattle.ti_lang.specs.Meaning.Histories.{is_arrival}
 use Rattle.ti_lang.proofs.Lemmas.{Giving, then_giving, guarded_giving, Each, Of, FirstTaken, performed_asks}
-use Rattle.ti_align.proofs.Runs.Ways.{Asked, asking, Meeting, Came, Left, Way, last_from}
+use Rattle.ti_align.proofs.Runs.Ways.{asking, Meeting, Way, last_from}
 use Rattle.ti_align.proofs.Runs.Ways as way
 use Rattle.ti_align.proofs.Runs.Vars.{true_false, and_right}
 use Rattle.ti_align.proofs.Alignment.Fitting.{giving_followed}
@@ -88,12 +88,7 @@ free_fine procs last (CopyAll at to from points ∷ ws) n = absurd n
 
 pub tail_free : (procs : ℕ) (last : Option CollKind) (w : Work) (ws : List Work) → LeftFine procs last (w ∷ ws) → HoldsNothing ws
 tail_free procs last (TakeAll at grid is) ws n = n.2
-tail_free procs last (Do x) ws n = n
-tail_free procs last (End x) ws n = n
-tail_free procs last (Before loop) ws n = n
-tail_free procs last (Behind loop) ws n = n
-tail_free procs last (Receive r h) ws n = n
-tail_free procs last (CopyAll at to from points) ws n = n
+tail_free procs last _ ws n = n
 
 pub free_both : (xs ys : List Work) → HoldsNothing xs → HoldsNothing ys → HoldsNothing (xs ++ ys)
 free_both [] ys n m = m
@@ -296,16 +291,12 @@ module _ (env : Env) (last : Option CollKind) where
 
   pub work_fine : (w : Work) (ws : List Work) (rest : List Answer) → LeftFine env.procs last (w ∷ ws) → Giving (MoveFine env.procs env.number last) (performed env w rest)
   work_fine (Do x) ws rest n = statement_fine x rest
-  work_fine (End x) ws rest n = tt
   work_fine (Before (While at c update body)) ws rest n = then_giving (MoveFine env.procs env.number last) (condition env c rest) _ (λ h u. turn_fine (truth_of h) at c update body)
-  work_fine (Before (Foreach at v d [] body)) ws rest n = tt
-  work_fine (Before (Foreach at v d (p ∷ ps) body)) ws rest n = tt
   work_fine (Behind (While at c update body)) ws rest n = maybe_free update _ tt
-  work_fine (Behind (Foreach at v d [] body)) ws rest n = tt
-  work_fine (Behind (Foreach at v d (p ∷ ps) body)) ws rest n = tt
   work_fine (Receive r h) ws rest n = receives_fine r (gives h) rest
   work_fine (CopyAll at to from points) ws rest n = copied_fine at to from points rest
   work_fine (TakeAll at grid is) ws rest n = taken_fine at grid is rest n.0 n.1
+  work_fine _ ws rest n = tt
 
 -- ---- what is asked
 
@@ -333,14 +324,8 @@ own_each procs last = record {
 }
 
 first_taken : (procs : ℕ) (last : Option CollKind) (w : Work) (ws : List Work) → LeftFine procs last (w ∷ ws) → FirstTaken (Takable procs last) w
-first_taken procs last (TakeAll at grid []) ws n = tt
 first_taken procs last (TakeAll at grid (i ∷ is)) ws n = (n.1.0, n.0)
-first_taken procs last (Do x) ws n = tt
-first_taken procs last (End x) ws n = tt
-first_taken procs last (Before loop) ws n = tt
-first_taken procs last (Behind loop) ws n = tt
-first_taken procs last (Receive r h) ws n = tt
-first_taken procs last (CopyAll at to from points) ws n = tt
+first_taken procs last _ ws n = tt
 
 -- ---- processes
 

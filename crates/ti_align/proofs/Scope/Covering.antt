@@ -7,7 +7,7 @@ use Rattle.ti_syntax.specs.Trees.Expressions.{Exp, Exps, RangeTree, RangeTrees}
 use Rattle.ti_syntax.specs.Trees.Statements.{DimsTree, InitTree, PrintTree, Stm, MaybeStm, Stms, stms}
 use Rattle.ti_syntax.specs.Trees.Statements as tree
 use Rattle.ti_syntax.specs.Trees.Classes.{ParamTree, ParamsTree, MethodTree, TextTree}
-use Rattle.ti_lang.specs.Program.Types.{ValueType, NumberedType, Declaration, Typed, Foreach, VariableUse}
+use Rattle.ti_lang.specs.Program.Types.{ValueType, Declaration, Typed, Foreach, VariableUse}
 use Rattle.ti_lang.specs.Program.Types as t
 use Rattle.ti_lang.specs.Program.Expressions.{NumberedExp, NumberedExps, NumberedRange, NumberedRanges}
 use Rattle.ti_lang.specs.Program.Statements.{NumberedDims, NumberedInit, NumberedPrint, NumberedStm, MaybeNumbered, NumberedStms, numbered_stms}
@@ -17,7 +17,7 @@ use Rattle.ti_lang.specs.Scopes.{Known, Site, with_variable, declares, typed_as,
 use Rattle.ti_lang.specs.Typing.Kinds.{same_truth, same_type}
 use Rattle.ti_lang.specs.MainForm.{is_void, is_words as tells_words, has_main_modifiers, has_main_form}
 use Rattle.ti_lang.specs.Numbering as number
-use Rattle.ti_lang.specs.Numbering.{NumbersExp, NumbersExps, NumbersRange, NumbersRanges, NumbersMaybe, NumbersDims, NumbersInit, NumbersPrint, NumbersStm, NumbersMaybeStm, NumbersStms, NumbersParamList, NumbersParams, NumbersMethod, NumbersMethods, Numbers, IsNumbered}
+use Rattle.ti_lang.specs.Numbering.{NumbersExp, NumbersExps, NumbersRange, NumbersRanges, NumbersMaybe, NumbersDims, NumbersInit, NumbersPrint, NumbersStm, NumbersMaybeStm, NumbersStms, NumbersParamList, NumbersParams, NumbersMethod, NumbersMethods, IsNumbered}
 use Rattle.ti_lang.specs.Meaning.Scoping.{same_declaration, same_variable}
 use Rattle.ti_lang.specs.Meaning.Calls.{parameters_from, parameters_of}
 use Rattle.ti_lang.specs.Meaning.Performing.{declared_alone, declared_among, declared_maybe}
@@ -35,17 +35,12 @@ truth_own true = refl
 truth_own false = refl
 
 type_own : (type : ValueType) → same_type type type ≡ true
-type_own t.Int = refl
-type_own t.Long = refl
-type_own t.Boolean = refl
 type_own (t.Pt n) = eq-eqb n n refl
 type_own (t.Rc n) = eq-eqb n n refl
 type_own (t.Dm n) = eq-eqb n n refl
-type_own t.Region = refl
 type_own (t.Class c l) = ap₂ (λ a b. a && b) (eq-eqb c c refl) (truth_own l)
 type_own (t.Grid e n l) = ap₂ (λ a b. a && b) (ap₂ (λ a b. a && b) (type_own e) (eq-eqb n n refl)) (truth_own l)
-type_own t.Null = refl
-type_own t.Void = refl
+type_own _ = refl
 
 declaration_own : (d : Declaration) → same_declaration d d ≡ true
 declaration_own (Typed s type) = ap₂ (λ a b. a && b) (truth_own s) (type_own type)
@@ -209,22 +204,14 @@ fits_past_maybe names site x f = let k = past_maybe_is site x in fits_past names
 
 fits_behind : (names : Names) (site : Site) (x : Stm) (y : NumberedStm) → NumbersStm site x y → Fits names site → Fits (with_all (declared_alone y) names) (behind site x)
 fits_behind names site x y (number.declare {ty = ty} {name = name} (number.known b) fresh room v) f = fits_declared names site name (typed_as site.text ty) f
-fits_behind names site x y number.empty f = f
-fits_behind names site x y (number.assign h v) f = f
-fits_behind names site x y (number.update h i) f = f
-fits_behind names site x y (number.step h) f = f
-fits_behind names site x y (number.call h) f = f
 fits_behind names site x y (number.print {what = what} h) f = fits_past names site (behind site x) refl (same_number site.variables) f
-fits_behind names site x y number.barrier f = f
-fits_behind names site x y number.break f = f
-fits_behind names site x y number.continue f = f
-fits_behind names site x y (number.return h) f = f
 fits_behind names site x y (number.block h) f = fits_past_stm names site x f
 fits_behind names site x y (number.if_alone h i) f = fits_past_stm names site x f
 fits_behind names site x y (number.if_else h i j) f = fits_past_stm names site x f
 fits_behind names site x y (number.while h i) f = fits_past_stm names site x f
 fits_behind names site x y (number.for h c u i) f = fits_past_stm names site x f
 fits_behind names site x y (number.foreach fresh room h i) f = fits_past_stm names site x f
+fits_behind names site x y _ f = f
 
 fits_behind_maybe : (names : Names) (site : Site) (x : MaybeStm) (y : MaybeNumbered) → NumbersMaybeStm site x y → Fits names site → Fits (with_all (declared_maybe y) names) (behind_maybe site x)
 fits_behind_maybe names site x y number.no_stm f = f
@@ -241,22 +228,7 @@ fresh_alone names site x y (number.declare (number.known z) fresh room v) b = (n
   where
     never : (a : ℕ) → a < a → ⊥
     never a h = omega (arith, h)
-fresh_alone names site x y number.empty b = tt
-fresh_alone names site x y (number.assign h v) b = tt
-fresh_alone names site x y (number.update h i) b = tt
-fresh_alone names site x y (number.step h) b = tt
-fresh_alone names site x y (number.call h) b = tt
-fresh_alone names site x y (number.print h) b = tt
-fresh_alone names site x y number.barrier b = tt
-fresh_alone names site x y number.break b = tt
-fresh_alone names site x y number.continue b = tt
-fresh_alone names site x y (number.return h) b = tt
-fresh_alone names site x y (number.block h) b = tt
-fresh_alone names site x y (number.if_alone h i) b = tt
-fresh_alone names site x y (number.if_else h i j) b = tt
-fresh_alone names site x y (number.while h i) b = tt
-fresh_alone names site x y (number.for h c u i) b = tt
-fresh_alone names site x y (number.foreach fresh room h i) b = tt
+fresh_alone names site x y _ b = tt
 
 fresh_maybe : (names : Names) (site : Site) (x : MaybeStm) (y : MaybeNumbered) → NumbersMaybeStm site x y → Below names site.variables → Fresh names (declared_maybe y)
 fresh_maybe names site x y number.no_stm b = tt
@@ -283,17 +255,9 @@ fresh_among names site xs ys (number.cons {x = x} {y = y} {xs = us} {ys = vs} h 
 module _ (names : Names) (site : Site) (covers : Covers names site.scope) where
   mutual
     exp_scoped : (x : Exp) (y : NumberedExp) → NumbersExp site x y → ExpScoped names y
-    exp_scoped x y number.int = tt
-    exp_scoped x y number.long = tt
-    exp_scoped x y number.truth = tt
-    exp_scoped x y number.null = tt
-    exp_scoped x y (number.this z) = tt
     exp_scoped x y (number.variable {name = name} {v = v} z) = covers name v z
-    exp_scoped x y (number.own_field z w) = tt
     exp_scoped x y (number.call z w hs) = exps_scoped _ _ hs
     exp_scoped x y (number.own_call z w hs) = exps_scoped _ _ hs
-    exp_scoped x y number.this_proc = tt
-    exp_scoped x y number.num_procs = tt
     exp_scoped x y (number.point hs) = exps_scoped _ _ hs
     exp_scoped x y (number.rect hs) = ranges_scoped _ _ hs
     exp_scoped x y (number.unary h) = exp_scoped _ _ h
@@ -303,6 +267,7 @@ module _ (names : Names) (site : Site) (covers : Covers names site.scope) where
     exp_scoped x y (number.member z h hs) = (exp_scoped _ _ h, exps_scoped _ _ hs)
     exp_scoped x y (number.class_call z w hs) = exps_scoped _ _ hs
     exp_scoped x y (number.index h hs) = (exp_scoped _ _ h, exps_scoped _ _ hs)
+    exp_scoped x y _ = tt
 
     exps_scoped : (xs : Exps) (ys : NumberedExps) → NumbersExps site xs ys → ExpsScoped names ys
     exps_scoped xs ys number.no_exps = tt

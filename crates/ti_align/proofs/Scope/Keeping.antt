@@ -23,7 +23,7 @@ use Rattle.ti_lang.specs.Meaning.Jumps.{has_mark}
 use Rattle.ti_lang.specs.Meaning.Steps.{Step, To, At, Ends, Faults, ticks, valued, handed, most_frames, value_asked, going, moves, works, runs, steps, step}
 use Rattle.ti_lang.proofs.Lemmas.{Giving, then_giving}
 use Rattle.ti_rules.specs.TypeRules.{ends_with_return}
-use Rattle.ti_align.proofs.Runs.Ways.{Asked, asking, Meeting, Came, Left, Way}
+use Rattle.ti_align.proofs.Runs.Ways.{asking, Meeting, Way}
 use Rattle.ti_align.proofs.Runs.Ways as way
 use Rattle.ti_align.proofs.Runs.Vars.{true_false}
 use Rattle.ti_align.specs.Scoped.{Names}
@@ -72,15 +72,9 @@ MoveReturns left m = Returning left
 moves_return : (env : Env) (left : List Work) (g : Got Move) → Returning left → Giving (MoveStands env left) g → is_void (result_type env.method) ≡ false → Giving (MoveReturns left) g
 moves_return env left (Gives (Returns (Some h)) rest) r k v = tt
 moves_return env left (Gives (Returns None) rest) r k v = true_false (sym k ∙ v)
-moves_return env left (Gives (Goes vs ws) rest) r k v = r
-moves_return env left (Gives (Turns at vs ws) rest) r k v = r
-moves_return env left (Gives Breaks rest) r k v = r
-moves_return env left (Gives Continues rest) r k v = r
-moves_return env left (Gives (Calls at m this ps receiver) rest) r k v = r
-moves_return env left (Gives (Meets wait given behind) rest) r k v = r
-moves_return env left (Gives (Deletes at region) rest) r k v = r
 moves_return env left (Asks q) r k v = tt
 moves_return env left (Fails kind at) r k v = tt
+moves_return env left _ r k v = r
 
 performed_returns : (env : Env) (w : Work) (left : List Work) (rest : List Answer) → Returning (w ∷ left)
     → Giving (MoveStands env left) (performed env w rest) → is_void (result_type env.method) ≡ false

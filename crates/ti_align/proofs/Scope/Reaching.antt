@@ -172,12 +172,7 @@ no_mark (Do x) left i e h = absurd (none (sym (ap has_mark e) ∙ h))
   where
     none : false ≡ true → ⊥
     none e = cc
-no_mark (End x) left i e h = i
-no_mark (Before loop) left i e h = i
-no_mark (Behind loop) left i e h = i
-no_mark (Receive r x) left i e h = i
-no_mark (CopyAll at to from points) left i e h = i
-no_mark (TakeAll at grid procs) left i e h = i
+no_mark _ left i e h = i
 
 pub returning_from : (left : List Work) → has_mark left ≡ true → Returning left → Returning (from_mark left)
 returning_from [] h r = r

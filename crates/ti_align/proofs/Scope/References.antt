@@ -6,7 +6,7 @@ use Rattle.ti_syntax.specs.declared.tree.exprs.UnaryOperator.{UnaryOperator}
 use Rattle.ti_syntax.specs.declared.tree.exprs.UnaryOperator.TheVariants as un
 use Rattle.ti_syntax.specs.declared.tree.exprs.BinaryOperator.{BinaryOperator}
 use Rattle.ti_syntax.specs.declared.tree.exprs.BinaryOperator.TheVariants as op
-use Rattle.ti_lang.specs.Program.Types.{ValueType, Declaration, VariableUse}
+use Rattle.ti_lang.specs.Program.Types.{ValueType, Declaration}
 use Rattle.ti_lang.specs.Program.Types as t
 use Rattle.ti_lang.specs.Program.Expressions.{NumberedExp}
 use Rattle.ti_lang.specs.Program.Expressions as e
@@ -78,29 +78,13 @@ joined_plain : (x y : ValueType) → Plain x → Plain (joined_type x y)
 joined_plain t.Int t.Long h = refl
 joined_plain (t.Rc n) y h = refl
 joined_plain t.Int _ h = h
-joined_plain t.Long y h = h
-joined_plain t.Boolean y h = h
-joined_plain (t.Pt n) y h = h
-joined_plain (t.Dm n) y h = h
-joined_plain t.Region y h = h
-joined_plain (t.Class c l) y h = h
-joined_plain (t.Grid e n l) y h = h
-joined_plain t.Null y h = h
-joined_plain t.Void y h = h
+joined_plain _ y h = h
 
 product_plain : (x y : ValueType) → Plain x → Plain (product_type x y)
 product_plain (t.Rc n) (t.Rc m) h = refl
 product_plain (t.Rc n) _ h = refl
 product_plain t.Int y h = joined_plain t.Int y h
-product_plain t.Long y h = h
-product_plain t.Boolean y h = h
-product_plain (t.Pt n) y h = h
-product_plain (t.Dm n) y h = h
-product_plain t.Region y h = h
-product_plain (t.Class c l) y h = h
-product_plain (t.Grid e n l) y h = h
-product_plain t.Null y h = h
-product_plain t.Void y h = h
+product_plain _ y h = h
 
 sum_left : (a u r : ValueType) → row_type Sum a u ≡ Some r → Plain a
 sum_left a u r h = either (whole_type a u) _ r h (whole_left a u r) (λ k. either (point_type a u) (domain_type a u) r k (point_left a u r) (domain_left a u r))
@@ -241,15 +225,7 @@ plain_object _ h = refl
 pub no_object : (u x : ValueType) → is_object u ≡ false → Alike u x → is_object x ≡ false
 no_object (t.Class c l) x k f = absurd (true_false k)
 no_object (t.Grid e n l) x k f = ap is_object (f.0 refl)
-no_object t.Int x k f = plain_object x (f.1 refl)
-no_object t.Long x k f = plain_object x (f.1 refl)
-no_object t.Boolean x k f = plain_object x (f.1 refl)
-no_object (t.Pt n) x k f = plain_object x (f.1 refl)
-no_object (t.Rc n) x k f = plain_object x (f.1 refl)
-no_object (t.Dm n) x k f = plain_object x (f.1 refl)
-no_object t.Region x k f = plain_object x (f.1 refl)
-no_object t.Null x k f = plain_object x (f.1 refl)
-no_object t.Void x k f = plain_object x (f.1 refl)
+no_object _ x k f = plain_object x (f.1 refl)
 
 module _ (p : NumberedProgram) (m : NumberedMethod) (s : ScopeContents) (this : s.this_class ≡ this_of m) (points : Points m s) where
   never_called : (o : Option NumberedMethod) (ts : Option (List ValueType)) (r : ValueType) → operand (called o ts) ≡ Some r → ⊥

@@ -1,6 +1,6 @@
 -- In a program in which no rule of types is broken calls are given all their arguments, and methods return what they give.
 use Rattle.std.proofs.Common.{◌≡◌, ℕ, ◌+◌, Bool, true, false, not, ◌&&◌, flat_map, slice_get, Option, Some, None, List, [], ◌∷◌, ◌++◌, refl, ap, sym, ◌∙◌, subst}
-use Rattle.ti_lang.specs.Program.Types.{ValueType, VariableUse}
+use Rattle.ti_lang.specs.Program.Types.{ValueType}
 use Rattle.ti_lang.specs.Program.Types as t
 use Rattle.ti_lang.specs.Program.Expressions.{NumberedExp, NumberedExps}
 use Rattle.ti_lang.specs.Program.Expressions as e
@@ -69,16 +69,7 @@ module _ (p : NumberedProgram) (m : NumberedMethod) (s : ScopeContents) (this : 
 
   not_behind : (name : ℕ) (x : ValueType) (c : NumberedMethod) → is_object x ≡ false → method_behind p x name ≡ Some c → ⊥
   not_behind name (t.Class d l) c k z = true_false k
-  not_behind name t.Int c k z = none_some c z
-  not_behind name t.Long c k z = none_some c z
-  not_behind name t.Boolean c k z = none_some c z
-  not_behind name (t.Pt n) c k z = none_some c z
-  not_behind name (t.Rc n) c k z = none_some c z
-  not_behind name (t.Dm n) c k z = none_some c z
-  not_behind name t.Region c k z = none_some c z
-  not_behind name (t.Grid e n l) c k z = none_some c z
-  not_behind name t.Null c k z = none_some c z
-  not_behind name t.Void c k z = none_some c z
+  not_behind name _ c k z = none_some c z
 
   -- behind an object
   member_takes : (name : ℕ) (args : NumberedExps) (u x type : ValueType) → Alike u x → (member p (Some u) name (operands p s args)).type
@@ -137,19 +128,12 @@ module _ (p : NumberedProgram) where
 
   mutual
     stm_suits : (a : Around) → Points a.method (scope_of a) → (x : NumberedStm) → StmFits p a.method (scope_of a) x → Clean (inside p a x) → StmSuits p a.method x
-    stm_suits a f st.Empty k h = tt
     stm_suits a f (st.Declare at type variable value) k h = init_suits p a.method (scope_of a) refl f value k.0 k.1
     stm_suits a f (st.Assign at target value) k h = init_suits p a.method (scope_of a) refl f value k.0 k.1
     stm_suits a f (st.Update at op target x) k h = init_suits p a.method (scope_of a) refl f (st.Value x) k.0 k.1
-    stm_suits a f (st.Step at op target) k h = tt
     stm_suits a f (st.Call x) k h = call_suits p a.method (scope_of a) refl f x k.0 k.1
-    stm_suits a f (st.Print at what) k h = tt
-    stm_suits a f (st.Barrier at) k h = tt
-    stm_suits a f (st.Break at) k h = tt
-    stm_suits a f (st.Continue at) k h = tt
     stm_suits a f (st.Return at None) k h = not_is (is_void (result_type a.method))
         (not_refused (not (is_void (result_type a.method))) Y6 at (nil_left (refused_if (not (is_void (result_type a.method))) Y6 at) [] h))
-    stm_suits a f (st.Return at (Some x)) k h = tt
     stm_suits a f (st.Block body) k h = stms_suit a f body k (within a (st.Block body) (inside_all p a body) h)
     stm_suits a f (st.If at c x) k h = stm_suits a f x k.1 (within a (st.If at c x) (inside p a x) h)
     stm_suits a f (st.IfElse at c x y) k h =
@@ -168,6 +152,7 @@ module _ (p : NumberedProgram) where
     stm_suits a f (st.Foreach at number domain body) k h =
         let b = in_foreach p a number domain body in
         stm_suits b (inside_points p a.method (scope_of a) number domain f) body k.1 (within a (st.Foreach at number domain body) (inside p b body) h)
+    stm_suits a f _ k h = tt
 
     maybe_suits : (a : Around) → Points a.method (scope_of a) → (x : MaybeNumbered) → MaybeFits p a.method (scope_of a) x → Clean (inside_maybe p a x) → MaybeSuits p a.method x
     maybe_suits a f NoStm k h = tt

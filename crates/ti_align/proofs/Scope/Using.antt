@@ -6,7 +6,7 @@ use Rattle.ti_lang.specs.Program.Expressions as e
 use Rattle.ti_lang.specs.Program.Statements.{NumberedDims, NumberedInit, NumberedPrint, NumberedStm}
 use Rattle.ti_lang.specs.Program.Statements as s
 use Rattle.ti_lang.specs.Program.Classes.{NumberedMethod, NumberedProgram}
-use Rattle.ti_lang.specs.Meaning.Processes.{Variable, Receiver, Nowhere, Declared, Assigned, Updated, While, Foreach, Work, Do, End, Before, Behind, Receive, CopyAll, TakeAll, Frame}
+use Rattle.ti_lang.specs.Meaning.Processes.{Variable, Receiver, Nowhere, Declared, Assigned, Updated, While, Foreach, Work, Do, Before, Receive, Frame}
 use Rattle.ti_rules.specs.ProgramRefusals.{IsChecked}
 use Rattle.ti_align.specs.Mirrors.Literals.{LiteralsFit}
 use Rattle.ti_align.specs.Mirrors.Fitting.{IsWritten, AreWritten, IsRangeWritten, AreRangesWritten}
@@ -96,11 +96,7 @@ module _ (names others : Names) (more : Among names others) where
   work_in p m base (Do x) k = stm_in x k.0
   work_in p m base (Before (While at c update body)) k = option_in c k.0
   work_in p m base (Receive receiver h) k = receiver_in receiver k
-  work_in p m base (End x) k = tt
-  work_in p m base (Before (Foreach at variable domain points body)) k = tt
-  work_in p m base (Behind loop) k = tt
-  work_in p m base (CopyAll at to from points) k = tt
-  work_in p m base (TakeAll at grid procs) k = tt
+  work_in p m base _ k = tt
 
 -- ---- processes
 

@@ -1,7 +1,7 @@
 -- The slice makes finitely many steps by itself.
 use Rattle.std.proofs.Common.{◌≡◌, ℕ, ◌+◌, ◌<◌, ◌≤◌, length, Bool, true, false, if◌then◌else◌, pos, Option, Some, None, List, [], ◌∷◌, refl, ap, sym, subst, arith}
 use Rattle.ti_base.specs.declared.place.Place.{Place}
-use Rattle.ti_lang.specs.Program.Expressions.{NumberedExp, NumberedExps}
+use Rattle.ti_lang.specs.Program.Expressions.{NumberedExp}
 use Rattle.ti_lang.specs.Program.Expressions as e
 use Rattle.ti_lang.specs.Program.Statements.{NumberedInit, NumberedStm, numbered_stms}
 use Rattle.ti_lang.specs.Program.Statements as s
@@ -11,7 +11,7 @@ use Rattle.ti_lang.specs.Typing.Called.{member_called}
 use Rattle.ti_lang.specs.Typing.Singleness.{has_single_result}
 use Rattle.ti_lang.specs.Meaning.Asking.{gives}
 use Rattle.ti_lang.specs.Meaning.Evaluation.{eval}
-use Rattle.ti_lang.specs.Meaning.Processes.{Variable, Receiver, Nowhere, Declared, Assigned, Updated, Work, Do, End, Before, Behind, Receive, CopyAll, TakeAll, Frame, Wait, Process}
+use Rattle.ti_lang.specs.Meaning.Processes.{Variable, Receiver, Nowhere, Declared, Assigned, Updated, Work, Do, Frame, Wait, Process}
 use Rattle.ti_lang.specs.Meaning.Scoping.{Env, env_of}
 use Rattle.ti_lang.specs.Meaning.Calls.{Call, called}
 use Rattle.ti_lang.specs.Meaning.Moves.{Goes, Returns, goes_on, receives}
@@ -78,12 +78,7 @@ positive _ = omega arith
 
 weighs : (w : Work) → 0 < weight_of w
 weighs (Do x) = positive x
-weighs (End x) = omega arith
-weighs (Before loop) = omega arith
-weighs (Behind loop) = omega arith
-weighs (Receive receiver held) = omega arith
-weighs (CopyAll at to from points) = omega arith
-weighs (TakeAll at grid procs) = omega arith
+weighs _ = omega arith
 
 single_falls : (b : ℕ) (env : Env) (w : Work) → MethodsFit b env.program → need w ≤ b → Giving (MoveFalls b (weight_of w + 0)) (single_performed env w [])
 single_falls b env (Do (s.Declare at type variable value)) m n = initial_falls b (1 + 0) (omega arith) env (Declared at (declared_as type variable)) value m

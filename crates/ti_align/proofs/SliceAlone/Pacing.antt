@@ -45,18 +45,12 @@ Rests x Over = Unit {0}
 Rests x (Fault kind place) = Unit {0}
 
 rests_to : (n : Setting) (f : Frame) (fs : List Frame) (rest : List Work) (mv : move.Move) → Rests None (moves_to n f fs rest mv)
-rests_to n f fs rest (move.Goes vs ws) = (refl, refl)
-rests_to n f fs rest (move.Turns at vs ws) = (refl, refl)
-rests_to n f fs rest move.Breaks = (refl, refl)
-rests_to n f fs rest move.Continues = (refl, refl)
 rests_to n f fs rest (move.Calls at m this ps r) = go (nat_lt (length (f ∷ fs)) most_frames)
   where
     go : (b : Bool) → Rests None (if b then Silent true (record { frames = sl.callee_part n.program m ps r ∷ record f { left = rest } ∷ fs; wait = None }) else Fault Depth at)
     go true = (refl, refl)
     go false = tt
-rests_to n f fs rest (move.Returns value) = (refl, refl)
-rests_to n f fs rest (move.Meets wait given behind) = (refl, refl)
-rests_to n f fs rest (move.Deletes at region) = (refl, refl)
+rests_to n f fs rest _ = (refl, refl)
 
 rests_certain : (n : Setting) (f : Frame) (fs : List Frame) (rest : List Work) (g : Got move.Move) → Rests None (certain g (moves_to n f fs rest))
 rests_certain n f fs rest (Gives mv more) = rests_to n f fs rest mv

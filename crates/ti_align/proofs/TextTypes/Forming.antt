@@ -8,7 +8,7 @@ use Rattle.ti_syntax.specs.declared.tree.exprs.BinaryOperator.{BinaryOperator}
 use Rattle.ti_syntax.specs.declared.tree.exprs.BinaryOperator.TheVariants as op
 use Rattle.ti_lang.specs.Program.Types.{ValueType, Declaration}
 use Rattle.ti_lang.specs.Program.Types as t
-use Rattle.ti_lang.specs.Program.Expressions.{NumberedExp, NumberedExps, NumberedRange, NumberedRanges}
+use Rattle.ti_lang.specs.Program.Expressions.{NumberedExp, NumberedRange, NumberedRanges}
 use Rattle.ti_lang.specs.Program.Expressions as e
 use Rattle.ti_lang.specs.Program.Classes.{NumberedMethod, NumberedProgram}
 use Rattle.ti_lang.specs.Program.Scope.{ScopeVariable, ScopeContents, this_of, method_scope}
@@ -35,13 +35,7 @@ formed_dims (t.Rc n) h = h
 formed_dims (t.Dm n) h = h
 formed_dims (t.Grid x n l) h =
     ap₂ (λ a b. a && b) (and_left (is_dim n) (storable x && formed x) h) (formed_dims x (and_right (storable x) (formed x) (and_right (is_dim n) (storable x && formed x) h)))
-formed_dims t.Int h = refl
-formed_dims t.Long h = refl
-formed_dims t.Boolean h = refl
-formed_dims t.Region h = refl
-formed_dims (t.Class c l) h = refl
-formed_dims t.Null h = refl
-formed_dims t.Void h = refl
+formed_dims _ h = refl
 
 pub formed_fine : (type : ValueType) → formed type ≡ true → DimsFine type
 formed_fine (t.Pt n) h = dims_are n h
@@ -49,26 +43,16 @@ formed_fine (t.Rc n) h = dims_are n h
 formed_fine (t.Dm n) h = dims_are n h
 formed_fine (t.Grid x n l) h =
     (dims_are n (and_left (is_dim n) (storable x && formed x) h), formed_fine x (and_right (storable x) (formed x) (and_right (is_dim n) (storable x && formed x) h)))
-formed_fine t.Int h = tt
-formed_fine t.Long h = tt
-formed_fine t.Boolean h = tt
-formed_fine t.Region h = tt
-formed_fine (t.Class c l) h = tt
-formed_fine t.Null h = tt
-formed_fine t.Void h = tt
+formed_fine _ h = tt
 
 pub storable_is : (type : ValueType) → (storable type && formed type) ≡ true → IsStorable type
 storable_is (t.Dm n) h = absurd (true_false (sym h))
 storable_is t.Region h = absurd (true_false (sym h))
 storable_is t.Null h = absurd (true_false (sym h))
 storable_is t.Void h = absurd (true_false (sym h))
-storable_is t.Int h = tt
-storable_is t.Long h = tt
-storable_is t.Boolean h = tt
 storable_is (t.Pt n) h = dims_are n h
 storable_is (t.Rc n) h = dims_are n h
-storable_is (t.Class c l) h = tt
-storable_is (t.Grid x n l) h = tt
+storable_is _ h = tt
 
 pub storable_something : (l : Bool) (type : ValueType) → storable type ≡ true → is_void (read_through l type) ≡ false
 storable_something l (t.Dm n) h = absurd (true_false (sym h))
@@ -92,16 +76,7 @@ storable_something false (t.Grid x n l) h = refl
 
 pub global_formed : (type : ValueType) → formed type ≡ true → formed (as_global type) ≡ true
 global_formed (t.Class c l) h = refl
-global_formed (t.Grid x n l) h = h
-global_formed t.Int h = h
-global_formed t.Long h = h
-global_formed t.Boolean h = h
-global_formed (t.Pt n) h = h
-global_formed (t.Rc n) h = h
-global_formed (t.Dm n) h = h
-global_formed t.Region h = h
-global_formed t.Null h = h
-global_formed t.Void h = h
+global_formed _ h = h
 
 pub read_formed : (l : Bool) (type : ValueType) → formed type ≡ true → formed (read_through l type) ≡ true
 read_formed true type h = h
@@ -206,12 +181,7 @@ binary_formed o a u r e d = by o e
     by op.And e = bits e
     by op.OrElse e = truth_formed a u r e
     by op.AndThen e = truth_formed a u r e
-    by op.Less e = tested _ t.Boolean refl e
-    by op.LessEqual e = tested _ t.Boolean refl e
-    by op.Greater e = tested _ t.Boolean refl e
-    by op.GreaterEqual e = tested _ t.Boolean refl e
-    by op.Equal e = tested _ t.Boolean refl e
-    by op.NotEqual e = tested _ t.Boolean refl e
+    by _ e = tested _ t.Boolean refl e
 
 unary_formed : (o : UnaryOperator) (a r : ValueType) → unary_type o a ≡ Some r → Formed a → Formed r
 unary_formed un.Not t.Boolean r e d = subst Formed (some_same t.Boolean r e) refl

@@ -13,26 +13,25 @@ use Rattle.ti_syntax.specs.declared.tree.types.Base.TheVariants as base
 use Rattle.ti_syntax.specs.declared.tree.types.Qualifier.{Qualifier}
 use Rattle.ti_syntax.specs.Trees.Types.{GridTree, TypeTree}
 use Rattle.ti_syntax.specs.Trees.Expressions.{Exp, Exps, RangeTree, RangeTrees, ranges_tree}
-use Rattle.ti_syntax.specs.Trees.Statements.{DimsTree, InitTree, PrintTree, Stm, MaybeStm, Stms, stms}
+use Rattle.ti_syntax.specs.Trees.Statements.{DimsTree, InitTree, PrintTree, Stm, MaybeStm, Stms}
 use Rattle.ti_syntax.specs.Trees.Statements as s
 use Rattle.ti_syntax.specs.Trees.Classes.{TextTree}
-use Rattle.ti_lang.specs.Program.Types.{ValueType, NumberedType, Declaration, VariableUse}
+use Rattle.ti_lang.specs.Program.Types.{ValueType, Declaration, VariableUse}
 use Rattle.ti_lang.specs.Program.Types as t
 use Rattle.ti_lang.specs.Program.Expressions.{NumberedExp, NumberedExps, NumberedRange, NumberedRanges, numbered_ranges}
 use Rattle.ti_lang.specs.Program.Statements.{NumberedDims, NumberedInit, NumberedPrint, NumberedStm, MaybeNumbered}
 use Rattle.ti_lang.specs.Program.Classes.{NumberedMethod, NumberedProgram}
 use Rattle.ti_lang.specs.Program.Scope.{this_of, method_scope}
 use Rattle.ti_lang.specs.Members as members
-use Rattle.ti_lang.specs.Members.{only_if, class_named, fields_in, fields_of, field_named, OwnMethod, methods_in, methods_from, methods_of, method_named, is_static}
+use Rattle.ti_lang.specs.Members.{only_if, class_named, field_named, OwnMethod, methods_of, method_named, is_static}
 use Rattle.ti_lang.specs.Scopes.{class_type, base_type, grid_type, value_type, has_local, Known, Site, with_variable, declares, typed_as, past_variable, past, past_maybe, past_all, behind, behind_maybe, own_field_named, own_method_named}
 use Rattle.ti_lang.specs.Typing.Kinds.{is_void}
 use Rattle.ti_lang.specs.Typing.Declared.{in_scope, field_type, is_static_method}
 use Rattle.ti_lang.specs.Typing.Expressions.{range_count}
 use Rattle.ti_lang.specs.Typing.TextTypes.{how_many}
 use Rattle.ti_lang.specs.Numbering as number
-use Rattle.ti_lang.specs.Numbering.{IsKnownBase, NumbersType, NumbersExp, NumbersExps, NumbersRange, NumbersRanges, NumbersMaybe}
-use Rattle.ti_lang.specs.Numbering.{NumbersDims, NumbersInit, NumbersPrint, NumbersStm, NumbersMaybeStm, NumbersStms, NumbersFields}
-use Rattle.ti_lang.specs.Numbering.{NumbersClasses, NumbersParamList, NumbersParams, NumbersMethod, NumbersMethods, Numbers, IsNumbered}
+use Rattle.ti_lang.specs.Numbering.{IsKnownBase, NumbersExp, NumbersExps, NumbersRange, NumbersRanges, NumbersMaybe}
+use Rattle.ti_lang.specs.Numbering.{NumbersDims, NumbersInit, NumbersPrint, NumbersStm, NumbersMaybeStm}
 use Rattle.ti_base.specs.Forms.{is_dim}
 use Rattle.ti_align.specs.Mirrors.Literals.{InExp, InExps, InRange, InRanges, InOption, InDims, InInit, InPrint}
 use Rattle.ti_align.specs.Mirrors.Work.{is_form_of_call}
@@ -42,8 +41,7 @@ use Rattle.ti_align.proofs.TextTypes.Meant.{storable, formed, among, means, cove
 use Rattle.ti_align.proofs.TextTypes.Spelled as fine
 use Rattle.ti_align.proofs.TextTypes.Spelled.{base_formed, base_storable, grids_formed, FieldFine, TypeFine, tree_count, ranges_count}
 use Rattle.ti_align.proofs.TextTypes.Spelled.{is_target_tree, is_call_tree, ExpFine, ExpsFine, RangeFine, RangesFine, OptionFine, InitFine}
-use Rattle.ti_align.proofs.TextTypes.Spelled.{PrintFine, TargetFine, StmFine, MaybeFine, StmsFine, ParamsFine, MethodFine, MembersFine}
-use Rattle.ti_align.proofs.TextTypes.Spelled.{TextFine, spelled_fine}
+use Rattle.ti_align.proofs.TextTypes.Spelled.{PrintFine, TargetFine, StmFine, MaybeFine}
 
 -- ---- lists
 
@@ -88,14 +86,10 @@ base_value text words (base.SharedRegion at) k h = (refl, refl)
 base_value text words (base.Named at name) k h = subst (λ o. (formed (class_type (has_local words) o) ≡ true) × (is_void (class_type (has_local words) o) ≡ false)) (sym k.1) (refl, refl)
 
 base_stored : (text : TextTree) (words : List Qualifier) (b : Base) → IsKnownBase text b → base_storable b ≡ true → storable (base_type text words b) ≡ true
-base_stored text words (base.Int at) k h = refl
-base_stored text words (base.Long at) k h = refl
-base_stored text words (base.Boolean at) k h = refl
-base_stored text words (base.Point at n) k h = refl
-base_stored text words (base.RectDomain at n) k h = refl
 base_stored text words (base.Domain at n) k h = absurd (true_false (sym h))
 base_stored text words (base.SharedRegion at) k h = absurd (true_false (sym h))
 base_stored text words (base.Named at name) k h = subst (λ o. storable (class_type (has_local words) o) ≡ true) (sym k.1) refl
+base_stored text words _ k h = refl
 
 grid_value : (element : ValueType) (gs : List GridTree) → formed element ≡ true → storable element ≡ true → grids_formed gs ≡ true
     → (formed (grid_type element gs) ≡ true) × (storable (grid_type element gs) ≡ true)
@@ -109,17 +103,8 @@ pub field_value : (text : TextTree) (ty : TypeTree) → IsKnownBase text ty.base
 field_value text ty k f = grid_value (base_type text ty.qualifiers ty.base) ty.grids (base_value text ty.qualifiers ty.base k f.0).0 (base_stored text ty.qualifiers ty.base k f.2) f.1
 
 something : (type : ValueType) → storable type ≡ true → is_void type ≡ false
-something t.Int h = refl
-something t.Long h = refl
-something t.Boolean h = refl
-something (t.Pt n) h = refl
-something (t.Rc n) h = refl
-something (t.Dm n) h = refl
-something t.Region h = refl
-something (t.Class c l) h = refl
-something (t.Grid x n l) h = refl
-something t.Null h = refl
 something t.Void h = absurd (true_false (sym h))
+something _ h = refl
 
 -- any type
 written_value : (text : TextTree) (ty : TypeTree) → IsKnownBase text ty.base → TypeFine ty → (formed (value_type text ty) ≡ true) × (is_void (value_type text ty) ≡ false)
@@ -248,17 +233,8 @@ keeps_variable a = record { text = refl; class = refl; static = refl; scope = re
 
 mutual
   past_keeps : (site : Site) (x : Stm) → Keeps site (past site x)
-  past_keeps site s.Empty = keeps_same site
   past_keeps site (s.Declare at type name value) = keeps_variable site
-  past_keeps site (s.Assign at target value) = keeps_same site
-  past_keeps site (s.Update at op target x) = keeps_same site
-  past_keeps site (s.Step at op target) = keeps_same site
-  past_keeps site (s.Call x) = keeps_same site
   past_keeps site (s.Print at what) = record { text = refl; class = refl; static = refl; scope = refl; variables = omega arith }
-  past_keeps site (s.Barrier at) = keeps_same site
-  past_keeps site (s.Break at) = keeps_same site
-  past_keeps site (s.Continue at) = keeps_same site
-  past_keeps site (s.Return at value) = keeps_same site
   past_keeps site (s.Block body) = past_all_keeps site body
   past_keeps site (s.If at c x) = past_keeps site x
   past_keeps site (s.IfElse at c x y) = keeps_then site (past site x) (past (past site x) y) (past_keeps site x) (past_keeps (past site x) y)
@@ -268,6 +244,7 @@ mutual
       let b = past_maybe a update in
       keeps_then site b (past b body) (keeps_then site a b (past_maybe_keeps site first) (past_maybe_keeps a update)) (past_keeps b body)
   past_keeps site (s.Foreach at name_at name domain body) = keeps_then site (past_variable site) (past (past_variable site) body) (keeps_variable site) (past_keeps (past_variable site) body)
+  past_keeps site _ = keeps_same site
 
   past_maybe_keeps : (site : Site) (x : MaybeStm) → Keeps site (past_maybe site x)
   past_maybe_keeps site s.NoStm = keeps_same site

@@ -8,11 +8,11 @@ use Rattle.ti_syntax.specs.Trees.Expressions.{Exp, Exps, RangeTree, RangeTrees, 
 use Rattle.ti_syntax.specs.Trees.Expressions as e
 use Rattle.ti_syntax.specs.Trees.Statements.{DimsTree, InitTree, PrintTree, Stm, MaybeStm, Stms, stms}
 use Rattle.ti_syntax.specs.Trees.Statements as s
-use Rattle.ti_syntax.specs.Trees.Classes.{FieldTree, ParamTree, ParamsTree, MemberTree, FieldMember, MethodMember, ClassTree, TextTree}
+use Rattle.ti_syntax.specs.Trees.Classes.{ParamTree, ParamsTree, MemberTree, FieldMember, MethodMember, ClassTree, TextTree}
 use Rattle.ti_syntax.specs.Trees.Classes as c
 use Rattle.ti_syntax.specs.Spelling.{IsSpelled}
 use Rattle.ti_syntax.specs.Spelling.Types as ty
-use Rattle.ti_syntax.specs.Spelling.Types.{Arity, arity, Based, Gridded, FieldType, field_type, WideType, CastType, cast_type}
+use Rattle.ti_syntax.specs.Spelling.Types.{Arity, arity, Based, Gridded, FieldType, field_type, cast_type}
 use Rattle.ti_syntax.specs.Spelling.Expressions as x
 use Rattle.ti_syntax.specs.Spelling.Expressions.{Ending, Whole, Prefixed, Postfixed, Args, Listed, Ranges, Range}
 use Rattle.ti_syntax.specs.Spelling.Statements as st
@@ -148,22 +148,14 @@ mutual
   prefixed_fine l a (x.postfixed {ending = ending} w) = postfixed_fine ending l a w
 
   postfixed_fine : (ending : Ending) (l : List Token) (a : Exp) → Postfixed ending l a → ExpFine a
-  postfixed_fine ending l a (x.int t i) = tt
-  postfixed_fine ending l a (x.long t i) = tt
-  postfixed_fine ending l a (x.truth t i) = tt
-  postfixed_fine ending l a (x.falsehood t i) = tt
-  postfixed_fine ending l a (x.null t i) = tt
-  postfixed_fine ending l a (x.this t i) = tt
-  postfixed_fine ending l a (x.name t i) = tt
   postfixed_fine ending l a (x.call t o c i j w k) = args_fine _ _ w
   postfixed_fine ending l a (x.group o c i w j) = whole_fine _ _ _ w
   postfixed_fine ending l a (x.rect o c i w few j) = let q = many_ranges _ _ w in (counted _ _ q.0 q.1 few, ranges_fine _ _ w)
   postfixed_fine ending l a (x.point o c i w few j) = let q = many _ _ w in (counted _ _ q.0 q.1 few, listed_fine _ _ w)
-  postfixed_fine ending l a (x.this_proc t d n o c i j k v w) = tt
-  postfixed_fine ending l a (x.num_procs t d n o c i j k v w) = tt
   postfixed_fine ending l a (x.select d t w i j) = postfixed_fine _ _ _ w
   postfixed_fine ending l a (x.member d t o c w i j k v z) = (postfixed_fine _ _ _ w, args_fine _ _ v)
   postfixed_fine ending l a (x.index o c w i v few j) = (postfixed_fine _ _ _ w, listed_fine _ _ v)
+  postfixed_fine ending l a _ = tt
 
   args_fine : (l : List Token) (xs : List Exp) → Args l xs → ExpsFine (exps xs)
   args_fine l xs x.none = tt
@@ -188,22 +180,12 @@ Ends x.Call a = is_call_tree a ≡ true
 Ends x.Other a = Unit {0}
 
 ends : (ending : Ending) (l : List Token) (a : Exp) → Postfixed ending l a → Ends ending a
-ends ending l a (x.int t i) = tt
-ends ending l a (x.long t i) = tt
-ends ending l a (x.truth t i) = tt
-ends ending l a (x.falsehood t i) = tt
-ends ending l a (x.null t i) = tt
-ends ending l a (x.this t i) = tt
 ends ending l a (x.name t i) = refl
 ends ending l a (x.call t o c i j w k) = refl
-ends ending l a (x.group o c i w j) = tt
-ends ending l a (x.rect o c i w few j) = tt
-ends ending l a (x.point o c i w few j) = tt
-ends ending l a (x.this_proc t d n o c i j k v w) = tt
-ends ending l a (x.num_procs t d n o c i j k v w) = tt
 ends ending l a (x.select d t w i j) = refl
 ends ending l a (x.member d t o c w i j k v z) = refl
 ends ending l a (x.index o c w i v few j) = refl
+ends ending l a _ = tt
 
 started : (ending : Ending) (l : List Token) (a : Exp) → Start ending l a → ExpFine a × Ends ending a
 started ending l a (start w i) = (postfixed_fine ending l a w, ends ending l a w)

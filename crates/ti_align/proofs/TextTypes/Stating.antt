@@ -159,7 +159,6 @@ module _ (p : NumberedProgram) (fields : FieldsMeant p) where
 
   mutual
     pub stm_fits : (a : Around) (turns : List ℕ) → Stands a turns → (x : NumberedStm) → FitsThere a turns x
-    stm_fits a turns around st.Empty k h = tt
     stm_fits a turns around (st.Declare at type variable value) k h = declare_fits a turns around at type variable value k h
     stm_fits a turns around (st.Assign at target value) k h = assign_fits a turns around at target value k h
     stm_fits a turns around (st.Update at op target x) k h = update_fits a turns around at op target x k h
@@ -168,10 +167,6 @@ module _ (p : NumberedProgram) (fields : FieldsMeant p) where
         let q = whole_fits p fields a.method (scope_of a) turns around x k.0 (own p a (st.Call x) [] h) in
         (q.0, q.1, k.1)
     stm_fits a turns around (st.Print at what) k h = print_fits p fields a.method (scope_of a) turns around at what k (own p a (st.Print at what) [] h)
-    stm_fits a turns around (st.Barrier at) k h = tt
-    stm_fits a turns around (st.Break at) k h = tt
-    stm_fits a turns around (st.Continue at) k h = tt
-    stm_fits a turns around (st.Return at None) k h = tt
     stm_fits a turns around (st.Return at (Some x)) k h = returned_fits p fields a.method (scope_of a) turns around at (result_type a.method) x k (own p a (st.Return at (Some x)) [] h)
     stm_fits a turns around (st.Block body) k h = stms_fit a turns around body k (within p a (st.Block body) (inside_all p a body) h)
     stm_fits a turns around (st.If at c x) k h =
@@ -208,6 +203,7 @@ module _ (p : NumberedProgram) (fields : FieldsMeant p) where
           stm_fits b (number ∷ turns) (surrounds_inside p a.method (scope_of a) turns around number domain q.0 k.1 k.2 i dim) body k.3
               (within p a (st.Foreach at number domain body) (inside p b body) h),
         )
+    stm_fits a turns around _ k h = tt
 
     maybe_fits : (a : Around) (turns : List ℕ) → Stands a turns → (x : MaybeNumbered) → MaybeMeant p a.method turns x → Clean p (inside_maybe p a x) → MaybeFits p a.method (scope_of a) x
     maybe_fits a turns around st.NoStm k h = tt

@@ -7,11 +7,11 @@ use Rattle.ti_syntax.specs.declared.tree.exprs.BinaryOperator.{BinaryOperator}
 use Rattle.ti_syntax.specs.declared.tree.stmts.StepOperator.{StepOperator}
 use Rattle.ti_syntax.specs.declared.tree.stmts.StepOperator.TheVariants.{Increment, Decrement}
 use Rattle.ti_lang.specs.Members.{only_if}
-use Rattle.ti_lang.specs.Program.Types.{ValueType, Declaration, VariableUse}
+use Rattle.ti_lang.specs.Program.Types.{ValueType, Declaration}
 use Rattle.ti_lang.specs.Program.Types as t
 use Rattle.ti_lang.specs.Program.Expressions.{NumberedExp, NumberedExps, NumberedRange, NumberedRanges, place_of_numbered, numbered_ranges}
 use Rattle.ti_lang.specs.Program.Expressions as e
-use Rattle.ti_lang.specs.Program.Statements.{NumberedDims, NumberedInit, NumberedPrint}
+use Rattle.ti_lang.specs.Program.Statements.{NumberedDims, NumberedInit}
 use Rattle.ti_lang.specs.Program.Statements as st
 use Rattle.ti_lang.specs.Program.Classes.{NumberedField, NumberedClass, NumberedMethod, NumberedProgram}
 use Rattle.ti_lang.specs.Program.Scope.{ScopeVariable, ScopeContents, this_of, method_scope}
@@ -206,15 +206,7 @@ module _ (p : NumberedProgram) (fields : FieldsMeant p) (m : NumberedMethod) (s 
     pub written : (x : NumberedExp) → ExpMeant p m turns x → IsWritten (uses_of m) x
     written (e.Int at n) k = k
     written (e.Long at n) k = k
-    written (e.Truth at b) k = tt
-    written (e.Null at) k = tt
-    written (e.This at) k = tt
     written (e.Variable at v) k = used v.number v.declared k
-    written (e.OwnField at field) k = tt
-    written (e.Call at method args) k = tt
-    written (e.OwnCall at method args) k = tt
-    written (e.ThisProc at) k = tt
-    written (e.NumProcs at) k = tt
     written (e.Point at parts) k = (dims_are _ k.0, all_written parts k.1)
     written (e.Rect at ranges) k = (dims_are (range_count ranges) k.0, ranges_written ranges k.1)
     written (e.Unary at op a) k = written a k
@@ -223,6 +215,7 @@ module _ (p : NumberedProgram) (fields : FieldsMeant p) (m : NumberedMethod) (s 
     written (e.Select at a name) k = written a k
     written (e.Member at a name args) k = (written a k.0, all_written args k.1)
     written (e.Index at a parts) k = (written a k.0, all_written parts k.1)
+    written _ k = tt
 
     pub all_written : (xs : NumberedExps) → ExpsMeant p m turns xs → AreWritten (uses_of m) xs
     all_written e.NoExp k = tt
@@ -239,18 +232,12 @@ module _ (p : NumberedProgram) (fields : FieldsMeant p) (m : NumberedMethod) (s 
   mutual
     -- its names mean something in the scope
     pub names_known : (x : NumberedExp) → ExpMeant p m turns x → IsKnown p s x
-    names_known (e.Int at n) k = tt
-    names_known (e.Long at n) k = tt
-    names_known (e.Truth at b) k = tt
-    names_known (e.Null at) k = tt
     names_known (e.This at) k = there_is s.this_class (subst (λ o. is_some o ≡ true) (sym around.this) k)
     names_known (e.Variable at v) k = let q = variable_formed m s turns around v.number v.declared k in (q.0, q.1)
     names_known (e.OwnField at field) k =
         there_is (option_and_then (λ c. field_type p c field) s.this_class) (subst (λ o. is_some (option_and_then (λ c. field_type p c field) o) ≡ true) (sym around.this) k)
     names_known (e.Call at method args) k = (there_is (slice_get p.methods method) k.0, all_known args k.1)
     names_known (e.OwnCall at method args) k = (served (slice_get p.methods method) k.0, all_known args k.1)
-    names_known (e.ThisProc at) k = tt
-    names_known (e.NumProcs at) k = tt
     names_known (e.Point at parts) k = all_known parts k.1
     names_known (e.Rect at ranges) k = ranges_known ranges k.1
     names_known (e.Unary at op a) k = names_known a k
@@ -259,6 +246,7 @@ module _ (p : NumberedProgram) (fields : FieldsMeant p) (m : NumberedMethod) (s 
     names_known (e.Select at a name) k = names_known a k
     names_known (e.Member at a name args) k = (names_known a k.0, all_known args k.1)
     names_known (e.Index at a parts) k = (names_known a k.0, all_known parts k.1)
+    names_known _ k = tt
 
     all_known : (xs : NumberedExps) → ExpsMeant p m turns xs → AreKnown p s xs
     all_known e.NoExp k = tt
