@@ -1,2 +1,3 @@
 -- Definitions that mirror code, as its private contracts speak of it: nobody has to believe them.
 pub mod Numbers
+pub mod Slices
