@@ -93,6 +93,6 @@ returns-clause-view c =
     let l = c.layout-l.result in
     let two : 2 ≤ l.dom.dim = subst (λ (x : Layout). 2 ≤ x.dom.dim) (sym c.layout-l.ensures.value) c.requires in
     subst₂ (λ (k j : ℤ). IsSeen (Slice k j) c.args.v.now c.laid.result) (to_z-of_z w32 c.args.k c.ranges.k) (to_z-of_z w32 c.args.j c.ranges.j)
-    (subst₂ (λ (x y : Layout). IsSeen (Slice (to_z w32 (of_z w32 c.args.k)) (to_z w32 (of_z w32 c.args.j))) x y) c.layout-l.ensures.value (sym c.laid.ensures)
+    (subst₂ (IsSeen (Slice (to_z w32 (of_z w32 c.args.k)) (to_z w32 (of_z w32 c.args.j)))) c.layout-l.ensures.value (sym c.laid.ensures)
     (sliced_seen l c.layout-l.ensures.laid two _ _ _ _ _ _ _ c.in-Some.ensures _ (c.contains.ensures.0 c.if-not-contains.false) c.of_axes-dom.result c.offset.result
     c.of_axes-dom.ensures.value c.offset.ensures))
