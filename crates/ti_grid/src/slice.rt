@@ -22,20 +22,13 @@ struct Lane {
     step: u64,
 }
 
-/// The coordinate that is left out, and those that stay, in their order.
-#[derive(Clone, Copy)]
-struct Split {
-    out: Lane,
-    first: Lane,
-    second: Lane,
-}
-
-/// The coordinate `k`, counted from 1, apart from the others; none exactly where the dimension has no such coordinate.
-fn set_apart(l: &Layout, k: i32) -> Option<Split>
+/// The coordinate `k`, counted from 1, and after it the others in their order; none exactly where the dimension has
+/// no such coordinate.
+fn set_apart(l: &Layout, k: i32) -> Option<(Lane, Lane, Lane)>
     requires laid { IsLaid l.now }
     requires two { 2 ≤ l.now.dom.dim }
     ensures { MatchOption result ((j : ℤ) → false ≡ has_coordinate l.now.dom k j) (λ s.
-        IsSplit l.now k (range s.out.axis) (range s.first.axis) (range s.second.axis) s.out.step s.first.step s.second.step) }
+        IsSplit l.now k (range s.0.axis) (range s.1.axis) (range s.2.axis) s.0.step s.1.step s.2.step) }
 {
     if k < 1 || i32::from(l.dom.dim) < k {
         return None;
@@ -53,21 +46,9 @@ fn set_apart(l: &Layout, k: i32) -> Option<Split>
         step: l.steps[2],
     };
     Some(match k {
-        1 => Split {
-            out: x,
-            first: y,
-            second: z,
-        },
-        2 => Split {
-            out: y,
-            first: x,
-            second: z,
-        },
-        _ => Split {
-            out: z,
-            first: x,
-            second: y,
-        },
+        1 => (x, y, z),
+        2 => (y, x, z),
+        _ => (z, x, y),
     })
 }
 
@@ -80,18 +61,18 @@ pub fn view_slice(v: &View, k: i32, j: i32) -> Result<View, FaultKind>
     ensures view { IfOk result (λ part. IsSeen (Slice k j) v.now part) }
 {
     let l = layout(v);
-    let Some(s) = set_apart(&l, k) else {
+    let Some((out, a, b)) = set_apart(&l, k) else {
         return Err(FaultKind::Bounds);
     };
-    if !contains(s.out.axis, j) {
+    if !contains(out.axis, j) {
         return Err(FaultKind::Bounds);
     }
-    let dom = of_axes(l.dom.dim - 1, s.first.axis, s.second.axis, UNUSED);
-    let base = l.base + offset(s.out.axis, j, s.out.step);
+    let dom = of_axes(l.dom.dim - 1, a.axis, b.axis, UNUSED);
+    let base = l.base + offset(out.axis, j, out.step);
     Ok(laid(Layout {
         block: l.block,
         dom,
         base,
-        steps: [s.first.step, s.second.step, 0],
+        steps: [a.step, b.step, 0],
     }))
 }
