@@ -1,18 +1,19 @@
 -- Views of views keep what each view keeps.
-use Rattle.std.proofs.Common.{◌≡◌, ℕ, ◌+◌, ◌*◌, ◌<◌, ◌≤◌, ℤ, ◌+ℤ◌, ◌-ℤ◌, ◌≤ℤ◌, Bool, true, false, if◌then◌else◌, [], ◌∷◌, length, slice_index, Option, Some, None, IfSome, refl, sym, ap, subst, ◌∙◌, arith}
+use Rattle.std.proofs.Common.{◌≡◌, ℕ, ◌+◌, ◌*◌, ◌<◌, ◌≤◌, ℤ, ◌+ℤ◌, ◌-ℤ◌, ◌≤ℤ◌, Bool, true, false, if◌then◌else◌, [], ◌∷◌, length, slice_index, Option, Some, None, IfSome, refl, sym, ap, subst, subst₂, ◌∙◌, arith}
 use Rattle.std.proofs.lemmas.Int.{ints}
 use Rattle.std.proofs.lemmas.List.{length-map}
 use Rattle.ti_base.specs.declared.point.Point.{Point}
 use Rattle.ti_base.specs.declared.point.Rect.{Rect}
 use Rattle.ti_base.specs.declared.action.ViewHow.{ViewHow}
 use Rattle.ti_base.specs.Points.{moved_back}
-use Rattle.ti_base.specs.Ranges.{Range, IsOn, IsRange, shifted}
+use Rattle.ti_base.specs.Ranges.{Range, IsOn, IsRange, IsTidy, shifted}
 use Rattle.ti_base.specs.Rects.{IsRect, HasPoints, IsIn, is_in, points_of, empty_rect, translated, first_range, second_range, third_range}
 use Rattle.ti_base.specs.Cells.{view_domain, seen_point}
 use Rattle.ti_rect.proofs.Lemmas.{points_listed, forward, low_on, full_of, tidy_first, tidy_second, tidy_third, shifted_form}
 use Rattle.ti_rect.proofs.Lemmas.{translated_full, in_tests}
 use Rattle.ti_grid.specs.declared.layout.Layout.{Layout}
 use Rattle.ti_grid.specs.Mirrors.Numbers.{steps_to, number_of}
+use Rattle.ti_grid.specs.Mirrors.Parts.{IsPart, IsStretched}
 use Rattle.ti_grid.specs.Views.{IsLaid, IsSeen, cell_number, seen_number, DifferInCells, NumbersBelow}
 use Rattle.ti_grid.proofs.ListLaws.{few_points}
 use Rattle.ti_grid.proofs.StepLaws.{moved_steps}
@@ -100,15 +101,6 @@ module _ (v : Layout) (laid : IsLaid v) (r : Rect) (h : HasPoints r) (inside : (
   third_point : (x : ℤ) → IsOn (third_range r) x → IsIn r (record r.lo { x3 = x })
   third_point x o = record { one_dim = h.low_dim; first = low_on (first_range r) h.first; second = low_on (second_range r) h.second; third = o }
 
-  pub first_inside : (x : ℤ) → IsOn (first_range r) x → IsOn (first_range v.dom) x
-  first_inside x o = (inside (record r.lo { x1 = x }) (first_point x o)).first
-
-  pub second_inside : (x : ℤ) → IsOn (second_range r) x → IsOn (second_range v.dom) x
-  second_inside x o = (inside (record r.lo { x2 = x }) (second_point x o)).second
-
-  pub third_inside : (x : ℤ) → IsOn (third_range r) x → IsOn (third_range v.dom) x
-  third_inside x o = (inside (record r.lo { x3 = x }) (third_point x o)).third
-
   -- the cell of a point of the part is below the most, so what one coordinate adds is too
   pub first_below : (x : ℤ) → IsOn (first_range r) x → v.base + steps_to (first_range v.dom) x * slice_index v.steps 0 < 1048576
   first_below x o = let b = laid.below (record r.lo { x1 = x }) (inside (record r.lo { x1 = x }) (first_point x o)) in omega arith
@@ -119,26 +111,33 @@ module _ (v : Layout) (laid : IsLaid v) (r : Rect) (h : HasPoints r) (inside : (
   pub third_below : (x : ℤ) → IsOn (third_range r) x → v.base + steps_to (third_range v.dom) x * slice_index v.steps 2 < 1048576
   third_below x o = let b = laid.below (record r.lo { x3 = x }) (inside (record r.lo { x3 = x }) (third_point x o)) in omega arith
 
--- ---- the ranges of a rectangle with a point
+  -- what holds of each number of a part of a range holds of the part
+  part_of : (a part : Range) (k : ℕ) → IsTidy a → IsRange part → ((x : ℤ) → IsOn part x → IsOn a x × (v.base + steps_to a x * k < 1048576)) → IsPart a part k
+  part_of a part k tidy form at =
+      let low = (at part.low (low_on part form)).0 in
+      record { whole = forward a tidy (omega (arith, ints, low.reached, low.within)); form = form; inside = λ x o. (at x o).0; below = λ x o. omega (arith, (at x o).1) }
 
-pub first_form : (r : Rect) (p : Point) → IsRect r → IsIn r p → IsRange (first_range r)
-first_form r p is w = forward (first_range r) (tidy_first r is) (omega (arith, ints, w.first.reached, w.first.within))
+  pub first_part : IsPart (first_range v.dom) (first_range r) (slice_index v.steps 0)
+  first_part = part_of (first_range v.dom) (first_range r) (slice_index v.steps 0) (tidy_first v.dom laid.form) h.first
+      (λ x o. ((inside (record r.lo { x1 = x }) (first_point x o)).first, first_below x o))
 
-pub second_form : (r : Rect) (p : Point) → IsRect r → IsIn r p → IsRange (second_range r)
-second_form r p is w = forward (second_range r) (tidy_second r is) (omega (arith, ints, w.second.reached, w.second.within))
+  pub second_part : IsPart (second_range v.dom) (second_range r) (slice_index v.steps 1)
+  second_part = part_of (second_range v.dom) (second_range r) (slice_index v.steps 1) (tidy_second v.dom laid.form) h.second
+      (λ x o. ((inside (record r.lo { x2 = x }) (second_point x o)).second, second_below x o))
 
-pub third_form : (r : Rect) (p : Point) → IsRect r → IsIn r p → IsRange (third_range r)
-third_form r p is w = forward (third_range r) (tidy_third r is) (omega (arith, ints, w.third.reached, w.third.within))
+  pub third_part : IsPart (third_range v.dom) (third_range r) (slice_index v.steps 2)
+  third_part = part_of (third_range v.dom) (third_range r) (slice_index v.steps 2) (tidy_third v.dom laid.form) h.third
+      (λ x o. ((inside (record r.lo { x3 = x }) (third_point x o)).third, third_below x o))
 
 -- along equal ranges and numbers
 pub along : (r r' : Range) (x x' : ℤ) (s : ℕ) → r ≡ r' → x ≡ x' → steps_to r x * s ≡ steps_to r' x' * s
 along r r' x x' s e f = λ i. steps_to (e i) (f i) * s
 
-pub stretch_along : (a a' part part' : Range) (x : ℤ) (s k : ℕ) → a ≡ a' → part ≡ part'
-    → steps_to a x * s ≡ steps_to a part.low * s + steps_to part x * k → steps_to a' x * s ≡ steps_to a' part'.low * s + steps_to part' x * k
-stretch_along a a' part part' x s k e f h =
-    subst (λ (q : Range). steps_to a' x * s ≡ steps_to a' q.low * s + steps_to q x * k) f
-    (subst (λ (q : Range). steps_to q x * s ≡ steps_to q part.low * s + steps_to part x * k) e h)
+pub part_along : (a a' part part' : Range) (s : ℕ) → a ≡ a' → part ≡ part' → IsPart a part s → IsPart a' part' s
+part_along a a' part part' s e f h = subst₂ (λ (x y : Range). IsPart x y s) e f h
+
+pub stretch_along : (a a' part part' : Range) (s k : ℕ) → a ≡ a' → part ≡ part' → IsStretched a part s k → IsStretched a' part' s k
+stretch_along a a' part part' s k e f h = subst₂ (λ (x y : Range). IsStretched x y s k) e f h
 
 -- ---- moved views
 

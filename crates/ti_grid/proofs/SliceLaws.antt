@@ -1,5 +1,5 @@
 -- Slices: whether there is a point with the coordinate, and what is left of the others.
-use Rattle.std.proofs.Common.{◌≡◌, ◌⊎◌, inl, inr, ⊎_elim, ◌↔◌, ℕ, ◌+◌, ◌-◌, ◌*◌, ◌<◌, ◌≤◌, ◌==◌, leb, ℤ, pos, ◌≤ℤ◌, ◌<ℤ◌, Bool, true, false, not, ◌&&◌, ◌||◌, if◌then◌else◌, [], ◌∷◌, slice_index, Some, None, refl, sym, ap, subst, ◌∙◌, arith}
+use Rattle.std.proofs.Common.{◌≡◌, ◌⊎◌, inl, inr, ⊎_elim, ℕ, ◌+◌, ◌-◌, ◌*◌, ◌<◌, ◌≤◌, ◌==◌, leb, ℤ, pos, ◌≤ℤ◌, ◌<ℤ◌, Bool, true, false, not, ◌&&◌, ◌||◌, if◌then◌else◌, [], ◌∷◌, slice_index, Some, None, refl, sym, ap, subst, subst₂, ◌∙◌, arith}
 use Rattle.std.specs.Int.RustNames.{int_le}
 use Rattle.std.proofs.lemmas.Int.{ints}
 use Rattle.std.proofs.lemmas.Bool.{lt-ltb, eqb-true, eqb-false, eq-eqb, ne_eqb, le-leb, and_parts, and_from, or_left, or_right, not-true, not_from_false, cases_lt}
@@ -10,13 +10,14 @@ use Rattle.ti_base.specs.declared.fault.FaultKind.TheVariants.{Bounds}
 use Rattle.ti_base.specs.PointSets.{same_number}
 use Rattle.ti_base.specs.Ranges.{Range, IsOn, IsRange, is_on, is_empty_range, unused}
 use Rattle.ti_base.specs.Rects.{IsRect, HasPoints, IsIn, is_empty, empty_rect, of_ranges, first_range, second_range, third_range}
-use Rattle.ti_base.specs.Cells.{has_coordinate, view_domain, seen_point}
-use Rattle.ti_rect.proofs.Lemmas.{on_from, on_to, first_step, second_step, third_step, low_on, none_in, none_on, full, full_of, point_in}
+use Rattle.ti_base.specs.Cells.{has_coordinate, view_domain, seen_point, with_coordinate}
+use Rattle.ti_rect.proofs.Lemmas.{on_from, on_to, first_step, second_step, third_step, low_on, none_in, none_on, full, full_of, point_in, tidy_first, tidy_second, tidy_third, unused_third}
 use Rattle.ti_rect.proofs.Lemmas.{any_of, view_inside}
 use Rattle.ti_grid.specs.declared.layout.Layout.{Layout}
 use Rattle.ti_grid.specs.Mirrors.Numbers.{steps_to, number_of}
+use Rattle.ti_grid.specs.Mirrors.Slices.{IsSplit}
 use Rattle.ti_grid.specs.Views.{SomeHas, IsLaid, IsSeen}
-use Rattle.ti_grid.proofs.SeenLaws.{is_laid, is_seen}
+use Rattle.ti_grid.proofs.SeenLaws.{is_laid, is_seen, first_below, second_below, third_below}
 
 -- ---- tests on numbers
 
@@ -187,146 +188,98 @@ same_test true b f g = sym (f refl)
 same_test false true f g = g refl
 same_test false false f g = refl
 
-module _ (r : Rect) (is : IsRect r) (k j : ℤ) (b : Bool) where
-  pub first_test : k ≡ pos 1 → ((b ≡ true) ↔ IsOn (first_range r) j) → b ≡ has_coordinate r k j
-  first_test e h = same_test b (has_coordinate r k j) (λ t. coordinate_to r is k j (inl (e, h.0 t))) (λ t. by (coordinate_from r is k j t))
-    where
-      by : IsOnSome r k j → b ≡ true
-      by (inl f) = h.1 f.1
-      by (inr (inl f)) = absurd (let n = f.0 in omega (arith, ints))
-      by (inr (inr f)) = absurd (let n = f.0 in omega (arith, ints))
-
-  pub second_test : k ≡ pos 2 → 2 ≤ r.dim → ((b ≡ true) ↔ IsOn (second_range r) j) → b ≡ has_coordinate r k j
-  second_test e two h = same_test b (has_coordinate r k j) (λ t. coordinate_to r is k j (inr (inl (e, two, h.0 t)))) (λ t. by (coordinate_from r is k j t))
-    where
-      by : IsOnSome r k j → b ≡ true
-      by (inl f) = absurd (let n = f.0 in omega (arith, ints))
-      by (inr (inl f)) = h.1 f.2
-      by (inr (inr f)) = absurd (let n = f.0 in omega (arith, ints))
-
-  pub third_test : k ≡ pos 3 → 3 ≤ r.dim → ((b ≡ true) ↔ IsOn (third_range r) j) → b ≡ has_coordinate r k j
-  third_test e three h = same_test b (has_coordinate r k j) (λ t. coordinate_to r is k j (inr (inr (e, three, h.0 t)))) (λ t. by (coordinate_from r is k j t))
-    where
-      by : IsOnSome r k j → b ≡ true
-      by (inl f) = absurd (let n = f.0 in omega (arith, ints))
-      by (inr (inl f)) = absurd (let n = f.0 in omega (arith, ints))
-      by (inr (inr f)) = h.1 f.2
-
 pub no_test : (r : Rect) → IsRect r → (k j : ℤ) → (IsOnSome r k j → ⊥) → false ≡ has_coordinate r k j
 no_test r is k j out = same_test false (has_coordinate r k j) (λ t. cc) (λ t. absurd (out (coordinate_from r is k j t)))
 
+-- ---- the coordinate that is left out
+
+-- a coordinate that is used is one of the dimension
+pub in_dimension : (r : Rect) → 2 ≤ r.dim → (k j : ℤ) → IsOnSome r k j → (pos 1 ≤ℤ k) × (k ≤ℤ pos r.dim)
+in_dimension r two k j (inl f) = let n = f.0 in (omega (arith, ints), omega (arith, ints))
+in_dimension r two k j (inr (inl f)) = let n = f.0 in (omega (arith, ints), omega (arith, ints))
+in_dimension r two k j (inr (inr f)) = let n = f.0 in let d = f.1 in (omega (arith, ints), omega (arith, ints))
+
+-- the range of the coordinate that is used
+on_used : (r : Rect) (k j : ℤ) → IsOnSome r k j
+    → ((k ≡ pos 1) → IsOn (first_range r) j) × ((k ≡ pos 2) → IsOn (second_range r) j) × ((k ≡ pos 3) → IsOn (third_range r) j)
+on_used r k j (inl f) = let n = f.0 in (λ _. f.1, λ e. absurd (omega (arith, ints)), λ e. absurd (omega (arith, ints)))
+on_used r k j (inr (inl f)) = let n = f.0 in (λ e. absurd (omega (arith, ints)), λ _. f.2, λ e. absurd (omega (arith, ints)))
+on_used r k j (inr (inr f)) = let n = f.0 in (λ e. absurd (omega (arith, ints)), λ e. absurd (omega (arith, ints)), λ _. f.2)
+
+module _ (l : Layout) (laid : IsLaid l) where
+  pub split_first : IsSplit l (pos 1) (first_range l.dom) (second_range l.dom) (third_range l.dom) (slice_index l.steps 0) (slice_index l.steps 1) (slice_index l.steps 2)
+  split_first = record {
+    forward = first_step l.dom laid.form;
+    form = tidy_first l.dom laid.form;
+    first = tidy_second l.dom laid.form;
+    second = tidy_third l.dom laid.form;
+    unused_second = unused_third l.dom laid.form;
+    has = λ j. (λ t. (on_used l.dom (pos 1) j (coordinate_from l.dom laid.form (pos 1) j t)).0 refl, λ o. coordinate_to l.dom laid.form (pos 1) j (inl (refl, o)));
+    below = λ j o. first_below l laid l.dom (filled_first l.dom laid.form j o) (λ p w. w) j o;
+    domain = refl;
+    number = λ j p. omega arith;
+    apart = λ j p q e. (ap (λ (y : Point). y.x2) e, ap (λ (y : Point). y.x3) e);
+  }
+
+  pub split_second : 2 ≤ l.dom.dim
+      → IsSplit l (pos 2) (second_range l.dom) (first_range l.dom) (third_range l.dom) (slice_index l.steps 1) (slice_index l.steps 0) (slice_index l.steps 2)
+  split_second two = record {
+    forward = second_step l.dom laid.form;
+    form = tidy_second l.dom laid.form;
+    first = tidy_first l.dom laid.form;
+    second = tidy_third l.dom laid.form;
+    unused_second = unused_third l.dom laid.form;
+    has = λ j. (λ t. (on_used l.dom (pos 2) j (coordinate_from l.dom laid.form (pos 2) j t)).1 refl, λ o. coordinate_to l.dom laid.form (pos 2) j (inr (inl (refl, two, o))));
+    below = λ j o. second_below l laid l.dom (filled_second l.dom laid.form j two o) (λ p w. w) j o;
+    domain = refl;
+    number = λ j p. omega arith;
+    apart = λ j p q e. (ap (λ (y : Point). y.x1) e, ap (λ (y : Point). y.x3) e);
+  }
+
+  pub split_third : 3 ≤ l.dom.dim
+      → IsSplit l (pos 3) (third_range l.dom) (first_range l.dom) (second_range l.dom) (slice_index l.steps 2) (slice_index l.steps 0) (slice_index l.steps 1)
+  split_third three = record {
+    forward = third_step l.dom laid.form;
+    form = tidy_third l.dom laid.form;
+    first = tidy_first l.dom laid.form;
+    second = tidy_second l.dom laid.form;
+    unused_second = λ flat. absurd (omega arith);
+    has = λ j. (λ t. (on_used l.dom (pos 3) j (coordinate_from l.dom laid.form (pos 3) j t)).2 refl, λ o. coordinate_to l.dom laid.form (pos 3) j (inr (inr (refl, three, o))));
+    below = λ j o. third_below l laid l.dom (filled_third l.dom laid.form j three o) (λ p w. w) j o;
+    domain = refl;
+    number = λ j p. omega arith;
+    apart = λ j p q e. (ap (λ (y : Point). y.x1) e, ap (λ (y : Point). y.x2) e);
+  }
+
+pub split_along : (l : Layout) (k k' : ℤ) (out out' a a' b b' : Range) (s t u : ℕ) → k ≡ k' → out ≡ out' → a ≡ a' → b ≡ b'
+    → IsSplit l k out a b s t u → IsSplit l k' out' a' b' s t u
+split_along l k k' out out' a a' b b' s t u e f g h is =
+    subst₂ (λ (x y : Range). IsSplit l k' out' x y s t u) g h (subst₂ (λ (n : ℤ) (x : Range). IsSplit l n x a b s t u) e f is)
+
 -- ---- slices
 
-pub on_first : (r : Rect) (j : ℤ) → IsRect r → has_coordinate r (pos 1) j ≡ true → IsOn (first_range r) j
-on_first r j is e = by (coordinate_from r is (pos 1) j e)
-  where
-    by : IsOnSome r (pos 1) j → IsOn (first_range r) j
-    by (inl f) = f.1
-    by (inr (inl f)) = absurd (let n = f.0 in omega (arith, ints))
-    by (inr (inr f)) = absurd (let n = f.0 in omega (arith, ints))
+module _ (l : Layout) (laid : IsLaid l) (two : 2 ≤ l.dom.dim) (k : ℤ) (out a b : Range) (s t u : ℕ) (is : IsSplit l k out a b s t u)
+    (j : ℤ) (on : IsOn out j) (d : Rect) (n : ℕ) (domain : d ≡ of_ranges (l.dom.dim - 1) a b unused) (base : n ≡ steps_to out j * s) where
+  abbrev pub sliced : Layout
+  sliced = record { block = l.block; dom = d; base = l.base + n; steps = t ∷ u ∷ 0 ∷ [] }
 
-pub on_second : (r : Rect) (j : ℤ) → IsRect r → has_coordinate r (pos 2) j ≡ true → IsOn (second_range r) j
-on_second r j is e = by (coordinate_from r is (pos 2) j e)
-  where
-    by : IsOnSome r (pos 2) j → IsOn (second_range r) j
-    by (inl f) = absurd (let n = f.0 in omega (arith, ints))
-    by (inr (inl f)) = f.2
-    by (inr (inr f)) = absurd (let n = f.0 in omega (arith, ints))
+  viewed : IsRect (view_domain (Slice k j) l.dom) × ((p : Point) → IsIn (view_domain (Slice k j) l.dom) p → IsIn l.dom (seen_point (Slice k j) p))
+  viewed = view_inside (Slice k j) l.dom laid.form tt (lt-ltb 1 l.dom.dim two) (ap (λ (t : Bool). if t then None else Some Bounds) ((is.has j).1 on))
 
-pub on_third : (r : Rect) (j : ℤ) → IsRect r → has_coordinate r (pos 3) j ≡ true → IsOn (third_range r) j
-on_third r j is e = by (coordinate_from r is (pos 3) j e)
-  where
-    by : IsOnSome r (pos 3) j → IsOn (third_range r) j
-    by (inl f) = absurd (let n = f.0 in omega (arith, ints))
-    by (inr (inl f)) = absurd (let n = f.0 in omega (arith, ints))
-    by (inr (inr f)) = f.2
-
-pub some_points : (r : Rect) (k j : ℤ) → IsRect r → has_coordinate r k j ≡ true → HasPoints r
-some_points r k j is e = filled r is k j (coordinate_from r is k j e)
-
-module _ (l new : Layout) (j : ℤ) (laid : IsLaid l) (two : 2 ≤ l.dom.dim) (block : new.block ≡ l.block) (last : slice_index new.steps 2 ≡ 0) where
   -- the number of a cell in the coordinates that are left
-  flat_number : (d : ℕ) (a b : Range) (p : Point) → new.dom ≡ of_ranges d a b unused → IsIn (of_ranges d a b unused) p
-      → number_of new p ≡ new.base + steps_to a p.x1 * slice_index new.steps 0 + steps_to b p.x2 * slice_index new.steps 1 + steps_to (third_range new.dom) p.x3 * 0
-  flat_number d a b p e w =
-      let k = ranges_kept d a b p w in
-      let f : first_range new.dom ≡ a = ap (λ (r : Rect). first_range r) e ∙ k.0 in
-      let g : second_range new.dom ≡ b = ap (λ (r : Rect). second_range r) e ∙ k.1 in
-      λ i. new.base + steps_to (f i) p.x1 * slice_index new.steps 0 + steps_to (g i) p.x2 * slice_index new.steps 1 + steps_to (third_range new.dom) p.x3 * last i
+  numbers : (p : Point) → IsIn (view_domain (Slice k j) l.dom) p → number_of sliced p ≡ number_of l (with_coordinate k j p)
+  numbers p w =
+      let kept = ranges_kept (l.dom.dim - 1) a b p (subst (λ (r : Rect). IsIn r p) is.domain w) in
+      let f : first_range d ≡ a = ap (λ (r : Rect). first_range r) domain ∙ kept.0 in
+      let g : second_range d ≡ b = ap (λ (r : Rect). second_range r) domain ∙ kept.1 in
+      (λ i. l.base + base i + steps_to (f i) p.x1 * t + steps_to (g i) p.x2 * u + steps_to (third_range d) p.x3 * 0) ∙ omega arith ∙ sym (is.number j p)
 
-  flat : (a b : Range) → (of_ranges (l.dom.dim - 1) a b unused).dim < 3
-  flat a b = let d = laid.form.0 in omega (arith, ranges_dim (l.dom.dim - 1) a b unused)
+  flat : (view_domain (Slice k j) l.dom).dim < 3
+  flat = let d = laid.form.0 in omega (arith, ap (λ (r : Rect). r.dim) is.domain, ranges_dim (l.dom.dim - 1) a b unused)
 
-  viewed : (k : ℤ) → has_coordinate l.dom k j ≡ true
-      → IsRect (view_domain (Slice k j) l.dom) × ((p : Point) → IsIn (view_domain (Slice k j) l.dom) p → IsIn l.dom (seen_point (Slice k j) p))
-  viewed k some = view_inside (Slice k j) l.dom laid.form tt (lt-ltb 1 l.dom.dim two) (ap (λ (t : Bool). if t then None else Some Bounds) some)
+  pub sliced_laid : IsLaid sliced
+  sliced_laid = is_laid (Slice k j) l sliced laid refl (domain ∙ sym is.domain) viewed.0 viewed.1 numbers
+      (λ p q w x same. let e = is.apart j p q same in same_flat (view_domain (Slice k j) l.dom) p q viewed.0 flat w x e.0 e.1)
 
-  pub first_sliced : has_coordinate l.dom (pos 1) j ≡ true → new.dom ≡ of_ranges (l.dom.dim - 1) (second_range l.dom) (third_range l.dom) unused
-      → new.base ≡ l.base + steps_to (first_range l.dom) j * slice_index l.steps 0
-      → slice_index new.steps 0 ≡ slice_index l.steps 1 → slice_index new.steps 1 ≡ slice_index l.steps 2
-      → IsLaid new × IsSeen (Slice (pos 1) j) l new
-  first_sliced some domain base e f =
-      let v = viewed (pos 1) some in
-      let r = of_ranges (l.dom.dim - 1) (second_range l.dom) (third_range l.dom) unused in
-      let numbers : (p : Point) → IsIn r p → number_of new p ≡ number_of l (record { dim = p.dim + 1; x1 = j; x2 = p.x1; x3 = p.x2 }) = λ p w.
-      flat_number (l.dom.dim - 1) (second_range l.dom) (third_range l.dom) p domain w
-      ∙ (λ i. base i + steps_to (second_range l.dom) p.x1 * e i + steps_to (third_range l.dom) p.x2 * f i + steps_to (third_range new.dom) p.x3 * 0) ∙ omega arith in (
-        is_laid (Slice (pos 1) j) l new laid block domain v.0 v.1 numbers
-            (λ p q w x same. same_flat r p q v.0 (flat (second_range l.dom) (third_range l.dom)) w x (ap (λ (y : Point). y.x2) same) (ap (λ (y : Point). y.x3) same)),
-        is_seen (Slice (pos 1) j) l new laid block domain v.0 v.1 numbers,
-      )
-
-  pub second_sliced : has_coordinate l.dom (pos 2) j ≡ true → new.dom ≡ of_ranges (l.dom.dim - 1) (first_range l.dom) (third_range l.dom) unused
-      → new.base ≡ l.base + steps_to (second_range l.dom) j * slice_index l.steps 1
-      → slice_index new.steps 0 ≡ slice_index l.steps 0 → slice_index new.steps 1 ≡ slice_index l.steps 2
-      → IsLaid new × IsSeen (Slice (pos 2) j) l new
-  second_sliced some domain base e f =
-      let v = viewed (pos 2) some in
-      let r = of_ranges (l.dom.dim - 1) (first_range l.dom) (third_range l.dom) unused in
-      let numbers : (p : Point) → IsIn r p → number_of new p ≡ number_of l (record { dim = p.dim + 1; x1 = p.x1; x2 = j; x3 = p.x2 }) = λ p w.
-      flat_number (l.dom.dim - 1) (first_range l.dom) (third_range l.dom) p domain w
-      ∙ (λ i. base i + steps_to (first_range l.dom) p.x1 * e i + steps_to (third_range l.dom) p.x2 * f i + steps_to (third_range new.dom) p.x3 * 0) ∙ omega arith in (
-        is_laid (Slice (pos 2) j) l new laid block domain v.0 v.1 numbers
-            (λ p q w x same. same_flat r p q v.0 (flat (first_range l.dom) (third_range l.dom)) w x (ap (λ (y : Point). y.x1) same) (ap (λ (y : Point). y.x3) same)),
-        is_seen (Slice (pos 2) j) l new laid block domain v.0 v.1 numbers,
-      )
-
-  pub third_sliced : has_coordinate l.dom (pos 3) j ≡ true → new.dom ≡ of_ranges (l.dom.dim - 1) (first_range l.dom) (second_range l.dom) unused
-      → new.base ≡ l.base + steps_to (third_range l.dom) j * slice_index l.steps 2
-      → slice_index new.steps 0 ≡ slice_index l.steps 0 → slice_index new.steps 1 ≡ slice_index l.steps 1
-      → IsLaid new × IsSeen (Slice (pos 3) j) l new
-  third_sliced some domain base e f =
-      let v = viewed (pos 3) some in
-      let r = of_ranges (l.dom.dim - 1) (first_range l.dom) (second_range l.dom) unused in
-      let numbers : (p : Point) → IsIn r p → number_of new p ≡ number_of l (record { dim = p.dim + 1; x1 = p.x1; x2 = p.x2; x3 = j }) = λ p w.
-      flat_number (l.dom.dim - 1) (first_range l.dom) (second_range l.dom) p domain w
-      ∙ (λ i. base i + steps_to (first_range l.dom) p.x1 * e i + steps_to (second_range l.dom) p.x2 * f i + steps_to (third_range new.dom) p.x3 * 0) ∙ omega arith in (
-        is_laid (Slice (pos 3) j) l new laid block domain v.0 v.1 numbers
-            (λ p q w x same. same_flat r p q v.0 (flat (first_range l.dom) (second_range l.dom)) w x (ap (λ (y : Point). y.x1) same) (ap (λ (y : Point). y.x2) same)),
-        is_seen (Slice (pos 3) j) l new laid block domain v.0 v.1 numbers,
-      )
-
--- ---- along equal ranges and numbers
-
-pub on_iff : (r r' : Range) (x x' : ℤ) (b : Bool) → r ≡ r' → x ≡ x' → ((b ≡ true) ↔ IsOn r x) → (b ≡ true) ↔ IsOn r' x'
-on_iff r r' x x' b e f h = subst (λ (y : ℤ). (b ≡ true) ↔ IsOn r' y) f (subst (λ (q : Range). (b ≡ true) ↔ IsOn q x) e h)
-
--- no coordinate has this number
-pub neither : (r : Rect) (k j : ℤ) → (k ≡ pos 1 → ⊥) → (k ≡ pos 2 → ⊥) → (k ≡ pos 3 → ⊥) → IsOnSome r k j → ⊥
-neither r k j a b c (inl f) = a f.0
-neither r k j a b c (inr (inl f)) = b f.0
-neither r k j a b c (inr (inr f)) = c f.0
-
-pub no_third : (r : Rect) (k j : ℤ) → (k ≡ pos 1 → ⊥) → (k ≡ pos 2 → ⊥) → r.dim < 3 → IsOnSome r k j → ⊥
-no_third r k j a b less (inl f) = a f.0
-no_third r k j a b less (inr (inl f)) = b f.0
-no_third r k j a b less (inr (inr f)) = let three = f.1 in omega arith
-
--- the third coordinate is left
-pub is_third : (r : Rect) (k j : ℤ) → IsRect r → has_coordinate r k j ≡ true → (k ≡ pos 1 → ⊥) → (k ≡ pos 2 → ⊥) → k ≡ pos 3
-is_third r k j is t a b = by (coordinate_from r is k j t)
-  where
-    by : IsOnSome r k j → k ≡ pos 3
-    by (inl f) = absurd (a f.0)
-    by (inr (inl f)) = absurd (b f.0)
-    by (inr (inr f)) = f.0
+  pub sliced_seen : IsSeen (Slice k j) l sliced
+  sliced_seen = is_seen (Slice k j) l sliced laid refl (domain ∙ sym is.domain) viewed.0 viewed.1 numbers

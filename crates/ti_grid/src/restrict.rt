@@ -1,12 +1,12 @@
 // Views over the intersection with a rectangle.
 
-ghost use Rattle.std.specs.Prelude.{◌≡◌, ◌+◌, ◌*◌, ◌<◌, ℤ};
+ghost use Rattle.std.specs.Prelude.{◌≡◌};
 ghost use Rattle.ti_base.specs.declared.point.Point.{Point};
 ghost use Rattle.ti_base.specs.declared.action.ViewHow.TheVariants.{Restrict};
-ghost use Rattle.ti_base.specs.Ranges.{IsOn, IsRange};
 ghost use Rattle.ti_base.specs.Rects.{IsRect, HasPoints, IsIn};
 ghost use Rattle.ti_rect.specs.Axes.{range};
-ghost use Rattle.ti_grid.specs.Mirrors.Numbers.{steps_to, number_of};
+ghost use Rattle.ti_grid.specs.Mirrors.Numbers.{number_of};
+ghost use Rattle.ti_grid.specs.Mirrors.Parts.{IsPart, IsStretched};
 ghost use Rattle.ti_grid.specs.Views.{IsLaid, IsSeen};
 
 use crate::layout::Layout;
@@ -19,12 +19,8 @@ use ti_rect::rect_meet;
 
 /// What a step of the part of a range adds, where a step of the range adds `step`.
 fn stretched(a: Axis, part: Axis, step: u64) -> u64
-    requires whole { IsRange (range a) }
-    requires form { IsRange (range part) }
-    requires inside { (x : ℤ) → IsOn (range part) x → IsOn (range a) x }
-    requires below { (x : ℤ) → IsOn (range part) x → steps_to (range a) x * step < 1048576 }
-    ensures { (x : ℤ) → IsOn (range part) x → steps_to (range a) x * step
-        ≡ steps_to (range a) part.low * step + steps_to (range part) x * result }
+    requires { IsPart (range a) (range part) step }
+    ensures { IsStretched (range a) (range part) step result }
 {
     if part.low < part.high {
         u64::from(part.step / a.step) * step

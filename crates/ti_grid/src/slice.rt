@@ -1,93 +1,55 @@
 // Views with a coordinate fixed and left out.
 
-ghost use Rattle.std.specs.Prelude.{◌≡◌, ◌↔◌, ◌≤◌, ◌<◌, ◌+◌, pos, true, IsErr, IfOk};
+ghost use Rattle.std.specs.Prelude.{◌≡◌, ◌↔◌, ◌≤◌, ℤ, false, IsErr, IfOk, MatchOption};
 ghost use Rattle.std.specs.Result.{result_err};
 ghost use Rattle.ti_base.specs.declared.action.ViewHow.TheVariants.{Slice};
-ghost use Rattle.ti_base.specs.Rects.{IsRect};
-ghost use Rattle.ti_base.specs.Cells.{view_fault};
-ghost use Rattle.ti_base.specs.Cells as cells;
+ghost use Rattle.ti_base.specs.Cells.{has_coordinate, view_fault};
+ghost use Rattle.ti_rect.specs.Axes.{range};
+ghost use Rattle.ti_grid.specs.Mirrors.Slices.{IsSplit};
 ghost use Rattle.ti_grid.specs.Views.{IsLaid, IsSeen, SomeHas};
 
 use crate::layout::Layout;
 use crate::numbers::offset;
 use crate::view::{View, laid, layout};
-use ti_base::{FaultKind, Rect};
-use ti_rect::axis::{UNUSED, contains};
+use ti_base::FaultKind;
+use ti_rect::axis::{Axis, UNUSED, contains};
 use ti_rect::rect::{first, of_axes, second, third};
 
-/// Whether some point of the domain has `j` as its coordinate `k`, counted from 1.
-fn has_coordinate(dom: &Rect, k: i32, j: i32) -> bool
-    requires form { IsRect dom.now }
-    requires two { 2 ≤ dom.now.dim }
-    ensures { result ≡ cells.has_coordinate dom.now k j }
-{
-    if k == 1 {
-        return contains(first(dom), j);
-    }
-    if k == 2 {
-        return contains(second(dom), j);
-    }
-    if k != 3 {
-        return false;
-    }
-    if dom.dim != 3 {
-        return false;
-    }
-    contains(third(dom), j)
+/// The range of a coordinate, and what a step in it adds to the number of a cell.
+#[derive(Clone, Copy)]
+struct Lane {
+    axis: Axis,
+    step: u64,
 }
 
-/// The view without its first coordinate.
-fn without_first(l: &Layout, j: i32) -> Layout
+/// The coordinate `k`, counted from 1, and after it the others in their order; none exactly where the dimension has
+/// no such coordinate.
+fn set_apart(l: &Layout, k: i32) -> Option<(Lane, Lane, Lane)>
     requires laid { IsLaid l.now }
     requires two { 2 ≤ l.now.dom.dim }
-    requires some { cells.has_coordinate l.now.dom (pos 1) j ≡ true }
-    ensures laid { IsLaid result }
-    ensures seen { IsSeen (Slice (pos 1) j) l.now result }
+    ensures { MatchOption result ((j : ℤ) → false ≡ has_coordinate l.now.dom k j) (λ s.
+        IsSplit l.now k (range s.0.axis) (range s.1.axis) (range s.2.axis) s.0.step s.1.step s.2.step) }
 {
-    let dom = of_axes(l.dom.dim - 1, second(&l.dom), third(&l.dom), UNUSED);
-    let base = l.base + offset(first(&l.dom), j, l.steps[0]);
-    Layout {
-        block: l.block,
-        dom,
-        base,
-        steps: [l.steps[1], l.steps[2], 0],
+    if k < 1 || i32::from(l.dom.dim) < k {
+        return None;
     }
-}
-
-/// The view without its second coordinate.
-fn without_second(l: &Layout, j: i32) -> Layout
-    requires laid { IsLaid l.now }
-    requires two { 2 ≤ l.now.dom.dim }
-    requires some { cells.has_coordinate l.now.dom (pos 2) j ≡ true }
-    ensures laid { IsLaid result }
-    ensures seen { IsSeen (Slice (pos 2) j) l.now result }
-{
-    let dom = of_axes(l.dom.dim - 1, first(&l.dom), third(&l.dom), UNUSED);
-    let base = l.base + offset(second(&l.dom), j, l.steps[1]);
-    Layout {
-        block: l.block,
-        dom,
-        base,
-        steps: [l.steps[0], l.steps[2], 0],
-    }
-}
-
-/// The view without its third coordinate.
-fn without_third(l: &Layout, j: i32) -> Layout
-    requires laid { IsLaid l.now }
-    requires two { 2 ≤ l.now.dom.dim }
-    requires some { cells.has_coordinate l.now.dom (pos 3) j ≡ true }
-    ensures laid { IsLaid result }
-    ensures seen { IsSeen (Slice (pos 3) j) l.now result }
-{
-    let dom = of_axes(l.dom.dim - 1, first(&l.dom), second(&l.dom), UNUSED);
-    let base = l.base + offset(third(&l.dom), j, l.steps[2]);
-    Layout {
-        block: l.block,
-        dom,
-        base,
-        steps: [l.steps[0], l.steps[1], 0],
-    }
+    let x = Lane {
+        axis: first(&l.dom),
+        step: l.steps[0],
+    };
+    let y = Lane {
+        axis: second(&l.dom),
+        step: l.steps[1],
+    };
+    let z = Lane {
+        axis: third(&l.dom),
+        step: l.steps[2],
+    };
+    Some(match k {
+        1 => (x, y, z),
+        2 => (y, x, z),
+        _ => (z, x, y),
+    })
 }
 
 /// The view with coordinate `k`, counted from 1, fixed at `j` and left out. The fault is `Bounds`, exactly where
@@ -99,14 +61,18 @@ pub fn view_slice(v: &View, k: i32, j: i32) -> Result<View, FaultKind>
     ensures view { IfOk result (λ part. IsSeen (Slice k j) v.now part) }
 {
     let l = layout(v);
-    if !has_coordinate(&l.dom, k, j) {
+    let Some((out, a, b)) = set_apart(&l, k) else {
+        return Err(FaultKind::Bounds);
+    };
+    if !contains(out.axis, j) {
         return Err(FaultKind::Bounds);
     }
-    if k == 1 {
-        return Ok(laid(without_first(&l, j)));
-    }
-    if k == 2 {
-        return Ok(laid(without_second(&l, j)));
-    }
-    Ok(laid(without_third(&l, j)))
+    let dom = of_axes(l.dom.dim - 1, a.axis, b.axis, UNUSED);
+    let base = l.base + offset(out.axis, j, out.step);
+    Ok(laid(Layout {
+        block: l.block,
+        dom,
+        base,
+        steps: [a.step, b.step, 0],
+    }))
 }

@@ -1,4 +1,4 @@
-use Rattle.std.proofs.Common.{◌≡◌, true, refl, sym, ap, subst, ◌∙◌}
+use Rattle.std.proofs.Common.{◌≡◌, true, refl, sym, ap, subst, subst₂, ◌∙◌}
 use Rattle.std.proofs.lemmas.Bool.{eq-eqb}
 use Rattle.ti_base.specs.declared.point.Point.{Point}
 use Rattle.ti_base.specs.declared.point.Rect.{Rect}
@@ -37,9 +37,8 @@ returns-then-is_empty c =
     let l = c.layout-l.result in
     let a = (goal.at.returns-then-is_empty c).After-is_empty in
     let v = viewed a in
-    subst (λ (x : Layout). IsSeen (Restrict c.args.r.now) x c.laid.result) c.layout-l.ensures.value
-    (subst (IsSeen (Restrict c.args.r.now) l) (sym c.laid.ensures)
-    (is_seen (Restrict c.args.r.now) l (record l { dom = c.rect_meet-dom.result }) c.layout-l.ensures.laid refl c.rect_meet-dom.ensures.value v.0 v.1 (nothing a c.if-is_empty.true)))
+    subst₂ (IsSeen (Restrict c.args.r.now)) c.layout-l.ensures.value (sym c.laid.ensures)
+    (is_seen (Restrict c.args.r.now) l (record l { dom = c.rect_meet-dom.result }) c.layout-l.ensures.laid refl c.rect_meet-dom.ensures.value v.0 v.1 (nothing a c.if-is_empty.true))
 
 pub restricted-requires-clause-inside : goal.restricted-requires-clause-inside
 restricted-requires-clause-inside c = λ p w. ((c.rect_meet-dom.ensures.points p).0 w).0
@@ -55,7 +54,6 @@ pub returns : goal.returns
 returns c =
     let l = c.layout-l.result in
     let v = viewed (goal.at.returns c).After-is_empty in
-    subst (λ (x : Layout). IsSeen (Restrict c.args.r.now) x c.laid-2.result) c.layout-l.ensures.value
-    (subst (IsSeen (Restrict c.args.r.now) l) (sym c.laid-2.ensures)
+    subst₂ (IsSeen (Restrict c.args.r.now)) c.layout-l.ensures.value (sym c.laid-2.ensures)
     (is_seen (Restrict c.args.r.now) l c.restricted.result c.layout-l.ensures.laid c.restricted.ensures.block (c.restricted.ensures.domain ∙ c.rect_meet-dom.ensures.value) v.0 v.1
-    (kept (goal.at.returns c).After-restricted)))
+    (kept (goal.at.returns c).After-restricted))

@@ -1,4 +1,4 @@
-use Rattle.std.proofs.Common.{◌≡◌, Bool, false, if◌then◌else◌, Some, None, refl, sym, ap, subst, ◌∙◌}
+use Rattle.std.proofs.Common.{◌≡◌, Bool, false, if◌then◌else◌, Some, None, refl, sym, ap, subst₂, ◌∙◌}
 use Rattle.std.proofs.lemmas.Bool.{eq-eqb, false_from_ne_true}
 use Rattle.ti_base.specs.declared.point.Point.{Point}
 use Rattle.ti_base.specs.declared.action.ViewHow.TheVariants.{Translate}
@@ -49,9 +49,8 @@ returns-in-Ok-clause-view c =
     let l = c.layout-l.result in
     let a = (goal.at.returns-in-Ok-clause-view c).In-Ok in
     let v = viewed a in
-    subst (λ (x : Layout). IsSeen (Translate c.args.p.now) x c.laid.result) c.layout-l.ensures.value
-    (subst (IsSeen (Translate c.args.p.now) l) (sym c.laid.ensures)
-    (is_seen (Translate c.args.p.now) l (record l { dom = c.in-Ok.dom }) c.layout-l.ensures.laid refl c.in-Ok.ensures.value v.0 v.1 (numbers a)))
+    subst₂ (IsSeen (Translate c.args.p.now)) c.layout-l.ensures.value (sym c.laid.ensures)
+    (is_seen (Translate c.args.p.now) l (record l { dom = c.in-Ok.dom }) c.layout-l.ensures.laid refl c.in-Ok.ensures.value v.0 v.1 (numbers a))
 
 pub returns-in-Err-clause-fault : goal.returns-in-Err-clause-fault
 returns-in-Err-clause-fault c =
