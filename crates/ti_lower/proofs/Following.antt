@@ -633,6 +633,8 @@ module _ (code : Code) (s : Setting) (number : ℕ) (end : Place) (m0 : Machine)
     moved_next n (Meets wait deposit more) u z runs k = arrives_next n wait deposit u z.2 _ z.0 (z.3 (machine t spent u) (placed t u) refl refl) runs k
     moved_next n (Deletes at region) u z runs k =
         arrives_next n (deleting at region) (deposit.Count (tree_named region (here_frame ∷ t.below))) u z.3 _ z.0 (delete_hands at region u z) runs k
+    moved_next n (Returns None) u z runs k = absurd (none_some n k)
+    moved_next n (Returns (Some h)) u z runs k = absurd (none_some n k)
     moved_next n _ u z runs k = absurd (none_some n k)
 
     next_by : (n : Next) (g : Got Move) → work answers ≡ g → tree_shown (valued process g (moves process here_frame t.below left)) ≡ Some n → HasNext code m0 all n

@@ -296,6 +296,10 @@ module _ (env : Env) (last : Option CollKind) where
   work_fine (Receive r h) ws rest n = receives_fine r (gives h) rest
   work_fine (CopyAll at to from points) ws rest n = copied_fine at to from points rest
   work_fine (TakeAll at grid is) ws rest n = taken_fine at grid is rest n.0 n.1
+  work_fine (Before (Foreach at v d [] body)) ws rest n = tt
+  work_fine (Before (Foreach at v d (p ∷ ps) body)) ws rest n = tt
+  work_fine (Behind (Foreach at v d [] body)) ws rest n = tt
+  work_fine (Behind (Foreach at v d (p ∷ ps) body)) ws rest n = tt
   work_fine _ ws rest n = tt
 
 -- ---- what is asked
