@@ -137,13 +137,9 @@ fn equal_domains<'a>(
     requires { HaveOneDim x.now y.now }
     ensures { Comes result (ops.equal at x.now y.now seen.Domains answers.now) }
 {
-    match as_domain(alloc, at, x, answers) {
-        Ok((d, answers)) => match as_domain(alloc, at, y, answers) {
-            Ok((e, answers)) => Ok((same_domain(&d, &e), answers)),
-            Err(stop) => Err(stop),
-        },
-        Err(stop) => Err(stop),
-    }
+    let (d, answers) = as_domain(alloc, at, x, answers)?;
+    let (e, answers) = as_domain(alloc, at, y, answers)?;
+    Ok((same_domain(&d, &e), answers))
 }
 
 /// Whether two operands are equal.

@@ -38,10 +38,8 @@ pub fn point_from<'a>(got: Result<(Vec<i32>, &'a [Told]), Stop>) -> Result<(Held
     ensures { (m : Got (List ℤ)) → ComesAs (λ (v : Row ℤ Heap). v.items) got.entry m
         → Comes result (followed m (λ xs. gives (Plain (Pt (literal.point_of_numbers xs))))) }
 {
-    match got {
-        Ok((numbers, answers)) => Ok((Held::plain(Value::Pt(point_of_numbers(&numbers))), answers)),
-        Err(stop) => Err(stop),
-    }
+    let (numbers, answers) = got?;
+    Ok((Held::plain(Value::Pt(point_of_numbers(&numbers))), answers))
 }
 
 /// The rectangular domain within the bounds, unless a step is below 1.
@@ -52,10 +50,8 @@ pub fn rect_from<'a>(
 ) -> Result<(Held, &'a [Told]), Stop>
     ensures { (m : Got literal.Bounds) → ComesAs bounds_of got.entry m → Comes result (followed m (λ b. literal.rect_within at b)) }
 {
-    match got {
-        Ok((bounds, answers)) => rect_within(at, &bounds, answers),
-        Err(stop) => Err(stop),
-    }
+    let (bounds, answers) = got?;
+    rect_within(at, &bounds, answers)
 }
 
 /// An operator of one operand.
@@ -66,10 +62,8 @@ pub fn alone_from<'a>(
 ) -> Result<(Held, &'a [Told]), Stop>
     ensures { (m : Got Seen) → Comes got.entry m → Comes result (followed m (λ h. gives (ops.operated_alone op h))) }
 {
-    match got {
-        Ok((h, answers)) => Ok((operated_alone(op, h), answers)),
-        Err(stop) => Err(stop),
-    }
+    let (h, answers) = got?;
+    Ok((operated_alone(op, h), answers))
 }
 
 /// A cast.
@@ -85,13 +79,9 @@ pub fn cast_from<'a>(
         (λ h rest. followed (conversions.converted at (value_type_of ty.now) h rest)
         (λ k. kept_local_spec number at (value_type_of ty.now) k))) }
 {
-    match got {
-        Ok((h, answers)) => match converted(alloc, at, ty, h, answers) {
-            Ok((k, answers)) => kept_local(number, at, ty, k, answers),
-            Err(stop) => Err(stop),
-        },
-        Err(stop) => Err(stop),
-    }
+    let (h, answers) = got?;
+    let (k, answers) = converted(alloc, at, ty, h, answers)?;
+    kept_local(number, at, ty, k, answers)
 }
 
 /// A member of the language, behind its receiver.
@@ -105,10 +95,8 @@ pub fn member_from<'a>(
     ensures { (type through : ValueType) (m : Got (List Seen)) → ComesAs (λ (v : Row Seen Heap). v.items) got.entry m
         → Comes result (followed m (λ hs. forms.member at type (option_map built_in_of called) through h hs)) }
 {
-    match got {
-        Ok((hs, answers)) => member(at, called, &h, &hs, answers),
-        Err(stop) => Err(stop),
-    }
+    let (hs, answers) = got?;
+    member(at, called, &h, &hs, answers)
 }
 
 /// A coordinate or an element, behind the point or the grid.
@@ -122,10 +110,8 @@ pub fn index_from<'a>(
     ensures { (type through : ValueType) (m : Got (List ℤ)) → ComesAs (λ (v : Row ℤ Heap). v.items) got.entry m
         → Comes result (followed m (λ xs. indexed_spec is_point at type through h xs)) }
 {
-    match got {
-        Ok((numbers, answers)) => indexed(is_point, at, &h, &numbers, answers),
-        Err(stop) => Err(stop),
-    }
+    let (numbers, answers) = got?;
+    indexed(is_point, at, &h, &numbers, answers)
 }
 
 /// From one value to another by steps of 1.
@@ -137,13 +123,8 @@ pub fn plain_from<'a>(
 ) -> Result<(Bounds, &'a [Told]), Stop>
     ensures { (m : Got Seen) → Comes got.entry m → ComesAs bounds_of result (followed m (λ b. gives (literal.plain_bounds a b))) }
 {
-    match got {
-        Ok((b, answers)) => match plain_bounds(alloc, &a, &b) {
-            Ok(bounds) => Ok((bounds, answers)),
-            Err(_) => Err(Stop::Memory),
-        },
-        Err(stop) => Err(stop),
-    }
+    let (b, answers) = got?;
+    Ok((plain_bounds(alloc, &a, &b)?, answers))
 }
 
 /// From one value to another by steps.
@@ -156,11 +137,6 @@ pub fn stepped_from<'a>(
 ) -> Result<(Bounds, &'a [Told]), Stop>
     ensures { (m : Got Seen) → Comes got.entry m → ComesAs bounds_of result (followed m (λ c. gives (literal.stepped_bounds a b c))) }
 {
-    match got {
-        Ok((c, answers)) => match stepped_bounds(alloc, &a, &b, &c) {
-            Ok(bounds) => Ok((bounds, answers)),
-            Err(_) => Err(Stop::Memory),
-        },
-        Err(stop) => Err(stop),
-    }
+    let (c, answers) = got?;
+    Ok((stepped_bounds(alloc, &a, &b, &c)?, answers))
 }

@@ -50,10 +50,10 @@ pub fn to_domain<'a>(
     ensures { Comes result (conversions.to_domain at h answers.now) }
 {
     match &h.kept {
-        Kept::Plain(Value::Rc(r)) => match widened(alloc, at, r, answers) {
-            Ok((d, answers)) => Ok((Held::domain(d), answers)),
-            Err(stop) => Err(stop),
-        },
+        Kept::Plain(Value::Rc(r)) => {
+            let (d, answers) = widened(alloc, at, r, answers)?;
+            Ok((Held::domain(d), answers))
+        }
         _ => Ok((h, answers)),
     }
 }

@@ -86,13 +86,8 @@ fn selected<'a>(
     ensures { (type through : ValueType) (m : Got Seen) → Comes got.entry m
         → Comes result (followed m (λ h. fetched at type (Field h through (selected_spec (env_of env.now) (expression_of e.now) name)))) }
 {
-    match got {
-        Ok((h, answers)) => match field_selected(env, e, name) {
-            Ok(field) => fetch_field(at, &h, field, answers),
-            Err(_) => Err(Stop::Memory),
-        },
-        Err(stop) => Err(stop),
-    }
+    let (h, answers) = got?;
+    fetch_field(at, &h, field_selected(env, e, name)?, answers)
 }
 
 // What an operator comes to behind its right operand.
@@ -106,10 +101,8 @@ fn operated_from<'a>(
 ) -> Result<(Held, &'a [Told]), Stop>
     ensures { (m : Got Seen) → Comes got.entry m → Comes result (followed m (λ k. ops.operated at op h k)) }
 {
-    match got {
-        Ok((k, answers)) => operated(alloc, at, op, &h, k, answers),
-        Err(stop) => Err(stop),
-    }
+    let (k, answers) = got?;
+    operated(alloc, at, op, &h, k, answers)
 }
 
 // What an operator comes to behind its left operand.
@@ -126,12 +119,10 @@ fn binary<'a>(
     ensures { (m : Got Seen) → Comes got.entry m → Comes result (followed m
         (λ h. evaluation.with_right at op h (evaluation.eval (env_of env.now) (expression_of e.now)))) }
 {
-    match got {
-        Ok((h, answers)) => match settled(op, &h) {
-            Some(k) => Ok((k, answers)),
-            None => operated_from(alloc, at, op, h, evaluated(alloc, env, e, answers)),
-        },
-        Err(stop) => Err(stop),
+    let (h, answers) = got?;
+    match settled(op, &h) {
+        Some(k) => Ok((k, answers)),
+        None => operated_from(alloc, at, op, h, evaluated(alloc, env, e, answers)),
     }
 }
 
@@ -151,10 +142,8 @@ fn with_arguments<'a>(
         (numbered_exps (map expression_of args.now)) rest) (λ hs. forms.member at type
         (option_map built_in_of called) through h hs))) }
 {
-    match got {
-        Ok((h, answers)) => { member_from(at, called, h, evaluate_all(alloc, env, args, answers)) }
-        Err(stop) => Err(stop),
-    }
+    let (h, answers) = got?;
+    member_from(at, called, h, evaluate_all(alloc, env, args, answers))
 }
 
 // What an index comes to behind the point or the grid.
@@ -172,17 +161,13 @@ fn with_indices<'a>(
         → Comes result (followed m (λ h rest. followed (evaluation.eval_numbers (env_of env.now)
         (numbered_exps (map expression_of indices.now)) rest) (λ xs. indexed_spec is_point at type through h xs))) }
 {
-    match got {
-        Ok((h, answers)) => {
-            index_from(
-                is_point,
-                at,
-                h,
-                evaluate_numbers(alloc, env, indices, answers),
-            )
-        }
-        Err(stop) => Err(stop),
-    }
+    let (h, answers) = got?;
+    index_from(
+        is_point,
+        at,
+        h,
+        evaluate_numbers(alloc, env, indices, answers),
+    )
 }
 
 /// The values of expressions, in order.
@@ -199,13 +184,9 @@ pub fn evaluate_all<'a>(
     let mut found = Vec::new(alloc);
     let mut left = answers;
     for x in xs {
-        match evaluate(alloc, env, x, left) {
-            Ok((h, rest)) => {
-                found.push(h)?;
-                left = rest;
-            }
-            Err(stop) => return Err(stop),
-        }
+        let (h, rest) = evaluate(alloc, env, x, left)?;
+        found.push(h)?;
+        left = rest;
     }
     Ok((found, left))
 }
@@ -224,13 +205,9 @@ pub fn evaluate_numbers<'a>(
     let mut found = Vec::new(alloc);
     let mut left = answers;
     for x in xs {
-        match evaluate(alloc, env, x, left) {
-            Ok((h, rest)) => {
-                found = with_numbers(found, h)?;
-                left = rest;
-            }
-            Err(stop) => return Err(stop),
-        }
+        let (h, rest) = evaluate(alloc, env, x, left)?;
+        found = with_numbers(found, h)?;
+        left = rest;
     }
     Ok((found, left))
 }
@@ -247,19 +224,15 @@ fn range<'a>(
     ensures { ComesAs bounds_of result (evaluation.eval_range (env_of env.now) (bound_of r.now) answers.now) }
 {
     match r {
-        Range::Plain { low, high } => match evaluate(alloc, env, low, answers) {
-            Ok((a, answers)) => plain_from(alloc, a, evaluate(alloc, env, high, answers)),
-            Err(stop) => Err(stop),
-        },
-        Range::Stepped { low, high, step } => match evaluate(alloc, env, low, answers) {
-            Ok((a, answers)) => match evaluate(alloc, env, high, answers) {
-                Ok((b, answers)) => {
-                    stepped_from(alloc, a, b, evaluate(alloc, env, step, answers))
-                }
-                Err(stop) => Err(stop),
-            },
-            Err(stop) => Err(stop),
-        },
+        Range::Plain { low, high } => {
+            let (a, answers) = evaluate(alloc, env, low, answers)?;
+            plain_from(alloc, a, evaluate(alloc, env, high, answers))
+        }
+        Range::Stepped { low, high, step } => {
+            let (a, answers) = evaluate(alloc, env, low, answers)?;
+            let (b, answers) = evaluate(alloc, env, high, answers)?;
+            stepped_from(alloc, a, b, evaluate(alloc, env, step, answers))
+        }
     }
 }
 
@@ -276,13 +249,9 @@ pub fn evaluate_ranges<'a>(
     let mut found = no_bounds(alloc);
     let mut left = answers;
     for r in ranges {
-        match range(alloc, env, r, left) {
-            Ok((b, rest)) => {
-                found = joined(found, b)?;
-                left = rest;
-            }
-            Err(stop) => return Err(stop),
-        }
+        let (b, rest) = range(alloc, env, r, left)?;
+        found = joined(found, b)?;
+        left = rest;
     }
     Ok((found, left))
 }

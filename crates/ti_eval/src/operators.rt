@@ -220,10 +220,8 @@ fn equality<'a>(
 ) -> Result<(Held, &'a [Told]), Stop>
     ensures { Comes result (ops.operated at Equal x.now y.now answers.now) }
 {
-    match equal(alloc, at, x, y, answers) {
-        Ok((same, answers)) => Ok((Held::truth(same), answers)),
-        Err(stop) => Err(stop),
-    }
+    let (same, answers) = equal(alloc, at, x, y, answers)?;
+    Ok((Held::truth(same), answers))
 }
 
 // `x != y`
@@ -237,10 +235,8 @@ fn inequality<'a>(
 ) -> Result<(Held, &'a [Told]), Stop>
     ensures { Comes result (ops.operated at NotEqual x.now y.now answers.now) }
 {
-    match equal(alloc, at, x, y, answers) {
-        Ok((same, answers)) => Ok((Held::truth(!same), answers)),
-        Err(stop) => Err(stop),
-    }
+    let (same, answers) = equal(alloc, at, x, y, answers)?;
+    Ok((Held::truth(!same), answers))
 }
 
 // An operator of two operands that stay; behind `&&` and `||` the right one doesn't.

@@ -51,11 +51,7 @@ pub fn of_domains<'a>(
     requires { HaveOneDim x.now y.now }
     ensures { Comes result (conversions.of_domains (set_of both) at x.now y.now answers.now) }
 {
-    match as_domain(alloc, at, x, answers) {
-        Ok((d, answers)) => match as_domain(alloc, at, y, answers) {
-            Ok((e, answers)) => joined(alloc, at, both, &d, &e, answers),
-            Err(stop) => Err(stop),
-        },
-        Err(stop) => Err(stop),
-    }
+    let (d, answers) = as_domain(alloc, at, x, answers)?;
+    let (e, answers) = as_domain(alloc, at, y, answers)?;
+    joined(alloc, at, both, &d, &e, answers)
 }

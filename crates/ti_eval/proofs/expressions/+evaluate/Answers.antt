@@ -18,6 +18,7 @@ use Rattle.ti_lang.specs.Meaning.Parts.{Field, fetched, indexed}
 use Rattle.ti_lang.specs.Meaning.MemberForms.{member}
 use Rattle.ti_lang.specs.Meaning.Scoping.{Env, type_of, field_selected}
 use Rattle.ti_lang.specs.Meaning.Evaluation.{eval, eval_all, eval_numbers, eval_range, eval_ranges, with_right}
+use Rattle.std.proofs.lemmas.Result.{err_from_is_err_and}
 use Rattle.ti_lang.proofs.Lemmas.{seen_numbered_point, seen_numbered_rect, seen_numbered_member, seen_numbered_index}
 use Rattle.ti_eval.specs.declared.stop.Stop.{Stop}
 use Rattle.ti_eval.specs.Bounds.{bounds_of}
@@ -61,13 +62,13 @@ evaluated-returns-in-Cast t c =
     ∙ ap (λ (u : TypeUse). x.Cast c.in-Cast.place (type_use_of u) (expression_of c.in-Cast.operand.value)) c.deref-in-Cast-2.ensures ∙ sym (ap expression_of c.in-Cast.is))
     (c.cast_from.ensures _ c.evaluated-got-in-Cast.ensures)
 
-pub with_arguments-returns-in-Ok : goal.with_arguments-returns-in-Ok
-with_arguments-returns-in-Ok t c type through m p =
+pub with_arguments-returns : goal.with_arguments-returns
+with_arguments-returns t c type through m p =
     let E = env_of c.args.env.now in
     let xs = numbered_exps (map expression_of c.args.args.now) in
-    let e : m ≡ Gives c.in-Ok.h c.in-Ok.answers.now = subst (λ (g : Result (Held × Bor (List Answer)) Stop). Comes g m) c.in-Ok.is p in
+    let e : m ≡ Gives c.in_ok-h.h c.in_ok-h.answers.now = subst (λ (g : Result (Held × Bor (List Answer)) Stop). Comes g m) c.in_ok-h.was p in
     subst (λ (g : Got Held). Comes c.member_from.result (followed g (λ h r. followed (eval_all E xs r) (λ hs. member c.args.at type (option_map built_in_of c.args.called) through h hs)))) (sym e)
-    (c.member_from.ensures type through (eval_all E xs c.in-Ok.answers.now) c.evaluate_all.ensures)
+    (c.member_from.ensures type through (eval_all E xs c.in_ok-h.answers.now) c.evaluate_all.ensures)
 
 pub evaluated-returns-in-Select : goal.evaluated-returns-in-Select
 evaluated-returns-in-Select t c =
@@ -137,79 +138,82 @@ evaluated-returns-in-Index t c =
     (eval_numbers E (numbered_exps (map expression_of c.deref-in-Index-3.result.now)) r)
     (λ ns. indexed o at type through h ns)))) k r))
 
-pub evaluate_all-returns-in-Err : goal.evaluate_all-returns-in-Err
-evaluate_all-returns-in-Err t c =
+pub evaluate_all-returns-in_err-h : goal.evaluate_all-returns-in_err-h
+evaluate_all-returns-in_err-h t c =
     let E = env_of c.args.env.now in
-    all_stop c.in-Err.stop E c.args.xs.now c.loop-x.x-index c.x-item.result c.loop-x.found.items c.loop-x.left.now c.args.answers.now c.loop-x-test.true c.loop-x.invariant
-    (subst (λ (z : Expr). Stops c.in-Err.stop (eval E (expression_of z) c.loop-x.left.now)) c.x-item.is c.in-Err.ensures)
+    let p = err_from_is_err_and c.from_residual.result c.from_residual.ensures.1 in
+    rw (p.1, p.2) (all_stop c.in_err-h.field-0.0 E c.args.xs.now c.loop-x.x-index c.x-item.result c.loop-x.found.items c.loop-x.left.now c.args.answers.now c.loop-x-test.true c.loop-x.invariant
+    (subst (λ (z : Expr). Stops c.in_err-h.field-0.0 (eval E (expression_of z) c.loop-x.left.now)) c.x-item.is c.in_err-h.ensures))
 
 pub evaluate_all-loop-x-preserved : goal.evaluate_all-loop-x-preserved
 evaluate_all-loop-x-preserved t c =
     let E = env_of c.args.env.now in
     let xs = c.args.xs.now in
     let i = c.loop-x.x-index in
-    let n = all_next E xs i c.x-item.result c.loop-x.found.items c.in-Ok.h c.loop-x.left.now c.in-Ok.rest.now c.args.answers.now c.loop-x-test.true c.loop-x.invariant
-    (subst (λ (z : Expr). eval E (expression_of z) c.loop-x.left.now ≡ Gives c.in-Ok.h c.in-Ok.rest.now) c.x-item.is c.in-Ok.ensures) in
-    subst (λ (fs : List Held). behind ◌++◌ fs (eval_all E (numbered_exps (map expression_of (drop (i + 1) xs))) c.in-Ok.rest.now)
+    let n = all_next E xs i c.x-item.result c.loop-x.found.items c.in_ok-h.h c.loop-x.left.now c.in_ok-h.rest.now c.args.answers.now c.loop-x-test.true c.loop-x.invariant
+    (subst (λ (z : Expr). eval E (expression_of z) c.loop-x.left.now ≡ Gives c.in_ok-h.h c.in_ok-h.rest.now) c.x-item.is c.in_ok-h.ensures) in
+    subst (λ (fs : List Held). behind ◌++◌ fs (eval_all E (numbered_exps (map expression_of (drop (i + 1) xs))) c.in_ok-h.rest.now)
     ≡ eval_all E (numbered_exps (map expression_of xs)) c.args.answers.now)
-    (sym c.in_ok-push-in-Ok.ensures.items) n
+    (sym c.in_ok-push.ensures.items) n
 
-pub evaluate_numbers-returns-in-Err : goal.evaluate_numbers-returns-in-Err
-evaluate_numbers-returns-in-Err t c =
+pub evaluate_numbers-returns-in_err-h : goal.evaluate_numbers-returns-in_err-h
+evaluate_numbers-returns-in_err-h t c =
     let E = env_of c.args.env.now in
-    numbers_stopped c.in-Err.stop E c.args.xs.now c.loop-x.x-index c.x-item.result c.loop-x.found.items c.loop-x.left.now c.args.answers.now c.loop-x-test.true c.loop-x.invariant
-    (subst (λ (z : Expr). Stops c.in-Err.stop (eval E (expression_of z) c.loop-x.left.now)) c.x-item.is c.in-Err.ensures)
+    let p = err_from_is_err_and c.from_residual.result c.from_residual.ensures.1 in
+    rw (p.1, p.2) (numbers_stopped c.in_err-h.field-0.0 E c.args.xs.now c.loop-x.x-index c.x-item.result c.loop-x.found.items c.loop-x.left.now c.args.answers.now c.loop-x-test.true c.loop-x.invariant
+    (subst (λ (z : Expr). Stops c.in_err-h.field-0.0 (eval E (expression_of z) c.loop-x.left.now)) c.x-item.is c.in_err-h.ensures))
 
 pub evaluate_numbers-loop-x-preserved : goal.evaluate_numbers-loop-x-preserved
 evaluate_numbers-loop-x-preserved t c =
     let E = env_of c.args.env.now in
     let xs = c.args.xs.now in
     let i = c.loop-x.x-index in
-    let n = numbers_next E xs i c.x-item.result c.loop-x.found.items c.in-Ok.h c.loop-x.left.now c.in-Ok.rest.now c.args.answers.now c.loop-x-test.true c.loop-x.invariant
-    (subst (λ (z : Expr). eval E (expression_of z) c.loop-x.left.now ≡ Gives c.in-Ok.h c.in-Ok.rest.now) c.x-item.is c.in-Ok.ensures) in
-    subst (λ (fs : List ℤ). behind ◌++◌ fs (eval_numbers E (numbered_exps (map expression_of (drop (i + 1) xs))) c.in-Ok.rest.now)
+    let n = numbers_next E xs i c.x-item.result c.loop-x.found.items c.in_ok-h.h c.loop-x.left.now c.in_ok-h.rest.now c.args.answers.now c.loop-x-test.true c.loop-x.invariant
+    (subst (λ (z : Expr). eval E (expression_of z) c.loop-x.left.now ≡ Gives c.in_ok-h.h c.in_ok-h.rest.now) c.x-item.is c.in_ok-h.ensures) in
+    subst (λ (fs : List ℤ). behind ◌++◌ fs (eval_numbers E (numbered_exps (map expression_of (drop (i + 1) xs))) c.in_ok-h.rest.now)
     ≡ eval_numbers E (numbered_exps (map expression_of xs)) c.args.answers.now)
-    (sym c.in_ok-found-in-Ok.ensures) n
+    (sym c.in_ok-found.ensures) n
 
-pub evaluate_ranges-returns-in-Err : goal.evaluate_ranges-returns-in-Err
-evaluate_ranges-returns-in-Err t c =
+pub evaluate_ranges-returns-in_err-b : goal.evaluate_ranges-returns-in_err-b
+evaluate_ranges-returns-in_err-b t c =
     let E = env_of c.args.env.now in
-    bounds_stopped c.in-Err.stop E c.args.ranges.now c.loop-r.r-index c.r-item.result (bounds_of c.loop-r.found) c.loop-r.left.now c.args.answers.now c.loop-r-test.true c.loop-r.invariant
-    (subst (λ (z : Range). Stops c.in-Err.stop (eval_range E (bound_of z) c.loop-r.left.now)) c.r-item.is c.in-Err.ensures)
+    let p = err_from_is_err_and c.from_residual.result c.from_residual.ensures.1 in
+    rw (p.1, p.2) (bounds_stopped c.in_err-b.field-0.0 E c.args.ranges.now c.loop-r.r-index c.r-item.result (bounds_of c.loop-r.found) c.loop-r.left.now c.args.answers.now c.loop-r-test.true c.loop-r.invariant
+    (subst (λ (z : Range). Stops c.in_err-b.field-0.0 (eval_range E (bound_of z) c.loop-r.left.now)) c.r-item.is c.in_err-b.ensures))
 
 pub evaluate_ranges-loop-r-preserved : goal.evaluate_ranges-loop-r-preserved
 evaluate_ranges-loop-r-preserved t c =
     let E = env_of c.args.env.now in
     let rs = c.args.ranges.now in
     let i = c.loop-r.r-index in
-    let n = bounds_next E rs i c.r-item.result (bounds_of c.loop-r.found) (bounds_of c.in-Ok.b) c.loop-r.left.now c.in-Ok.rest.now c.args.answers.now c.loop-r-test.true c.loop-r.invariant
-    (subst (λ (z : Range). eval_range E (bound_of z) c.loop-r.left.now ≡ Gives (bounds_of c.in-Ok.b) c.in-Ok.rest.now) c.r-item.is c.in-Ok.ensures) in
+    let n = bounds_next E rs i c.r-item.result (bounds_of c.loop-r.found) (bounds_of c.in_ok-b.b) c.loop-r.left.now c.in_ok-b.rest.now c.args.answers.now c.loop-r-test.true c.loop-r.invariant
+    (subst (λ (z : Range). eval_range E (bound_of z) c.loop-r.left.now ≡ Gives (bounds_of c.in_ok-b.b) c.in_ok-b.rest.now) c.r-item.is c.in_ok-b.ensures) in
     subst (λ (fs : literal.Bounds). behind literal.joined fs (eval_ranges E
-    (numbered_ranges (map bound_of (drop (i + 1) rs))) c.in-Ok.rest.now)
+    (numbered_ranges (map bound_of (drop (i + 1) rs))) c.in_ok-b.rest.now)
     ≡ eval_ranges E (numbered_ranges (map bound_of rs)) c.args.answers.now)
-    (sym c.in_ok-found-in-Ok.ensures) n
+    (sym c.in_ok-found.ensures) n
 
-pub range-returns-in-Ok : goal.range-returns-in-Ok
-range-returns-in-Ok t c =
+pub range-returns-in_ok-a-in-Plain : goal.range-returns-in_ok-a-in-Plain
+range-returns-in_ok-a-in-Plain t c =
     let E = env_of c.args.env.now in
     let high = expression_of c.in-Plain.high in
     subst (λ (q : Range). ComesAs bounds_of c.plain_from.result (eval_range E (bound_of q) c.args.answers.now)) (sym c.in-Plain.is)
-    (subst (λ (g : Got Held). ComesAs bounds_of c.plain_from.result (followed g (λ a r. followed (eval E high r) (λ b. gives (literal.plain_bounds a b))))) (sym c.in-Ok.ensures)
-    (c.plain_from.ensures _ c.evaluate-in-Ok.ensures))
+    (subst (λ (g : Got Held). ComesAs bounds_of c.plain_from.result (followed g (λ a r. followed (eval E high r) (λ b. gives (literal.plain_bounds a b))))) (sym c.in_ok-a-in-Plain.ensures)
+    (c.plain_from.ensures _ c.evaluate-in-Plain.ensures))
 
-pub range-returns-in-Ok-evaluate-2 : goal.range-returns-in-Ok-evaluate-2
-range-returns-in-Ok-evaluate-2 t c =
+pub range-returns-in_ok-b-in-Stepped : goal.range-returns-in_ok-b-in-Stepped
+range-returns-in_ok-b-in-Stepped t c =
     let E = env_of c.args.env.now in
     let high = expression_of c.in-Stepped.high in
     let step = expression_of c.in-Stepped.step in
     subst (λ (q : Range). ComesAs bounds_of c.stepped_from.result (eval_range E (bound_of q) c.args.answers.now)) (sym c.in-Stepped.is)
     (subst (λ (g : Got Held). ComesAs bounds_of c.stepped_from.result
     (followed g (λ a r. followed (eval E high r) (λ b u. followed (eval E step u) (λ k. gives (literal.stepped_bounds a b k))))))
-    (sym c.in-Ok-evaluate.ensures)
+    (sym c.in_ok-a-in-Stepped.ensures)
     (subst (λ (g : Got Held). ComesAs bounds_of c.stepped_from.result
-    (followed g (λ b u. followed (eval E step u) (λ k. gives (literal.stepped_bounds c.in-Ok-evaluate.a b k)))))
-    (sym c.in-Ok-evaluate-2.ensures)
-    (c.stepped_from.ensures _ c.evaluate-in-Ok-evaluate-2.ensures)))
+    (followed g (λ b u. followed (eval E step u) (λ k. gives (literal.stepped_bounds c.in_ok-a-in-Stepped.a b k)))))
+    (sym c.in_ok-b-in-Stepped.ensures)
+    (c.stepped_from.ensures _ c.evaluate-in-Stepped-3.ensures)))
 
 pub evaluate-returns-in-Some : goal.evaluate-returns-in-Some
 evaluate-returns-in-Some t c = subst (λ (g : Got Held). Comes c.made.result g) (sym (c.in-Some.ensures.value c.args.answers.now)) c.made.ensures
