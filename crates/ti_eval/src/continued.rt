@@ -24,8 +24,7 @@ use crate::held::Held;
 use crate::literals::{plain_bounds, point_of_numbers, rect_within, stepped_bounds};
 use crate::members::{indexed, member};
 use crate::operators::operated_alone;
-use crate::stop::Stop;
-use crate::told::Told;
+use crate::told::{Given, Told};
 use std::alloc::Global;
 use ti_base::{Place, Value};
 use ti_lang::program::Ty;
@@ -34,7 +33,7 @@ use ti_lang::typing::BuiltIn;
 
 /// The point of the numbers.
 #[tactic(auto, using(crate::proofs::Steps::steps))]
-pub fn point_from<'a>(got: Result<(Vec<i32>, &'a [Told]), Stop>) -> Result<(Held, &'a [Told]), Stop>
+pub fn point_from<'a>(got: Given<'a, Vec<i32>>) -> Given<'a, Held>
     ensures { (m : Got (List ℤ)) → ComesAs (λ (v : Row ℤ Heap). v.items) got.entry m
         → Comes result (followed m (λ xs. gives (Plain (Pt (literal.point_of_numbers xs))))) }
 {
@@ -44,10 +43,7 @@ pub fn point_from<'a>(got: Result<(Vec<i32>, &'a [Told]), Stop>) -> Result<(Held
 
 /// The rectangular domain within the bounds, unless a step is below 1.
 #[tactic(auto, using(crate::proofs::Steps::steps))]
-pub fn rect_from<'a>(
-    at: Place,
-    got: Result<(Bounds, &'a [Told]), Stop>,
-) -> Result<(Held, &'a [Told]), Stop>
+pub fn rect_from<'a>(at: Place, got: Given<'a, Bounds>) -> Given<'a, Held>
     ensures { (m : Got literal.Bounds) → ComesAs bounds_of got.entry m → Comes result (followed m (λ b. literal.rect_within at b)) }
 {
     let (bounds, answers) = got?;
@@ -56,10 +52,7 @@ pub fn rect_from<'a>(
 
 /// An operator of one operand.
 #[tactic(auto, using(crate::proofs::Steps::steps))]
-pub fn alone_from<'a>(
-    op: UnaryOperator,
-    got: Result<(Held, &'a [Told]), Stop>,
-) -> Result<(Held, &'a [Told]), Stop>
+pub fn alone_from<'a>(op: UnaryOperator, got: Given<'a, Held>) -> Given<'a, Held>
     ensures { (m : Got Seen) → Comes got.entry m → Comes result (followed m (λ h. gives (ops.operated_alone op h))) }
 {
     let (h, answers) = got?;
@@ -73,8 +66,8 @@ pub fn cast_from<'a>(
     number: u32,
     at: Place,
     ty: &Ty,
-    got: Result<(Held, &'a [Told]), Stop>,
-) -> Result<(Held, &'a [Told]), Stop>
+    got: Given<'a, Held>,
+) -> Given<'a, Held>
     ensures { (m : Got Seen) → Comes got.entry m → Comes result (followed m
         (λ h rest. followed (conversions.converted at (value_type_of ty.now) h rest)
         (λ k. kept_local_spec number at (value_type_of ty.now) k))) }
@@ -90,8 +83,8 @@ pub fn member_from<'a>(
     at: Place,
     called: Option<BuiltIn>,
     h: Held,
-    got: Result<(Vec<Held>, &'a [Told]), Stop>,
-) -> Result<(Held, &'a [Told]), Stop>
+    got: Given<'a, Vec<Held>>,
+) -> Given<'a, Held>
     ensures { (type through : ValueType) (m : Got (List Seen)) → ComesAs (λ (v : Row Seen Heap). v.items) got.entry m
         → Comes result (followed m (λ hs. forms.member at type (option_map built_in_of called) through h hs)) }
 {
@@ -105,8 +98,8 @@ pub fn index_from<'a>(
     is_point: bool,
     at: Place,
     h: Held,
-    got: Result<(Vec<i32>, &'a [Told]), Stop>,
-) -> Result<(Held, &'a [Told]), Stop>
+    got: Given<'a, Vec<i32>>,
+) -> Given<'a, Held>
     ensures { (type through : ValueType) (m : Got (List ℤ)) → ComesAs (λ (v : Row ℤ Heap). v.items) got.entry m
         → Comes result (followed m (λ xs. indexed_spec is_point at type through h xs)) }
 {
@@ -116,11 +109,7 @@ pub fn index_from<'a>(
 
 /// From one value to another by steps of 1.
 #[tactic(auto, using(crate::proofs::Steps::steps))]
-pub fn plain_from<'a>(
-    alloc: Global,
-    a: Held,
-    got: Result<(Held, &'a [Told]), Stop>,
-) -> Result<(Bounds, &'a [Told]), Stop>
+pub fn plain_from<'a>(alloc: Global, a: Held, got: Given<'a, Held>) -> Given<'a, Bounds>
     ensures { (m : Got Seen) → Comes got.entry m → ComesAs bounds_of result (followed m (λ b. gives (literal.plain_bounds a b))) }
 {
     let (b, answers) = got?;
@@ -129,12 +118,7 @@ pub fn plain_from<'a>(
 
 /// From one value to another by steps.
 #[tactic(auto, using(crate::proofs::Steps::steps))]
-pub fn stepped_from<'a>(
-    alloc: Global,
-    a: Held,
-    b: Held,
-    got: Result<(Held, &'a [Told]), Stop>,
-) -> Result<(Bounds, &'a [Told]), Stop>
+pub fn stepped_from<'a>(alloc: Global, a: Held, b: Held, got: Given<'a, Held>) -> Given<'a, Bounds>
     ensures { (m : Got Seen) → Comes got.entry m → ComesAs bounds_of result (followed m (λ c. gives (literal.stepped_bounds a b c))) }
 {
     let (c, answers) = got?;

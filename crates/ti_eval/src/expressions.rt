@@ -32,8 +32,7 @@ use crate::literals::{joined, no_bounds, with_numbers};
 use crate::operators::{operated, settled};
 use crate::parts::fetch_field;
 use crate::scalars::{Scalar, computed};
-use crate::stop::Stop;
-use crate::told::Told;
+use crate::told::{Given, Told};
 use std::alloc::Global;
 use ti_base::{Id, Place, Value};
 use ti_lang::program::{Expr, Range, Variable};
@@ -51,24 +50,14 @@ fn is_point(env: &Env, e: &Expr) -> bool
 }
 
 // The value of a variable.
-fn held_by<'a>(
-    alloc: Global,
-    env: &Env,
-    v: &Variable,
-    answers: &'a [Told],
-) -> Result<(Held, &'a [Told]), Stop>
+fn held_by<'a>(alloc: Global, env: &Env, v: &Variable, answers: &'a [Told]) -> Given<'a, Held>
     ensures { Comes result (gives (value_by (variable_of v.now).declared (env_of env.now) (variable_of v.now)) answers.now) }
 {
     Ok((variable(alloc, env, v)?, answers))
 }
 
 // A field of the own object.
-fn own_field<'a>(
-    env: &Env,
-    at: Place,
-    field: u32,
-    answers: &'a [Told],
-) -> Result<(Held, &'a [Told]), Stop>
+fn own_field<'a>(env: &Env, at: Place, field: u32, answers: &'a [Told]) -> Given<'a, Held>
     ensures { (type through : ValueType) → Comes result (fetched at type (Field (Plain (Obj env.now.this)) through field) answers.now) }
 {
     fetch_field(at, &Held::plain(Value::Obj(env.this)), field, answers)
@@ -76,13 +65,7 @@ fn own_field<'a>(
 
 // A field of an object.
 #[tactic(auto, using(crate::proofs::Steps::steps))]
-fn selected<'a>(
-    env: &Env,
-    at: Place,
-    e: &Expr,
-    name: u32,
-    got: Result<(Held, &'a [Told]), Stop>,
-) -> Result<(Held, &'a [Told]), Stop>
+fn selected<'a>(env: &Env, at: Place, e: &Expr, name: u32, got: Given<'a, Held>) -> Given<'a, Held>
     ensures { (type through : ValueType) (m : Got Seen) → Comes got.entry m
         → Comes result (followed m (λ h. fetched at type (Field h through (selected_spec (env_of env.now) (expression_of e.now) name)))) }
 {
@@ -97,8 +80,8 @@ fn operated_from<'a>(
     at: Place,
     op: BinaryOperator,
     h: Held,
-    got: Result<(Held, &'a [Told]), Stop>,
-) -> Result<(Held, &'a [Told]), Stop>
+    got: Given<'a, Held>,
+) -> Given<'a, Held>
     ensures { (m : Got Seen) → Comes got.entry m → Comes result (followed m (λ k. ops.operated at op h k)) }
 {
     let (k, answers) = got?;
@@ -113,9 +96,9 @@ fn binary<'a>(
     env: &Env,
     at: Place,
     op: BinaryOperator,
-    got: Result<(Held, &'a [Told]), Stop>,
+    got: Given<'a, Held>,
     e: &Expr,
-) -> Result<(Held, &'a [Told]), Stop>
+) -> Given<'a, Held>
     ensures { (m : Got Seen) → Comes got.entry m → Comes result (followed m
         (λ h. evaluation.with_right at op h (evaluation.eval (env_of env.now) (expression_of e.now)))) }
 {
@@ -134,9 +117,9 @@ fn with_arguments<'a>(
     env: &Env,
     at: Place,
     called: Option<BuiltIn>,
-    got: Result<(Held, &'a [Told]), Stop>,
+    got: Given<'a, Held>,
     args: &[Expr],
-) -> Result<(Held, &'a [Told]), Stop>
+) -> Given<'a, Held>
     ensures { (type through : ValueType) (m : Got Seen) → Comes got.entry m
         → Comes result (followed m (λ h rest. followed (evaluation.eval_all (env_of env.now)
         (numbered_exps (map expression_of args.now)) rest) (λ hs. forms.member at type
@@ -154,9 +137,9 @@ fn with_indices<'a>(
     env: &Env,
     at: Place,
     is_point: bool,
-    got: Result<(Held, &'a [Told]), Stop>,
+    got: Given<'a, Held>,
     indices: &[Expr],
-) -> Result<(Held, &'a [Told]), Stop>
+) -> Given<'a, Held>
     ensures { (type through : ValueType) (m : Got Seen) → Comes got.entry m
         → Comes result (followed m (λ h rest. followed (evaluation.eval_numbers (env_of env.now)
         (numbered_exps (map expression_of indices.now)) rest) (λ xs. indexed_spec is_point at type through h xs))) }
@@ -177,7 +160,7 @@ pub fn evaluate_all<'a>(
     env: &Env,
     xs: &[Expr],
     answers: &'a [Told],
-) -> Result<(Vec<Held>, &'a [Told]), Stop>
+) -> Given<'a, Vec<Held>>
     ensures { ComesAs (λ (v : Row Seen Heap). v.items) result (evaluation.eval_all (env_of env.now)
         (numbered_exps (map expression_of xs.now)) answers.now) }
 {
@@ -198,7 +181,7 @@ pub fn evaluate_numbers<'a>(
     env: &Env,
     xs: &[Expr],
     answers: &'a [Told],
-) -> Result<(Vec<i32>, &'a [Told]), Stop>
+) -> Given<'a, Vec<i32>>
     ensures { ComesAs (λ (v : Row ℤ Heap). v.items) result (evaluation.eval_numbers (env_of env.now)
         (numbered_exps (map expression_of xs.now)) answers.now) }
 {
@@ -215,12 +198,7 @@ pub fn evaluate_numbers<'a>(
 // The bounds of a range, of numbers or of points.
 #[cycle(evaluate)]
 #[tactic(auto, using(crate::proofs::Steps::steps))]
-fn range<'a>(
-    alloc: Global,
-    env: &Env,
-    r: &Range,
-    answers: &'a [Told],
-) -> Result<(Bounds, &'a [Told]), Stop>
+fn range<'a>(alloc: Global, env: &Env, r: &Range, answers: &'a [Told]) -> Given<'a, Bounds>
     ensures { ComesAs bounds_of result (evaluation.eval_range (env_of env.now) (bound_of r.now) answers.now) }
 {
     match r {
@@ -243,7 +221,7 @@ pub fn evaluate_ranges<'a>(
     env: &Env,
     ranges: &[Range],
     answers: &'a [Told],
-) -> Result<(Bounds, &'a [Told]), Stop>
+) -> Given<'a, Bounds>
     ensures { ComesAs bounds_of result (evaluation.eval_ranges (env_of env.now) (numbered_ranges (map bound_of ranges.now)) answers.now) }
 {
     let mut found = no_bounds(alloc);
@@ -260,12 +238,7 @@ pub fn evaluate_ranges<'a>(
 /// the answers are used up, and fails with a fault where the language says so; a call of a declared
 /// method has no value here.
 #[cycle(evaluate)]
-pub fn evaluate<'a>(
-    alloc: Global,
-    env: &Env,
-    e: &Expr,
-    answers: &'a [Told],
-) -> Result<(Held, &'a [Told]), Stop>
+pub fn evaluate<'a>(alloc: Global, env: &Env, e: &Expr, answers: &'a [Told]) -> Given<'a, Held>
     ensures { Comes result (evaluation.eval (env_of env.now) (expression_of e.now) answers.now) }
 {
     match computed(env, e) {
@@ -277,12 +250,7 @@ pub fn evaluate<'a>(
 // The same, of an expression of any form.
 #[cycle(evaluate)]
 #[tactic(auto, using(crate::proofs::Evaluating::evaluating))]
-fn evaluated<'a>(
-    alloc: Global,
-    env: &Env,
-    e: &Expr,
-    answers: &'a [Told],
-) -> Result<(Held, &'a [Told]), Stop>
+fn evaluated<'a>(alloc: Global, env: &Env, e: &Expr, answers: &'a [Told]) -> Given<'a, Held>
     ensures { Comes result (evaluation.eval (env_of env.now) (expression_of e.now) answers.now) }
 {
     match e {
@@ -370,14 +338,14 @@ fn num_procs(env: &Env) -> Scalar
 }
 
 // A number or a boolean.
-fn made<'a>(x: Scalar, answers: &'a [Told]) -> Result<(Held, &'a [Told]), Stop>
+fn made<'a>(x: Scalar, answers: &'a [Told]) -> Given<'a, Held>
     ensures { Comes result (gives (held_of_scalar x) answers.now) }
 {
     Ok((x.held(), answers))
 }
 
 // An object, or none.
-fn object<'a>(id: Option<Id>, answers: &'a [Told]) -> Result<(Held, &'a [Told]), Stop>
+fn object<'a>(id: Option<Id>, answers: &'a [Told]) -> Given<'a, Held>
     ensures { Comes result (gives (Plain (Obj id)) answers.now) }
 {
     Ok((Held::plain(Value::Obj(id)), answers))

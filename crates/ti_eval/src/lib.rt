@@ -43,6 +43,6 @@ pub use scalars::{Scalar, computed, of_scalars, scalar_in};
 pub use stop::Stop;
 pub use team::Team;
 pub use teams::{element_at, is_of_team, rect_of_team};
-pub use told::{Told, value_told};
+pub use told::{Given, Told, value_told};
 pub use variables::{change, empty_rect, find, same};
 pub use walking::next_point;

@@ -11,7 +11,7 @@ ghost use Rattle.ti_eval.specs.Bounds.{bounds_of};
 use crate::bounds::Bounds;
 use crate::held::Held;
 use crate::stop::Stop;
-use crate::told::Told;
+use crate::told::{Given, Told};
 use crate::variables::empty_rect;
 use std::alloc::Global;
 use ti_base::{FaultKind, Memory, Place, Point, Rect, Value};
@@ -179,11 +179,7 @@ fn rect_of(b: &Bounds) -> Rect
 }
 
 /// The rectangular domain within the bounds, unless a step is below 1.
-pub fn rect_within<'a>(
-    at: Place,
-    b: &Bounds,
-    answers: &'a [Told],
-) -> Result<(Held, &'a [Told]), Stop>
+pub fn rect_within<'a>(at: Place, b: &Bounds, answers: &'a [Told]) -> Given<'a, Held>
     ensures { Comes result (literal.rect_within at (bounds_of b.now) answers.now) }
 {
     if !all_forward(&b.step) {
