@@ -13,8 +13,7 @@ use crate::held::Held;
 use crate::kinds::Test;
 use crate::pairing::operands;
 use crate::pairs::Operands;
-use crate::stop::Stop;
-use crate::told::Told;
+use crate::told::{Given, Told};
 use std::alloc::Global;
 use ti_base::{Id, Place, Point, Rect};
 use ti_domain::{Dom, dom_same};
@@ -133,17 +132,13 @@ fn equal_domains<'a>(
     x: &Held,
     y: &Held,
     answers: &'a [Told],
-) -> Result<(bool, &'a [Told]), Stop>
+) -> Given<'a, bool>
     requires { HaveOneDim x.now y.now }
     ensures { Comes result (ops.equal at x.now y.now seen.Domains answers.now) }
 {
-    match as_domain(alloc, at, x, answers) {
-        Ok((d, answers)) => match as_domain(alloc, at, y, answers) {
-            Ok((e, answers)) => Ok((same_domain(&d, &e), answers)),
-            Err(stop) => Err(stop),
-        },
-        Err(stop) => Err(stop),
-    }
+    let (d, answers) = as_domain(alloc, at, x, answers)?;
+    let (e, answers) = as_domain(alloc, at, y, answers)?;
+    Ok((same_domain(&d, &e), answers))
 }
 
 /// Whether two operands are equal.
@@ -153,7 +148,7 @@ pub fn equal<'a>(
     x: &Held,
     y: &Held,
     answers: &'a [Told],
-) -> Result<(bool, &'a [Told]), Stop>
+) -> Given<'a, bool>
     ensures { Comes result (ops.equal at x.now y.now (seen.operands x.now y.now) answers.now) }
 {
     match operands(x, y) {

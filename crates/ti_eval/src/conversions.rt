@@ -15,7 +15,7 @@ ghost use Rattle.ti_eval.specs.Comes.{Comes, ComesAs};
 
 use crate::held::Held;
 use crate::stop::Stop;
-use crate::told::Told;
+use crate::told::{Given, Told};
 use std::alloc::Global;
 use ti_base::{FaultKind, Id, Place, Rect, Value, to_int, to_long};
 use ti_domain::{Dom, DomErr, Held as Kept, dom_copy, dom_of};
@@ -23,12 +23,7 @@ use ti_lang::program::Ty;
 use ti_lang::typing::Seen;
 
 // The domain of the points of a rectangular one.
-fn widened<'a>(
-    alloc: Global,
-    at: Place,
-    r: &Rect,
-    answers: &'a [Told],
-) -> Result<(Dom, &'a [Told]), Stop>
+fn widened<'a>(alloc: Global, at: Place, r: &Rect, answers: &'a [Told]) -> Given<'a, Dom>
     requires { IsRect r.now }
     ensures came { ComesAs (λ (d : Domain). Dm d.dim d.points) result (conversions.to_domain at (Plain (Rc r.now)) answers.now) }
     ensures dim { IfOk result (λ p. p.0.dim ≡ r.now.dim) }
@@ -41,30 +36,20 @@ fn widened<'a>(
 }
 
 /// A rectangular domain becomes the domain of its points, unless these are too many.
-pub fn to_domain<'a>(
-    alloc: Global,
-    at: Place,
-    h: Held,
-    answers: &'a [Told],
-) -> Result<(Held, &'a [Told]), Stop>
+pub fn to_domain<'a>(alloc: Global, at: Place, h: Held, answers: &'a [Told]) -> Given<'a, Held>
     ensures { Comes result (conversions.to_domain at h answers.now) }
 {
     match &h.kept {
-        Kept::Plain(Value::Rc(r)) => match widened(alloc, at, r, answers) {
-            Ok((d, answers)) => Ok((Held::domain(d), answers)),
-            Err(stop) => Err(stop),
-        },
+        Kept::Plain(Value::Rc(r)) => {
+            let (d, answers) = widened(alloc, at, r, answers)?;
+            Ok((Held::domain(d), answers))
+        }
         _ => Ok((h, answers)),
     }
 }
 
 /// The domain that one is, rectangular or not.
-pub fn as_domain<'a>(
-    alloc: Global,
-    at: Place,
-    h: &Held,
-    answers: &'a [Told],
-) -> Result<(Dom, &'a [Told]), Stop>
+pub fn as_domain<'a>(alloc: Global, at: Place, h: &Held, answers: &'a [Told]) -> Given<'a, Dom>
     requires { (n : ℕ) × (held_dim h.now ≡ Some n) }
     ensures came { ComesAs (λ (d : Domain). Dm d.dim d.points) result (conversions.to_domain at h.now answers.now) }
     ensures dim { IfOk result (λ p. held_dim h.now ≡ Some p.0.dim) }
@@ -120,7 +105,7 @@ pub fn converted<'a>(
     ty: &Ty,
     h: Held,
     answers: &'a [Told],
-) -> Result<(Held, &'a [Told]), Stop>
+) -> Given<'a, Held>
     ensures { Comes result (conversions.converted at (value_type_of ty.now) h answers.now) }
 {
     match ty {
@@ -151,7 +136,7 @@ pub fn kept_local<'a>(
     ty: &Ty,
     h: Held,
     answers: &'a [Told],
-) -> Result<(Held, &'a [Told]), Stop>
+) -> Given<'a, Held>
     ensures { Comes result (kept_local_spec number at (value_type_of ty.now) h answers.now) }
 {
     if !is_local(ty) || is_own(number, h.thing()) {

@@ -1,18 +1,19 @@
 // The values of expressions.
 
 ghost use Rattle.std.specs.Prelude.{◌≡◌, map, option_map, ℤ, pos};
-ghost use Rattle.ti_base.specs.declared.value.Value.TheVariants.{Int, Obj};
-ghost use Rattle.ti_lang.specs.Program.Types.{ValueType};
-ghost use Rattle.ti_lang.specs.Typing.Kinds.{is_point as is_point_spec};
-ghost use Rattle.ti_lang.specs.Meaning.Scoping.{type_of as type_of_spec, field_selected as selected_spec, value_by};
-ghost use Rattle.ti_lang.specs.Typing.Seen.{built_in_of};
 ghost use Rattle.std.specs.declared.vec.Vec.{Vec as Row};
 ghost use Rattle.std.specs.declared.alloc.Global.{Global as Heap};
+ghost use Rattle.ti_base.specs.declared.place.Place.{Place as At};
+ghost use Rattle.ti_base.specs.declared.value.Value.TheVariants.{Int, Obj};
+ghost use Rattle.ti_lang.specs.Program.Types.{ValueType};
 ghost use Rattle.ti_lang.specs.Program.Expressions.{numbered_exps, numbered_ranges};
-ghost use Rattle.ti_lang.specs.Program.Views.{expression_of, bound_of, variable_of};
+ghost use Rattle.ti_lang.specs.Program.Expressions as form;
+ghost use Rattle.ti_lang.specs.Program.Views.{expression_of, bound_of, type_use_of, variable_of};
+ghost use Rattle.ti_lang.specs.Typing.Kinds.{is_point as is_point_spec};
+ghost use Rattle.ti_lang.specs.Typing.Seen.{built_in_of};
+ghost use Rattle.ti_lang.specs.Meaning.Scoping.{type_of as type_of_spec, value_by};
 ghost use Rattle.ti_lang.specs.Meaning.Held.{Held as Seen, Plain};
-ghost use Rattle.ti_lang.specs.Meaning.Asking.{Got, followed, gives};
-ghost use Rattle.ti_lang.specs.Meaning.Operators as ops;
+ghost use Rattle.ti_lang.specs.Meaning.Asking.{followed, gives};
 ghost use Rattle.ti_lang.specs.Meaning.Parts.{Field, fetched, indexed as indexed_spec};
 ghost use Rattle.ti_lang.specs.Meaning.MemberForms as forms;
 ghost use Rattle.ti_lang.specs.Meaning.Evaluation as evaluation;
@@ -22,22 +23,22 @@ ghost use Rattle.ti_eval.specs.Envs.{env_of};
 ghost use Rattle.ti_eval.specs.Scalars.{held_of_scalar};
 
 use crate::bounds::Bounds;
-use crate::continued::{
-    alone_from, cast_from, index_from, member_from, plain_from, point_from, rect_from, stepped_from,
-};
+use crate::conversions::{converted, kept_local};
 use crate::env::{Env, called_member, type_of, variable};
 use crate::fields::field_selected;
 use crate::held::Held;
-use crate::literals::{joined, no_bounds, with_numbers};
-use crate::operators::{operated, settled};
+use crate::literals::{
+    joined, no_bounds, plain_bounds, point_of_numbers, rect_within, stepped_bounds, with_numbers,
+};
+use crate::members::{indexed, member};
+use crate::operators::{operated, operated_alone, settled};
 use crate::parts::fetch_field;
 use crate::scalars::{Scalar, computed};
-use crate::stop::Stop;
-use crate::told::Told;
+use crate::told::{Given, Told};
 use std::alloc::Global;
 use ti_base::{Id, Place, Value};
-use ti_lang::program::{Expr, Range, Variable};
-use ti_lang::tree::BinaryOperator;
+use ti_lang::program::{Expr, Range, TypeUse, Variable};
+use ti_lang::tree::{BinaryOperator, UnaryOperator};
 use ti_lang::typing::{BuiltIn, Seen as Kind};
 
 // Whether an expression is a point in the text.
@@ -51,91 +52,120 @@ fn is_point(env: &Env, e: &Expr) -> bool
 }
 
 // The value of a variable.
-fn held_by<'a>(
-    alloc: Global,
-    env: &Env,
-    v: &Variable,
-    answers: &'a [Told],
-) -> Result<(Held, &'a [Told]), Stop>
+fn held_by<'a>(alloc: Global, env: &Env, v: &Variable, answers: &'a [Told]) -> Given<'a, Held>
     ensures { Comes result (gives (value_by (variable_of v.now).declared (env_of env.now) (variable_of v.now)) answers.now) }
 {
     Ok((variable(alloc, env, v)?, answers))
 }
 
 // A field of the own object.
-fn own_field<'a>(
-    env: &Env,
-    at: Place,
-    field: u32,
-    answers: &'a [Told],
-) -> Result<(Held, &'a [Told]), Stop>
+fn own_field<'a>(env: &Env, at: Place, field: u32, answers: &'a [Told]) -> Given<'a, Held>
     ensures { (type through : ValueType) → Comes result (fetched at type (Field (Plain (Obj env.now.this)) through field) answers.now) }
 {
     fetch_field(at, &Held::plain(Value::Obj(env.this)), field, answers)
 }
 
-// A field of an object.
+// A point.
+#[cycle(evaluate)]
 #[tactic(auto, using(crate::proofs::Steps::steps))]
-fn selected<'a>(
-    env: &Env,
-    at: Place,
-    e: &Expr,
-    name: u32,
-    got: Result<(Held, &'a [Told]), Stop>,
-) -> Result<(Held, &'a [Told]), Stop>
-    ensures { (type through : ValueType) (m : Got Seen) → Comes got.entry m
-        → Comes result (followed m (λ h. fetched at type (Field h through (selected_spec (env_of env.now) (expression_of e.now) name)))) }
+fn point<'a>(alloc: Global, env: &Env, parts: &[Expr], answers: &'a [Told]) -> Given<'a, Held>
+    ensures { (at : At) → Comes result (evaluation.eval (env_of env.now) (form.Point at (numbered_exps (map expression_of parts.now)))
+        answers.now) }
 {
-    match got {
-        Ok((h, answers)) => match field_selected(env, e, name) {
-            Ok(field) => fetch_field(at, &h, field, answers),
-            Err(_) => Err(Stop::Memory),
-        },
-        Err(stop) => Err(stop),
-    }
+    let (numbers, answers) = evaluate_numbers(alloc, env, parts, answers)?;
+    Ok((Held::plain(Value::Pt(point_of_numbers(&numbers))), answers))
 }
 
-// What an operator comes to behind its right operand.
+// A rectangular domain.
+#[cycle(evaluate)]
 #[tactic(auto, using(crate::proofs::Steps::steps))]
-fn operated_from<'a>(
+fn rectangle<'a>(
     alloc: Global,
+    env: &Env,
     at: Place,
-    op: BinaryOperator,
-    h: Held,
-    got: Result<(Held, &'a [Told]), Stop>,
-) -> Result<(Held, &'a [Told]), Stop>
-    ensures { (m : Got Seen) → Comes got.entry m → Comes result (followed m (λ k. ops.operated at op h k)) }
+    ranges: &[Range],
+    answers: &'a [Told],
+) -> Given<'a, Held>
+    ensures { Comes result (evaluation.eval (env_of env.now) (form.Rect at (numbered_ranges (map bound_of ranges.now))) answers.now) }
 {
-    match got {
-        Ok((k, answers)) => operated(alloc, at, op, &h, k, answers),
-        Err(stop) => Err(stop),
-    }
+    let (bounds, answers) = evaluate_ranges(alloc, env, ranges, answers)?;
+    rect_within(at, &bounds, answers)
+}
+
+// An operator of one operand.
+#[cycle(evaluate)]
+#[tactic(auto, using(crate::proofs::Steps::steps))]
+fn unary<'a>(
+    alloc: Global,
+    env: &Env,
+    op: UnaryOperator,
+    operand: &Expr,
+    answers: &'a [Told],
+) -> Given<'a, Held>
+    ensures { (at : At) → Comes result (evaluation.eval (env_of env.now) (form.Unary at op (expression_of operand.now)) answers.now) }
+{
+    let (h, answers) = evaluated(alloc, env, operand, answers)?;
+    Ok((operated_alone(op, h), answers))
 }
 
 // What an operator comes to behind its left operand.
 #[cycle(evaluate)]
 #[tactic(auto, using(crate::proofs::Steps::steps))]
-fn binary<'a>(
+fn with_right<'a>(
     alloc: Global,
     env: &Env,
     at: Place,
     op: BinaryOperator,
-    got: Result<(Held, &'a [Told]), Stop>,
-    e: &Expr,
-) -> Result<(Held, &'a [Told]), Stop>
-    ensures { (m : Got Seen) → Comes got.entry m → Comes result (followed m
-        (λ h. evaluation.with_right at op h (evaluation.eval (env_of env.now) (expression_of e.now)))) }
+    h: &Held,
+    right: &Expr,
+    answers: &'a [Told],
+) -> Given<'a, Held>
+    ensures { Comes result (evaluation.with_right at op h.now (evaluation.eval (env_of env.now) (expression_of right.now)) answers.now) }
 {
-    match got {
-        Ok((h, answers)) => match settled(op, &h) {
-            Some(k) => Ok((k, answers)),
-            None => operated_from(alloc, at, op, h, evaluated(alloc, env, e, answers)),
-        },
-        Err(stop) => Err(stop),
+    if let Some(k) = settled(op, h) {
+        return Ok((k, answers));
     }
+    let (k, answers) = evaluated(alloc, env, right, answers)?;
+    operated(alloc, at, op, h, k, answers)
 }
 
-// What a member comes to behind its receiver.
+// A cast.
+#[cycle(evaluate)]
+#[tactic(auto, using(crate::proofs::Steps::steps))]
+fn cast<'a>(
+    alloc: Global,
+    env: &Env,
+    at: Place,
+    to: &TypeUse,
+    operand: &Expr,
+    answers: &'a [Told],
+) -> Given<'a, Held>
+    ensures { Comes result (evaluation.eval (env_of env.now) (form.Cast at (type_use_of to.now) (expression_of operand.now)) answers.now) }
+{
+    let (h, answers) = evaluated(alloc, env, operand, answers)?;
+    let (k, answers) = converted(alloc, at, &to.ty, h, answers)?;
+    kept_local(env.team.number, at, &to.ty, k, answers)
+}
+
+// A field of an object.
+#[cycle(evaluate)]
+#[tactic(auto, using(crate::proofs::Steps::steps))]
+fn selected<'a>(
+    alloc: Global,
+    env: &Env,
+    at: Place,
+    receiver: &Expr,
+    name: u32,
+    answers: &'a [Told],
+) -> Given<'a, Held>
+    ensures { Comes result (evaluation.eval (env_of env.now) (form.Select at (expression_of receiver.now) name) answers.now) }
+{
+    let (h, answers) = evaluated(alloc, env, receiver, answers)?;
+    let field = field_selected(env, receiver, name)?;
+    fetch_field(at, &h, field, answers)
+}
+
+// What a member of the language comes to behind its receiver.
 #[cycle(evaluate)]
 #[tactic(auto, using(crate::proofs::Steps::steps))]
 fn with_arguments<'a>(
@@ -143,18 +173,16 @@ fn with_arguments<'a>(
     env: &Env,
     at: Place,
     called: Option<BuiltIn>,
-    got: Result<(Held, &'a [Told]), Stop>,
+    h: &Held,
     args: &[Expr],
-) -> Result<(Held, &'a [Told]), Stop>
-    ensures { (type through : ValueType) (m : Got Seen) → Comes got.entry m
-        → Comes result (followed m (λ h rest. followed (evaluation.eval_all (env_of env.now)
-        (numbered_exps (map expression_of args.now)) rest) (λ hs. forms.member at type
-        (option_map built_in_of called) through h hs))) }
+    answers: &'a [Told],
+) -> Given<'a, Held>
+    ensures { (type through : ValueType) → Comes result (followed (evaluation.eval_all (env_of env.now)
+        (numbered_exps (map expression_of args.now)) answers.now)
+        (λ hs. forms.member at type (option_map built_in_of called) through h.now hs)) }
 {
-    match got {
-        Ok((h, answers)) => { member_from(at, called, h, evaluate_all(alloc, env, args, answers)) }
-        Err(stop) => Err(stop),
-    }
+    let (hs, answers) = evaluate_all(alloc, env, args, answers)?;
+    member(at, called, h, &hs, answers)
 }
 
 // What an index comes to behind the point or the grid.
@@ -165,24 +193,16 @@ fn with_indices<'a>(
     env: &Env,
     at: Place,
     is_point: bool,
-    got: Result<(Held, &'a [Told]), Stop>,
+    h: &Held,
     indices: &[Expr],
-) -> Result<(Held, &'a [Told]), Stop>
-    ensures { (type through : ValueType) (m : Got Seen) → Comes got.entry m
-        → Comes result (followed m (λ h rest. followed (evaluation.eval_numbers (env_of env.now)
-        (numbered_exps (map expression_of indices.now)) rest) (λ xs. indexed_spec is_point at type through h xs))) }
+    answers: &'a [Told],
+) -> Given<'a, Held>
+    ensures { (type through : ValueType) → Comes result (followed (evaluation.eval_numbers (env_of env.now)
+        (numbered_exps (map expression_of indices.now)) answers.now)
+        (λ xs. indexed_spec is_point at type through h.now xs)) }
 {
-    match got {
-        Ok((h, answers)) => {
-            index_from(
-                is_point,
-                at,
-                h,
-                evaluate_numbers(alloc, env, indices, answers),
-            )
-        }
-        Err(stop) => Err(stop),
-    }
+    let (numbers, answers) = evaluate_numbers(alloc, env, indices, answers)?;
+    indexed(is_point, at, h, &numbers, answers)
 }
 
 /// The values of expressions, in order.
@@ -192,20 +212,16 @@ pub fn evaluate_all<'a>(
     env: &Env,
     xs: &[Expr],
     answers: &'a [Told],
-) -> Result<(Vec<Held>, &'a [Told]), Stop>
+) -> Given<'a, Vec<Held>>
     ensures { ComesAs (λ (v : Row Seen Heap). v.items) result (evaluation.eval_all (env_of env.now)
         (numbered_exps (map expression_of xs.now)) answers.now) }
 {
     let mut found = Vec::new(alloc);
     let mut left = answers;
     for x in xs {
-        match evaluate(alloc, env, x, left) {
-            Ok((h, rest)) => {
-                found.push(h)?;
-                left = rest;
-            }
-            Err(stop) => return Err(stop),
-        }
+        let (h, rest) = evaluate(alloc, env, x, left)?;
+        found.push(h)?;
+        left = rest;
     }
     Ok((found, left))
 }
@@ -217,20 +233,16 @@ pub fn evaluate_numbers<'a>(
     env: &Env,
     xs: &[Expr],
     answers: &'a [Told],
-) -> Result<(Vec<i32>, &'a [Told]), Stop>
+) -> Given<'a, Vec<i32>>
     ensures { ComesAs (λ (v : Row ℤ Heap). v.items) result (evaluation.eval_numbers (env_of env.now)
         (numbered_exps (map expression_of xs.now)) answers.now) }
 {
     let mut found = Vec::new(alloc);
     let mut left = answers;
     for x in xs {
-        match evaluate(alloc, env, x, left) {
-            Ok((h, rest)) => {
-                found = with_numbers(found, h)?;
-                left = rest;
-            }
-            Err(stop) => return Err(stop),
-        }
+        let (h, rest) = evaluate(alloc, env, x, left)?;
+        found = with_numbers(found, h)?;
+        left = rest;
     }
     Ok((found, left))
 }
@@ -238,28 +250,21 @@ pub fn evaluate_numbers<'a>(
 // The bounds of a range, of numbers or of points.
 #[cycle(evaluate)]
 #[tactic(auto, using(crate::proofs::Steps::steps))]
-fn range<'a>(
-    alloc: Global,
-    env: &Env,
-    r: &Range,
-    answers: &'a [Told],
-) -> Result<(Bounds, &'a [Told]), Stop>
+fn range<'a>(alloc: Global, env: &Env, r: &Range, answers: &'a [Told]) -> Given<'a, Bounds>
     ensures { ComesAs bounds_of result (evaluation.eval_range (env_of env.now) (bound_of r.now) answers.now) }
 {
     match r {
-        Range::Plain { low, high } => match evaluate(alloc, env, low, answers) {
-            Ok((a, answers)) => plain_from(alloc, a, evaluate(alloc, env, high, answers)),
-            Err(stop) => Err(stop),
-        },
-        Range::Stepped { low, high, step } => match evaluate(alloc, env, low, answers) {
-            Ok((a, answers)) => match evaluate(alloc, env, high, answers) {
-                Ok((b, answers)) => {
-                    stepped_from(alloc, a, b, evaluate(alloc, env, step, answers))
-                }
-                Err(stop) => Err(stop),
-            },
-            Err(stop) => Err(stop),
-        },
+        Range::Plain { low, high } => {
+            let (a, answers) = evaluate(alloc, env, low, answers)?;
+            let (b, answers) = evaluate(alloc, env, high, answers)?;
+            Ok((plain_bounds(alloc, &a, &b)?, answers))
+        }
+        Range::Stepped { low, high, step } => {
+            let (a, answers) = evaluate(alloc, env, low, answers)?;
+            let (b, answers) = evaluate(alloc, env, high, answers)?;
+            let (c, answers) = evaluate(alloc, env, step, answers)?;
+            Ok((stepped_bounds(alloc, &a, &b, &c)?, answers))
+        }
     }
 }
 
@@ -270,19 +275,15 @@ pub fn evaluate_ranges<'a>(
     env: &Env,
     ranges: &[Range],
     answers: &'a [Told],
-) -> Result<(Bounds, &'a [Told]), Stop>
+) -> Given<'a, Bounds>
     ensures { ComesAs bounds_of result (evaluation.eval_ranges (env_of env.now) (numbered_ranges (map bound_of ranges.now)) answers.now) }
 {
     let mut found = no_bounds(alloc);
     let mut left = answers;
     for r in ranges {
-        match range(alloc, env, r, left) {
-            Ok((b, rest)) => {
-                found = joined(found, b)?;
-                left = rest;
-            }
-            Err(stop) => return Err(stop),
-        }
+        let (b, rest) = range(alloc, env, r, left)?;
+        found = joined(found, b)?;
+        left = rest;
     }
     Ok((found, left))
 }
@@ -291,12 +292,7 @@ pub fn evaluate_ranges<'a>(
 /// the answers are used up, and fails with a fault where the language says so; a call of a declared
 /// method has no value here.
 #[cycle(evaluate)]
-pub fn evaluate<'a>(
-    alloc: Global,
-    env: &Env,
-    e: &Expr,
-    answers: &'a [Told],
-) -> Result<(Held, &'a [Told]), Stop>
+pub fn evaluate<'a>(alloc: Global, env: &Env, e: &Expr, answers: &'a [Told]) -> Given<'a, Held>
     ensures { Comes result (evaluation.eval (env_of env.now) (expression_of e.now) answers.now) }
 {
     match computed(env, e) {
@@ -308,12 +304,7 @@ pub fn evaluate<'a>(
 // The same, of an expression of any form.
 #[cycle(evaluate)]
 #[tactic(auto, using(crate::proofs::Evaluating::evaluating))]
-fn evaluated<'a>(
-    alloc: Global,
-    env: &Env,
-    e: &Expr,
-    answers: &'a [Told],
-) -> Result<(Held, &'a [Told]), Stop>
+fn evaluated<'a>(alloc: Global, env: &Env, e: &Expr, answers: &'a [Told]) -> Given<'a, Held>
     ensures { Comes result (evaluation.eval (env_of env.now) (expression_of e.now) answers.now) }
 {
     match e {
@@ -326,58 +317,46 @@ fn evaluated<'a>(
         Expr::OwnField(place, field) => own_field(env, *place, *field, answers),
         Expr::ThisProc(_) => made(this_proc(env), answers),
         Expr::NumProcs(_) => made(num_procs(env), answers),
-        Expr::Point(_, parts) => point_from(evaluate_numbers(alloc, env, parts, answers)),
-        Expr::Rect(place, ranges) => {
-            rect_from(*place, evaluate_ranges(alloc, env, ranges, answers))
-        }
+        Expr::Point(_, parts) => point(alloc, env, parts, answers),
+        Expr::Rect(place, ranges) => rectangle(alloc, env, *place, ranges, answers),
         Expr::Unary {
             place: _,
             operator,
             operand,
-        } => alone_from(*operator, evaluated(alloc, env, operand, answers)),
+        } => unary(alloc, env, *operator, operand, answers),
         Expr::Binary {
             place,
             operator,
             left,
             right,
         } => {
-            let got = evaluated(alloc, env, left, answers);
-            binary(alloc, env, *place, *operator, got, right)
+            let (h, answers) = evaluated(alloc, env, left, answers)?;
+            with_right(alloc, env, *place, *operator, &h, right, answers)
         }
-        Expr::Cast { place, to, operand } => {
-            let number = env.team.number;
-            let got = evaluated(alloc, env, operand, answers);
-            cast_from(alloc, number, *place, &to.ty, got)
-        }
+        Expr::Cast { place, to, operand } => cast(alloc, env, *place, to, operand, answers),
         Expr::Select {
             place,
             receiver,
             name,
-        } => selected(
-            env,
-            *place,
-            receiver,
-            *name,
-            evaluated(alloc, env, receiver, answers),
-        ),
+        } => selected(alloc, env, *place, receiver, *name, answers),
         Expr::Member {
             place,
             receiver,
             name,
             args,
         } => {
+            let (h, answers) = evaluated(alloc, env, receiver, answers)?;
             let called = called_member(env, receiver, *name);
-            let got = evaluated(alloc, env, receiver, answers);
-            with_arguments(alloc, env, *place, called, got, args)
+            with_arguments(alloc, env, *place, called, &h, args, answers)
         }
         Expr::Index {
             place,
             receiver,
             indices,
         } => {
+            let (h, answers) = evaluated(alloc, env, receiver, answers)?;
             let is_point = is_point(env, receiver);
-            let got = evaluated(alloc, env, receiver, answers);
-            with_indices(alloc, env, *place, is_point, got, indices)
+            with_indices(alloc, env, *place, is_point, &h, indices, answers)
         }
         Expr::Call { .. } => made(Scalar::Truth(false), answers),
         Expr::OwnCall { .. } => made(Scalar::Truth(false), answers),
@@ -401,14 +380,14 @@ fn num_procs(env: &Env) -> Scalar
 }
 
 // A number or a boolean.
-fn made<'a>(x: Scalar, answers: &'a [Told]) -> Result<(Held, &'a [Told]), Stop>
+fn made<'a>(x: Scalar, answers: &'a [Told]) -> Given<'a, Held>
     ensures { Comes result (gives (held_of_scalar x) answers.now) }
 {
     Ok((x.held(), answers))
 }
 
 // An object, or none.
-fn object<'a>(id: Option<Id>, answers: &'a [Told]) -> Result<(Held, &'a [Told]), Stop>
+fn object<'a>(id: Option<Id>, answers: &'a [Told]) -> Given<'a, Held>
     ensures { Comes result (gives (Plain (Obj id)) answers.now) }
 {
     Ok((Held::plain(Value::Obj(id)), answers))

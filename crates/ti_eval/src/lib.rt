@@ -3,7 +3,6 @@
 
 mod bounds;
 mod comparisons;
-mod continued;
 mod conversions;
 mod env;
 mod expressions;
@@ -28,14 +27,13 @@ mod variables;
 mod walking;
 
 pub use bounds::Bounds;
-pub use continued::rect_from;
 pub use conversions::{as_domain, as_int, as_long, as_type, converted, kept_local, to_domain};
 pub use env::{Env, called_member, class_of_this, type_of, variable};
 pub use expressions::{evaluate, evaluate_all, evaluate_numbers, evaluate_ranges};
 pub use fields::field_selected;
 pub use frame::{Copy, Level, Part, Slot, Spot, Todo};
 pub use held::Held;
-pub use literals::point_of_numbers;
+pub use literals::{point_of_numbers, rect_from};
 pub use members::{indexed, member};
 pub use operators::{operated, operated_alone, settled};
 pub use parts::{asked, fetch_element, fetch_field};
@@ -43,6 +41,6 @@ pub use scalars::{Scalar, computed, of_scalars, scalar_in};
 pub use stop::Stop;
 pub use team::Team;
 pub use teams::{element_at, is_of_team, rect_of_team};
-pub use told::{Told, value_told};
+pub use told::{Given, Told, value_told};
 pub use variables::{change, empty_rect, find, same};
 pub use walking::next_point;

@@ -17,7 +17,7 @@ use crate::held::Held;
 use crate::literals::point_of_numbers;
 use crate::parts::{fetch_domain, fetch_element, fetch_view};
 use crate::stop::Stop;
-use crate::told::Told;
+use crate::told::{Given, Told};
 use crate::variables::empty_rect;
 use ti_base::{FaultKind, Place, Point, Rect, Value, ViewHow};
 use ti_domain::{Dom, Held as Kept, dim_of, dom_contains, dom_pieces, dom_size};
@@ -26,7 +26,7 @@ use ti_rect::{rect_contains, rect_size};
 
 // How many points a rectangular domain has, unless an int can't count them.
 #[tactic(auto, using(crate::proofs::MemberLaws::sizes))]
-fn sized_rect<'a>(at: Place, r: &Rect, answers: &'a [Told]) -> Result<(Held, &'a [Told]), Stop>
+fn sized_rect<'a>(at: Place, r: &Rect, answers: &'a [Told]) -> Given<'a, Held>
     requires { rects.IsRect r.now }
     ensures { Comes result (forms.sized at (held.Plain (Rc r.now)) answers.now) }
 {
@@ -37,7 +37,7 @@ fn sized_rect<'a>(at: Place, r: &Rect, answers: &'a [Told]) -> Result<(Held, &'a
 }
 
 // How many points a domain has.
-fn sized<'a>(at: Place, h: &Held, answers: &'a [Told]) -> Result<(Held, &'a [Told]), Stop>
+fn sized<'a>(at: Place, h: &Held, answers: &'a [Told]) -> Given<'a, Held>
     ensures { Comes result (forms.sized at h.now answers.now) }
 {
     match &h.kept {
@@ -55,7 +55,7 @@ fn is_empty(r: &Rect) -> bool
 
 // The least point of a rectangular domain, unless this is empty.
 #[tactic(auto, using(crate::proofs::MemberLaws::ends))]
-fn least<'a>(at: Place, h: &Held, answers: &'a [Told]) -> Result<(Held, &'a [Told]), Stop>
+fn least<'a>(at: Place, h: &Held, answers: &'a [Told]) -> Given<'a, Held>
     ensures { Comes result (forms.extreme at h.now (held.rect_of h.now).lo answers.now) }
 {
     let r = h.rect();
@@ -67,7 +67,7 @@ fn least<'a>(at: Place, h: &Held, answers: &'a [Told]) -> Result<(Held, &'a [Tol
 
 // The greatest point of a rectangular domain, unless this is empty.
 #[tactic(auto, using(crate::proofs::MemberLaws::ends))]
-fn greatest<'a>(at: Place, h: &Held, answers: &'a [Told]) -> Result<(Held, &'a [Told]), Stop>
+fn greatest<'a>(at: Place, h: &Held, answers: &'a [Told]) -> Given<'a, Held>
     ensures { Comes result (forms.extreme at h.now (held.rect_of h.now).hi answers.now) }
 {
     let r = h.rect();
@@ -150,12 +150,7 @@ fn slice_argument(args: &[Held]) -> ViewHow
 }
 
 // A slice of a grid.
-fn sliced<'a>(
-    at: Place,
-    h: &Held,
-    args: &[Held],
-    answers: &'a [Told],
-) -> Result<(Held, &'a [Told]), Stop>
+fn sliced<'a>(at: Place, h: &Held, args: &[Held], answers: &'a [Told]) -> Given<'a, Held>
     ensures { (type through : ValueType) → Comes result (parts.viewed at type
         (Slice (held.int_of (slice_index_or args.now 0 held.nothing)) (held.int_of (slice_index_or args.now 1 held.nothing))) through
         h.now answers.now) }
@@ -172,7 +167,7 @@ pub fn member<'a>(
     h: &Held,
     args: &[Held],
     answers: &'a [Told],
-) -> Result<(Held, &'a [Told]), Stop>
+) -> Given<'a, Held>
     ensures { (type through : ValueType) → Comes result (forms.member at type
         (option_map built_in_of b) through h.now args.now answers.now) }
 {
@@ -199,12 +194,7 @@ pub fn member<'a>(
 // ---- indices
 
 // A coordinate of a point, counted from 1.
-fn coordinate<'a>(
-    at: Place,
-    p: &Point,
-    k: i32,
-    answers: &'a [Told],
-) -> Result<(Held, &'a [Told]), Stop>
+fn coordinate<'a>(at: Place, p: &Point, k: i32, answers: &'a [Told]) -> Given<'a, Held>
     requires { IsPoint p.now }
     ensures { Comes result (parts.coordinate at p.now k answers.now) }
 {
@@ -227,7 +217,7 @@ pub fn indexed<'a>(
     h: &Held,
     indices: &[i32],
     answers: &'a [Told],
-) -> Result<(Held, &'a [Told]), Stop>
+) -> Given<'a, Held>
     ensures { (type through : ValueType) → Comes result (parts.indexed is_point at type through h.now indices.now answers.now) }
 {
     if !is_point {

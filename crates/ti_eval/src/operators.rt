@@ -21,7 +21,7 @@ use crate::pairing::operands;
 use crate::pairs::Operands;
 use crate::sets::of_domains;
 use crate::stop::Stop;
-use crate::told::Told;
+use crate::told::{Given, Told};
 use std::alloc::Global;
 use ti_base::{
     FaultKind, Place, Value, int_add, int_div, int_mul, int_rem, int_sub, long_add, long_div,
@@ -52,13 +52,7 @@ pub fn settled(op: BinaryOperator, x: &Held) -> Option<Held>
 
 // `x + y`: a sum, or a union.
 #[tactic(auto, using(crate::proofs::Points::points))]
-fn added<'a>(
-    alloc: Global,
-    at: Place,
-    x: &Held,
-    y: &Held,
-    answers: &'a [Told],
-) -> Result<(Held, &'a [Told]), Stop>
+fn added<'a>(alloc: Global, at: Place, x: &Held, y: &Held, answers: &'a [Told]) -> Given<'a, Held>
     ensures { Comes result (ops.added at x.now y.now (seen.operands x.now y.now) answers.now) }
 {
     match operands(x, y) {
@@ -79,7 +73,7 @@ fn subtracted<'a>(
     x: &Held,
     y: &Held,
     answers: &'a [Told],
-) -> Result<(Held, &'a [Told]), Stop>
+) -> Given<'a, Held>
     ensures { Comes result (ops.subtracted at x.now y.now (seen.operands x.now y.now) answers.now) }
 {
     match operands(x, y) {
@@ -99,7 +93,7 @@ fn multiplied<'a>(
     x: &Held,
     y: &Held,
     answers: &'a [Told],
-) -> Result<(Held, &'a [Told]), Stop>
+) -> Given<'a, Held>
     ensures { Comes result (ops.multiplied at x.now y.now (seen.operands x.now y.now) answers.now) }
 {
     match operands(x, y) {
@@ -112,12 +106,7 @@ fn multiplied<'a>(
 }
 
 // `x / y`
-fn divided<'a>(
-    at: Place,
-    x: &Held,
-    y: &Held,
-    answers: &'a [Told],
-) -> Result<(Held, &'a [Told]), Stop>
+fn divided<'a>(at: Place, x: &Held, y: &Held, answers: &'a [Told]) -> Given<'a, Held>
     ensures { Comes result (ops.divided (λ (w : Width) (a b : ℤ). wrap w (quotient a b)) at (seen.operands x.now y.now) answers.now) }
 {
     match operands(x, y) {
@@ -134,12 +123,7 @@ fn divided<'a>(
 }
 
 // `x % y`
-fn remained<'a>(
-    at: Place,
-    x: &Held,
-    y: &Held,
-    answers: &'a [Told],
-) -> Result<(Held, &'a [Told]), Stop>
+fn remained<'a>(at: Place, x: &Held, y: &Held, answers: &'a [Told]) -> Given<'a, Held>
     ensures { Comes result (ops.divided (λ (w : Width) (a b : ℤ). remainder a b) at (seen.operands x.now y.now) answers.now) }
 {
     match operands(x, y) {
@@ -217,13 +201,11 @@ fn equality<'a>(
     x: &Held,
     y: &Held,
     answers: &'a [Told],
-) -> Result<(Held, &'a [Told]), Stop>
+) -> Given<'a, Held>
     ensures { Comes result (ops.operated at Equal x.now y.now answers.now) }
 {
-    match equal(alloc, at, x, y, answers) {
-        Ok((same, answers)) => Ok((Held::truth(same), answers)),
-        Err(stop) => Err(stop),
-    }
+    let (same, answers) = equal(alloc, at, x, y, answers)?;
+    Ok((Held::truth(same), answers))
 }
 
 // `x != y`
@@ -234,13 +216,11 @@ fn inequality<'a>(
     x: &Held,
     y: &Held,
     answers: &'a [Told],
-) -> Result<(Held, &'a [Told]), Stop>
+) -> Given<'a, Held>
     ensures { Comes result (ops.operated at NotEqual x.now y.now answers.now) }
 {
-    match equal(alloc, at, x, y, answers) {
-        Ok((same, answers)) => Ok((Held::truth(!same), answers)),
-        Err(stop) => Err(stop),
-    }
+    let (same, answers) = equal(alloc, at, x, y, answers)?;
+    Ok((Held::truth(!same), answers))
 }
 
 // An operator of two operands that stay; behind `&&` and `||` the right one doesn't.
@@ -251,7 +231,7 @@ fn applied<'a>(
     x: &Held,
     y: &Held,
     answers: &'a [Told],
-) -> Result<(Held, &'a [Told]), Stop>
+) -> Given<'a, Held>
     requires or_else { op ≡ OrElse → ⊥ }
     requires and_then { op ≡ AndThen → ⊥ }
     ensures { Comes result (ops.operated at op x.now y.now answers.now) }
@@ -287,7 +267,7 @@ pub fn operated<'a>(
     x: &Held,
     y: Held,
     answers: &'a [Told],
-) -> Result<(Held, &'a [Told]), Stop>
+) -> Given<'a, Held>
     ensures { Comes result (ops.operated at op x.now y answers.now) }
 {
     match op {

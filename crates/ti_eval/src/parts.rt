@@ -8,11 +8,11 @@ ghost use Rattle.ti_eval.specs.Comes.{Comes};
 
 use crate::held::Held;
 use crate::stop::Stop;
-use crate::told::{Told, value_told};
+use crate::told::{Given, Told, value_told};
 use ti_base::{Action, FaultKind, Place, Point, ViewHow};
 
 /// An action: its answer, if it is there.
-pub fn asked<'a>(at: Place, action: Action, answers: &'a [Told]) -> Result<(Held, &'a [Told]), Stop>
+pub fn asked<'a>(at: Place, action: Action, answers: &'a [Told]) -> Given<'a, Held>
     ensures { (through : ValueType) (wanted : Wanted) → Comes result
         (asked_spec (record { place = at; action = action; through = through; wanted = wanted }) answers.now) }
 {
@@ -23,12 +23,7 @@ pub fn asked<'a>(at: Place, action: Action, answers: &'a [Told]) -> Result<(Held
 }
 
 /// What a field of an object holds.
-pub fn fetch_field<'a>(
-    at: Place,
-    object: &Held,
-    field: u32,
-    answers: &'a [Told],
-) -> Result<(Held, &'a [Told]), Stop>
+pub fn fetch_field<'a>(at: Place, object: &Held, field: u32, answers: &'a [Told]) -> Given<'a, Held>
     ensures { (type through : ValueType) → Comes result (fetched at type (Field object.now through field) answers.now) }
 {
     match object.thing() {
@@ -43,7 +38,7 @@ pub fn fetch_element<'a>(
     grid: &Held,
     index: Point,
     answers: &'a [Told],
-) -> Result<(Held, &'a [Told]), Stop>
+) -> Given<'a, Held>
     ensures { (type through : ValueType) → Comes result (fetched at type (Element grid.now through index) answers.now) }
 {
     match grid.thing() {
@@ -53,11 +48,7 @@ pub fn fetch_element<'a>(
 }
 
 /// The domain of a grid.
-pub fn fetch_domain<'a>(
-    at: Place,
-    grid: &Held,
-    answers: &'a [Told],
-) -> Result<(Held, &'a [Told]), Stop>
+pub fn fetch_domain<'a>(at: Place, grid: &Held, answers: &'a [Told]) -> Given<'a, Held>
     ensures { (through : ValueType) → Comes result (domain_of at through grid.now answers.now) }
 {
     match grid.thing() {
@@ -67,12 +58,7 @@ pub fn fetch_domain<'a>(
 }
 
 /// A view of a grid.
-pub fn fetch_view<'a>(
-    at: Place,
-    how: ViewHow,
-    grid: &Held,
-    answers: &'a [Told],
-) -> Result<(Held, &'a [Told]), Stop>
+pub fn fetch_view<'a>(at: Place, how: ViewHow, grid: &Held, answers: &'a [Told]) -> Given<'a, Held>
     ensures { (type through : ValueType) → Comes result (viewed at type how through grid.now answers.now) }
 {
     match grid.thing() {

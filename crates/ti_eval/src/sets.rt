@@ -9,7 +9,7 @@ use crate::conversions::as_domain;
 use crate::held::Held;
 use crate::kinds::Both;
 use crate::stop::Stop;
-use crate::told::Told;
+use crate::told::{Given, Told};
 use std::alloc::Global;
 use ti_base::{FaultKind, Place};
 use ti_domain::{Dom, DomErr, dom_meet, dom_minus, dom_union};
@@ -23,7 +23,7 @@ fn joined<'a>(
     d: &Dom,
     e: &Dom,
     answers: &'a [Told],
-) -> Result<(Held, &'a [Told]), Stop>
+) -> Given<'a, Held>
     requires { e.now.dim ≡ d.now.dim }
     ensures { Comes result (conversions.domain_within at d.now.dim (set_of both d.now.points e.now.points) answers.now) }
 {
@@ -47,15 +47,11 @@ pub fn of_domains<'a>(
     x: &Held,
     y: &Held,
     answers: &'a [Told],
-) -> Result<(Held, &'a [Told]), Stop>
+) -> Given<'a, Held>
     requires { HaveOneDim x.now y.now }
     ensures { Comes result (conversions.of_domains (set_of both) at x.now y.now answers.now) }
 {
-    match as_domain(alloc, at, x, answers) {
-        Ok((d, answers)) => match as_domain(alloc, at, y, answers) {
-            Ok((e, answers)) => joined(alloc, at, both, &d, &e, answers),
-            Err(stop) => Err(stop),
-        },
-        Err(stop) => Err(stop),
-    }
+    let (d, answers) = as_domain(alloc, at, x, answers)?;
+    let (e, answers) = as_domain(alloc, at, y, answers)?;
+    joined(alloc, at, both, &d, &e, answers)
 }

@@ -5,6 +5,7 @@ ghost use Rattle.ti_lang.specs.Meaning.Asking.{told as told_spec};
 ghost use Rattle.ti_eval.specs.Forms.{IsFormedAnswer};
 
 use crate::held::Held;
+use crate::stop::Stop;
 use std::marker::Model;
 use ti_base::{Answer, Value};
 
@@ -37,6 +38,9 @@ impl Told {
         Told { answer }
     }
 }
+
+/// What a computation comes to: a value and the answers that are left, or why it gives nothing yet.
+pub type Given<'a, T> = Result<(T, &'a [Told]), Stop>;
 
 /// The value that an answer holds.
 pub fn value_told(t: Told) -> Held
