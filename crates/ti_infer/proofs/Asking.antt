@@ -68,10 +68,6 @@ module _ (counts : Place → Bool) (p : NumberedProgram) (m : NumberedMethod) (m
 
   mutual
     pub asks_open : (x : NumberedExp) → open_in (asks p m inside x) ≡ not (single_under p (this_of m) (variable_under marks m singles) x)
-    asks_open (e.Int at k) = refl
-    asks_open (e.Long at k) = refl
-    asks_open (e.Truth at b) = refl
-    asks_open (e.NumProcs at) = refl
     asks_open (e.Variable at v) = variable_open v.number v.declared
     asks_open (e.Point at xs) = all_open xs
     asks_open (e.Rect at ranges) = ranges_open ranges
@@ -86,13 +82,7 @@ module _ (counts : Place → Bool) (p : NumberedProgram) (m : NumberedMethod) (m
         joined (plain_if (not (tells_of_domain (member_called p (this_of m) a name)))) (asks p m inside a ++ asks_all p m inside args)
         (tells_of_domain (member_called p (this_of m) a name)) _ (tested (tells_of_domain (member_called p (this_of m) a name)))
         (joined (asks p m inside a) (asks_all p m inside args) _ _ (asks_open a) (all_open args))
-    asks_open (e.Null at) = refl
-    asks_open (e.This at) = refl
-    asks_open (e.OwnField at field) = refl
-    asks_open (e.Call at method args) = refl
-    asks_open (e.OwnCall at method args) = refl
-    asks_open (e.ThisProc at) = refl
-    asks_open (e.Select at a name) = refl
+    asks_open _ = refl
 
     all_open : (xs : NumberedExps) → open_in (asks_all p m inside xs) ≡ not (all_under p (this_of m) (variable_under marks m singles) xs)
     all_open e.NoExp = refl

@@ -4,7 +4,7 @@ use Rattle.std.specs.Option.{option_map_or}
 use Rattle.ti_base.specs.declared.place.Place.{Place}
 use Rattle.ti_syntax.specs.declared.tree.types.Qualifier.{Qualifier}
 use Rattle.ti_syntax.specs.declared.tree.types.QualifierWord.TheVariants.{Single}
-use Rattle.ti_lang.specs.Program.Expressions.{NumberedExp, NumberedExps, place_of_numbered}
+use Rattle.ti_lang.specs.Program.Expressions.{NumberedExp, NumberedExps}
 use Rattle.ti_lang.specs.Program.Expressions as e
 use Rattle.ti_lang.specs.Program.Statements.{NumberedInit, NumberedStm, MaybeNumbered, NumberedStms, numbered_stms}
 use Rattle.ti_lang.specs.Program.Statements as st
@@ -139,22 +139,7 @@ module _ (p : NumberedProgram) (m : NumberedMethod) (v u : Marks) (part : IsPart
         let f = none_both _ _ h in
         both_held v (call_blamed p m u ws (called_method p (this_of m) (e.Member at a name args)) args) _ (method_sound_at (e.Member at a name args) args f.0)
         (rule_sound v _ _ _ S8 at (guarded (is_delete (member_called p (this_of m) a name)) (OfCollective at ∷ [])) (delete_held v a name at) (here a) f.1)
-    whole_sound (e.Int at i) h = refl
-    whole_sound (e.Long at i) h = refl
-    whole_sound (e.Truth at b) h = refl
-    whole_sound (e.Null at) h = refl
-    whole_sound (e.This at) h = refl
-    whole_sound (e.Variable at x) h = refl
-    whole_sound (e.OwnField at field) h = refl
-    whole_sound (e.ThisProc at) h = refl
-    whole_sound (e.NumProcs at) h = refl
-    whole_sound (e.Point at parts) h = refl
-    whole_sound (e.Rect at ranges) h = refl
-    whole_sound (e.Unary at op a) h = refl
-    whole_sound (e.Binary at op a b) h = refl
-    whole_sound (e.Cast at to a) h = refl
-    whole_sound (e.Select at a name) h = refl
-    whole_sound (e.Index at a parts) h = refl
+    whole_sound _ h = refl
 
     initial_sound : (x : NumberedInit) → initial_refusals (marked v p) (around_in v m vs j) (marked_init (marks_variable v m) x) ≡ [] → some_held v (initial_blamed p m u ws x) ≡ false
     initial_sound (st.Value x) h = whole_sound x h
@@ -209,13 +194,7 @@ module _ (p : NumberedProgram) (m : NumberedMethod) (v u : Marks) (part : IsPart
     own_sound (st.Foreach at variable domain body) h = loop_sound S3 at st.NoStm body domain h
     own_sound (st.Return at None) h = refl
     own_sound (st.Return at (Some x)) h = rule_sound v _ _ _ S7 at (result_reasons p m m.result) (has_result_held p m v) (here x) h
-    own_sound st.Empty h = refl
-    own_sound (st.Step at op target) h = refl
-    own_sound (st.Print at what) h = refl
-    own_sound (st.Barrier at) h = refl
-    own_sound (st.Break at) h = refl
-    own_sound (st.Continue at) h = refl
-    own_sound (st.Block body) h = refl
+    own_sound _ h = refl
 
   -- a jump out of a loop, under the part
   abbrev jump_in : MaybeNumbered → NumberedStm → Option Bool
@@ -260,17 +239,12 @@ module _ (p : NumberedProgram) (m : NumberedMethod) (v u : Marks) (part : IsPart
         (marked_exp (marks_variable u m) domain)) (loop_reasons p m st.NoStm body) body)
         (own_sound vs ws j jumping b k (st.Foreach at variable domain body) f.0)
         (stm_sound body _ _ (jump_in st.NoStm body) (loop_reasons p m st.NoStm body) (inside_beside p m v u part _ _ growth vs ws j None b variable domain) (loop_held p m v st.NoStm body) f.1)
-    stm_sound st.Empty vs ws j jumping b k h = refl
     stm_sound (st.Declare at type variable value) vs ws j jumping b k h = own_sound vs ws j jumping b k (st.Declare at type variable value) (none_both _ _ h).0
     stm_sound (st.Assign at target value) vs ws j jumping b k h = own_sound vs ws j jumping b k (st.Assign at target value) (none_both _ _ h).0
     stm_sound (st.Update at op target x) vs ws j jumping b k h = own_sound vs ws j jumping b k (st.Update at op target x) (none_both _ _ h).0
     stm_sound (st.Call x) vs ws j jumping b k h = own_sound vs ws j jumping b k (st.Call x) (none_both _ _ h).0
     stm_sound (st.Return at value) vs ws j jumping b k h = own_sound vs ws j jumping b k (st.Return at value) (none_both _ _ h).0
-    stm_sound (st.Step at op target) vs ws j jumping b k h = refl
-    stm_sound (st.Print at what) vs ws j jumping b k h = refl
-    stm_sound (st.Barrier at) vs ws j jumping b k h = refl
-    stm_sound (st.Break at) vs ws j jumping b k h = refl
-    stm_sound (st.Continue at) vs ws j jumping b k h = refl
+    stm_sound _ vs ws j jumping b k h = refl
 
     maybe_sound : (s : MaybeNumbered) (vs ws : List ScopeVariable) (j : Option Bool) (jumping : List Blame) → BesideAll vs ws → unwrap_or j false ≡ some_held v jumping
         → wrong (marked v p) (inside_maybe (marked v p) (around_in v m vs j) (marked_maybe (marks_variable v m) v.variables s)) ≡ [] → some_held v (blamed_of_maybe p m u ws jumping s) ≡ false

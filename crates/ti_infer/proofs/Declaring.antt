@@ -56,16 +56,7 @@ mutual
       (both_counted one.variables two.variables _ (count_maybe update) (count body) (past_maybe_counted one update) (past_counted two body))
   past_counted site (s.Foreach at name_at name domain body) =
       both_counted site.variables (site.variables + 1) _ 1 (count body) refl (past_counted (past_variable site) body)
-  past_counted site (s.Print at what) = none_counted site.variables
-  past_counted site s.Empty = none_counted site.variables
-  past_counted site (s.Assign at target value) = none_counted site.variables
-  past_counted site (s.Update at op target a) = none_counted site.variables
-  past_counted site (s.Step at op target) = none_counted site.variables
-  past_counted site (s.Call a) = none_counted site.variables
-  past_counted site (s.Barrier at) = none_counted site.variables
-  past_counted site (s.Break at) = none_counted site.variables
-  past_counted site (s.Continue at) = none_counted site.variables
-  past_counted site (s.Return at value) = none_counted site.variables
+  past_counted site _ = none_counted site.variables
 
   pub past_maybe_counted : (site : Site) (a : MaybeStm) → (past_maybe site a).variables ≡ site.variables + count_maybe a
   past_maybe_counted site s.NoStm = none_counted site.variables
@@ -85,16 +76,7 @@ behind_counted site (s.IfElse at c a b) = past_counted site (s.IfElse at c a b)
 behind_counted site (s.While at c body) = past_counted site (s.While at c body)
 behind_counted site (s.For at first c update body) = past_counted site (s.For at first c update body)
 behind_counted site (s.Foreach at name_at name domain body) = past_counted site (s.Foreach at name_at name domain body)
-behind_counted site (s.Print at what) = none_counted site.variables
-behind_counted site s.Empty = none_counted site.variables
-behind_counted site (s.Assign at target value) = none_counted site.variables
-behind_counted site (s.Update at op target a) = none_counted site.variables
-behind_counted site (s.Step at op target) = none_counted site.variables
-behind_counted site (s.Call a) = none_counted site.variables
-behind_counted site (s.Barrier at) = none_counted site.variables
-behind_counted site (s.Break at) = none_counted site.variables
-behind_counted site (s.Continue at) = none_counted site.variables
-behind_counted site (s.Return at value) = none_counted site.variables
+behind_counted site _ = none_counted site.variables
 
 pub behind_maybe_counted : (site : Site) (a : MaybeStm) → (behind_maybe site a).variables ≡ site.variables + count_maybe a
 behind_maybe_counted site s.NoStm = none_counted site.variables

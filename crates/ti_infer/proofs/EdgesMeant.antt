@@ -7,7 +7,7 @@ use Rattle.std.proofs.lemmas.List.Folds.{list_any-append}
 use Rattle.ti_base.specs.declared.place.Place.{Place}
 use Rattle.ti_lang.specs.Program.Expressions.{NumberedExp, NumberedExps}
 use Rattle.ti_lang.specs.Program.Expressions as e
-use Rattle.ti_lang.specs.Program.Statements.{NumberedInit, NumberedStm, MaybeNumbered, NumberedStms, numbered_stms}
+use Rattle.ti_lang.specs.Program.Statements.{NumberedInit, NumberedStm, MaybeNumbered, NumberedStms}
 use Rattle.ti_lang.specs.Program.Statements as st
 use Rattle.ti_lang.specs.Program.Classes.{NumberedParam, NumberedParams, Words, Params, NumberedMethod, NumberedProgram}
 use Rattle.ti_lang.specs.Program.Scope.{ScopeVariable, parameters_from, parameters, this_of}
@@ -276,22 +276,7 @@ module _ (f : Blame → Bool) (counts : Place → Bool) (marks : Marks) (items :
           both_fired (call_blamed p m marks vs (called_method p (this_of m) (e.Member at a name args)) args) _
           (call_edges p m whole inside (called_method p (this_of m) (e.Member at a name args)) args) _
           (call_meant (called_method p (this_of m) (e.Member at a name args)) args) (delete_meant at a (is_delete (member_called p (this_of m) a name)))
-      whole_meant (e.Int at k) = refl
-      whole_meant (e.Long at k) = refl
-      whole_meant (e.Truth at b) = refl
-      whole_meant (e.Null at) = refl
-      whole_meant (e.This at) = refl
-      whole_meant (e.Variable at v) = refl
-      whole_meant (e.OwnField at field) = refl
-      whole_meant (e.ThisProc at) = refl
-      whole_meant (e.NumProcs at) = refl
-      whole_meant (e.Point at xs) = refl
-      whole_meant (e.Rect at rs) = refl
-      whole_meant (e.Unary at o a) = refl
-      whole_meant (e.Binary at o a b) = refl
-      whole_meant (e.Cast at to a) = refl
-      whole_meant (e.Select at a name) = refl
-      whole_meant (e.Index at a xs) = refl
+      whole_meant _ = refl
 
       initial_meant : (v : NumberedInit) → list_any f (initial_blamed p m marks vs v) ≡ fired (initial_edges p m whole inside v)
       initial_meant (st.Value x) = whole_meant x
@@ -345,13 +330,7 @@ module _ (f : Blame → Bool) (counts : Place → Bool) (marks : Marks) (items :
           rule _ (asks p m (inside_at inside) domain) (loop_reasons p m st.NoStm body) (loop_targets p m whole i st.NoStm body)
           (part domain) (loop_meant i st.NoStm body h)
       own_meant i jump jumping (st.Return at value) h j = returned_meant value
-      own_meant i jump jumping st.Empty h j = refl
-      own_meant i jump jumping (st.Step at op target) h j = refl
-      own_meant i jump jumping (st.Print at what) h j = refl
-      own_meant i jump jumping (st.Barrier at) h j = refl
-      own_meant i jump jumping (st.Break at) h j = refl
-      own_meant i jump jumping (st.Continue at) h j = refl
-      own_meant i jump jumping (st.Block body) h j = refl
+      own_meant i jump jumping _ h j = refl
 
     -- in the body of a foreach
     same_types : (vs ws : List ScopeVariable) → TypesAll vs ws → SameTypes (scope_of (blame_around p m marks vs)) (record { this_class = this_of m; variables = ws })
@@ -410,14 +389,9 @@ module _ (f : Blame → Bool) (counts : Place → Bool) (marks : Marks) (items :
       edges_meant vs ws inside alike t i jump jumping (st.Declare at type variable value) h j = own_meant vs inside alike i jump jumping (st.Declare at type variable value) h j
       edges_meant vs ws inside alike t i jump jumping (st.Assign at target value) h j = own_meant vs inside alike i jump jumping (st.Assign at target value) h j
       edges_meant vs ws inside alike t i jump jumping (st.Update at op target x) h j = own_meant vs inside alike i jump jumping (st.Update at op target x) h j
-      edges_meant vs ws inside alike t i jump jumping (st.Step at op target) h j = refl
       edges_meant vs ws inside alike t i jump jumping (st.Call x) h j = own_meant vs inside alike i jump jumping (st.Call x) h j
       edges_meant vs ws inside alike t i jump jumping (st.Return at value) h j = own_meant vs inside alike i jump jumping (st.Return at value) h j
-      edges_meant vs ws inside alike t i jump jumping st.Empty h j = refl
-      edges_meant vs ws inside alike t i jump jumping (st.Print at what) h j = refl
-      edges_meant vs ws inside alike t i jump jumping (st.Barrier at) h j = refl
-      edges_meant vs ws inside alike t i jump jumping (st.Break at) h j = refl
-      edges_meant vs ws inside alike t i jump jumping (st.Continue at) h j = refl
+      edges_meant vs ws inside alike t i jump jumping _ h j = refl
 
       maybe_meant : (vs ws : List ScopeVariable) (inside : List (ℕ × List (Option Mark))) → AlikeAll counts marks vs inside → TypesAll vs ws
           → (i : ℕ) (jump : List Then) (jumping : List Blame) (s : MaybeNumbered)

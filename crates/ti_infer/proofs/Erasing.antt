@@ -130,15 +130,7 @@ module _ (singles : ℕ → Bool) where
     parts_same (e.Select at a name) = two _ _ (parts a) (e.Select at a name ∷ []) (parts_same a) refl
     parts_same (e.Member at a name args) = two _ _ (parts a ++ parts_of_all args) (e.Member at a name args ∷ []) (two _ _ (parts a) (parts_of_all args) (parts_same a) (parts_all_same args)) refl
     parts_same (e.Index at a xs) = two _ _ (parts a ++ parts_of_all xs) (e.Index at a xs ∷ []) (two _ _ (parts a) (parts_of_all xs) (parts_same a) (parts_all_same xs)) refl
-    parts_same (e.Int at n) = refl
-    parts_same (e.Long at n) = refl
-    parts_same (e.Truth at b) = refl
-    parts_same (e.Null at) = refl
-    parts_same (e.This at) = refl
-    parts_same (e.Variable at v) = refl
-    parts_same (e.OwnField at field) = refl
-    parts_same (e.ThisProc at) = refl
-    parts_same (e.NumProcs at) = refl
+    parts_same _ = refl
 
     parts_all_same : (xs : NumberedExps) → parts_of_all (marked_exps singles xs) ≡ map (marked_exp singles) (parts_of_all xs)
     parts_all_same e.NoExp = refl
@@ -198,15 +190,7 @@ module _ (marks : Marks) (p : NumberedProgram) (singles : ℕ → Bool) (s r : S
       ∙ members_same marks p at (places_of args) name y ts))
   at_same (e.Index at a xs) = ap₂ (λ x y. x ++ y) (ap₂ (λ x y. x ++ y) (misplaced_same a) (all_misplaced_same xs))
       (both_same _ _ _ _ _ _ (types a) (operands_same marks p singles s r same xs) (λ y ts. refl))
-  at_same (e.Int at n) = refl
-  at_same (e.Long at n) = refl
-  at_same (e.Truth at b) = refl
-  at_same (e.Null at) = refl
-  at_same (e.This at) = refl
-  at_same (e.Variable at v) = refl
-  at_same (e.OwnField at field) = refl
-  at_same (e.ThisProc at) = refl
-  at_same (e.NumProcs at) = refl
+  at_same _ = refl
 
   -- the same is wrong in a marked expression
   pub exp_same : (x : NumberedExp) → exp_refusals (marked marks p) s (marked_exp singles x) ≡ exp_refusals p r x

@@ -246,16 +246,7 @@ module _ (marks : Marks) (p : NumberedProgram) (m : NumberedMethod) where
         let n = ill_both (marked marks p) updates inner d.1 in
         (fit_maybe first vs j d.0, fit_maybe update vs j n.0, fit_stm body vs _ n.1)
     fit_stm (st.Foreach at number domain body) vs j h = fit_stm body _ _ (none_both _ _ h).1
-    fit_stm st.Empty vs j h = tt
-    fit_stm (st.Assign at target value) vs j h = tt
-    fit_stm (st.Update at op target e) vs j h = tt
-    fit_stm (st.Step at op target) vs j h = tt
-    fit_stm (st.Call e) vs j h = tt
-    fit_stm (st.Print at what) vs j h = tt
-    fit_stm (st.Barrier at) vs j h = tt
-    fit_stm (st.Break at) vs j h = tt
-    fit_stm (st.Continue at) vs j h = tt
-    fit_stm (st.Return at value) vs j h = tt
+    fit_stm _ vs j h = tt
 
     fit_maybe : (x : MaybeNumbered) (vs : List ScopeVariable) (j : Option Bool)
         → ill (marked marks p) (inside_maybe (marked marks p) (around_there vs j) (marked_maybe (marks_variable marks m) marks.variables x))

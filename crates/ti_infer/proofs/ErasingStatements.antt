@@ -5,9 +5,9 @@ use Rattle.ti_base.specs.declared.place.Place.{Place}
 use Rattle.ti_lang.specs.Members.{only_if}
 use Rattle.ti_lang.specs.Program.Types.{ValueType, Int, Pt, Region, Class, Grid, Declaration, Typed, Foreach}
 use Rattle.ti_lang.specs.Program.Types as t
-use Rattle.ti_lang.specs.Program.Expressions.{NumberedExp, NumberedRange, NumberedRanges, numbered_ranges, place_of_numbered}
+use Rattle.ti_lang.specs.Program.Expressions.{NumberedExp, NumberedRange, numbered_ranges}
 use Rattle.ti_lang.specs.Program.Expressions as e
-use Rattle.ti_lang.specs.Program.Statements.{NumberedDims, NumberedInit, NumberedPrint, NumberedStm, MaybeNumbered, NumberedStms}
+use Rattle.ti_lang.specs.Program.Statements.{NumberedDims, NumberedInit, NumberedPrint, NumberedStm}
 use Rattle.ti_lang.specs.Program.Statements as st
 use Rattle.ti_lang.specs.Program.Classes.{NumberedMethod, NumberedProgram}
 use Rattle.ti_lang.specs.Program.Scope.{ScopeVariable, ScopeContents}
@@ -116,66 +116,17 @@ module _ (marks : Marks) (p : NumberedProgram) (singles : ℕ → Bool) (s r : S
       by : (d : Declaration) → is_foreach_use (marked_declaration (singles v.number) d) ≡ is_foreach_use d
       by (Typed is_single type) = refl
       by Foreach = refl
-  foreach_same (e.Int at i) = refl
-  foreach_same (e.Long at i) = refl
-  foreach_same (e.Truth at b) = refl
-  foreach_same (e.Null at) = refl
-  foreach_same (e.This at) = refl
-  foreach_same (e.OwnField at field) = refl
-  foreach_same (e.Call at method args) = refl
-  foreach_same (e.OwnCall at method args) = refl
-  foreach_same (e.ThisProc at) = refl
-  foreach_same (e.NumProcs at) = refl
-  foreach_same (e.Point at xs) = refl
-  foreach_same (e.Rect at rs) = refl
-  foreach_same (e.Unary at op a) = refl
-  foreach_same (e.Binary at op a b) = refl
-  foreach_same (e.Cast at to a) = refl
-  foreach_same (e.Select at a name) = refl
-  foreach_same (e.Member at a name args) = refl
-  foreach_same (e.Index at a xs) = refl
+  foreach_same _ = refl
 
   coordinate_same : (x : NumberedExp) → is_coordinate (marked marks p) s (marked_exp singles x) ≡ is_coordinate p r x
   coordinate_same (e.Index at a xs) = ap (λ o. option_map_or is_point o false) (types a)
-  coordinate_same (e.Int at i) = refl
-  coordinate_same (e.Long at i) = refl
-  coordinate_same (e.Truth at b) = refl
-  coordinate_same (e.Null at) = refl
-  coordinate_same (e.This at) = refl
-  coordinate_same (e.Variable at v) = refl
-  coordinate_same (e.OwnField at field) = refl
-  coordinate_same (e.Call at method args) = refl
-  coordinate_same (e.OwnCall at method args) = refl
-  coordinate_same (e.ThisProc at) = refl
-  coordinate_same (e.NumProcs at) = refl
-  coordinate_same (e.Point at xs) = refl
-  coordinate_same (e.Rect at rs) = refl
-  coordinate_same (e.Unary at op a) = refl
-  coordinate_same (e.Binary at op a b) = refl
-  coordinate_same (e.Cast at to a) = refl
-  coordinate_same (e.Select at a name) = refl
-  coordinate_same (e.Member at a name args) = refl
+  coordinate_same _ = refl
 
   hidden_same : (x : NumberedExp) → is_hidden_local (marked marks p) s (marked_exp singles x) ≡ is_hidden_local p r x
   hidden_same (e.OwnField at field) = ap (λ o. maybe_local (option_and_then (λ c. field_type p c field) o)) same.this
   hidden_same (e.Select at a name) = hidden_field_same marks p _ name ∙ ap (λ o. hidden_field p o name) (types a)
   hidden_same (e.Index at a xs) = ap hidden_element (types a)
-  hidden_same (e.Int at i) = refl
-  hidden_same (e.Long at i) = refl
-  hidden_same (e.Truth at b) = refl
-  hidden_same (e.Null at) = refl
-  hidden_same (e.This at) = refl
-  hidden_same (e.Variable at v) = refl
-  hidden_same (e.Call at method args) = refl
-  hidden_same (e.OwnCall at method args) = refl
-  hidden_same (e.ThisProc at) = refl
-  hidden_same (e.NumProcs at) = refl
-  hidden_same (e.Point at xs) = refl
-  hidden_same (e.Rect at rs) = refl
-  hidden_same (e.Unary at op a) = refl
-  hidden_same (e.Binary at op a b) = refl
-  hidden_same (e.Cast at to a) = refl
-  hidden_same (e.Member at a name args) = refl
+  hidden_same _ = refl
 
   write_same : (at : Place) (x : NumberedExp) (value : List Refusal) → write_refusals (marked marks p) s at (marked_exp singles x) value ≡ write_refusals p r at x value
   write_same at x value =

@@ -84,16 +84,7 @@ module _ (p : NumberedProgram) where
         let n = ill_both p (inside_maybe p a update) inner d.1 in
         (plain_maybe first a d.0, plain_maybe update a n.0, plain_stm body (in_loop p a update body) n.1)
     plain_stm (st.Foreach at number domain body) a h = plain_stm body (in_foreach p a number domain body) (none_both _ _ h).1
-    plain_stm st.Empty a h = tt
-    plain_stm (st.Assign at target value) a h = tt
-    plain_stm (st.Update at op target e) a h = tt
-    plain_stm (st.Step at op target) a h = tt
-    plain_stm (st.Call e) a h = tt
-    plain_stm (st.Print at what) a h = tt
-    plain_stm (st.Barrier at) a h = tt
-    plain_stm (st.Break at) a h = tt
-    plain_stm (st.Continue at) a h = tt
-    plain_stm (st.Return at value) a h = tt
+    plain_stm _ a h = tt
 
     plain_maybe : (x : MaybeNumbered) (a : Around) → ill p (inside_maybe p a x) ≡ [] → FitsMaybe nothing_at x
     plain_maybe st.NoStm a h = tt
@@ -192,16 +183,7 @@ module _ (counts : Place → Bool) (marks : Marks) (items : List Blame) where
         let l = broken_both (declared_edges_maybe update) (declared_edges body) g.1 in
         (maybe_fits first h.0 g.0, maybe_fits update h.1 l.0, stm_fits body h.2 l.1)
     stm_fits (st.Foreach at variable domain body) h k = stm_fits body h k
-    stm_fits st.Empty h k = tt
-    stm_fits (st.Assign at target value) h k = tt
-    stm_fits (st.Update at op target e) h k = tt
-    stm_fits (st.Step at op target) h k = tt
-    stm_fits (st.Call e) h k = tt
-    stm_fits (st.Print at what) h k = tt
-    stm_fits (st.Barrier at) h k = tt
-    stm_fits (st.Break at) h k = tt
-    stm_fits (st.Continue at) h k = tt
-    stm_fits (st.Return at value) h k = tt
+    stm_fits _ h k = tt
 
     maybe_fits : (x : MaybeNumbered) → FitsMaybe nothing_at x → broken (declared_edges_maybe x) ≡ false → FitsMaybe marks.variables x
     maybe_fits st.NoStm h k = tt
@@ -222,16 +204,7 @@ module _ (counts : Place → Bool) (marks : Marks) (items : List Blame) where
         both_broken (declared_edges_maybe first) (declared_edges_maybe update ++ declared_edges body) (fits_maybe first h.0)
         (both_broken (declared_edges_maybe update) (declared_edges body) (fits_maybe update h.1) (fits_stm body h.2))
     fits_stm (st.Foreach at variable domain body) h = fits_stm body h
-    fits_stm st.Empty h = refl
-    fits_stm (st.Assign at target value) h = refl
-    fits_stm (st.Update at op target e) h = refl
-    fits_stm (st.Step at op target) h = refl
-    fits_stm (st.Call e) h = refl
-    fits_stm (st.Print at what) h = refl
-    fits_stm (st.Barrier at) h = refl
-    fits_stm (st.Break at) h = refl
-    fits_stm (st.Continue at) h = refl
-    fits_stm (st.Return at value) h = refl
+    fits_stm _ h = refl
 
     fits_maybe : (x : MaybeNumbered) → FitsMaybe marks.variables x → broken (declared_edges_maybe x) ≡ false
     fits_maybe st.NoStm h = refl

@@ -70,16 +70,7 @@ module _ (m n : Marks) where
     stm_together (st.While at c body) h k = stm_together body h k
     stm_together (st.For at first c update body) h k = (maybe_together first h.0 k.0, maybe_together update h.1 k.1, stm_together body h.2 k.2)
     stm_together (st.Foreach at variable domain body) h k = stm_together body h k
-    stm_together st.Empty h k = tt
-    stm_together (st.Assign at target value) h k = tt
-    stm_together (st.Update at op target e) h k = tt
-    stm_together (st.Step at op target) h k = tt
-    stm_together (st.Call e) h k = tt
-    stm_together (st.Print at what) h k = tt
-    stm_together (st.Barrier at) h k = tt
-    stm_together (st.Break at) h k = tt
-    stm_together (st.Continue at) h k = tt
-    stm_together (st.Return at value) h k = tt
+    stm_together _ h k = tt
 
     maybe_together : (x : MaybeNumbered) → FitsMaybe m.variables x → FitsMaybe n.variables x → FitsMaybe (union m n).variables x
     maybe_together st.NoStm h k = tt

@@ -43,13 +43,7 @@ module _ (p : NumberedProgram) (this : Option ℕ) (m n : Marks) (i j s t : ℕ 
         grows_behind _ _ _ _ (ap is_point (text_same m p this i a ∙ sym (text_same n p this j a))) (grows_and _ _ _ _ (part_grows a) (parts_grow xs))
     part_grows (e.Member at a name args) =
         grows_behind _ _ _ _ (ap tells_of_domain (language_same m p this i a name ∙ sym (language_same n p this j a name))) (grows_and _ _ _ _ (part_grows a) (parts_grow args))
-    part_grows (e.Null at) = λ h. h
-    part_grows (e.This at) = λ h. h
-    part_grows (e.OwnField at field) = λ h. h
-    part_grows (e.Call at method args) = λ h. h
-    part_grows (e.OwnCall at method args) = λ h. h
-    part_grows (e.ThisProc at) = λ h. h
-    part_grows (e.Select at a name) = λ h. h
+    part_grows _ = λ h. h
 
     pub parts_grow : (xs : NumberedExps) → Grows (are_single (marked m p) this s (marked_exps i xs)) (are_single (marked n p) this t (marked_exps j xs))
     parts_grow e.NoExp = λ h. h

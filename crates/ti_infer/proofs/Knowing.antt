@@ -12,7 +12,7 @@ use Rattle.ti_lang.specs.Typing.BuiltIn.{BuiltIn, member_type}
 use Rattle.ti_lang.specs.Typing.Declared.{in_scope, declared_type, field_type, named_field_type, types_of}
 use Rattle.ti_lang.specs.Typing.Fits.{casts}
 use Rattle.ti_lang.specs.Typing.Expressions as typing
-use Rattle.ti_lang.specs.Typing.Expressions.{Typed as KnownType, plain, operand, both, joined, one, point_literal, rect_literal, index_type, select_type, takes, call_type, called, member_given, member, range_count, known, operands, bound, bounds, operand_type}
+use Rattle.ti_lang.specs.Typing.Expressions.{plain, operand, both, joined, one, point_literal, rect_literal, index_type, select_type, takes, call_type, called, member_given, member, known, operands, bound, bounds, operand_type}
 use Rattle.ti_blame.specs.Marks.{Marks}
 use Rattle.ti_infer.specs.Marked.{marked_declaration, marked_exp, marked_exps, marked_range, marked_ranges, marked_param, marked_params, marked_method, marked}
 use Rattle.ti_infer.proofs.Same.{result_same, method_same, instance_same, built_in_same, count_same}
@@ -92,17 +92,11 @@ selected marks p (Some x) name = select_known marks p x name
 module _ (marks : Marks) (p : NumberedProgram) (singles : ℕ → Bool) (s r : ScopeContents) (same : SameTypes s r) where
   mutual
     pub known_same : (x : NumberedExp) → known (marked marks p) s (marked_exp singles x) ≡ known p r x
-    known_same (e.Int at n) = refl
-    known_same (e.Long at n) = refl
-    known_same (e.Truth at b) = refl
-    known_same (e.Null at) = refl
     known_same (e.This at) = ap (λ o. plain (option_map (λ c. t.Class c false) o)) same.this
     known_same (e.Variable at v) = ap plain (declared_known s r v.number (singles v.number) v.declared same)
     known_same (e.OwnField at field) = ap (λ o. plain (option_map as_global (option_and_then (λ c. field_type p c field) o))) same.this
     known_same (e.Call at method args) = ap₂ called (method_same marks p method) (operands_same args) ∙ called_known marks (slice_get p.methods method) _
     known_same (e.OwnCall at method args) = ap₂ called (method_same marks p method) (operands_same args) ∙ called_known marks (slice_get p.methods method) _
-    known_same (e.ThisProc at) = refl
-    known_same (e.NumProcs at) = refl
     known_same (e.Point at parts) = ap (λ o. plain (option_and_then point_literal o)) (operands_same parts)
     known_same (e.Rect at ranges) = ap₂ (λ n o. plain (option_and_then (rect_literal n) o)) (count_same singles ranges) (bounds_same ranges)
     known_same (e.Unary at op a) = ap (λ k. plain (option_and_then (unary_type op) (operand k))) (known_same a)
@@ -111,6 +105,7 @@ module _ (marks : Marks) (p : NumberedProgram) (singles : ℕ → Bool) (s r : S
     known_same (e.Select at a name) = ap plain (selected marks p _ name ∙ ap (λ k. option_and_then (λ y. select_type p y name) (operand k)) (known_same a))
     known_same (e.Member at a name args) = member_known marks p _ name _ ∙ ap₂ (λ k o. member p (operand k) name o) (known_same a) (operands_same args)
     known_same (e.Index at a parts) = ap₂ (λ k o. plain (both (operand k) o index_type)) (known_same a) (operands_same parts)
+    known_same _ = refl
 
     pub operands_same : (xs : NumberedExps) → operands (marked marks p) s (marked_exps singles xs) ≡ operands p r xs
     operands_same e.NoExp = refl

@@ -62,21 +62,4 @@ both_wrong p xs ys h k = flat_append (standing_single_refusals p) xs ys ∙ both
 module _ (p : NumberedProgram) (this : Option ℕ) (marks : Marks) (i : ℕ → Bool) where
   pub collective_same : (x : NumberedExp) → is_collective_call (marked marks p) this (marked_exp i x) ≡ is_collective_call p this x
   collective_same (e.Member at a name args) = ap is_collective (language_same marks p this i a name)
-  collective_same (e.Int at k) = refl
-  collective_same (e.Long at k) = refl
-  collective_same (e.Truth at b) = refl
-  collective_same (e.Null at) = refl
-  collective_same (e.This at) = refl
-  collective_same (e.Variable at v) = refl
-  collective_same (e.OwnField at field) = refl
-  collective_same (e.Call at method args) = refl
-  collective_same (e.OwnCall at method args) = refl
-  collective_same (e.ThisProc at) = refl
-  collective_same (e.NumProcs at) = refl
-  collective_same (e.Point at parts) = refl
-  collective_same (e.Rect at ranges) = refl
-  collective_same (e.Unary at o x) = refl
-  collective_same (e.Binary at o x y) = refl
-  collective_same (e.Cast at to x) = refl
-  collective_same (e.Select at x name) = refl
-  collective_same (e.Index at x parts) = refl
+  collective_same _ = refl

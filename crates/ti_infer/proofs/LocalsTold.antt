@@ -35,7 +35,6 @@ places_both n (x ∷ xs) ys = ap (option_or (place_if x.number x.place n)) (plac
 
 mutual
   names_told : (x : NumberedStm) → local_names (locals_in x) ≡ declared_names x
-  names_told (st.Declare at type variable value) = refl
   names_told (st.Block body) = names_told_all body
   names_told (st.If at c a) = names_told a
   names_told (st.IfElse at c a b) = names_both (locals_in a) (locals_in b) ∙ ap₂ (λ a b. a ++ b) (names_told a) (names_told b)
@@ -44,16 +43,7 @@ mutual
       names_both (locals_in_maybe first) (locals_in_maybe update ++ locals_in body)
       ∙ ap₂ (λ a b. a ++ b) (names_told_maybe first) (names_both (locals_in_maybe update) (locals_in body) ∙ ap₂ (λ a b. a ++ b) (names_told_maybe update) (names_told body))
   names_told (st.Foreach at variable domain body) = names_told body
-  names_told st.Empty = refl
-  names_told (st.Assign at target value) = refl
-  names_told (st.Update at op target e) = refl
-  names_told (st.Step at op target) = refl
-  names_told (st.Call e) = refl
-  names_told (st.Print at what) = refl
-  names_told (st.Barrier at) = refl
-  names_told (st.Break at) = refl
-  names_told (st.Continue at) = refl
-  names_told (st.Return at value) = refl
+  names_told _ = refl
 
   names_told_maybe : (x : MaybeNumbered) → local_names (locals_in_maybe x) ≡ declared_names_maybe x
   names_told_maybe st.NoStm = refl
@@ -76,16 +66,7 @@ mutual
       edges_both (locals_in_maybe first) (locals_in_maybe update ++ locals_in body)
       ∙ ap₂ (λ a b. a ++ b) (edges_told_maybe first) (edges_both (locals_in_maybe update) (locals_in body) ∙ ap₂ (λ a b. a ++ b) (edges_told_maybe update) (edges_told body))
   edges_told (st.Foreach at variable domain body) = edges_told body
-  edges_told st.Empty = refl
-  edges_told (st.Assign at target value) = refl
-  edges_told (st.Update at op target e) = refl
-  edges_told (st.Step at op target) = refl
-  edges_told (st.Call e) = refl
-  edges_told (st.Print at what) = refl
-  edges_told (st.Barrier at) = refl
-  edges_told (st.Break at) = refl
-  edges_told (st.Continue at) = refl
-  edges_told (st.Return at value) = refl
+  edges_told _ = refl
 
   edges_told_maybe : (x : MaybeNumbered) → local_edges (locals_in_maybe x) ≡ declared_edges_maybe x
   edges_told_maybe st.NoStm = refl
@@ -108,16 +89,7 @@ mutual
       places_both n (locals_in_maybe first) (locals_in_maybe update ++ locals_in body)
       ∙ ap₂ option_or (places_told_maybe n first) (places_both n (locals_in_maybe update) (locals_in body) ∙ ap₂ option_or (places_told_maybe n update) (places_told n body))
   places_told n (st.Foreach at variable domain body) = places_told n body
-  places_told n st.Empty = refl
-  places_told n (st.Assign at target value) = refl
-  places_told n (st.Update at op target e) = refl
-  places_told n (st.Step at op target) = refl
-  places_told n (st.Call e) = refl
-  places_told n (st.Print at what) = refl
-  places_told n (st.Barrier at) = refl
-  places_told n (st.Break at) = refl
-  places_told n (st.Continue at) = refl
-  places_told n (st.Return at value) = refl
+  places_told n _ = refl
 
   places_told_maybe : (n : ℕ) (x : MaybeNumbered) → place_among (locals_in_maybe x) n ≡ declared_place_maybe x n
   places_told_maybe n st.NoStm = refl

@@ -151,16 +151,7 @@ mutual
   stm_plain (m.While at c body) = stm_plain body
   stm_plain (m.For at first c update body) = (maybe_plain first, maybe_plain update, stm_plain body)
   stm_plain (m.Foreach at variable domain body) = stm_plain body
-  stm_plain m.Empty = tt
-  stm_plain (m.Assign at target value) = tt
-  stm_plain (m.Update at op target a) = tt
-  stm_plain (m.Step at op target) = tt
-  stm_plain (m.Call a) = tt
-  stm_plain (m.Print at what) = tt
-  stm_plain (m.Barrier at) = tt
-  stm_plain (m.Break at) = tt
-  stm_plain (m.Continue at) = tt
-  stm_plain (m.Return at value) = tt
+  stm_plain _ = tt
 
   maybe_plain : (y : MaybeNumbered) → MaybePlain (plain_maybe y)
   maybe_plain m.NoStm = tt
@@ -232,15 +223,7 @@ module _ (marks : Marks) (singles : ℕ → Bool) where
         (maybe_marked update)
         ∙ ap (m.For at (marked_maybe singles marks.variables first) (option_map (marked_exp singles) c) (marked_maybe singles marks.variables update)) (stm_marked body)
     stm_marked (m.Foreach at variable domain body) = ap (m.Foreach at variable (marked_exp singles domain)) (stm_marked body)
-    stm_marked (m.Update at op target a) = refl
-    stm_marked (m.Step at op target) = refl
-    stm_marked (m.Call a) = refl
-    stm_marked (m.Print at what) = refl
-    stm_marked (m.Return at value) = refl
-    stm_marked m.Empty = refl
-    stm_marked (m.Barrier at) = refl
-    stm_marked (m.Break at) = refl
-    stm_marked (m.Continue at) = refl
+    stm_marked _ = refl
 
     maybe_marked : (y : MaybeNumbered) → restated_maybe (marked_so marks singles) y ≡ marked_maybe singles marks.variables y
     maybe_marked m.NoStm = refl

@@ -8,7 +8,7 @@ use Rattle.ti_syntax.specs.Spelling.{IsSpelled}
 use Rattle.ti_syntax.specs.Spelling.Statements as st
 use Rattle.ti_syntax.specs.Spelling.Statements.{Declared, declared, Changed, First, Update, Stated, Items}
 use Rattle.ti_syntax.specs.Spelling.Classes as k
-use Rattle.ti_syntax.specs.Spelling.Classes.{Method, Member, Members, Class, AllClasses}
+use Rattle.ti_syntax.specs.Spelling.Classes.{Method, Members, Class, AllClasses}
 use Rattle.ti_lang.specs.Program.Statements.{NumberedStm, MaybeNumbered, NumberedStms, numbered_stms}
 use Rattle.ti_lang.specs.Program.Classes.{NumberedMethod, NumberedProgram}
 use Rattle.ti_lang.specs.Program.Scope.{this_of}
@@ -71,19 +71,13 @@ update_changes l a (st.change w) = (changed_changes _ _ w).0
 mutual
   stated_changes : (open_if : Bool) (l : List Token) (a : Stm) → Stated open_if l a → Changes a
   stated_changes open_if l a (st.block o c i w j) = items_changes _ _ w
-  stated_changes open_if l a (st.empty t i) = tt
   stated_changes open_if l a (st.if_alone t i w v) = stated_changes _ _ _ v
   stated_changes open_if l a (st.if_else t d i w v j z) = (stated_changes _ _ _ v, stated_changes _ _ _ z)
   stated_changes open_if l a (st.while t i w v) = stated_changes _ _ _ v
   stated_changes open_if l a (st.for f o p q c i j v m w n u k z) = (first_changes _ _ v, update_changes _ _ u, stated_changes _ _ _ z)
   stated_changes open_if l a (st.foreach f o t i c j k m n w v z) = stated_changes _ _ _ z
   stated_changes open_if l a (st.change t w i) = (changed_changes _ _ w).1
-  stated_changes open_if l a (st.call t w i) = tt
-  stated_changes open_if l a (st.print p o c t i j w k m) = tt
-  stated_changes open_if l a (st.barrier i d b o c t j k m n v w) = tt
-  stated_changes open_if l a (st.break b t i j) = tt
-  stated_changes open_if l a (st.continue c t i j) = tt
-  stated_changes open_if l a (st.return r t i w j) = tt
+  stated_changes open_if l a _ = tt
 
   items_changes : (l : List Token) (xs : List Stm) → Items l xs → AllChanges (stms xs)
   items_changes l xs st.no_item = tt
@@ -141,23 +135,13 @@ module _ (p : NumberedProgram) (m : NumberedMethod) where
 
   mutual
     stm_still : (site : Site) (x : Stm) (y : NumberedStm) → NumbersStm site x y → Changes x → Still p m y
-    stm_still site x y number.empty c = tt
-    stm_still site x y (number.declare b fresh room v) c = tt
-    stm_still site x y (number.assign h v) c = tt
-    stm_still site x y (number.update h i) c = tt
-    stm_still site x y (number.step h) c = tt
-    stm_still site x y (number.call h) c = tt
-    stm_still site x y (number.print h) c = tt
-    stm_still site x y number.barrier c = tt
-    stm_still site x y number.break c = tt
-    stm_still site x y number.continue c = tt
-    stm_still site x y (number.return h) c = tt
     stm_still site x y (number.block h) c = stms_still _ _ _ h c
     stm_still site x y (number.if_alone h i) c = stm_still _ _ _ i c
     stm_still site x y (number.if_else h i j) c = (stm_still _ _ _ i c.0, stm_still _ _ _ j c.1)
     stm_still site x y (number.while h i) c = stm_still _ _ _ i c
     stm_still site x y (number.for h d u i) c = let w = update_still _ _ _ u c.1 in (w.0, maybe_still _ _ _ h c.0, w.1, stm_still _ _ _ i c.2)
     stm_still site x y (number.foreach fresh room h i) c = stm_still _ _ _ i c
+    stm_still site x y _ c = tt
 
     maybe_still : (site : Site) (x : MaybeStm) (y : MaybeNumbered) → NumbersMaybeStm site x y → MaybeChanges x → StillMaybe p m y
     maybe_still site x y number.no_stm c = tt

@@ -5,7 +5,7 @@ use Rattle.std.specs.Option.{option_map_or}
 use Rattle.std.proofs.lemmas.List.Folds.{list_any-append}
 use Rattle.ti_base.specs.declared.place.Place.{Place}
 use Rattle.ti_lang.specs.Program.Types.{Declaration, Typed, Foreach}
-use Rattle.ti_lang.specs.Program.Expressions.{NumberedExp, NumberedExps, place_of_numbered}
+use Rattle.ti_lang.specs.Program.Expressions.{NumberedExp, place_of_numbered}
 use Rattle.ti_lang.specs.Program.Expressions as e
 use Rattle.ti_lang.specs.Program.Statements.{NumberedInit, NumberedStm, MaybeNumbered, NumberedStms, numbered_stms}
 use Rattle.ti_lang.specs.Program.Statements as st
@@ -103,24 +103,7 @@ module _ (p : NumberedProgram) (m : NumberedMethod) (marks : Marks) where
       by : (d : Declaration) → declared_single (λ number. false) v.number (marked_declaration (marks_variable marks m v.number) d) ≡ some_held marks (declared_reasons p m v.number d)
       by (Typed is_single type) = place_held (variable_place m v.number)
       by Foreach = refl
-  target_held (e.Int at k) = refl
-  target_held (e.Long at k) = refl
-  target_held (e.Truth at t) = refl
-  target_held (e.Null at) = refl
-  target_held (e.This at) = refl
-  target_held (e.OwnField at field) = refl
-  target_held (e.Call at method args) = refl
-  target_held (e.OwnCall at method args) = refl
-  target_held (e.ThisProc at) = refl
-  target_held (e.NumProcs at) = refl
-  target_held (e.Point at parts) = refl
-  target_held (e.Rect at ranges) = refl
-  target_held (e.Unary at o x) = refl
-  target_held (e.Binary at o x y) = refl
-  target_held (e.Cast at to x) = refl
-  target_held (e.Select at x name) = refl
-  target_held (e.Member at x name args) = refl
-  target_held (e.Index at x parts) = refl
+  target_held _ = refl
 
   -- ---- statements
 
@@ -143,11 +126,7 @@ module _ (p : NumberedProgram) (m : NumberedMethod) (marks : Marks) where
         told_together marks _ _ _ _ (reasons_of_maybe p m first) (reasons_of_maybe p m update ++ reasons p m body) (maybe_told first)
         (told_loop marks _ _ _ (told_together marks _ _ _ _ (reasons_of_maybe p m update) (reasons p m body) (maybe_told update) (stm_told body)))
     stm_told (st.Foreach at variable domain body) = told_loop marks _ _ _ (stm_told body)
-    stm_told (st.Break at) = told_same marks _ refl
-    stm_told (st.Continue at) = told_same marks _ refl
-    stm_told (st.Return at value) = told_same marks _ refl
-    stm_told st.Empty = told_same marks _ refl
-    stm_told (st.Print at what) = told_same marks _ refl
+    stm_told _ = told_same marks _ refl
 
     maybe_told : (s : MaybeNumbered) → Told marks (doings_of_maybe (marked marks p) (this_of m)
         (marked_maybe (marks_variable marks m) marks.variables s)) (reasons_of_maybe p m s) (doings_of_maybe p (this_of m) s)

@@ -135,14 +135,8 @@ module _ (r : Rewording) where
 
   base_same : (text : TextTree) (ps qs : List Qualifier) (base : Base) → has_local ps ≡ has_local qs
       → base_type (reworded_text r text) ps base ≡ base_type text qs base
-  base_same text ps qs (b.Int at) h = refl
-  base_same text ps qs (b.Long at) h = refl
-  base_same text ps qs (b.Boolean at) h = refl
-  base_same text ps qs (b.Point at n) h = refl
-  base_same text ps qs (b.RectDomain at n) h = refl
-  base_same text ps qs (b.Domain at n) h = refl
-  base_same text ps qs (b.SharedRegion at) h = refl
   base_same text ps qs (b.Named at name) h = ap₂ class_type h (class_same text name)
+  base_same text ps qs _ h = refl
 
   grids_same : (k : IsMild r) (e : ValueType) (gs : List GridTree) → grid_type e (map (reworded_grid r) gs) ≡ grid_type e gs
   grids_same k e [] = refl
@@ -161,13 +155,7 @@ module _ (r : Rewording) where
 
   pub known_same : (text : TextTree) (base : Base) → IsKnownBase text base → IsKnownBase (reworded_text r text) base
   known_same text (b.Named at name) k = (k.0, class_same text name ∙ k.1)
-  known_same text (b.Int at) k = tt
-  known_same text (b.Long at) k = tt
-  known_same text (b.Boolean at) k = tt
-  known_same text (b.Point at n) k = tt
-  known_same text (b.RectDomain at n) k = tt
-  known_same text (b.Domain at n) k = tt
-  known_same text (b.SharedRegion at) k = tt
+  known_same text _ k = tt
 
   -- ---- literals
 
@@ -180,17 +168,7 @@ module _ (r : Rewording) where
     literals_same (s.For at first a update body) =
         ap₂ (λ u v. u ++ v) (ap₂ (λ u v. u ++ v) (literals_of_same first) (literals_of_same update)) (literals_same body)
     literals_same (s.Foreach at name_at name domain body) = literals_same body
-    literals_same (s.Declare at type name value) = refl
-    literals_same (s.Print at what) = refl
-    literals_same s.Empty = refl
-    literals_same (s.Assign at target value) = refl
-    literals_same (s.Update at op target a) = refl
-    literals_same (s.Step at op target) = refl
-    literals_same (s.Call a) = refl
-    literals_same (s.Barrier at) = refl
-    literals_same (s.Break at) = refl
-    literals_same (s.Continue at) = refl
-    literals_same (s.Return at value) = refl
+    literals_same _ = refl
 
     literals_of_same : (y : MaybeStm) → literals_of (reworded_maybe r y) ≡ literals_of y
     literals_of_same s.NoStm = refl

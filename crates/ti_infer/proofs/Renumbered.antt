@@ -344,17 +344,7 @@ module _ (r : Rewording) (k : IsMild r) (u : Restating) (types : AreRetyped u r)
         ∙ ap (λ l. past l (reworded r body)) (past_maybe_same (past_maybe site first) update)
         ∙ past_same (past_maybe (past_maybe site first) update) body
     past_same site (s.Foreach at name_at name domain body) = past_same (scopes.past_variable site) body
-    past_same site (s.Declare at type name value) = refl
-    past_same site (s.Print at what) = refl
-    past_same site s.Empty = refl
-    past_same site (s.Assign at target value) = refl
-    past_same site (s.Update at op target a) = refl
-    past_same site (s.Step at op target) = refl
-    past_same site (s.Call a) = refl
-    past_same site (s.Barrier at) = refl
-    past_same site (s.Break at) = refl
-    past_same site (s.Continue at) = refl
-    past_same site (s.Return at value) = refl
+    past_same site _ = refl
 
     past_maybe_same : (site : Site) (y : MaybeStm) → past_maybe (site_there site) (reworded_maybe r y) ≡ site_there (past_maybe site y)
     past_maybe_same site s.NoStm = refl

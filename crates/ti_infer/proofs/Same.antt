@@ -136,25 +136,17 @@ count_same singles (e.MoreRange r rs) = ap (λ n. 1 + n) (count_same singles rs)
 module _ (marks : Marks) (p : NumberedProgram) (this : Option ℕ) (dims : ℕ → ℕ) (singles : ℕ → Bool) where
   mutual
     pub type_same : (x : NumberedExp) → type_at (marked marks p) this dims (marked_exp singles x) ≡ type_at p this dims x
-    type_same (e.Int at n) = refl
-    type_same (e.Long at n) = refl
-    type_same (e.Truth at b) = refl
-    type_same (e.Null at) = refl
-    type_same (e.This at) = refl
     type_same (e.Variable at v) = used_same dims v.number (singles v.number) v.declared
-    type_same (e.OwnField at field) = refl
     type_same (e.Call at method args) = called_same marks p method
     type_same (e.OwnCall at method args) = called_same marks p method
-    type_same (e.ThisProc at) = refl
-    type_same (e.NumProcs at) = refl
     type_same (e.Point at parts) = ap t.Pt (many_same singles parts)
     type_same (e.Rect at ranges) = ap t.Rc (ranges_same ranges)
     type_same (e.Unary at o x) = type_same x
     type_same (e.Binary at o x y) = ap₂ (operator_type o) (type_same x) (type_same y)
-    type_same (e.Cast at to x) = refl
     type_same (e.Select at x name) = field_same marks p name _ ∙ ap (field_seen p name) (type_same x)
     type_same (e.Member at x name args) = member_same marks p name _ ∙ ap (member_seen p name) (type_same x)
     type_same (e.Index at x parts) = ap element_seen (type_same x)
+    type_same _ = refl
 
     range_same : (r : NumberedRange) → dims_of_range (marked marks p) this dims (marked_range singles r) ≡ dims_of_range p this dims r
     range_same (e.Plain low high) = ap dim_of_type (type_same low)
@@ -172,38 +164,14 @@ text_same marks p this singles x = type_same marks p this (λ number. 1) singles
 
 behind_same : (marks : Marks) (p : NumberedProgram) (name : ℕ) (x : ValueType) → method_behind (marked marks p) x name ≡ option_map (marked_method marks) (method_behind p x name)
 behind_same marks p name (t.Class class is_local) = instance_same marks p class name
-behind_same marks p name t.Int = refl
-behind_same marks p name t.Long = refl
-behind_same marks p name t.Boolean = refl
-behind_same marks p name (t.Pt n) = refl
-behind_same marks p name (t.Rc n) = refl
-behind_same marks p name (t.Dm n) = refl
-behind_same marks p name t.Region = refl
-behind_same marks p name (t.Grid element dim is_local) = refl
-behind_same marks p name t.Null = refl
-behind_same marks p name t.Void = refl
+behind_same marks p name _ = refl
 
 pub call_same : (marks : Marks) (p : NumberedProgram) (this : Option ℕ) (singles : ℕ → Bool) (x : NumberedExp)
     → called_method (marked marks p) this (marked_exp singles x) ≡ option_map (marked_method marks) (called_method p this x)
 call_same marks p this singles (e.Call at method args) = method_same marks p method
 call_same marks p this singles (e.OwnCall at method args) = method_same marks p method
 call_same marks p this singles (e.Member at x name args) = behind_same marks p name _ ∙ ap (λ y. option_map (marked_method marks) (method_behind p y name)) (text_same marks p this singles x)
-call_same marks p this singles (e.Int at n) = refl
-call_same marks p this singles (e.Long at n) = refl
-call_same marks p this singles (e.Truth at b) = refl
-call_same marks p this singles (e.Null at) = refl
-call_same marks p this singles (e.This at) = refl
-call_same marks p this singles (e.Variable at v) = refl
-call_same marks p this singles (e.OwnField at field) = refl
-call_same marks p this singles (e.ThisProc at) = refl
-call_same marks p this singles (e.NumProcs at) = refl
-call_same marks p this singles (e.Point at parts) = refl
-call_same marks p this singles (e.Rect at ranges) = refl
-call_same marks p this singles (e.Unary at o x) = refl
-call_same marks p this singles (e.Binary at o x y) = refl
-call_same marks p this singles (e.Cast at to x) = refl
-call_same marks p this singles (e.Select at x name) = refl
-call_same marks p this singles (e.Index at x parts) = refl
+call_same marks p this singles _ = refl
 
 pub language_same : (marks : Marks) (p : NumberedProgram) (this : Option ℕ) (singles : ℕ → Bool) (x : NumberedExp) (name : ℕ)
     → member_called (marked marks p) this (marked_exp singles x) name ≡ member_called p this x name

@@ -74,22 +74,7 @@ module _ (q : Blame → Bool) where
       whole_shrinks (e.Member at a name args) =
           let o = called_method p (this_of m) (e.Member at a name args) in
           appended (call_blamed p m u ws o args) (guarded (plain_here p m u ws a) _) (call_blamed p m v vs o args) (guarded (plain_here p m v vs a) _) (call_shrinks o args) (plain a _)
-      whole_shrinks (e.Int at i) = same []
-      whole_shrinks (e.Long at i) = same []
-      whole_shrinks (e.Truth at b) = same []
-      whole_shrinks (e.Null at) = same []
-      whole_shrinks (e.This at) = same []
-      whole_shrinks (e.Variable at x) = same []
-      whole_shrinks (e.OwnField at field) = same []
-      whole_shrinks (e.ThisProc at) = same []
-      whole_shrinks (e.NumProcs at) = same []
-      whole_shrinks (e.Point at parts) = same []
-      whole_shrinks (e.Rect at ranges) = same []
-      whole_shrinks (e.Unary at op a) = same []
-      whole_shrinks (e.Binary at op a b) = same []
-      whole_shrinks (e.Cast at to a) = same []
-      whole_shrinks (e.Select at a name) = same []
-      whole_shrinks (e.Index at a parts) = same []
+      whole_shrinks _ = same []
 
       initial_shrinks : (x : NumberedInit) → Grows (list_any q (initial_blamed p m u ws x)) (list_any q (initial_blamed p m v vs x))
       initial_shrinks (st.Value x) = whole_shrinks x
@@ -122,13 +107,7 @@ module _ (q : Blame → Bool) where
       own_shrinks (st.Foreach at variable domain body) = plain domain _
       own_shrinks (st.Return at None) = same []
       own_shrinks (st.Return at (Some x)) = plain x _
-      own_shrinks st.Empty = same []
-      own_shrinks (st.Step at op target) = same []
-      own_shrinks (st.Print at what) = same []
-      own_shrinks (st.Barrier at) = same []
-      own_shrinks (st.Break at) = same []
-      own_shrinks (st.Continue at) = same []
-      own_shrinks (st.Block body) = same []
+      own_shrinks _ = same []
 
     mutual
       stm_shrinks : (s : NumberedStm) (vs ws : List ScopeVariable) (jumping : List Blame) → BesideAll vs ws → Grows (list_any q (blamed p m u ws jumping s)) (list_any q (blamed p m v vs jumping s))
@@ -165,17 +144,12 @@ module _ (q : Blame → Bool) where
           (own_shrinks vs ws jumping b (st.Foreach at variable domain body))
           (stm_shrinks body xs us (loop_reasons p m st.NoStm body) (inside_beside p m v u part _ _ growth vs ws None None b variable
           domain))
-      stm_shrinks st.Empty vs ws jumping b = same []
       stm_shrinks (st.Declare at type variable value) vs ws jumping b = own_shrinks vs ws jumping b (st.Declare at type variable value)
       stm_shrinks (st.Assign at target value) vs ws jumping b = own_shrinks vs ws jumping b (st.Assign at target value)
       stm_shrinks (st.Update at op target x) vs ws jumping b = own_shrinks vs ws jumping b (st.Update at op target x)
       stm_shrinks (st.Call x) vs ws jumping b = own_shrinks vs ws jumping b (st.Call x)
       stm_shrinks (st.Return at value) vs ws jumping b = own_shrinks vs ws jumping b (st.Return at value)
-      stm_shrinks (st.Step at op target) vs ws jumping b = same []
-      stm_shrinks (st.Print at what) vs ws jumping b = same []
-      stm_shrinks (st.Barrier at) vs ws jumping b = same []
-      stm_shrinks (st.Break at) vs ws jumping b = same []
-      stm_shrinks (st.Continue at) vs ws jumping b = same []
+      stm_shrinks _ vs ws jumping b = same []
 
       maybe_shrinks : (s : MaybeNumbered) (vs ws : List ScopeVariable) (jumping : List Blame) → BesideAll vs ws
           → Grows (list_any q (blamed_of_maybe p m u ws jumping s)) (list_any q (blamed_of_maybe p m v vs jumping s))

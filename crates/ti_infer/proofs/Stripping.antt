@@ -73,12 +73,8 @@ no_single_modifier (k ∷ ms) = by (members.is_single_word k.word) refl (no_sing
     by false e h = ap₂ (λ a b. a || b) e h
 
 static_word : (m : ModifierWord) → members.is_single_word m ≡ true → members.is_static_word m ≡ false
-static_word w.Single h = refl
 static_word w.Static h = absurd (true_false (sym h))
-static_word w.Public h = refl
-static_word w.Private h = refl
-static_word w.Protected h = refl
-static_word w.Final h = refl
+static_word _ h = refl
 
 same_static : (ms : List Modifier) → any_static (plain_modifiers ms) ≡ any_static ms
 same_static [] = refl
@@ -125,16 +121,7 @@ mutual
   are_fine (m.While at c body) = are_fine body
   are_fine (m.For at first c update body) = (maybe_fine first, maybe_fine update, are_fine body)
   are_fine (m.Foreach at variable domain body) = are_fine body
-  are_fine m.Empty = tt
-  are_fine (m.Assign at target value) = tt
-  are_fine (m.Update at op target a) = tt
-  are_fine (m.Step at op target) = tt
-  are_fine (m.Call a) = tt
-  are_fine (m.Print at what) = tt
-  are_fine (m.Barrier at) = tt
-  are_fine (m.Break at) = tt
-  are_fine (m.Continue at) = tt
-  are_fine (m.Return at value) = tt
+  are_fine _ = tt
 
   maybe_fine : (y : MaybeNumbered) → MaybeFine plainly stripping y
   maybe_fine m.NoStm = tt
@@ -167,15 +154,7 @@ mutual
       ap₂ (λ a b. m.For at a (option_map (marked_exp none_single) c) b (restated plainly body)) (maybe_plain first) (maybe_plain update)
       ∙ ap (m.For at (plain_maybe first) (option_map (marked_exp none_single) c) (plain_maybe update)) (stm_plain body)
   stm_plain (m.Foreach at variable domain body) = ap (m.Foreach at variable (marked_exp none_single domain)) (stm_plain body)
-  stm_plain (m.Update at op target a) = refl
-  stm_plain (m.Step at op target) = refl
-  stm_plain (m.Call a) = refl
-  stm_plain (m.Print at what) = refl
-  stm_plain (m.Return at value) = refl
-  stm_plain m.Empty = refl
-  stm_plain (m.Barrier at) = refl
-  stm_plain (m.Break at) = refl
-  stm_plain (m.Continue at) = refl
+  stm_plain _ = refl
 
   maybe_plain : (y : MaybeNumbered) → restated_maybe plainly y ≡ plain_maybe y
   maybe_plain m.NoStm = refl

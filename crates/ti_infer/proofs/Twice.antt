@@ -84,14 +84,7 @@ module _ (singles : ℕ → Bool) where
     exp_twice (x.Select at a name) = ap (λ y. x.Select at y name) (exp_twice a)
     exp_twice (x.Member at a name args) = ap₂ (λ y z. x.Member at y name z) (exp_twice a) (exps_twice args)
     exp_twice (x.Index at a parts) = ap₂ (λ y z. x.Index at y z) (exp_twice a) (exps_twice parts)
-    exp_twice (x.Int at n) = refl
-    exp_twice (x.Long at n) = refl
-    exp_twice (x.Truth at b) = refl
-    exp_twice (x.Null at) = refl
-    exp_twice (x.This at) = refl
-    exp_twice (x.OwnField at field) = refl
-    exp_twice (x.ThisProc at) = refl
-    exp_twice (x.NumProcs at) = refl
+    exp_twice _ = refl
 
     exps_twice : (xs : NumberedExps) → marked_exps singles (marked_exps singles xs) ≡ marked_exps singles xs
     exps_twice x.NoExp = refl

@@ -3,7 +3,7 @@ use Rattle.std.proofs.Common.{◌≡◌, ℕ, Bool, true, false, not, ◌&&◌, 
 use Rattle.ti_base.specs.declared.place.Place.{Place}
 use Rattle.ti_syntax.specs.declared.tree.types.Qualifier.{Qualifier}
 use Rattle.ti_syntax.specs.declared.tree.types.QualifierWord.TheVariants.{Single}
-use Rattle.ti_lang.specs.Program.Expressions.{NumberedExp, NumberedExps, place_of_numbered}
+use Rattle.ti_lang.specs.Program.Expressions.{NumberedExp, NumberedExps}
 use Rattle.ti_lang.specs.Program.Expressions as e
 use Rattle.ti_lang.specs.Program.Statements.{NumberedInit, NumberedStm, MaybeNumbered, NumberedStms, numbered_stms}
 use Rattle.ti_lang.specs.Program.Statements as st
@@ -83,22 +83,7 @@ module _ (p : NumberedProgram) (m : NumberedMethod) (u : Marks) where
         (guarded (plain_here p m u ws a) (guarded (is_delete (member_called p (this_of m) a name)) (OfCollective at ∷ []))) h in
         both_none _ _ (method_complete_at (e.Member at a name args) args f.0)
         (rule_complete u _ _ S8 at (guarded (is_delete (member_called p (this_of m) a name)) (OfCollective at ∷ [])) (delete_held a name at) f.1)
-    whole_complete (e.Int at i) h = refl
-    whole_complete (e.Long at i) h = refl
-    whole_complete (e.Truth at b) h = refl
-    whole_complete (e.Null at) h = refl
-    whole_complete (e.This at) h = refl
-    whole_complete (e.Variable at x) h = refl
-    whole_complete (e.OwnField at field) h = refl
-    whole_complete (e.ThisProc at) h = refl
-    whole_complete (e.NumProcs at) h = refl
-    whole_complete (e.Point at parts) h = refl
-    whole_complete (e.Rect at ranges) h = refl
-    whole_complete (e.Unary at op a) h = refl
-    whole_complete (e.Binary at op a b) h = refl
-    whole_complete (e.Cast at to a) h = refl
-    whole_complete (e.Select at a name) h = refl
-    whole_complete (e.Index at a parts) h = refl
+    whole_complete _ h = refl
 
     initial_complete : (x : NumberedInit) → some_held u (initial_blamed p m u ws x) ≡ false → initial_refusals (marked u p) (around_in u m ws j) (marked_init (marks_variable u m) x) ≡ []
     initial_complete (st.Value x) h = whole_complete x h
@@ -151,13 +136,7 @@ module _ (p : NumberedProgram) (m : NumberedMethod) (u : Marks) where
     own_complete (st.Foreach at variable domain body) h = loop_complete S3 at st.NoStm body domain h
     own_complete (st.Return at None) h = refl
     own_complete (st.Return at (Some x)) h = rule_complete u _ _ S7 at (result_reasons p m m.result) (has_result_held p m u) h
-    own_complete st.Empty h = refl
-    own_complete (st.Step at op target) h = refl
-    own_complete (st.Print at what) h = refl
-    own_complete (st.Barrier at) h = refl
-    own_complete (st.Break at) h = refl
-    own_complete (st.Continue at) h = refl
-    own_complete (st.Block body) h = refl
+    own_complete _ h = refl
 
   -- ---- statements where they stand
 
@@ -199,17 +178,12 @@ module _ (p : NumberedProgram) (m : NumberedMethod) (u : Marks) where
         (marked_exp (marks_variable u m) domain)) (loop_reasons p m st.NoStm body) body) h in
         both_none _ _ (own_complete ws j jumping k (st.Foreach at variable domain body) f.0)
         (stm_complete body _ (jump_in st.NoStm body) (loop_reasons p m st.NoStm body) (loop_held p m u st.NoStm body) f.1)
-    stm_complete st.Empty ws j jumping k h = refl
     stm_complete (st.Declare at type variable value) ws j jumping k h = both_none _ _ (own_complete ws j jumping k (st.Declare at type variable value) h) refl
     stm_complete (st.Assign at target value) ws j jumping k h = both_none _ _ (own_complete ws j jumping k (st.Assign at target value) h) refl
     stm_complete (st.Update at op target x) ws j jumping k h = both_none _ _ (own_complete ws j jumping k (st.Update at op target x) h) refl
     stm_complete (st.Call x) ws j jumping k h = both_none _ _ (own_complete ws j jumping k (st.Call x) h) refl
     stm_complete (st.Return at value) ws j jumping k h = both_none _ _ (own_complete ws j jumping k (st.Return at value) h) refl
-    stm_complete (st.Step at op target) ws j jumping k h = refl
-    stm_complete (st.Print at what) ws j jumping k h = refl
-    stm_complete (st.Barrier at) ws j jumping k h = refl
-    stm_complete (st.Break at) ws j jumping k h = refl
-    stm_complete (st.Continue at) ws j jumping k h = refl
+    stm_complete _ ws j jumping k h = refl
 
     maybe_complete : (s : MaybeNumbered) (ws : List ScopeVariable) (j : Option Bool) (jumping : List Blame) → unwrap_or j false
         ≡ some_held u jumping → some_held u (blamed_of_maybe p m u ws jumping s) ≡ false

@@ -15,10 +15,6 @@ use Rattle.ti_infer.proofs.Same.{text_same, language_same}
 module _ (p : NumberedProgram) (this : Option ℕ) (marks : Marks) (m : NumberedMethod) (s : ℕ → Bool) where
   mutual
     pub under : (x : NumberedExp) → is_single_part (marked marks p) this s (marked_exp (marks_variable marks m) x) ≡ single_under p this (variable_under marks m s) x
-    under (e.Int at k) = refl
-    under (e.Long at k) = refl
-    under (e.Truth at b) = refl
-    under (e.NumProcs at) = refl
     under (e.Variable at v) = by v.declared
       where
         by : (d : Declaration) → declared_single s v.number (marked_declaration (marks_variable marks m v.number) d) ≡ variable_under marks m s v.number d
@@ -31,13 +27,7 @@ module _ (p : NumberedProgram) (this : Option ℕ) (marks : Marks) (m : Numbered
     under (e.Cast at to a) = ap (λ x. not (is_local to.type) && x) (under a)
     under (e.Index at a xs) = ap₂ (λ x y. x && y) (ap is_point (text_same marks p this (marks_variable marks m) a)) (ap₂ (λ x y. x && y) (under a) (under_all xs))
     under (e.Member at a name args) = ap₂ (λ x y. x && y) (ap tells_of_domain (language_same marks p this (marks_variable marks m) a name)) (ap₂ (λ x y. x && y) (under a) (under_all args))
-    under (e.Null at) = refl
-    under (e.This at) = refl
-    under (e.OwnField at field) = refl
-    under (e.Call at method args) = refl
-    under (e.OwnCall at method args) = refl
-    under (e.ThisProc at) = refl
-    under (e.Select at a name) = refl
+    under _ = refl
 
     under_all : (xs : NumberedExps) → are_single (marked marks p) this s (marked_exps (marks_variable marks m) xs) ≡ all_under p this (variable_under marks m s) xs
     under_all e.NoExp = refl

@@ -118,24 +118,7 @@ module _ (test : Place → Bool) (always : Bool) where
         by : (d : Declaration) → found (declared_reasons p m v.number d) ≡ false
         by (Typed is_single type) = no_variable (variable_place m v.number)
         by Foreach = refl
-    no_target (e.Int at i) = refl
-    no_target (e.Long at i) = refl
-    no_target (e.Truth at b) = refl
-    no_target (e.Null at) = refl
-    no_target (e.This at) = refl
-    no_target (e.OwnField at field) = refl
-    no_target (e.ThisProc at) = refl
-    no_target (e.NumProcs at) = refl
-    no_target (e.Point at xs) = refl
-    no_target (e.Rect at rs) = refl
-    no_target (e.Unary at op a) = refl
-    no_target (e.Binary at op a b) = refl
-    no_target (e.Cast at to a) = refl
-    no_target (e.Select at a name) = refl
-    no_target (e.Index at a xs) = refl
-    no_target (e.Call at method args) = refl
-    no_target (e.OwnCall at method args) = refl
-    no_target (e.Member at a name args) = refl
+    no_target _ = refl
 
     no_result : (r : NumberedResult) → found (result_reasons p m r) ≡ false
     no_result c.Void = refl
@@ -179,22 +162,7 @@ module _ (test : Place → Bool) (always : Bool) where
         both (call_blamed p m marks vs (called_method p (this_of m) (e.Member at a name args)) args) _ all (no_call vs _ args)
         (behind (plain_here p m marks vs a) (guarded (is_delete (member_called p (this_of m) a name)) (OfCollective at ∷ [])) all
         (λ k. f (deleting (member_called p (this_of m) a name) at (method_reasons (called_method p (this_of m) (e.Member at a name args))) k)))
-    whole_within vs (e.Int at i) f = λ k. absurd (true_false (sym k))
-    whole_within vs (e.Long at i) f = λ k. absurd (true_false (sym k))
-    whole_within vs (e.Truth at b) f = λ k. absurd (true_false (sym k))
-    whole_within vs (e.Null at) f = λ k. absurd (true_false (sym k))
-    whole_within vs (e.This at) f = λ k. absurd (true_false (sym k))
-    whole_within vs (e.Variable at v) f = λ k. absurd (true_false (sym k))
-    whole_within vs (e.OwnField at field) f = λ k. absurd (true_false (sym k))
-    whole_within vs (e.ThisProc at) f = λ k. absurd (true_false (sym k))
-    whole_within vs (e.NumProcs at) f = λ k. absurd (true_false (sym k))
-    whole_within vs (e.Point at xs) f = λ k. absurd (true_false (sym k))
-    whole_within vs (e.Rect at rs) f = λ k. absurd (true_false (sym k))
-    whole_within vs (e.Unary at op a) f = λ k. absurd (true_false (sym k))
-    whole_within vs (e.Binary at op a b) f = λ k. absurd (true_false (sym k))
-    whole_within vs (e.Cast at to a) f = λ k. absurd (true_false (sym k))
-    whole_within vs (e.Select at a name) f = λ k. absurd (true_false (sym k))
-    whole_within vs (e.Index at a xs) f = λ k. absurd (true_false (sym k))
+    whole_within vs _ f = λ k. absurd (true_false (sym k))
 
     initial_within : (vs : List ScopeVariable) (v : NumberedInit) → Grows (found (initial_reasons p m v)) all → Grows (found (initial_blamed p m marks vs v)) all
     initial_within vs (st.Value x) f = whole_within vs x f
@@ -227,13 +195,7 @@ module _ (test : Place → Bool) (always : Bool) where
     own_within vs jumping (st.Foreach at variable domain body) h f g = behind _ (loop_reasons p m st.NoStm body) all (loop_within st.NoStm body (λ k. absurd (true_false (sym k))) g)
     own_within vs jumping (st.Return at None) h f g = λ k. absurd (true_false (sym k))
     own_within vs jumping (st.Return at (Some x)) h f g = behind _ (result_reasons p m m.result) all (λ k. absurd (true_false (sym k ∙ no_result m.result)))
-    own_within vs jumping st.Empty h f g = λ k. absurd (true_false (sym k))
-    own_within vs jumping (st.Step at op target) h f g = λ k. absurd (true_false (sym k))
-    own_within vs jumping (st.Print at what) h f g = λ k. absurd (true_false (sym k))
-    own_within vs jumping (st.Barrier at) h f g = λ k. absurd (true_false (sym k))
-    own_within vs jumping (st.Break at) h f g = λ k. absurd (true_false (sym k))
-    own_within vs jumping (st.Continue at) h f g = λ k. absurd (true_false (sym k))
-    own_within vs jumping (st.Block body) h f g = λ k. absurd (true_false (sym k))
+    own_within vs jumping _ h f g = λ k. absurd (true_false (sym k))
 
     mutual
       within : (s : NumberedStm) (vs : List ScopeVariable) (jumping : List Blame) → (always ≡ true → Still p m s)
@@ -271,12 +233,7 @@ module _ (test : Place → Bool) (always : Bool) where
       within (st.Update at op target x) vs jumping h f g = own_within vs jumping (st.Update at op target x) h f g
       within (st.Call x) vs jumping h f g = own_within vs jumping (st.Call x) h f g
       within (st.Return at value) vs jumping h f g = own_within vs jumping (st.Return at value) h f g
-      within st.Empty vs jumping h f g = λ k. absurd (true_false (sym k))
-      within (st.Step at op target) vs jumping h f g = λ k. absurd (true_false (sym k))
-      within (st.Print at what) vs jumping h f g = λ k. absurd (true_false (sym k))
-      within (st.Barrier at) vs jumping h f g = λ k. absurd (true_false (sym k))
-      within (st.Break at) vs jumping h f g = λ k. absurd (true_false (sym k))
-      within (st.Continue at) vs jumping h f g = λ k. absurd (true_false (sym k))
+      within _ vs jumping h f g = λ k. absurd (true_false (sym k))
 
       within_maybe : (s : MaybeNumbered) (vs : List ScopeVariable) (jumping : List Blame) → (always ≡ true → StillMaybe p m s)
           → Grows (found jumping) all → Grows (found (reasons_of_maybe p m s)) all
