@@ -13,7 +13,7 @@ use Rattle.ti_lang.specs.declared.typing.members.BuiltIn.{BuiltIn}
 use Rattle.ti_lang.specs.declared.typing.members.BuiltIn.TheVariants as built
 use Rattle.ti_lang.specs.Program.Expressions.{NumberedExp, NumberedExps}
 use Rattle.ti_lang.specs.Program.Expressions as exp
-use Rattle.ti_lang.specs.Program.Statements.{NumberedStm, NumberedStms, Nil, Cons}
+use Rattle.ti_lang.specs.Program.Statements.{NumberedStms, Nil, Cons}
 use Rattle.ti_lang.specs.Program.Statements as stm
 use Rattle.ti_lang.specs.Program.Scope.{this_of}
 use Rattle.ti_lang.specs.Program.Views.{expression_of}
@@ -21,35 +21,22 @@ use Rattle.ti_lang.specs.Typing.BuiltIn as member
 use Rattle.ti_lang.specs.Typing.Called.{member_called}
 use Rattle.ti_lang.specs.Typing.Seen.{built_in_of}
 use Rattle.ti_lang.specs.Meaning.Asking.{Asking}
-use Rattle.ti_lang.specs.Meaning.Calls.{Call, called}
 use Rattle.ti_lang.specs.Meaning.Evaluation.{eval}
 use Rattle.ti_lang.specs.Meaning.Moves.{receives}
 use Rattle.ti_lang.specs.Meaning.Moves as moves
 use Rattle.ti_lang.specs.Meaning.Processes.{Nowhere, Work, Do, all_before}
 use Rattle.ti_lang.specs.Meaning.Scoping.{Env}
-use Rattle.ti_lang.specs.Meaning.Statements.{valued_or_called, alone, member_alone}
+use Rattle.ti_lang.specs.Meaning.Statements.{alone, member_alone}
 use Rattle.ti_eval.specs.declared.stop.Stop.{Stop}
 use Rattle.ti_eval.specs.Comes.{ComesAs}
 use Rattle.ti_eval.specs.Places.{list_of}
 use Rattle.ti_moves.specs.declared.moves.Move.{Move}
-use Rattle.ti_moves.specs.Callees.{CallComes}
 use Rattle.ti_moves.specs.Moves.{move_of}
-use Rattle.ti_moves.specs.Receiving.{receiver_of}
 
 -- the statements of a block come before its end
 pub before_list : (b : NumberedStms) (left : List Work) → all_before b left ≡ map Do (list_of b) ++ left
 before_list Nil left = refl
 before_list (Cons x rest) left = ap (λ ws. Do x ∷ ws) (before_list rest left)
-
--- a right side that is a call
-pub called_first : (E : Env) (x : NumberedStm) (e : NumberedExp) (answers : List Answer) (r : Result (Move × Bor (List Answer)) Stop) → CallComes E x answers (Some r) (called E e)
-    → ComesAs (move_of E x) r (valued_or_called E (receiver_of x) e (called E e) answers)
-called_first E x e answers r h = subst (λ (o : Option Call). ComesAs (move_of E x) r (valued_or_called E (receiver_of x) e o answers)) (sym h.1) h.2
-
--- an expression alone that is a call
-pub called_alone : (E : Env) (e : NumberedExp) (answers : List Answer) (r : Result (Move × Bor (List Answer)) Stop) → CallComes E (stm.Call e) answers (Some r) (called E e)
-    → ComesAs (move_of E (stm.Call e)) r (alone E e (called E e) answers)
-called_alone E e answers r h = subst (λ (o : Option Call). ComesAs (move_of E (stm.Call e)) r (alone E e o answers)) (sym h.1) h.2
 
 -- ---- expressions alone that are no call
 

@@ -1,5 +1,5 @@
 -- Statements that ask for no action.
-use Rattle.std.proofs.Common.{◌≡◌, ◌∙◌, ap, sym, Bool, List, [], ◌∷◌, Option, None, Some, if◌then◌else◌}
+use Rattle.std.proofs.Common.{◌≡◌, ◌∙◌, ap, sym, Bool, List, [], ◌∷◌, Option, None, Some, IfSome, if◌then◌else◌}
 use Rattle.ti_base.specs.declared.entry.Answer.{Answer}
 use Rattle.ti_base.specs.declared.place.Place.{Place}
 use Rattle.ti_base.specs.declared.value.Value.TheVariants as v
@@ -23,6 +23,8 @@ use Rattle.ti_lang.specs.Meaning.Processes.{Variable, Receiver, Declared, Assign
 use Rattle.ti_lang.specs.Meaning.Scoping.{Env, find_variable, with_new, with_changed, type_of, declared_type}
 use Rattle.ti_lang.specs.Meaning.Statements.{initialized, valued_or_called, statement}
 use Rattle.ti_lang.specs.Meaning.Targets.{into, stored, InVariable}
+use Rattle.ti_eval.specs.declared.scalars.Scalar.{Scalar}
+use Rattle.ti_eval.specs.Scalars.{held_of_scalar}
 use Rattle.ti_moves.specs.declared.ways.Way.{Way}
 use Rattle.ti_moves.specs.Moves.{site_in}
 use Rattle.ti_moves.specs.Ways.{GoesBy, PutsBy, changed_by, move_by}
@@ -59,6 +61,13 @@ pub known_right : (E : Env) (e : NumberedExp) (h : Held) → ((m : Option Number
 known_right E e h none value r rest =
     let same : eval E e ≡ gives h = λ i a. value a i in
     ap (λ (o : Option Call). valued_or_called E r e o rest) (none (called_method E.program (this_of E.method) e)) ∙ ap (λ (right : Asking Held). receives E r right rest) same
+
+-- the same of what is computed, if it is
+pub known_if : (E : Env) (e : NumberedExp) (o : Option Scalar) → IfSome o (λ s. (m : Option NumberedMethod) → call_by e m ≡ None)
+    → IfSome o (λ s. (rest : List Answer) → eval E e rest ≡ Gives (held_of_scalar s) rest)
+    → IfSome o (λ s. (r : Receiver) (rest : List Answer) → initialized E r (stm.Value e) rest ≡ receives E r (gives (held_of_scalar s)) rest)
+known_if E e None none value = tt
+known_if E e (Some s) none value = known_right E e (held_of_scalar s) none value
 
 -- a condition whose value is known
 pub taken_alone : (E : Env) (at : Place) (c : NumberedExp) (x : NumberedStm) (b : Bool) (w : Way) → ((rest : List Answer) → eval E c rest ≡ Gives (Plain (v.Bool b)) rest)

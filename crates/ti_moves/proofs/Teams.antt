@@ -10,7 +10,7 @@ use Rattle.ti_lang.specs.Meaning.Operands.{same_points}
 use Rattle.ti_lang.specs.Meaning.Copies.{element_at}
 use Rattle.ti_lang.specs.Meaning.Collectives.{team}
 use Rattle.ti_eval.proofs.Lemmas.{tells_same}
-use Rattle.ti_moves.specs.Arriving.{last_of}
+use Rattle.ti_moves.specs.Teams.{last_of}
 
 none_among : (ps : List Point) → ((p : Point) → IsAmong ps p → ⊥) → ps ≡ []
 none_among [] h = refl

@@ -1,17 +1,26 @@
 -- What clauses see of calls in the code.
-use Rattle.std.specs.Prelude.{◌≡◌, List, Option, None, Some, Result}
-use Rattle.std.specs.Borrow.{Bor}
-use Rattle.ti_base.specs.declared.entry.Answer.{Answer}
-use Rattle.ti_lang.specs.Program.Statements.{NumberedStm}
-use Rattle.ti_lang.specs.Meaning.Calls.{Call, calling}
-use Rattle.ti_lang.specs.Meaning.Scoping.{Env}
-use Rattle.ti_eval.specs.declared.stop.Stop.{Stop}
-use Rattle.ti_eval.specs.Comes.{ComesAs}
-use Rattle.ti_moves.specs.declared.moves.Move.{Move}
-use Rattle.ti_moves.specs.Moves.{move_of}
-use Rattle.ti_moves.specs.Receiving.{receiver_of}
+use Rattle.std.specs.Prelude.{map, Option, None, Some}
+use Rattle.ti_base.specs.declared.place.Place.{Place}
+use Rattle.ti_lang.specs.Program.Expressions.{NumberedExp, numbered_exps}
+use Rattle.ti_lang.specs.Program.Expressions as e
+use Rattle.ti_lang.specs.Program.Classes.{NumberedProgram}
+use Rattle.ti_lang.specs.Program.Views.{expression_of}
+use Rattle.ti_lang.specs.Meaning.Calls as calls
+use Rattle.ti_moves.specs.declared.calls.Call.{Call}
+use Rattle.ti_moves.specs.declared.calls.Object.{Object}
+use Rattle.ti_moves.specs.declared.calls.Object.TheVariants as o
+use Rattle.ti_moves.specs.Moves.{method_at}
 
--- what a statement comes to that is a call, if it is one
-abbrev pub CallComes : Env → NumberedStm → List Answer → Option (Result (Move × Bor (List Answer)) Stop) → Option Call → Type 0
-CallComes env x answers None call = call ≡ None
-CallComes env x answers (Some r) call = (c : Call) × (call ≡ Some c) × ComesAs (move_of env x) r (calling env (receiver_of x) c answers)
+-- the object of a call at a place
+abbrev pub object_seen : Place → Object → Option NumberedExp
+object_seen at o.Missing = None
+object_seen at o.This = Some (e.This at)
+object_seen at (o.Of x) = Some (expression_of x.now)
+
+abbrev pub call_seen : NumberedProgram → Call → calls.Call
+call_seen program c = record {
+  place = c.place;
+  method = method_at program c.method;
+  object = object_seen c.place c.object;
+  args = numbered_exps (map expression_of c.args.now);
+}

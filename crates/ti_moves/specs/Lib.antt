@@ -1,9 +1,9 @@
 pub mod Arguments
-pub mod Arriving
 pub mod Callees
-pub mod Copying
 pub mod Moves
 pub mod Receiving
 pub mod Scopes
 pub mod Targets
+pub mod Teams
+pub mod Things
 pub mod Ways

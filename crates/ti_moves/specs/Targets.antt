@@ -3,15 +3,12 @@ use Rattle.std.specs.Prelude.{List}
 use Rattle.ti_base.specs.declared.place.Place.{Place}
 use Rattle.ti_base.specs.declared.value.Id.{Id}
 use Rattle.ti_base.specs.declared.action.Action.{Action}
-use Rattle.ti_syntax.specs.declared.tree.exprs.BinaryOperator.{BinaryOperator}
 use Rattle.ti_lang.specs.Program.Types.{ValueType, Void}
 use Rattle.ti_lang.specs.Program.Expressions.{NumberedExp}
 use Rattle.ti_lang.specs.Program.Expressions as e
 use Rattle.ti_lang.specs.Program.Views.{variable_of}
 use Rattle.ti_lang.specs.Meaning.Held.{Held}
 use Rattle.ti_lang.specs.Meaning.Asking.{ToBeDone, request_through, Asking, ◌>>=◌, gives, asked, needed}
-use Rattle.ti_lang.specs.Meaning.Conversions.{converted}
-use Rattle.ti_lang.specs.Meaning.Operators.{operated}
 use Rattle.ti_lang.specs.Meaning.Processes.{Variable}
 use Rattle.ti_lang.specs.Meaning.Parts.{Field, Element}
 use Rattle.ti_lang.specs.Meaning.Scoping.{Env, type_of}
@@ -38,15 +35,3 @@ written at through h put ws = do
   r ← needed at through h
   done ← asked (request_through r at (put r.thing) ToBeDone)
   gives ws
-
--- the variables in scope after a value went into a target, as one of this type
-abbrev pub converted_into : Env → Place → ValueType → target.Target → Held → Asking (List Variable)
-converted_into env at type place h = do
-  k ← converted at type h
-  target.stored env at place k
-
--- the same of what an operator makes of the value that the target held and of another one
-abbrev pub operated_into : Env → Place → BinaryOperator → ValueType → target.Target → Held → Held → Asking (List Variable)
-operated_into env at op type place old h = do
-  new ← operated at op old h
-  converted_into env at type place new

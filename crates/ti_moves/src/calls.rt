@@ -1,31 +1,34 @@
 // Calls of declared methods.
 
-ghost use Rattle.std.specs.Prelude.{◌≡◌, ◌==◌, ◌&&◌, [], Option, Some, map, not, find, position, slice_get, option_map};
+ghost use Rattle.std.specs.Prelude.{◌≡◌, ◌==◌, ◌&&◌, [], Some, map, not, find, slice_get, option_map};
 ghost use Rattle.std.specs.declared.vec.Vec.{Vec as Row};
 ghost use Rattle.std.specs.declared.alloc.Global.{Global as Heap};
+ghost use Rattle.ti_base.specs.declared.place.Place.{Place as At};
 ghost use Rattle.ti_lang.specs.Program.Types.{Typed};
 ghost use Rattle.ti_lang.specs.Program.Expressions.{numbered_exps};
 ghost use Rattle.ti_lang.specs.Program.Statements.{NumberedStm};
-ghost use Rattle.ti_lang.specs.Program.Classes.{NumberedMethod};
+ghost use Rattle.ti_lang.specs.Program.Classes.{NumberedMethod, NumberedProgram};
 ghost use Rattle.ti_lang.specs.Program.Views.{program_of, expression_of, statement_of, value_type_of, numbered_param_of};
 ghost use Rattle.ti_lang.specs.Typing.Seen.{seen};
 ghost use Rattle.ti_lang.specs.Typing.Declared.{is_static_method, instance_method};
 ghost use Rattle.ti_lang.specs.Typing.Called.{called_method, method_behind};
-ghost use Rattle.ti_lang.specs.Meaning.Held.{Held as Seen};
-ghost use Rattle.ti_lang.specs.Meaning.Asking.{Got, followed, gives};
-ghost use Rattle.ti_lang.specs.Meaning.Calls.{bound, called, call_by, maybe_needed, parameters_from, parameters_of};
+ghost use Rattle.ti_lang.specs.Meaning.Calls.{bound, maybe_eval, parameters_from, parameters_of};
+ghost use Rattle.ti_lang.specs.Meaning.Calls.{call_by as call_by_spec, called as called_spec, calling as calling_spec};
+ghost use Rattle.ti_lang.specs.Meaning.Calls.{maybe_needed as maybe_needed_spec};
 ghost use Rattle.ti_eval.specs.declared.frame.Slot.{Slot as Kept};
 ghost use Rattle.ti_eval.specs.Comes.{Comes, ComesAs};
 ghost use Rattle.ti_eval.specs.Envs.{env_of};
 ghost use Rattle.ti_eval.specs.Frames.{method_seen, slot_of, slots_of};
-ghost use Rattle.ti_moves.specs.Arguments.{given, calls_on};
-ghost use Rattle.ti_moves.specs.Callees.{CallComes};
+ghost use Rattle.ti_moves.specs.Arguments.{given};
+ghost use Rattle.ti_moves.specs.Callees.{object_seen, call_seen};
 ghost use Rattle.ti_moves.specs.Moves.{method_at, move_of};
+ghost use Rattle.ti_moves.specs.Receiving.{receiver_of};
 
 use crate::moves::Move;
 use crate::receiving::new_slot;
+use crate::things::needed;
 use std::alloc::Global;
-use ti_base::{FaultKind, Id, Memory, Place, Value};
+use ti_base::{Id, Place, Value};
 use ti_eval::{Env, Held, Slot, Stop, Told, class_of_this, converted, evaluate};
 use ti_lang::program::{Expr, Method, Param, Params, Parts, Stmt, has_static};
 use ti_lang::typing::{Seen as Kind, type_in_text};
@@ -89,13 +92,11 @@ fn is_instance(m: Option<&Method>) -> bool
 fn instance_named(program: &Parts, class: u32, name: u32) -> Option<usize>
     ensures { instance_method (program_of program.now) class name ≡ option_map (method_at (program_of program.now)) result }
 {
-    match method_named(program, class, name) {
-        Some(number) => if is_instance(method(program, number)) {
-            Some(number)
-        } else {
-            None
-        },
-        None => None,
+    let number = method_named(program, class, name)?;
+    if is_instance(method(program, number)) {
+        Some(number)
+    } else {
+        None
     }
 }
 
@@ -124,35 +125,72 @@ pub fn number_called(program: &Parts, this: Option<u32>, e: &Expr) -> Option<usi
     }
 }
 
-// ---- arguments
+// ---- which call
 
-// The parameter of a number, behind its argument. A number that 32 bits don't hold is want of memory.
-#[tactic(auto, using(ti_eval::proofs::Lemmas::steps))]
-fn slot_from<'a>(
-    alloc: Global,
-    number: usize,
-    param: &Param,
-    got: Result<(Held, &'a [Told]), Stop>,
-) -> Result<(Slot, &'a [Told]), Stop>
-    ensures { (m : Got Seen) → Comes got.entry m → ComesAs slot_of result
-        (followed m (λ h. gives (record {
-          named = record {
-            number = number;
-            declared = Typed param.now.ty.single (value_type_of param.now.ty.ty);
-          };
-          held = h;
-        }))) }
+/// The object of a call.
+#[derive(Clone, Copy)]
+pub enum Object<'p> {
+    /// A static method has none.
+    Missing,
+    This,
+    Of(&'p Expr),
+}
+
+/// A call of the method of a number.
+#[derive(Clone, Copy)]
+pub struct Call<'p> {
+    pub place: Place,
+    pub method: usize,
+    pub object: Object<'p>,
+    pub args: &'p [Expr],
+}
+
+// The call that an expression is, of the method of a number.
+#[tactic(auto, using(ti_lang::proofs::Lemmas::program_bridges))]
+fn call_by<'p>(method: usize, e: &'p Expr) -> Option<Call<'p>>
+    ensures { (program : NumberedProgram) → call_by_spec (expression_of e.now) (Some (method_at program method))
+        ≡ option_map (call_seen program) result }
 {
-    match got {
-        Ok((h, answers)) => match u32::try_from(number) {
-            Ok(number) => Ok((new_slot(alloc, &param.ty, number, h)?, answers)),
-            Err(_) => Err(Stop::Memory),
-        },
-        Err(stop) => Err(stop),
+    match e {
+        Expr::Call { place, args, .. } => Some(Call {
+            place: *place,
+            method,
+            object: Object::Missing,
+            args,
+        }),
+        Expr::OwnCall { place, args, .. } => Some(Call {
+            place: *place,
+            method,
+            object: Object::This,
+            args,
+        }),
+        Expr::Member {
+            place,
+            receiver,
+            args,
+            ..
+        } => Some(Call {
+            place: *place,
+            method,
+            object: Object::Of(receiver),
+            args,
+        }),
+        _ => None,
     }
 }
 
-/// The parameter of a number, with the value of its argument, made one of its type at once.
+/// The call that an expression is, if it is one of a declared method.
+pub fn called<'p>(env: &Env, e: &'p Expr) -> Option<Call<'p>>
+    ensures { called_spec (env_of env.now) (expression_of e.now) ≡ option_map (call_seen (program_of env.now.program.now)) result }
+{
+    let number = number_called(env.program, class_of_this(env.method), e)?;
+    call_by(number, e)
+}
+
+// ---- arguments
+
+/// The parameter of a number, with the value of its argument, made one of its type at once. A number that 32 bits
+/// don't hold is want of memory.
 #[tactic(auto, using(ti_eval::proofs::Lemmas::steps))]
 pub fn argument<'a>(
     alloc: Global,
@@ -167,13 +205,12 @@ pub fn argument<'a>(
       declared = Typed param.now.ty.single (value_type_of param.now.ty.ty);
     }) (expression_of x.now) answers.now) }
 {
-    match evaluate(alloc, env, x, answers) {
-        Ok((h, answers)) => {
-            let got = converted(alloc, x.place(), &param.ty.ty, h, answers);
-            slot_from(alloc, number, param, got)
-        }
-        Err(stop) => Err(stop),
-    }
+    let (h, answers) = evaluate(alloc, env, x, answers)?;
+    let (held, answers) = converted(alloc, x.place(), &param.ty.ty, h, answers)?;
+    let Ok(number) = u32::try_from(number) else {
+        return Err(Stop::Memory);
+    };
+    Ok((new_slot(alloc, &param.ty, number, held)?, answers))
 }
 
 // The parameters with the values of their arguments, as far as both go.
@@ -192,13 +229,9 @@ fn bind<'a>(
     let mut left = answers;
     let mut i = 0;
     while i < params.len() && i < args.len() {
-        match argument(alloc, env, i, &params[i], &args[i], left) {
-            Ok((slot, rest)) => {
-                found.push(slot)?;
-                left = rest;
-            }
-            Err(stop) => return Err(stop),
-        }
+        let (slot, rest) = argument(alloc, env, i, &params[i], &args[i], left)?;
+        found.push(slot)?;
+        left = rest;
         i += 1;
     }
     Ok((found, left))
@@ -227,104 +260,63 @@ fn parameters<'a>(
 // ---- the call
 
 // The object that an instance method needs.
-fn needed<'a>(
+#[tactic(auto, using(ti_eval::proofs::Lemmas::steps))]
+fn maybe_needed<'a>(
     at: Place,
     object: &Option<Held>,
     answers: &'a [Told],
 ) -> Result<(Option<Id>, &'a [Told]), Stop>
-    ensures { Comes result (maybe_needed at object.now answers.now) }
+    ensures { Comes result (maybe_needed_spec at object.now answers.now) }
 {
     match object {
-        Some(h) => match h.thing() {
-            Some(id) => Ok((Some(id), answers)),
-            None => Err(Stop::Fails(FaultKind::NullRef, at)),
-        },
+        Some(h) => {
+            let (id, answers) = needed(at, h, answers)?;
+            Ok((Some(id), answers))
+        }
         None => Ok((None, answers)),
     }
 }
 
-// The call of the method of a number, with the value of its object, if it has one.
+// The value of the object of a call, where it has one.
 #[tactic(auto, using(ti_eval::proofs::Lemmas::steps))]
-fn calls_with<'a, 'c>(
+fn object_of<'a>(
     alloc: Global,
     env: &Env,
-    at: Place,
-    number: usize,
-    args: &[Expr],
-    object: Option<Held>,
+    object: Object,
+    answers: &'a [Told],
+) -> Result<(Option<Held>, &'a [Told]), Stop>
+    ensures { (at : At) → Comes result (maybe_eval (env_of env.now) (object_seen at object.entry) answers.now) }
+{
+    match object {
+        Object::Missing => Ok((None, answers)),
+        Object::This => Ok((Some(Held::plain(Value::Obj(env.this))), answers)),
+        Object::Of(x) => {
+            let (h, answers) = evaluate(alloc, env, x, answers)?;
+            Ok((Some(h), answers))
+        }
+    }
+}
+
+/// What a call comes to: its object and its arguments are evaluated in order, and then `null` is refused.
+#[tactic(auto, using(ti_eval::proofs::Lemmas::steps))]
+pub fn calling<'a, 'c>(
+    alloc: Global,
+    env: &Env,
+    call: Call,
     answers: &'a [Told],
 ) -> Result<(Move<'c>, &'a [Told]), Stop>
     ensures { (x : NumberedStm) → ComesAs (move_of (env_of env.now) x) result
-        (calls_on (env_of env.now) x at number (numbered_exps (map expression_of args.now)) object answers.now) }
+        (calling_spec (env_of env.now) (receiver_of x) (call_seen (program_of env.now.program.now) call.entry) answers.now) }
 {
-    match parameters(alloc, env, method(env.program, number), args, answers) {
-        Ok((parameters, answers)) => match needed(at, &object, answers) {
-            Ok((this, answers)) => {
-                let call = Move::Calls {
-                    at,
-                    method: number,
-                    this,
-                    parameters,
-                };
-                Ok((call, answers))
-            }
-            Err(stop) => Err(stop),
-        },
-        Err(stop) => Err(stop),
-    }
-}
-
-// The call that an expression is, of the method of a number.
-fn call_of<'a, 'c>(
-    alloc: Global,
-    env: &Env,
-    number: usize,
-    e: &Expr,
-    answers: &'a [Told],
-) -> Option<Result<(Move<'c>, &'a [Told]), Stop>>
-    ensures { (x : NumberedStm) → CallComes (env_of env.now) x answers.now result
-        (call_by (expression_of e.now) (Some (method_at (program_of env.now.program.now) number))) }
-{
-    match e {
-        Expr::Call {
-            place,
-            method: _,
-            args,
-        } => Some(calls_with(alloc, env, *place, number, args, None, answers)),
-        Expr::OwnCall {
-            place,
-            method: _,
-            args,
-        } => {
-            let this = Held::plain(Value::Obj(env.this));
-            Some(calls_with(alloc, env, *place, number, args, Some(this), answers))
-        }
-        Expr::Member {
-            place,
-            receiver,
-            name: _,
-            args,
-        } => match evaluate(alloc, env, receiver, answers) {
-            Ok((h, answers)) => {
-                Some(calls_with(alloc, env, *place, number, args, Some(h), answers))
-            }
-            Err(stop) => Some(Err(stop)),
-        },
-        _ => None,
-    }
-}
-
-/// What an expression comes to that is a call of a declared method; none where it is no such call.
-pub fn call<'a, 'c>(
-    alloc: Global,
-    env: &Env,
-    e: &Expr,
-    answers: &'a [Told],
-) -> Option<Result<(Move<'c>, &'a [Told]), Stop>>
-    ensures { (x : NumberedStm) → CallComes (env_of env.now) x answers.now result (called (env_of env.now) (expression_of e.now)) }
-{
-    match number_called(env.program, class_of_this(env.method), e) {
-        Some(number) => call_of(alloc, env, number, e, answers),
-        None => None,
-    }
+    let callee = method(env.program, call.method);
+    let (object, answers) = object_of(alloc, env, call.object, answers)?;
+    let (parameters, answers) = parameters(alloc, env, callee, call.args, answers)?;
+    let (this, answers) = maybe_needed(call.place, &object, answers)?;
+    let came = Move::Calls {
+        at: call.place,
+        method: call.method,
+        this,
+        parameters,
+    };
+    Ok((came, answers))
 }

@@ -1,52 +1,90 @@
 // What processes do together, up to their arrival.
 
-ghost use Rattle.std.specs.Prelude.{◌≡◌, ◌<◌, ◌^◌, [], ◌∷◌, map, slice_index_or};
-ghost use Rattle.ti_base.specs.declared.action.Deposit.TheVariants as deposit;
+ghost use Rattle.std.specs.Prelude.{◌≡◌, ◌<◌, ◌^◌, ℕ, List, map, None};
+ghost use Rattle.ti_base.specs.declared.entry.Answer.{Answer};
 ghost use Rattle.ti_base.specs.Points.{IsPoint};
 ghost use Rattle.ti_base.specs.Rects.{IsRect, IsIn, points_of};
-ghost use Rattle.ti_lang.specs.Program.Types.{ValueType};
+ghost use Rattle.ti_lang.specs.Program.Types.{Region};
 ghost use Rattle.ti_lang.specs.Program.Expressions.{numbered_exps};
+ghost use Rattle.ti_lang.specs.Program.Expressions as exp;
+ghost use Rattle.ti_lang.specs.Program.Statements.{NumberedStm};
+ghost use Rattle.ti_lang.specs.Program.Statements as stm;
 ghost use Rattle.ti_lang.specs.Program.Views.{expression_of};
 ghost use Rattle.ti_lang.specs.Typing.Kinds.{element_of};
 ghost use Rattle.ti_lang.specs.Typing.Seen.{seen};
-ghost use Rattle.ti_lang.specs.Meaning.Held.{nothing, plain_of, as_type as as_type_spec};
-ghost use Rattle.ti_lang.specs.Meaning.Asking.{Wanted, ToBeDone, ValueOf, gives};
+ghost use Rattle.ti_lang.specs.Meaning.Held.{as_type as as_type_spec};
+ghost use Rattle.ti_lang.specs.Meaning.Asking.{Gives};
 ghost use Rattle.ti_lang.specs.Meaning.Operands.{same_points};
-ghost use Rattle.ti_lang.specs.Meaning.Processes.{Receiver, Nowhere, TakeAll};
-ghost use Rattle.ti_lang.specs.Meaning.Copies.{counted, element_at as element_at_spec};
-ghost use Rattle.ti_lang.specs.Meaning.Scoping.{type_here};
-ghost use Rattle.ti_lang.specs.Meaning.Moves as move;
+ghost use Rattle.ti_lang.specs.Meaning.Copies.{element_at as element_at_spec};
+ghost use Rattle.ti_lang.specs.Meaning.Scoping.{Env as Where, type_here};
 ghost use Rattle.ti_lang.specs.Meaning.Collectives as collectives;
 ghost use Rattle.ti_eval.specs.Comes.{Comes, ComesAs};
-ghost use Rattle.ti_eval.specs.Envs.{env_of, site_of};
-ghost use Rattle.ti_eval.specs.Frames.{reference};
-ghost use Rattle.ti_moves.specs.declared.collectives.Arrival.{Arrival as Arriving};
-ghost use Rattle.ti_moves.specs.declared.collectives.Exchange.{Exchange as Exchanging};
-ghost use Rattle.ti_moves.specs.Moves.{wait_of};
-ghost use Rattle.ti_moves.specs.Arriving.{last_of, broadcast_left, move_of_exchange, exchange_named};
+ghost use Rattle.ti_eval.specs.Envs.{env_of};
+ghost use Rattle.ti_moves.specs.Moves.{move_of, type_received};
+ghost use Rattle.ti_moves.specs.Receiving.{receiver_of};
+ghost use Rattle.ti_moves.specs.Teams.{last_of};
 
 use crate::copies::element_at;
-use crate::moves::Meeting;
+use crate::moves::{Meeting, Move};
+use crate::things::{first, needed};
 use std::alloc::Global;
-use ti_base::{Action, CollKind, Deposit, FaultKind, Id, Place, Point, Rect, Value};
-use ti_eval::{Env, Held, Stop, Team, Told, as_type, asked, evaluate, evaluate_all, type_of};
+use ti_base::{Action, CollKind, Deposit, FaultKind, Place, Point, Rect};
+use ti_eval::{Env, Held, Stop, Todo, Told, as_type, asked, evaluate, evaluate_all, type_of};
 use ti_lang::program::Expr;
 use ti_lang::typing::Seen as Kind;
 use ti_rect::rect::is_empty;
 use ti_rect::rect_make;
 
-/// An arrival, with what is given.
-#[derive(Clone, Copy)]
-pub struct Arrival {
-    pub meeting: Meeting,
-    pub deposit: Deposit,
+// An arrival without an argument.
+fn meeting(place: Place, kind: CollKind) -> Meeting
+    ensures { result ≡ record { place = place; kind = kind; arg = None } }
+{
+    Meeting {
+        place,
+        kind,
+        arg: None,
+    }
 }
 
-/// An arrival at an exchange, behind which the values of all are taken into a grid.
-#[derive(Clone, Copy)]
-pub struct Exchange {
-    pub arrival: Arrival,
-    pub grid: Id,
+// ---- barriers and regions
+
+/// `Ti.barrier()`
+pub fn meets<'c>(at: Place) -> Move<'c>
+    ensures { (env : Where) (x : NumberedStm) (rest : List Answer) → collectives.meets at rest ≡ Gives (move_of env x result) rest }
+{
+    Move::Meets {
+        meeting: meeting(at, CollKind::Barrier),
+        deposit: Deposit::Nothing,
+        todo: Todo::Inside,
+    }
+}
+
+/// `new SharedRegion()`, whose departure gives the region.
+pub fn makes_region<'c>(at: Place) -> Move<'c>
+    ensures { (env : Where) (x : NumberedStm) (rest : List Answer) → type_received env x ≡ Region
+        → collectives.makes_region (receiver_of x) at rest ≡ Gives (move_of env x result) rest }
+{
+    Move::Expects {
+        meeting: meeting(at, CollKind::MakeRegion),
+        deposit: Deposit::Nothing,
+    }
+}
+
+/// `r.delete()`
+#[tactic(auto, using(ti_eval::proofs::Lemmas::steps))]
+pub fn delete<'a, 'c>(
+    alloc: Global,
+    env: &Env,
+    at: Place,
+    receiver: &Expr,
+    answers: &'a [Told],
+) -> Result<(Move<'c>, &'a [Told]), Stop>
+    ensures { (x : NumberedStm) → ComesAs (move_of (env_of env.now) x) result
+        (collectives.deletes (env_of env.now) at (expression_of receiver.now) answers.now) }
+{
+    let (h, answers) = evaluate(alloc, env, receiver, answers)?;
+    let region = h.region();
+    Ok((Move::Deletes { at, region }, answers))
 }
 
 // ---- broadcasts
@@ -80,62 +118,36 @@ fn root_gives<'a>(
     ensures { Comes result (collectives.root_deposit (env_of env.now) root (expression_of value.now) answers.now) }
 {
     if env.team.number == root {
-        match evaluate(alloc, env, value, answers) {
-            Ok((h, answers)) => Ok((Deposit::One(h.value()), answers)),
-            Err(stop) => Err(stop),
-        }
+        let (h, answers) = evaluate(alloc, env, value, answers)?;
+        Ok((Deposit::One(h.value()), answers))
     } else {
         Ok((Deposit::Nothing, answers))
     }
 }
 
-// A broadcast, behind the value that tells its root.
-#[tactic(auto, using(ti_eval::proofs::Lemmas::steps))]
-fn broadcast_behind<'a>(
-    alloc: Global,
-    env: &Env,
-    at: Place,
-    value: &Expr,
-    h: &Held,
-    answers: &'a [Told],
-) -> Result<(Arrival, &'a [Told]), Stop>
-    ensures { (wanted : Wanted) (receiver : Receiver) → ComesAs (λ (a : Arriving). move.Meets
-        (wait_of a.meeting wanted receiver) a.deposit []) result (broadcast_left (env_of env.now) wanted receiver at
-        (expression_of value.now) h.now answers.now) }
-{
-    match root_among(env.team.procs, at, h, answers) {
-        Ok((root, answers)) => {
-            let meeting = Meeting {
-                place: at,
-                kind: CollKind::Broadcast,
-                arg: Some(root),
-            };
-            match root_gives(alloc, env, root, value, answers) {
-                Ok((deposit, answers)) => Ok((Arrival { meeting, deposit }, answers)),
-                Err(stop) => Err(stop),
-            }
-        }
-        Err(stop) => Err(stop),
-    }
-}
-
 /// `broadcast e from p`, whose departure gives the root's value.
-pub fn broadcasts<'a>(
+#[tactic(auto, using(ti_eval::proofs::Lemmas::steps))]
+pub fn broadcasts<'a, 'c>(
     alloc: Global,
     env: &Env,
     at: Place,
     value: &Expr,
     root: &Expr,
     answers: &'a [Told],
-) -> Result<(Arrival, &'a [Told]), Stop>
-    ensures { (receiver : Receiver) → ComesAs (λ (a : Arriving). move.Meets
-        (wait_of a.meeting (ValueOf (type_here (env_of env.now) (expression_of value.now))) receiver) a.deposit []) result
-        (collectives.broadcasts (env_of env.now) receiver at (expression_of value.now) (expression_of root.now) answers.now) }
+) -> Result<(Move<'c>, &'a [Told]), Stop>
+    ensures { (x : NumberedStm) → type_received (env_of env.now) x ≡ type_here (env_of env.now) (expression_of value.now)
+        → ComesAs (move_of (env_of env.now) x) result (collectives.broadcasts (env_of env.now) (receiver_of x) at
+        (expression_of value.now) (expression_of root.now) answers.now) }
 {
-    match evaluate(alloc, env, root, answers) {
-        Ok((h, answers)) => broadcast_behind(alloc, env, at, value, &h, answers),
-        Err(stop) => Err(stop),
-    }
+    let (h, answers) = evaluate(alloc, env, root, answers)?;
+    let (root, answers) = root_among(env.team.procs, at, &h, answers)?;
+    let (deposit, answers) = root_gives(alloc, env, root, value, answers)?;
+    let meeting = Meeting {
+        place: at,
+        kind: CollKind::Broadcast,
+        arg: Some(root),
+    };
+    Ok((Move::Expects { meeting, deposit }, answers))
 }
 
 // ---- exchanges
@@ -196,72 +208,32 @@ fn as_element<'p>(t: Kind<'p>, h: Held) -> Held
     }
 }
 
-// What is given: the first of the values, as that of an element.
-fn given<'p>(t: Kind<'p>, hs: Vec<Held>) -> Value
-    ensures { result ≡ plain_of (as_type_spec (element_of (seen t.entry)) (slice_index_or hs.items 0 nothing)) }
-{
-    let mut hs = hs;
-    let first = if hs.is_empty() {
-        Held::truth(false)
-    } else {
-        hs.swap_remove(0)
-    };
-    as_element(t, first).value()
-}
-
-// An exchange into a grid, if this is there and has the domain of the team.
-#[tactic(auto, using(ti_eval::proofs::Lemmas::steps))]
-fn exchange_of<'a>(
-    team: Team,
-    at: Place,
-    grid: Option<Id>,
-    value: Value,
-    answers: &'a [Told],
-) -> Result<(Exchange, &'a [Told]), Stop>
-    ensures { (t : ValueType) → ComesAs (move_of_exchange at t team.procs) result (exchange_named at t grid team.procs value answers.now) }
-{
-    match grid {
-        Some(grid) => match asked(at, Action::DomainOf { grid }, answers) {
-            Ok((d, answers)) => if is_of_team(&d.rect(), team.procs) {
-                let meeting = Meeting {
-                    place: at,
-                    kind: CollKind::Exchange,
-                    arg: None,
-                };
-                let deposit = Deposit::One(value);
-                let arrival = Arrival { meeting, deposit };
-                Ok((Exchange { arrival, grid }, answers))
-            } else {
-                Err(Stop::Fails(FaultKind::ExchangeDomain, at))
-            },
-            Err(stop) => Err(stop),
-        },
-        None => Err(Stop::Fails(FaultKind::NullRef, at)),
-    }
-}
-
 /// `a.exchange(e)`, at its place.
 #[tactic(auto, using(ti_eval::proofs::Lemmas::steps))]
-pub fn exchanges<'a>(
+pub fn exchanges<'a, 'c>(
     alloc: Global,
     env: &Env,
     at: Place,
     receiver: &Expr,
     args: &[Expr],
     answers: &'a [Told],
-) -> Result<(Exchange, &'a [Told]), Stop>
-    ensures { ComesAs (λ (x : Exchanging). move.Meets (wait_of x.arrival.meeting ToBeDone Nowhere) x.arrival.deposit
-        (TakeAll at (reference (site_of env.now) (expression_of receiver.now) x.grid) (counted 0 env.now.team.procs) ∷ [])) result
+) -> Result<(Move<'c>, &'a [Told]), Stop>
+    ensures { (name : ℕ) → ComesAs (move_of (env_of env.now) (stm.Call
+        (exp.member at (expression_of receiver.now) name (map expression_of args.now)))) result
         (collectives.exchanges (env_of env.now) at (expression_of receiver.now) (numbered_exps (map expression_of args.now)) answers.now) }
 {
-    match evaluate(alloc, env, receiver, answers) {
-        Ok((h, answers)) => {
-            let t = type_of(env, receiver);
-            match evaluate_all(alloc, env, args, answers) {
-                Ok((hs, answers)) => exchange_of(env.team, at, h.thing(), given(t, hs), answers),
-                Err(stop) => Err(stop),
-            }
-        }
-        Err(stop) => Err(stop),
+    let (h, answers) = evaluate(alloc, env, receiver, answers)?;
+    let (hs, answers) = evaluate_all(alloc, env, args, answers)?;
+    let (grid, answers) = needed(at, &h, answers)?;
+    let (d, answers) = asked(at, Action::DomainOf { grid }, answers)?;
+    if !is_of_team(&d.rect(), env.team.procs) {
+        return Err(Stop::Fails(FaultKind::ExchangeDomain, at));
     }
+    let value = as_element(type_of(env, receiver), first(hs)).value();
+    let meets = Move::Meets {
+        meeting: meeting(at, CollKind::Exchange),
+        deposit: Deposit::One(value),
+        todo: Todo::Taking { grid, next: 0 },
+    };
+    Ok((meets, answers))
 }

@@ -1,27 +1,29 @@
 // Copies of grids, and what an exchange puts into its grid.
 
-ghost use Rattle.std.specs.Prelude.{◌≡◌, ◌<◌, ◌^◌, ℕ, List, [], ◌∷◌, map, slice_index_or};
+ghost use Rattle.std.specs.Prelude.{◌≡◌, ◌<◌, ◌^◌, ℕ, List, [], ◌∷◌, map};
 ghost use Rattle.ti_base.specs.declared.point.Point.{Point as At};
 ghost use Rattle.ti_base.specs.Points.{IsPoint};
 ghost use Rattle.ti_base.specs.Rects.{IsRect};
 ghost use Rattle.ti_lang.specs.Program.Types.{ValueType};
 ghost use Rattle.ti_lang.specs.Program.Expressions.{numbered_exps};
+ghost use Rattle.ti_lang.specs.Program.Expressions as exp;
+ghost use Rattle.ti_lang.specs.Program.Statements as stm;
 ghost use Rattle.ti_lang.specs.Program.Views.{expression_of};
-ghost use Rattle.ti_lang.specs.Meaning.Held.{Held as Seen, nothing, points_in, thing_of};
-ghost use Rattle.ti_lang.specs.Meaning.Asking.{Got, followed};
-ghost use Rattle.ti_lang.specs.Meaning.Processes.{Variable, CopyAll, TakeAll};
+ghost use Rattle.ti_lang.specs.Meaning.Held.{points_in};
+ghost use Rattle.ti_lang.specs.Meaning.Processes.{CopyAll, TakeAll};
 ghost use Rattle.ti_lang.specs.Meaning.Scoping.{Env as Where};
 ghost use Rattle.ti_lang.specs.Meaning.Moves as move;
 ghost use Rattle.ti_lang.specs.Meaning.Copies as copying;
-ghost use Rattle.ti_eval.specs.Comes.{Comes, ComesAs};
-ghost use Rattle.ti_eval.specs.Envs.{env_of, site_of};
-ghost use Rattle.ti_eval.specs.Frames.{reference, first_reference};
-ghost use Rattle.ti_eval.specs.declared.frame.Copy.{Copy as Copying};
-ghost use Rattle.ti_moves.specs.Copying.{written, move_of_copy, copy_left, copy_named};
+ghost use Rattle.ti_eval.specs.Comes.{ComesAs};
+ghost use Rattle.ti_eval.specs.Envs.{env_of};
+ghost use Rattle.ti_moves.specs.Moves.{move_of};
 
+use crate::moves::Move;
+use crate::statements::goes;
+use crate::things::{first, needed};
 use std::alloc::Global;
-use ti_base::{Action, FaultKind, Id, Place, Point, Rect, Value};
-use ti_eval::{Copy, Env, Held, Stop, Told, asked, evaluate, evaluate_all};
+use ti_base::{Action, Id, Place, Point, Rect, Value};
+use ti_eval::{Copy, Env, Held, Stop, Todo, Told, asked, evaluate, evaluate_all};
 use ti_lang::program::Expr;
 use ti_rect::rect_meet;
 
@@ -40,109 +42,35 @@ fn common(r: &Rect, s: &Rect) -> Held
     }
 }
 
-// A copy between grids that are there.
-#[tactic(auto, using(ti_eval::proofs::Lemmas::steps))]
-fn copy_between<'a>(
-    at: Place,
-    to: Id,
-    from: Id,
-    answers: &'a [Told],
-) -> Result<(Copy, &'a [Told]), Stop>
-    ensures { (ws : List Variable) (t u : ValueType) → ComesAs (move_of_copy ws at t u) result
-        (copy_left ws at (record { thing = to; type = t }) (record { thing = from; type = u }) answers.now) }
-{
-    match asked(at, Action::DomainOf { grid: to }, answers) {
-        Ok((d, answers)) => match asked(at, Action::DomainOf { grid: from }, answers) {
-            Ok((e, answers)) => {
-                let domain = common(&d.rect(), &e.rect());
-                Ok((Copy { to, from, domain }, answers))
-            }
-            Err(stop) => Err(stop),
-        },
-        Err(stop) => Err(stop),
-    }
-}
-
-// A copy between grids, unless one of them isn't there.
-fn copy_of<'a>(
-    at: Place,
-    to: Option<Id>,
-    from: Option<Id>,
-    answers: &'a [Told],
-) -> Result<(Copy, &'a [Told]), Stop>
-    ensures { (ws : List Variable) (t u : ValueType) → ComesAs (move_of_copy ws at t u) result (copy_named ws at t to u from answers.now) }
-{
-    match to {
-        Some(to) => match from {
-            Some(from) => copy_between(at, to, from, answers),
-            None => Err(Stop::Fails(FaultKind::NullRef, at)),
-        },
-        None => Err(Stop::Fails(FaultKind::NullRef, at)),
-    }
-}
-
-// What the first of the values names.
-fn first_thing(hs: &[Held]) -> Option<Id>
-    ensures { result ≡ thing_of (slice_index_or hs.now 0 nothing) }
-{
-    if hs.is_empty() { None } else { hs[0].thing() }
-}
-
 /// `a.copy(b)`, at its place: both grids and the points of both.
 #[tactic(auto, using(ti_eval::proofs::Lemmas::steps))]
-pub fn copies<'a>(
+pub fn copies<'a, 'c>(
     alloc: Global,
     env: &Env,
     at: Place,
     receiver: &Expr,
     args: &[Expr],
     answers: &'a [Told],
-) -> Result<(Copy, &'a [Told]), Stop>
-    ensures { ComesAs (λ (c : Copying). move.Goes (env_of env.now).variables
-        (CopyAll at (reference (site_of env.now) (expression_of receiver.now) c.to)
-        (first_reference (site_of env.now) (numbered_exps (map expression_of args.now)) c.from) (points_in c.domain) ∷ [])) result
+) -> Result<(Move<'c>, &'a [Told]), Stop>
+    ensures { (name : ℕ) → ComesAs (move_of (env_of env.now) (stm.Call
+        (exp.member at (expression_of receiver.now) name (map expression_of args.now)))) result
         (copying.copies (env_of env.now) at (expression_of receiver.now) (numbered_exps (map expression_of args.now)) answers.now) }
 {
-    match evaluate(alloc, env, receiver, answers) {
-        Ok((h, answers)) => match evaluate_all(alloc, env, args, answers) {
-            Ok((hs, answers)) => copy_of(at, h.thing(), first_thing(&hs), answers),
-            Err(stop) => Err(stop),
-        },
-        Err(stop) => Err(stop),
-    }
+    let (h, answers) = evaluate(alloc, env, receiver, answers)?;
+    let (hs, answers) = evaluate_all(alloc, env, args, answers)?;
+    let (to, answers) = needed(at, &h, answers)?;
+    let (from, answers) = needed(at, &first(hs), answers)?;
+    let (d, answers) = asked(at, Action::DomainOf { grid: to }, answers)?;
+    let (e, answers) = asked(at, Action::DomainOf { grid: from }, answers)?;
+    let domain = common(&d.rect(), &e.rect());
+    let copy = Box::new(alloc, Copy { to, from, domain })?;
+    Ok((goes(Todo::Copying { copy, last: None }), answers))
 }
 
 // ---- elements
 
-// A value goes into an element.
-#[tactic(auto, using(ti_eval::proofs::Lemmas::steps))]
-fn write_from<'a>(
-    at: Place,
-    grid: Id,
-    index: Point,
-    got: Result<(Held, &'a [Told]), Stop>,
-) -> Result<((), &'a [Told]), Stop>
-    ensures { (t : ValueType) (end : move.Move) (m : Got Seen) → Comes got.entry m
-        → ComesAs (λ done. end) result (followed m (written at (record { thing = grid; type = t }) index end)) }
-{
-    match got {
-        Ok((h, answers)) => {
-            let value = h.value();
-            let action = Action::PutElem {
-                grid,
-                at: index,
-                value,
-            };
-            match asked(at, action, answers) {
-                Ok((_, answers)) => Ok(((), answers)),
-                Err(stop) => Err(stop),
-            }
-        }
-        Err(stop) => Err(stop),
-    }
-}
-
 /// The element at a point is read from one grid and written into the other; the other points are left.
+#[tactic(auto, using(ti_eval::proofs::Lemmas::steps))]
 pub fn copy_element<'a>(
     at: Place,
     to: Id,
@@ -154,8 +82,14 @@ pub fn copy_element<'a>(
         (λ done. move.Goes env.variables (CopyAll at (record { thing = to; type = t }) (record { thing = from; type = u }) ps ∷ [])) result
         (copying.copied env at (record { thing = to; type = t }) (record { thing = from; type = u }) (p ∷ ps) answers.now) }
 {
-    let got = asked(at, Action::GetElem { grid: from, at: p }, answers);
-    write_from(at, to, p, got)
+    let (h, answers) = asked(at, Action::GetElem { grid: from, at: p }, answers)?;
+    let action = Action::PutElem {
+        grid: to,
+        at: p,
+        value: h.value(),
+    };
+    let (_, answers) = asked(at, action, answers)?;
+    Ok(((), answers))
 }
 
 /// The element of a process in a grid of one dimension.
@@ -173,6 +107,7 @@ pub fn element_at(number: u32) -> Point
 }
 
 /// The value of a process is taken and written into the grid; those of the other processes are left.
+#[tactic(auto, using(ti_eval::proofs::Lemmas::steps))]
 pub fn take_element<'a>(
     at: Place,
     grid: Id,
@@ -184,6 +119,12 @@ pub fn take_element<'a>(
         (λ done. move.Goes env.variables (TakeAll at (record { thing = grid; type = t }) is ∷ [])) result
         (copying.taken env at (record { thing = grid; type = t }) (number ∷ is) answers.now) }
 {
-    let got = asked(at, Action::Take { who: number }, answers);
-    write_from(at, grid, element_at(number), got)
+    let (h, answers) = asked(at, Action::Take { who: number }, answers)?;
+    let action = Action::PutElem {
+        grid,
+        at: element_at(number),
+        value: h.value(),
+    };
+    let (_, answers) = asked(at, action, answers)?;
+    Ok(((), answers))
 }

@@ -12,14 +12,15 @@ mod scopes;
 mod spots;
 mod statements;
 mod targets;
+mod things;
 mod ways;
 
 pub use calls::{argument, body_of, method, number_called};
-pub use collectives::root_among;
+pub use collectives::{delete, root_among};
 pub use copies::{copy_element, take_element};
 pub use moves::{Change, Left, Meeting, Move};
 pub use receiving::{Receiver, Right, new_slot, receiver_at, receives};
 pub use scopes::leave;
 pub use spots::{condition, count, has_update, is_for, loop_place, statement_at};
-pub use statements::{delete, goes, received, returns, statement};
+pub use statements::{goes, received, returns, statement};
 pub use ways::{Way, unasked};

@@ -26,10 +26,10 @@ fn region_for<'a>(
     ensures { Comes result (makers.region_for (env_of env.now) (maybe_of expression_of region.now) answers.now) }
 {
     match region {
-        Some(x) => match evaluate(alloc, env, x, answers) {
-            Ok((h, answers)) => Ok((h.region(), answers)),
-            Err(stop) => Err(stop),
-        },
+        Some(x) => {
+            let (h, answers) = evaluate(alloc, env, x, answers)?;
+            Ok((h.region(), answers))
+        }
         None => Ok((0, answers)),
     }
 }
@@ -48,10 +48,8 @@ pub fn new_object<'a>(
 ) -> Result<(Held, &'a [Told]), Stop>
     ensures { Comes result (makers.new_object (env_of env.now) at (maybe_of expression_of region.now) class answers.now) }
 {
-    match region_for(alloc, env, region, answers) {
-        Ok((region, answers)) => asked(at, Action::NewObj { class, region }, answers),
-        Err(stop) => Err(stop),
-    }
+    let (region, answers) = region_for(alloc, env, region, answers)?;
+    asked(at, Action::NewObj { class, region }, answers)
 }
 
 // ---- grids
@@ -87,15 +85,9 @@ pub fn new_grid<'a>(
     ensures { Comes result (makers.new_grid (env_of env.now) at (maybe_of expression_of region.now) (value_type_of element.now) bracket
         (extent_of dims.now) answers.now) }
 {
-    match region_for(alloc, env, region, answers) {
-        Ok((region, answers)) => match spread(alloc, env, bracket, dims, answers) {
-            Ok((h, answers)) => {
-                let zero = zero_of_type(element);
-                let dom = h.rect();
-                asked(at, Action::NewGrid { zero, dom, region }, answers)
-            }
-            Err(stop) => Err(stop),
-        },
-        Err(stop) => Err(stop),
-    }
+    let (region, answers) = region_for(alloc, env, region, answers)?;
+    let (h, answers) = spread(alloc, env, bracket, dims, answers)?;
+    let zero = zero_of_type(element);
+    let dom = h.rect();
+    asked(at, Action::NewGrid { zero, dom, region }, answers)
 }

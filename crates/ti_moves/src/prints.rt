@@ -28,29 +28,12 @@ fn prints<'a, 'c>(
 ) -> Result<(Move<'c>, &'a [Told]), Stop>
     ensures { (env : Where) (x : NumberedStm) → ComesAs (move_of env x) result (statements.prints env at literal value answers.now) }
 {
-    match asked(at, Action::Print { literal, value }, answers) {
-        Ok((_, answers)) => Ok((goes(Todo::Inside), answers)),
-        Err(stop) => Err(stop),
-    }
-}
-
-// A line that ends with a value.
-#[tactic(auto, using(ti_eval::proofs::Lemmas::steps))]
-fn line_from<'a, 'c>(
-    at: Place,
-    literal: Option<u32>,
-    got: Result<(Held, &'a [Told]), Stop>,
-) -> Result<(Move<'c>, &'a [Told]), Stop>
-    ensures { (env : Where) (x : NumberedStm) (m : Got Seen) → Comes got.entry m
-        → ComesAs (move_of env x) result (followed m (λ h. statements.prints env at literal (Some (plain_of h)))) }
-{
-    match got {
-        Ok((h, answers)) => prints(at, literal, Some(h.value()), answers),
-        Err(stop) => Err(stop),
-    }
+    let (_, answers) = asked(at, Action::Print { literal, value }, answers)?;
+    Ok((goes(Todo::Inside), answers))
 }
 
 /// A print: first its value, then the line.
+#[tactic(auto, using(ti_eval::proofs::Lemmas::steps))]
 pub fn printed<'a, 'c>(
     alloc: Global,
     env: &Env,
@@ -64,9 +47,13 @@ pub fn printed<'a, 'c>(
     match what {
         Printed::Nothing => prints(at, None, None, answers),
         Printed::Text(literal) => prints(at, Some(*literal), None, answers),
-        Printed::Value(x) => line_from(at, None, evaluate(alloc, env, x, answers)),
+        Printed::Value(x) => {
+            let (h, answers) = evaluate(alloc, env, x, answers)?;
+            prints(at, None, Some(h.value()), answers)
+        }
         Printed::TextAndValue(literal, x) => {
-            line_from(at, Some(*literal), evaluate(alloc, env, x, answers))
+            let (h, answers) = evaluate(alloc, env, x, answers)?;
+            prints(at, Some(*literal), Some(h.value()), answers)
         }
     }
 }

@@ -1,18 +1,13 @@
 // Where the values of right sides go.
 
-ghost use Rattle.std.specs.Prelude.{◌≡◌, List, IfOk};
+ghost use Rattle.std.specs.Prelude.{◌≡◌, IfOk};
 ghost use Rattle.ti_lang.specs.Program.Types.{ValueType};
 ghost use Rattle.ti_lang.specs.Program.Expressions.{place_of_numbered};
 ghost use Rattle.ti_lang.specs.Program.Statements.{NumberedStm};
-ghost use Rattle.ti_lang.specs.Program.Views.{expression_of, type_use_of, value_type_of};
-ghost use Rattle.ti_lang.specs.Typing.Seen.{seen};
-ghost use Rattle.ti_lang.specs.Meaning.Held.{Held as Holding};
-ghost use Rattle.ti_lang.specs.Meaning.Asking.{Got, followed, gives};
-ghost use Rattle.ti_lang.specs.Meaning.Conversions as conversions;
+ghost use Rattle.ti_lang.specs.Program.Views.{expression_of, statement_of, type_use_of};
 ghost use Rattle.ti_lang.specs.Meaning.Processes as process;
-ghost use Rattle.ti_lang.specs.Meaning.Scoping.{Env as Where, with_new, type_of as type_of_spec};
-ghost use Rattle.ti_lang.specs.Meaning.Targets as targets;
-ghost use Rattle.ti_lang.specs.Meaning.Targets.{into as into_spec};
+ghost use Rattle.ti_lang.specs.Meaning.Scoping.{type_of as type_of_spec};
+ghost use Rattle.ti_lang.specs.Meaning.Targets.{held_in as held_in_spec, into as into_spec};
 ghost use Rattle.ti_lang.specs.Meaning.Moves.{receives as receives_spec};
 ghost use Rattle.ti_lang.specs.Meaning.Statements.{one_more as one_more_spec, declared_as};
 ghost use Rattle.ti_eval.specs.Comes.{Comes, ComesAs};
@@ -21,7 +16,7 @@ ghost use Rattle.ti_eval.specs.Frames.{slot_of};
 ghost use Rattle.ti_moves.specs.declared.moves.Change.{Change as Changing};
 ghost use Rattle.ti_moves.specs.Moves.{changed, move_of};
 ghost use Rattle.ti_moves.specs.Receiving.{stm_seen, receiver_seen, receiver_of, right_seen};
-ghost use Rattle.ti_moves.specs.Targets.{target_of, converted_into, operated_into};
+ghost use Rattle.ti_moves.specs.Targets.{target_of};
 
 use crate::moves::{Change, Left, Move};
 use crate::targets::{Target, as_typed, held_in, located, stored};
@@ -30,7 +25,6 @@ use ti_base::{Memory, Place};
 use ti_eval::{Env, Held, Slot, Stop, Todo, Told, converted, evaluate, operated, type_of};
 use ti_lang::program::{Declared, Expr, Stmt, TypeUse, Variable};
 use ti_lang::tree::{BinaryOperator, StepOperator};
-use ti_lang::typing::Seen;
 
 /// Where the value of a right side goes.
 #[derive(Clone, Copy)]
@@ -72,48 +66,51 @@ pub fn one_more(operator: StepOperator) -> BinaryOperator
     }
 }
 
-/// Where the value of a statement's right side goes.
+// Where the value of a statement's right side goes.
+fn receiver_in<'c>(s: &'c Stmt) -> Receiver<'c>
+    ensures { receiver_seen result ≡ receiver_of (statement_of s.now) }
+{
+    match s {
+        Stmt::Declare {
+            place,
+            ty,
+            variable,
+            ..
+        } => Receiver::Declared {
+            at: *place,
+            ty,
+            variable: *variable,
+        },
+        Stmt::Assign { place, target, .. } => Receiver::Assigned { at: *place, target },
+        Stmt::Update {
+            place,
+            operator,
+            target,
+            ..
+        } => Receiver::Updated {
+            at: *place,
+            operator: *operator,
+            target,
+        },
+        Stmt::Step {
+            place,
+            operator,
+            target,
+        } => Receiver::Updated {
+            at: *place,
+            operator: one_more(*operator),
+            target,
+        },
+        _ => Receiver::Nowhere,
+    }
+}
+
+/// Where the value of a statement's right side goes; an empty one stands for none.
 pub fn receiver_at<'c>(x: Option<&'c Stmt>) -> Receiver<'c>
     ensures { receiver_seen result ≡ receiver_of (stm_seen x.entry) }
 {
     match x {
-        Some(s) => match s {
-            Stmt::Declare {
-                place,
-                ty,
-                variable,
-                value: _,
-            } => Receiver::Declared {
-                at: *place,
-                ty,
-                variable: *variable,
-            },
-            Stmt::Assign {
-                place,
-                target,
-                value: _,
-            } => Receiver::Assigned { at: *place, target },
-            Stmt::Update {
-                place,
-                operator,
-                target,
-                value: _,
-            } => Receiver::Updated {
-                at: *place,
-                operator: *operator,
-                target,
-            },
-            Stmt::Step {
-                place,
-                operator,
-                target,
-            } => Receiver::Updated {
-                at: *place,
-                operator: one_more(*operator),
-                target,
-            },
-            _ => Receiver::Nowhere,
-        },
+        Some(s) => receiver_in(s),
         None => Receiver::Nowhere,
     }
 }
@@ -147,145 +144,84 @@ pub fn new_slot(alloc: Global, ty: &TypeUse, number: u32, held: Held) -> Result<
     Ok(Slot { variable, held })
 }
 
-// A new variable that holds the value as one of its type.
+// What a right side comes to goes into a new variable, as one of its type.
 #[tactic(auto, using(ti_eval::proofs::Lemmas::steps))]
-fn declared_from<'a, 'c>(
+fn declared<'a, 'c>(
     alloc: Global,
+    env: &Env,
     at: Place,
     ty: &TypeUse,
     variable: u32,
-    got: Result<(Held, &'a [Told]), Stop>,
+    right: Right,
+    answers: &'a [Told],
 ) -> Result<(Change<'c>, &'a [Told]), Stop>
-    ensures { (ws : List process.Variable) (m : Got Holding) → Comes got.entry m
-        → ComesAs (λ (c : Changing). changed c ws) result (followed m
-        (λ h rest. followed (conversions.converted at (value_type_of ty.now.ty) h rest)
-        (λ k. gives (with_new (declared_as (type_use_of ty.now) variable) k ws)))) }
+    ensures { ComesAs (λ (c : Changing). changed c (env_of env.now).variables) result
+        (into_spec (env_of env.now) (process.Declared at (declared_as (type_use_of ty.now) variable))
+        (right_seen (env_of env.now) right.entry) answers.now) }
 {
-    match got {
-        Ok((h, answers)) => match converted(alloc, at, &ty.ty, h, answers) {
-            Ok((held, answers)) => {
-                let slot = new_slot(alloc, ty, variable, held)?;
-                Ok((Change::New(slot), answers))
-            }
-            Err(stop) => Err(stop),
-        },
-        Err(stop) => Err(stop),
-    }
+    let (h, answers) = value_of(alloc, env, right, answers)?;
+    let (held, answers) = converted(alloc, at, &ty.ty, h, answers)?;
+    let slot = new_slot(alloc, ty, variable, held)?;
+    Ok((Change::New(slot), answers))
 }
 
 // ---- into a target
 
-// The value goes into the target as one of its type.
+// What a right side comes to goes into a target, as one of its type.
 #[tactic(auto, using(ti_eval::proofs::Lemmas::steps))]
-fn assigned_from<'a, 'c, 'p>(
-    alloc: Global,
-    at: Place,
-    t: Seen<'p>,
-    place: &Target<'c>,
-    got: Result<(Held, &'a [Told]), Stop>,
-) -> Result<(Change<'c>, &'a [Told]), Stop>
-    ensures { (env : Where) (through : ValueType) (m : Got Holding) → Comes got.entry m
-        → ComesAs (λ (c : Changing). changed c env.variables) result
-        (followed m (λ h. converted_into env at (seen t.entry) (target_of through place.now) h)) }
-{
-    match got {
-        Ok((h, answers)) => match as_typed(alloc, at, t, h, answers) {
-            Ok((k, answers)) => stored(at, place, k, answers),
-            Err(stop) => Err(stop),
-        },
-        Err(stop) => Err(stop),
-    }
-}
-
-// What a right side comes to goes into the target.
-#[tactic(auto, using(ti_eval::proofs::Lemmas::steps))]
-fn assigned_at<'a, 'c>(
+fn assigned<'a, 'c>(
     alloc: Global,
     env: &Env,
     at: Place,
     target: &'c Expr,
     right: Right,
-    got: Result<(Target<'c>, &'a [Told]), Stop>,
+    answers: &'a [Told],
 ) -> Result<(Change<'c>, &'a [Told]), Stop>
-    ensures { (through : ValueType) (m : Got targets.Target) → ComesAs (target_of through) got.entry m
-        → ComesAs (λ (c : Changing). changed c (env_of env.now).variables) result
-        (followed m (λ place rest. followed (right_seen (env_of env.now) right.entry rest)
-        (λ h. converted_into (env_of env.now) at (type_of_spec (env_of env.now) (expression_of target.now)) place h))) }
+    ensures { ComesAs (λ (c : Changing). changed c (env_of env.now).variables) result
+        (into_spec (env_of env.now) (process.Assigned at (expression_of target.now)) (right_seen (env_of env.now) right.entry)
+        answers.now) }
 {
-    match got {
-        Ok((place, answers)) => {
-            let got = value_of(alloc, env, right, answers);
-            assigned_from(alloc, at, type_of(env, target), &place, got)
-        }
-        Err(stop) => Err(stop),
-    }
+    let (place, answers) = located(alloc, env, target, answers)?;
+    let (h, answers) = value_of(alloc, env, right, answers)?;
+    let (k, answers) = as_typed(alloc, at, type_of(env, target), h, answers)?;
+    stored(at, &place, k, answers)
 }
 
-// ---- into a target, by an operator
-
-// What the operator makes of the value that the target held and of what a right side comes to goes into the target.
-#[tactic(auto, using(ti_eval::proofs::Lemmas::steps))]
-fn updated_from<'a, 'c, 'p>(
+// What the target that an expression names holds.
+fn held_at<'a>(
     alloc: Global,
     env: &Env,
-    at: Place,
-    operator: BinaryOperator,
-    t: Seen<'p>,
-    place: &Target<'c>,
-    right: Right,
-    got: Result<(Held, &'a [Told]), Stop>,
-) -> Result<(Change<'c>, &'a [Told]), Stop>
-    ensures { (through : ValueType) (m : Got Holding) → Comes got.entry m
-        → ComesAs (λ (c : Changing). changed c (env_of env.now).variables) result
-        (followed m (λ old left. followed (right_seen (env_of env.now) right.entry left)
-        (λ h. operated_into (env_of env.now) at operator (seen t.entry) (target_of through place.now) old h))) }
+    e: &Expr,
+    target: &Target,
+    answers: &'a [Told],
+) -> Result<(Held, &'a [Told]), Stop>
+    ensures { (through : ValueType) → Comes result (held_in_spec (env_of env.now) (place_of_numbered (expression_of e.now))
+        (type_of_spec (env_of env.now) (expression_of e.now)) (target_of through target.now) answers.now) }
 {
-    match got {
-        Ok((old, answers)) => match value_of(alloc, env, right, answers) {
-            Ok((h, answers)) => {
-                let got = operated(alloc, at, operator, &old, h, answers);
-                assigned_from(alloc, at, t, place, got)
-            }
-            Err(stop) => Err(stop),
-        },
-        Err(stop) => Err(stop),
-    }
+    held_in(alloc, env, e.place(), target, answers)
 }
 
-// The same with what the target holds.
+// The same by an operator, of what the target held before and of what the right side comes to.
 #[tactic(auto, using(ti_eval::proofs::Lemmas::steps))]
-fn updated_at<'a, 'c>(
+fn updated<'a, 'c>(
     alloc: Global,
     env: &Env,
     at: Place,
     operator: BinaryOperator,
     target: &'c Expr,
     right: Right,
-    got: Result<(Target<'c>, &'a [Told]), Stop>,
+    answers: &'a [Told],
 ) -> Result<(Change<'c>, &'a [Told]), Stop>
-    ensures { (through : ValueType) (m : Got targets.Target) → ComesAs (target_of through) got.entry m
-        → ComesAs (λ (c : Changing). changed c (env_of env.now).variables) result
-        (followed m (λ place left. followed (targets.held_in (env_of env.now) (place_of_numbered (expression_of target.now))
-        (type_of_spec (env_of env.now) (expression_of target.now)) place left)
-        (λ old more. followed (right_seen (env_of env.now) right.entry more)
-        (λ h. operated_into (env_of env.now) at operator (type_of_spec (env_of env.now) (expression_of target.now)) place old h)))) }
+    ensures { ComesAs (λ (c : Changing). changed c (env_of env.now).variables) result
+        (into_spec (env_of env.now) (process.Updated at operator (expression_of target.now)) (right_seen (env_of env.now) right.entry)
+        answers.now) }
 {
-    match got {
-        Ok((place, answers)) => {
-            let got = held_in(alloc, env, target.place(), &place, answers);
-            updated_from(
-                alloc,
-                env,
-                at,
-                operator,
-                type_of(env, target),
-                &place,
-                right,
-                got,
-            )
-        }
-        Err(stop) => Err(stop),
-    }
+    let (place, answers) = located(alloc, env, target, answers)?;
+    let (old, answers) = held_at(alloc, env, target, &place, answers)?;
+    let (h, answers) = value_of(alloc, env, right, answers)?;
+    let (new, answers) = operated(alloc, at, operator, &old, h, answers)?;
+    let (k, answers) = as_typed(alloc, at, type_of(env, target), new, answers)?;
+    stored(at, &place, k, answers)
 }
 
 // ---- any receiver
@@ -303,26 +239,19 @@ pub fn into<'a, 'c>(
         (into_spec (env_of env.now) (receiver_seen receiver.entry) (right_seen (env_of env.now) right.entry) answers.now) }
 {
     match receiver {
-        Receiver::Nowhere => match value_of(alloc, env, right, answers) {
-            Ok((_, answers)) => Ok((Change::Same, answers)),
-            Err(stop) => Err(stop),
-        },
+        Receiver::Nowhere => {
+            let (_, answers) = value_of(alloc, env, right, answers)?;
+            Ok((Change::Same, answers))
+        }
         Receiver::Declared { at, ty, variable } => {
-            let got = value_of(alloc, env, right, answers);
-            declared_from(alloc, at, ty, variable, got)
+            declared(alloc, env, at, ty, variable, right, answers)
         }
-        Receiver::Assigned { at, target } => {
-            let got = located(alloc, env, target, answers);
-            assigned_at(alloc, env, at, target, right, got)
-        }
+        Receiver::Assigned { at, target } => assigned(alloc, env, at, target, right, answers),
         Receiver::Updated {
             at,
             operator,
             target,
-        } => {
-            let got = located(alloc, env, target, answers);
-            updated_at(alloc, env, at, operator, target, right, got)
-        }
+        } => updated(alloc, env, at, operator, target, right, answers),
     }
 }
 
@@ -338,8 +267,6 @@ pub fn receives<'a, 'c>(
     ensures { (x : NumberedStm) → ComesAs (move_of (env_of env.now) x) result
         (receives_spec (env_of env.now) (receiver_seen receiver.entry) (right_seen (env_of env.now) right.entry) answers.now) }
 {
-    match into(alloc, env, receiver, right, answers) {
-        Ok((change, answers)) => Ok((Move::Goes(change, Left::Of(Todo::Inside)), answers)),
-        Err(stop) => Err(stop),
-    }
+    let (change, answers) = into(alloc, env, receiver, right, answers)?;
+    Ok((Move::Goes(change, Left::Of(Todo::Inside)), answers))
 }

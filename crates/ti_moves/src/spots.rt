@@ -24,10 +24,7 @@ use ti_lang::program::{Expr, Stmt};
 fn item<'c>(list: &'c [Stmt], n: usize) -> Option<&'c Stmt>
     ensures { stm_seen result ≡ unwrap_or (slice_get (map statement_of list.now) n) Empty }
 {
-    match list.get(n) {
-        Some(s) => Some(s),
-        None => None,
-    }
+    list.get(n)
 }
 
 // The part of a body of a method.

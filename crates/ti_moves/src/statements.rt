@@ -20,7 +20,7 @@ ghost use Rattle.ti_lang.specs.Meaning.Conversions as conversions;
 ghost use Rattle.ti_lang.specs.Meaning.Processes.{Nowhere, Do};
 ghost use Rattle.ti_lang.specs.Meaning.Scoping.{Env as Where};
 ghost use Rattle.ti_lang.specs.Meaning.Evaluation.{eval};
-ghost use Rattle.ti_lang.specs.Meaning.Calls.{called};
+ghost use Rattle.ti_lang.specs.Meaning.Calls.{called as called_spec};
 ghost use Rattle.ti_lang.specs.Meaning.Copies as copying;
 ghost use Rattle.ti_lang.specs.Meaning.Collectives as collectives;
 ghost use Rattle.ti_lang.specs.Meaning.Moves.{receives as receives_spec};
@@ -32,15 +32,15 @@ ghost use Rattle.ti_eval.specs.Frames.{Site, method_seen, work_of};
 ghost use Rattle.ti_moves.specs.Moves.{move_of, site_in, works_of, type_received, type_given};
 ghost use Rattle.ti_moves.specs.Receiving.{stm_seen, receiver_of};
 
-use crate::calls::call;
-use crate::collectives::{broadcasts, exchanges};
+use crate::calls::{called, calling};
+use crate::collectives::{broadcasts, delete, exchanges, makes_region, meets};
 use crate::copies::copies;
 use crate::makers::{new_grid, new_object};
-use crate::moves::{Change, Left, Meeting, Move};
+use crate::moves::{Change, Left, Move};
 use crate::prints::printed;
 use crate::receiving::{Receiver, Right, receiver_at, receives};
 use std::alloc::Global;
-use ti_base::{CollKind, Deposit, Place, Value};
+use ti_base::{Place, Value};
 use ti_eval::{Env, Held, Part, Stop, Todo, Told, called_member, converted, evaluate};
 use ti_lang::program::{Expr, Init, Method, ResultType, Stmt, Ty};
 use ti_lang::typing::BuiltIn;
@@ -50,17 +50,6 @@ pub fn goes<'c>(todo: Todo) -> Move<'c>
     ensures { (env : Where) (x : NumberedStm) → move_of env x result ≡ move.Goes env.variables (work_of (site_in env) x todo) }
 {
     Move::Goes(Change::Same, Left::Of(todo))
-}
-
-// An arrival without an argument.
-fn meeting(place: Place, kind: CollKind) -> Meeting
-    ensures { result ≡ record { place = place; kind = kind; arg = None } }
-{
-    Meeting {
-        place,
-        kind,
-        arg: None,
-    }
 }
 
 // ---- right sides
@@ -75,60 +64,16 @@ fn valued<'a, 'c>(
 ) -> Result<(Move<'c>, &'a [Told]), Stop>
     ensures { ComesAs (move_of (env_of env.now) (statement_of s.now)) result
         (statements.valued_or_called (env_of env.now) (receiver_of (statement_of s.now)) (expression_of e.now)
-        (called (env_of env.now) (expression_of e.now)) answers.now) }
+        (called_spec (env_of env.now) (expression_of e.now)) answers.now) }
 {
-    match call(alloc, env, e, answers) {
-        Some(came) => came,
+    match called(env, e) {
+        Some(call) => calling(alloc, env, call, answers),
         None => receives(alloc, env, receiver_at(Some(s)), Right::Value(e), answers),
     }
 }
 
-// A thing that was made goes to where the statement wants it.
-#[tactic(auto, using(ti_eval::proofs::Lemmas::steps))]
-fn made<'a, 'c>(
-    alloc: Global,
-    env: &Env,
-    s: &'c Stmt,
-    got: Result<(Held, &'a [Told]), Stop>,
-) -> Result<(Move<'c>, &'a [Told]), Stop>
-    ensures { (m : Got Seen) → Comes got.entry m → ComesAs (move_of (env_of env.now) (statement_of s.now)) result
-        (followed m (λ h. receives_spec (env_of env.now) (receiver_of (statement_of s.now)) (gives h))) }
-{
-    match got {
-        Ok((h, answers)) => received(alloc, env, Some(s), &h, answers),
-        Err(stop) => Err(stop),
-    }
-}
-
-// The statement waits for the value of the root of a broadcast.
-fn broadcast<'a, 'c>(
-    alloc: Global,
-    env: &Env,
-    s: &'c Stmt,
-    at: Place,
-    value: &Expr,
-    root: &Expr,
-    answers: &'a [Told],
-) -> Result<(Move<'c>, &'a [Told]), Stop>
-    requires { type_received (env_of env.now) (statement_of s.now)
-        ≡ type_given (env_of env.now) (stm.Broadcast at (expression_of value.now) (expression_of root.now)) }
-    ensures { ComesAs (move_of (env_of env.now) (statement_of s.now)) result
-        (collectives.broadcasts (env_of env.now) (receiver_of (statement_of s.now)) at (expression_of value.now)
-        (expression_of root.now) answers.now) }
-{
-    match broadcasts(alloc, env, at, value, root, answers) {
-        Ok((arrival, answers)) => Ok((
-            Move::Expects {
-                meeting: arrival.meeting,
-                deposit: arrival.deposit,
-            },
-            answers,
-        )),
-        Err(stop) => Err(stop),
-    }
-}
-
 // The right side of a declaration or an assignment.
+#[tactic(auto, using(ti_eval::proofs::Lemmas::steps))]
 fn initialized<'a, 'c>(
     alloc: Global,
     env: &Env,
@@ -142,20 +87,14 @@ fn initialized<'a, 'c>(
 {
     match value {
         Init::Value(e) => valued(alloc, env, s, e, answers),
-        Init::NewRegion(place) => Ok((
-            Move::Expects {
-                meeting: meeting(*place, CollKind::MakeRegion),
-                deposit: Deposit::Nothing,
-            },
-            answers,
-        )),
+        Init::NewRegion(place) => Ok((makes_region(*place), answers)),
         Init::NewObject {
             place,
             region,
             class,
         } => {
-            let got = new_object(alloc, env, *place, region, *class, answers);
-            made(alloc, env, s, got)
+            let (h, answers) = new_object(alloc, env, *place, region, *class, answers)?;
+            received(alloc, env, Some(s), &h, answers)
         }
         Init::NewGrid {
             place,
@@ -164,7 +103,7 @@ fn initialized<'a, 'c>(
             bracket,
             dims,
         } => {
-            let got = new_grid(
+            let (h, answers) = new_grid(
                 alloc,
                 env,
                 *place,
@@ -173,88 +112,16 @@ fn initialized<'a, 'c>(
                 *bracket,
                 dims,
                 answers,
-            );
-            made(alloc, env, s, got)
+            )?;
+            received(alloc, env, Some(s), &h, answers)
         }
         Init::Broadcast { place, value, root } => {
-            broadcast(alloc, env, s, *place, value, root, answers)
+            broadcasts(alloc, env, *place, value, root, answers)
         }
     }
 }
 
 // ---- expressions that stand alone
-
-// `a.copy(b)`
-fn copy<'a, 'c>(
-    alloc: Global,
-    env: &Env,
-    at: Place,
-    receiver: &Expr,
-    args: &[Expr],
-    answers: &'a [Told],
-) -> Result<(Move<'c>, &'a [Told]), Stop>
-    ensures { (name : ℕ) → ComesAs (move_of (env_of env.now) (stm.Call
-        (exp.member at (expression_of receiver.now) name (map expression_of args.now)))) result
-        (copying.copies (env_of env.now) at (expression_of receiver.now) (numbered_exps (map expression_of args.now)) answers.now) }
-{
-    match copies(alloc, env, at, receiver, args, answers) {
-        Ok((copy, answers)) => {
-            let copy = Box::new(alloc, copy)?;
-            Ok((goes(Todo::Copying { copy, last: None }), answers))
-        }
-        Err(stop) => Err(stop),
-    }
-}
-
-// `a.exchange(e)`
-fn exchange<'a, 'c>(
-    alloc: Global,
-    env: &Env,
-    at: Place,
-    receiver: &Expr,
-    args: &[Expr],
-    answers: &'a [Told],
-) -> Result<(Move<'c>, &'a [Told]), Stop>
-    ensures { (name : ℕ) → ComesAs (move_of (env_of env.now) (stm.Call
-        (exp.member at (expression_of receiver.now) name (map expression_of args.now)))) result
-        (collectives.exchanges (env_of env.now) at (expression_of receiver.now) (numbered_exps (map expression_of args.now)) answers.now) }
-{
-    match exchanges(alloc, env, at, receiver, args, answers) {
-        Ok((exchange, answers)) => Ok((
-            Move::Meets {
-                meeting: exchange.arrival.meeting,
-                deposit: exchange.arrival.deposit,
-                todo: Todo::Taking {
-                    grid: exchange.grid,
-                    next: 0,
-                },
-            },
-            answers,
-        )),
-        Err(stop) => Err(stop),
-    }
-}
-
-/// `r.delete()`
-#[tactic(auto, using(ti_eval::proofs::Lemmas::steps))]
-pub fn delete<'a, 'c>(
-    alloc: Global,
-    env: &Env,
-    at: Place,
-    receiver: &Expr,
-    answers: &'a [Told],
-) -> Result<(Move<'c>, &'a [Told]), Stop>
-    ensures { (x : NumberedStm) → ComesAs (move_of (env_of env.now) x) result
-        (collectives.deletes (env_of env.now) at (expression_of receiver.now) answers.now) }
-{
-    match evaluate(alloc, env, receiver, answers) {
-        Ok((h, answers)) => {
-            let region = h.region();
-            Ok((Move::Deletes { at, region }, answers))
-        }
-        Err(stop) => Err(stop),
-    }
-}
 
 // The value of an expression is dropped.
 fn dropped<'a, 'c>(
@@ -286,8 +153,8 @@ fn member_alone<'a, 'c>(
 {
     match called_member(env, receiver, name) {
         Some(member) => match member {
-            BuiltIn::Copy => copy(alloc, env, at, receiver, args, answers),
-            BuiltIn::Exchange => exchange(alloc, env, at, receiver, args, answers),
+            BuiltIn::Copy => copies(alloc, env, at, receiver, args, answers),
+            BuiltIn::Exchange => exchanges(alloc, env, at, receiver, args, answers),
             BuiltIn::Delete => delete(alloc, env, at, receiver, answers),
             _ => dropped(alloc, env, e, answers),
         },
@@ -325,10 +192,10 @@ fn alone<'a, 'c>(
     answers: &'a [Told],
 ) -> Result<(Move<'c>, &'a [Told]), Stop>
     ensures { ComesAs (move_of (env_of env.now) (stm.Call (expression_of e.now))) result
-        (statements.alone (env_of env.now) (expression_of e.now) (called (env_of env.now) (expression_of e.now)) answers.now) }
+        (statements.alone (env_of env.now) (expression_of e.now) (called_spec (env_of env.now) (expression_of e.now)) answers.now) }
 {
-    match call(alloc, env, e, answers) {
-        Some(came) => came,
+    match called(env, e) {
+        Some(call) => calling(alloc, env, call, answers),
         None => uncalled(alloc, env, e, answers),
     }
 }
@@ -377,13 +244,11 @@ pub fn returns<'a, 'c>(
         (statements.returns (env_of env.now) at (maybe_of expression_of value.now) answers.now) }
 {
     match value {
-        Some(e) => match evaluate(alloc, env, e, answers) {
-            Ok((h, answers)) => match as_result(alloc, env, at, h, answers) {
-                Ok((k, answers)) => Ok((Move::Returns(Some(k)), answers)),
-                Err(stop) => Err(stop),
-            },
-            Err(stop) => Err(stop),
-        },
+        Some(e) => {
+            let (h, answers) = evaluate(alloc, env, e, answers)?;
+            let (k, answers) = as_result(alloc, env, at, h, answers)?;
+            Ok((Move::Returns(Some(k)), answers))
+        }
         None => Ok((Move::Returns(None), answers)),
     }
 }
@@ -422,13 +287,9 @@ fn branches<'a, 'c>(
         → ComesAs (move_of (env_of env.now) (stm.IfElse at (expression_of condition.now) x y)) result
         (statements.statement (env_of env.now) (stm.IfElse at (expression_of condition.now) x y) answers.now) }
 {
-    match evaluate(alloc, env, condition, answers) {
-        Ok((h, answers)) => {
-            let left = branch(h.is_true(), with_else);
-            Ok((Move::Goes(Change::Same, left), answers))
-        }
-        Err(stop) => Err(stop),
-    }
+    let (h, answers) = evaluate(alloc, env, condition, answers)?;
+    let left = branch(h.is_true(), with_else);
+    Ok((Move::Goes(Change::Same, left), answers))
 }
 
 // `foreach`, before its first turn.
@@ -443,20 +304,13 @@ fn foreach<'a, 'c>(
     ensures { (at : At) (body : NumberedStm) → ComesAs (move_of (env_of env.now) (stm.Foreach at variable (expression_of domain.now) body))
         result (statements.statement (env_of env.now) (stm.Foreach at variable (expression_of domain.now) body) answers.now) }
 {
-    match evaluate(alloc, env, domain, answers) {
-        Ok((domain, answers)) => {
-            let domain = Box::new(alloc, domain)?;
-            Ok((
-                goes(Todo::Each {
-                    variable,
-                    domain,
-                    last: None,
-                }),
-                answers,
-            ))
-        }
-        Err(stop) => Err(stop),
-    }
+    let (domain, answers) = evaluate(alloc, env, domain, answers)?;
+    let todo = Todo::Each {
+        variable,
+        domain: Box::new(alloc, domain)?,
+        last: None,
+    };
+    Ok((goes(todo), answers))
 }
 
 // ---- statements
@@ -494,14 +348,7 @@ fn present<'a, 'c>(
         Stmt::Step { .. } => step(alloc, env, s, answers),
         Stmt::Call(e) => alone(alloc, env, e, answers),
         Stmt::Print(place, what) => printed(alloc, env, *place, what, answers),
-        Stmt::Barrier(place) => Ok((
-            Move::Meets {
-                meeting: meeting(*place, CollKind::Barrier),
-                deposit: Deposit::Nothing,
-                todo: Todo::Inside,
-            },
-            answers,
-        )),
+        Stmt::Barrier(place) => Ok((meets(*place), answers)),
         Stmt::Break(_) => Ok((Move::Breaks, answers)),
         Stmt::Continue(_) => Ok((Move::Continues, answers)),
         Stmt::Return(place, value) => returns(alloc, env, *place, value, answers),

@@ -19,8 +19,9 @@ ghost use Rattle.ti_moves.specs.Moves.{changed};
 ghost use Rattle.ti_moves.specs.Targets.{target_of, through_of, written};
 
 use crate::moves::Change;
+use crate::things::needed;
 use std::alloc::Global;
-use ti_base::{Action, FaultKind, Place, Point, Value};
+use ti_base::{Action, Place, Point, Value};
 use ti_eval::{
     Env, Held, Stop, Told, as_int, as_long, asked, evaluate, evaluate_numbers, fetch_element,
     fetch_field, field_selected, find, point_of_numbers, to_domain,
@@ -63,24 +64,18 @@ pub fn located<'a, 'c>(
             name,
         } => {
             let field = field_selected(env, receiver, *name)?;
-            match evaluate(alloc, env, receiver, answers) {
-                Ok((h, answers)) => Ok((Target::Field(h, field), answers)),
-                Err(stop) => Err(stop),
-            }
+            let (h, answers) = evaluate(alloc, env, receiver, answers)?;
+            Ok((Target::Field(h, field), answers))
         }
         Expr::Index {
             place: _,
             receiver,
             indices,
-        } => match evaluate(alloc, env, receiver, answers) {
-            Ok((h, answers)) => match evaluate_numbers(alloc, env, indices, answers) {
-                Ok((numbers, answers)) => {
-                    Ok((Target::Element(h, point_of_numbers(&numbers)), answers))
-                }
-                Err(stop) => Err(stop),
-            },
-            Err(stop) => Err(stop),
-        },
+        } => {
+            let (h, answers) = evaluate(alloc, env, receiver, answers)?;
+            let (numbers, answers) = evaluate_numbers(alloc, env, indices, answers)?;
+            Ok((Target::Element(h, point_of_numbers(&numbers)), answers))
+        }
         _ => Ok((Target::Field(Held::truth(false), 0), answers)),
     }
 }
@@ -140,6 +135,7 @@ pub fn as_typed<'a, 'p>(
 }
 
 // A write, which changes no variable.
+#[tactic(auto, using(ti_eval::proofs::Lemmas::steps))]
 fn put<'a, 'c>(
     at: Place,
     action: Action,
@@ -149,13 +145,12 @@ fn put<'a, 'c>(
         (followed (asked_spec (record { place = at; action = action; through = through; wanted = ToBeDone }) answers.now)
         (λ done. gives ws)) }
 {
-    match asked(at, action, answers) {
-        Ok((_, answers)) => Ok((Change::Same, answers)),
-        Err(stop) => Err(stop),
-    }
+    let (_, answers) = asked(at, action, answers)?;
+    Ok((Change::Same, answers))
 }
 
 // A write into a field of an object.
+#[tactic(auto, using(ti_eval::proofs::Lemmas::steps))]
 fn put_field<'a, 'c>(
     at: Place,
     object: &Held,
@@ -166,16 +161,13 @@ fn put_field<'a, 'c>(
     ensures { (through : ValueType) (ws : List InScope) → ComesAs (λ (c : Changing). changed c ws) result
         (written at through object.now (λ (obj : Thing). PutField obj field (plain_of h.now)) ws answers.now) }
 {
-    match object.thing() {
-        Some(obj) => {
-            let value = h.value();
-            put(at, Action::PutField { obj, field, value }, answers)
-        }
-        None => Err(Stop::Fails(FaultKind::NullRef, at)),
-    }
+    let (obj, answers) = needed(at, object, answers)?;
+    let value = h.value();
+    put(at, Action::PutField { obj, field, value }, answers)
 }
 
 // A write into an element of a grid.
+#[tactic(auto, using(ti_eval::proofs::Lemmas::steps))]
 fn put_element<'a, 'c>(
     at: Place,
     grid: &Held,
@@ -186,17 +178,13 @@ fn put_element<'a, 'c>(
     ensures { (through : ValueType) (ws : List InScope) → ComesAs (λ (c : Changing). changed c ws) result
         (written at through grid.now (λ (grid : Thing). PutElem grid index (plain_of h.now)) ws answers.now) }
 {
-    match grid.thing() {
-        Some(grid) => {
-            let action = Action::PutElem {
-                grid,
-                at: index,
-                value: h.value(),
-            };
-            put(at, action, answers)
-        }
-        None => Err(Stop::Fails(FaultKind::NullRef, at)),
-    }
+    let (grid, answers) = needed(at, grid, answers)?;
+    let action = Action::PutElem {
+        grid,
+        at: index,
+        value: h.value(),
+    };
+    put(at, action, answers)
 }
 
 /// A value goes into a target.

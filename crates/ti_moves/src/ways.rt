@@ -67,10 +67,7 @@ fn changed<'c>(v: &'c Variable, x: Scalar) -> Option<Way<'c>>
     ensures { (env : Where) (at p : At) → PutsBy env (Assigned at (exp.Variable p (variable_of v.now))) (held_of_scalar x) result }
 {
     match &v.declared {
-        Declared::Typed { single: _, ty } => match as_scalar(ty, x) {
-            Some(k) => Some(Way::Changed(v, k)),
-            None => None,
-        },
+        Declared::Typed { single: _, ty } => Some(Way::Changed(v, as_scalar(ty, x)?)),
         Declared::Foreach => None,
     }
 }
@@ -82,13 +79,8 @@ fn updated<'c>(env: &Env, op: BinaryOperator, target: &'c Expr, y: Scalar) -> Op
     let Expr::Variable(_, v) = target else {
         return None;
     };
-    match scalar_in(env.variables, v) {
-        Some(x) => match of_scalars(op, x, y) {
-            Some(z) => changed(v, z),
-            None => None,
-        },
-        None => None,
-    }
+    let x = scalar_in(env.variables, v)?;
+    changed(v, of_scalars(op, x, y)?)
 }
 
 // ---- right sides
@@ -99,10 +91,7 @@ fn right(env: &Env, e: &Expr) -> Option<Scalar>
         → initialized (env_of env.now) r (stm.Value (expression_of e.now)) rest
         ≡ receives (env_of env.now) r (gives (held_of_scalar x)) rest) }
 {
-    match computed(env, e) {
-        Some(x) => Some(x),
-        None => None,
-    }
+    computed(env, e)
 }
 
 // The same of a declaration or an assignment.
@@ -122,13 +111,8 @@ fn initial(env: &Env, value: &Init) -> Option<Scalar>
 fn declared<'c>(env: &Env, ty: &'c TypeUse, variable: u32, value: &Init) -> Option<Way<'c>>
     ensures { (at : At) → GoesBy (env_of env.now) (stm.Declare at (type_use_of ty.now) variable (initial_of value.now)) result }
 {
-    match initial(env, value) {
-        Some(x) => match as_scalar(&ty.ty, x) {
-            Some(k) => Some(Way::New(ty, variable, k)),
-            None => None,
-        },
-        None => None,
-    }
+    let x = initial(env, value)?;
+    Some(Way::New(ty, variable, as_scalar(&ty.ty, x)?))
 }
 
 // `x = e;`
@@ -138,20 +122,14 @@ fn assigned<'c>(env: &Env, target: &'c Expr, value: &Init) -> Option<Way<'c>>
     let Expr::Variable(_, v) = target else {
         return None;
     };
-    match initial(env, value) {
-        Some(x) => changed(v, x),
-        None => None,
-    }
+    changed(v, initial(env, value)?)
 }
 
 // `x += e;`
 fn compound<'c>(env: &Env, op: BinaryOperator, target: &'c Expr, value: &Expr) -> Option<Way<'c>>
     ensures { (at : At) → GoesBy (env_of env.now) (stm.Update at op (expression_of target.now) (expression_of value.now)) result }
 {
-    match right(env, value) {
-        Some(y) => updated(env, op, target, y),
-        None => None,
-    }
+    updated(env, op, target, right(env, value)?)
 }
 
 // `x++;`
@@ -162,7 +140,7 @@ fn stepped<'c>(env: &Env, op: StepOperator, target: &'c Expr) -> Option<Way<'c>>
 }
 
 // What is left of an `if`, with `else` or without, behind its condition.
-fn branch<'c>(taken: bool, with_else: bool) -> Way<'c>
+fn chosen_by<'c>(taken: bool, with_else: bool) -> Way<'c>
     ensures alone { with_else ≡ false → (env : Where) (at : At) (c : NumberedExp) (x : NumberedStm) → move_by env (stm.If at c x) result
         ≡ Goes env.variables (if taken then Do x ∷ [] else []) }
     ensures both { with_else ≡ true → (env : Where) (at : At) (c : NumberedExp) (x y : NumberedStm)
@@ -184,8 +162,9 @@ fn chosen<'c>(env: &Env, condition: &Expr, with_else: bool) -> Option<Way<'c>>
     ensures both { with_else ≡ true → (at : At) (x y : NumberedStm)
         → GoesBy (env_of env.now) (stm.IfElse at (expression_of condition.now) x y) result }
 {
-    match computed(env, condition) {
-        Some(Scalar::Truth(taken)) => Some(branch(taken, with_else)),
+    let x = computed(env, condition)?;
+    match x {
+        Scalar::Truth(taken) => Some(chosen_by(taken, with_else)),
         _ => None,
     }
 }

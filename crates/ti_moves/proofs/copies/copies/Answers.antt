@@ -1,33 +1,47 @@
-use Rattle.std.proofs.Common.{◌∙◌, ap, sym, subst, List, map, Option, slice_index_or}
-use Rattle.ti_base.specs.declared.value.Id.{Id}
-use Rattle.ti_lang.specs.Program.Expressions.{numbered_exps}
+use Rattle.std.proofs.Common.{rules, ◌≡◌, ◌∙◌, ap, sym, map, List}
+use Rattle.ti_base.specs.declared.point.Rect.{Rect}
+use Rattle.ti_lang.specs.Program.Expressions.{Member, numbered_exps}
+use Rattle.ti_lang.specs.Program.Statements.{Call}
+use Rattle.ti_lang.specs.Program.Types.{Rc}
 use Rattle.ti_lang.specs.Program.Views.{expression_of}
-use Rattle.ti_lang.specs.Meaning.Held.{Held, nothing, thing_of}
-use Rattle.ti_lang.specs.Meaning.Asking.{Got, followed}
+use Rattle.ti_lang.specs.Typing.Kinds.{dim_of_type}
+use Rattle.ti_lang.specs.Meaning.Asking.{Gives, ValueOf, needed}
+use Rattle.ti_lang.specs.Meaning.Copies.{common_points, first_type}
+use Rattle.ti_lang.specs.Meaning.Evaluation.{eval, eval_all}
+use Rattle.ti_lang.specs.Meaning.Held.{Held, rect_of, points_in}
+use Rattle.ti_lang.specs.Meaning.Moves.{Move, Goes}
+use Rattle.ti_lang.specs.Meaning.Processes.{Work}
 use Rattle.ti_lang.specs.Meaning.Scoping.{type_of}
-use Rattle.ti_lang.specs.Meaning.Evaluation.{eval_all}
-use Rattle.ti_lang.specs.Meaning.Copies.{first_type}
-use Rattle.ti_eval.specs.Comes.{ComesAs}
+use Rattle.ti_eval.specs.declared.frame.Copy.{Copy}
 use Rattle.ti_eval.specs.Envs.{env_of}
-use Rattle.ti_moves.specs.Copying.{move_of_copy, copy_named}
-use Rattle.ti_moves.proofs.CopyLaws.{by_view, move_named}
+use Rattle.ti_moves.specs.Things.{typed_as}
+use Rattle.ti_moves.proofs.CopyLaws.{copy_left}
+use Rattle.ti_moves.proofs.Goings.{goes_on}
 use Rattle.ti_moves.proofs.copies.copies.Goals as goal
 
-pub returns-in-Ok-evaluate_all : goal.returns-in-Ok-evaluate_all
-returns-in-Ok-evaluate_all c =
+pub returns : goal.returns
+returns c = λ name.
     let E = env_of c.args.env.now in
     let at = c.args.at in
     let x = expression_of c.args.receiver.now in
     let xs = numbered_exps (map expression_of c.args.args.now) in
     let t = type_of E x in
     let u = first_type E xs in
-    let vs = E.variables in
-    let first : List Held → Option Id = λ hs. thing_of (slice_index_or hs 0 nothing) in
-    let rest = c.in-Ok-evaluate_all.answers.now in
-    by_view _ _ (move_named c.args.env.now at x xs) c.copy_of.result _
-    (subst (λ (g : Got Held). ComesAs (move_of_copy vs at t u) c.copy_of.result
-    (followed g (λ h r. followed (eval_all E xs r) (λ hs. copy_named vs at t (thing_of h) u (first hs))))) (sym c.in-Ok.ensures)
-    (subst (λ (g : Got (List Held)). ComesAs (move_of_copy vs at t u) c.copy_of.result (followed g (λ hs. copy_named vs at t (thing_of c.in-Ok.h) u (first hs)))) (sym c.in-Ok-evaluate_all.ensures)
-    (subst (λ (a : Option Id). ComesAs (move_of_copy vs at t u) c.copy_of.result (copy_named vs at t a u (first c.in-Ok-evaluate_all.hs.items) rest)) c.thing.ensures
-    (subst (λ (b : Option Id). ComesAs (move_of_copy vs at t u) c.copy_of.result (copy_named vs at t c.thing.result u b rest)) (c.first_thing.ensures ∙ ap first c.deref.ensures.value)
-    (c.copy_of.ensures vs t u)))))
+    let d = c.in_ok-d.d in
+    let e = c.in_ok-e.e in
+    let to = c.in_ok-to.to in
+    let from = c.in_ok-from.from in
+    let rest = c.in_ok-e.answers.now in
+    let copy : Copy = record { to = to; from = from; domain = c.common-domain.result } in
+    let is : c.in_ok-copy.copy.value ≡ copy = search rules in
+    let points : points_in c.common-domain.result ≡ common_points (rect_of d) (rect_of e) =
+    c.common-domain.ensures ∙ ap (λ (r : Rect). common_points r c.rect-2.result) c.rect.ensures.value ∙ ap (λ (r : Rect). common_points (rect_of d) r) c.rect-2.ensures.value in
+    let named : needed at u c.first.result c.in_ok-to.answers.now ≡ Gives (typed_as u from) c.in_ok-from.answers.now = c.in_ok-from.ensures u in
+    goes_on (eval E x c.args.answers.now) _ _ _ c.in_ok-h.ensures
+    ∙ goes_on (eval_all E xs c.in_ok-h.answers.now) _ _ _ c.in_ok-hs.ensures
+    ∙ goes_on (needed at t c.in_ok-h.h c.in_ok-hs.answers.now) _ _ _ (c.in_ok-to.ensures t)
+    ∙ goes_on _ _ _ _ (ap (λ (h : Held). needed at u h c.in_ok-to.answers.now) (sym c.first.ensures) ∙ named)
+    ∙ goes_on _ _ _ _ (c.in_ok-d.ensures t (ValueOf (Rc (dim_of_type t))))
+    ∙ goes_on _ _ _ _ (c.in_ok-e.ensures u (ValueOf (Rc (dim_of_type u))))
+    ∙ ap (λ (ws : List Work). Gives (Goes E.variables ws) rest) (copy_left E at x name xs c.in_ok-copy.copy to from c.common-domain.result _ is points)
+    ∙ ap (λ (m : Move). Gives m rest) (sym (c.goes.ensures E (Call (Member at x name xs))))

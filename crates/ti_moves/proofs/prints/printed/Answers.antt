@@ -1,24 +1,34 @@
-use Rattle.std.proofs.Common.{sym, subst}
+use Rattle.std.proofs.Common.{sym, subst, None, Some}
+use Rattle.ti_base.specs.declared.value.Value.{Value}
 use Rattle.ti_lang.specs.declared.program.stmts.Printed.{Printed}
-use Rattle.ti_lang.specs.Program.Views.{expression_of, printed_of}
-use Rattle.ti_lang.specs.Meaning.Evaluation.{eval}
-use Rattle.ti_lang.specs.Meaning.Statements.{printed}
+use Rattle.ti_lang.specs.Program.Views.{printed_of}
+use Rattle.ti_lang.specs.Meaning.Held.{Held, plain_of}
+use Rattle.ti_lang.specs.Meaning.Asking.{Got, followed}
+use Rattle.ti_lang.specs.Meaning.Statements.{printed, prints}
 use Rattle.ti_eval.specs.Comes.{ComesAs}
 use Rattle.ti_eval.specs.Envs.{env_of}
 use Rattle.ti_moves.specs.Moves.{move_of}
 use Rattle.ti_moves.proofs.prints.printed.Goals as goal
 
-pub returns-in-Value : goal.returns-in-Value
-returns-in-Value c =
+pub returns-in_ok-h-in-Value : goal.returns-in_ok-h-in-Value
+returns-in_ok-h-in-Value c = λ x.
     let E = env_of c.args.env.now in
-    λ x. subst (λ (w : Printed). ComesAs (move_of E x) c.line_from.result (printed E c.args.at (printed_of w) c.args.answers.now)) (sym c.in-Value.is)
-    (c.line_from.ensures E x (eval E (expression_of c.in-Value.x) c.args.answers.now) c.evaluate.ensures)
+    let at = c.args.at in
+    let i = c.in_ok-h-in-Value in
+    let r = c.prints-in-Value.result in
+    subst (λ (w : Printed). ComesAs (move_of E x) r (printed E at (printed_of w) c.args.answers.now)) (sym c.in-Value.is)
+    (subst (λ (g : Got Held). ComesAs (move_of E x) r (followed g (λ h. prints E at None (Some (plain_of h))))) (sym i.ensures)
+    (subst (λ (v : Value). ComesAs (move_of E x) r (prints E at None (Some v) i.answers.now)) c.value.ensures (c.prints-in-Value.ensures E x)))
 
-pub returns-in-TextAndValue : goal.returns-in-TextAndValue
-returns-in-TextAndValue c =
+pub returns-in_ok-h-in-TextAndValue : goal.returns-in_ok-h-in-TextAndValue
+returns-in_ok-h-in-TextAndValue c = λ x.
     let E = env_of c.args.env.now in
-    λ x. subst (λ (w : Printed). ComesAs (move_of E x) c.line_from-in-TextAndValue.result (printed E c.args.at (printed_of w) c.args.answers.now)) (sym c.in-TextAndValue.is)
-    (c.line_from-in-TextAndValue.ensures E x (eval E (expression_of c.in-TextAndValue.x) c.args.answers.now) c.evaluate-in-TextAndValue.ensures)
+    let at = c.args.at in
+    let i = c.in_ok-h-in-TextAndValue in
+    let r = c.prints-in-TextAndValue.result in
+    subst (λ (w : Printed). ComesAs (move_of E x) r (printed E at (printed_of w) c.args.answers.now)) (sym c.in-TextAndValue.is)
+    (subst (λ (g : Got Held). ComesAs (move_of E x) r (followed g (λ h. prints E at (Some c.in-TextAndValue.literal) (Some (plain_of h))))) (sym i.ensures)
+    (subst (λ (v : Value). ComesAs (move_of E x) r (prints E at (Some c.in-TextAndValue.literal) (Some v) i.answers.now)) c.value-in-TextAndValue.ensures (c.prints-in-TextAndValue.ensures E x)))
 
 pub returns-in-Nothing : goal.returns-in-Nothing
 returns-in-Nothing c =

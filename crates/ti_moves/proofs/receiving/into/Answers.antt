@@ -1,7 +1,6 @@
 use Rattle.std.proofs.Common.{◌≡◌, sym, subst, List, Result}
 use Rattle.std.specs.Borrow.{Bor}
 use Rattle.ti_base.specs.declared.entry.Answer.{Answer}
-use Rattle.ti_lang.specs.Program.Views.{expression_of}
 use Rattle.ti_lang.specs.Meaning.Held.{Held}
 use Rattle.ti_lang.specs.Meaning.Asking.{Asking}
 use Rattle.ti_lang.specs.Meaning.Scoping.{Env}
@@ -13,7 +12,6 @@ use Rattle.ti_moves.specs.declared.moves.Change.{Change}
 use Rattle.ti_moves.specs.declared.receiving.Receiver.{Receiver}
 use Rattle.ti_moves.specs.Moves.{changed}
 use Rattle.ti_moves.specs.Receiving.{receiver_seen, right_seen}
-use Rattle.ti_moves.specs.Targets.{through_of}
 use Rattle.ti_moves.proofs.receiving.into.Goals as goal
 
 -- it is this receiver
@@ -26,17 +24,17 @@ at_receiver E right answers result r s is comes =
 pub returns-in-Declared : goal.returns-in-Declared
 returns-in-Declared c =
     let E = env_of c.args.env.now in
-    at_receiver E (right_seen E c.args.right) c.args.answers.now c.declared_from.result c.args.receiver _ c.in-Declared.is
-    (c.declared_from.ensures E.variables _ c.value_of-got.ensures)
+    at_receiver E (right_seen E c.args.right) c.args.answers.now c.declared.result c.args.receiver _ c.in-Declared.is
+    c.declared.ensures
 
 pub returns-in-Assigned : goal.returns-in-Assigned
 returns-in-Assigned c =
     let E = env_of c.args.env.now in
-    at_receiver E (right_seen E c.args.right) c.args.answers.now c.assigned_at.result c.args.receiver _ c.in-Assigned.is
-    (c.assigned_at.ensures (through_of E (expression_of c.in-Assigned.target.now)) _ c.located-got.ensures)
+    at_receiver E (right_seen E c.args.right) c.args.answers.now c.assigned.result c.args.receiver _ c.in-Assigned.is
+    c.assigned.ensures
 
 pub returns-in-Updated : goal.returns-in-Updated
 returns-in-Updated c =
     let E = env_of c.args.env.now in
-    at_receiver E (right_seen E c.args.right) c.args.answers.now c.updated_at.result c.args.receiver _ c.in-Updated.is
-    (c.updated_at.ensures (through_of E (expression_of c.in-Updated.target.now)) _ c.located-got-in-Updated.ensures)
+    at_receiver E (right_seen E c.args.right) c.args.answers.now c.updated.result c.args.receiver _ c.in-Updated.is
+    c.updated.ensures

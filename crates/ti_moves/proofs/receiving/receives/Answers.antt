@@ -4,5 +4,5 @@ use Rattle.ti_lang.specs.Meaning.Processes.{Variable}
 use Rattle.ti_lang.specs.Meaning.Moves.{Goes}
 use Rattle.ti_moves.proofs.receiving.receives.Goals as goal
 
-pub returns-in-Ok : goal.returns-in-Ok
-returns-in-Ok c = λ x. ap (λ (g : Got (List Variable)). followed g (λ ws. gives (Goes ws []))) c.in-Ok.ensures
+pub returns : goal.returns
+returns c = λ x. ap (λ (g : Got (List Variable)). followed g (λ ws. gives (Goes ws []))) c.in_ok-change.ensures

@@ -19,13 +19,13 @@ pub returns-in-Copy : goal.returns-in-Copy
 returns-in-Copy c =
     let xs = numbered_exps (map expression_of c.args.args.now) in
     member_comes (env_of c.args.env.now) (expression_of c.args.e.now) c.args.at (expression_of c.args.receiver.now) c.args.name xs (Some member.Copy) c.args.answers.now _ c.requires
-    (ap (λ (b : BuiltIn). Some (built_in_of b)) (sym c.in-Copy.is) ∙ c.in-Some.ensures) (c.copy.ensures c.args.name)
+    (ap (λ (b : BuiltIn). Some (built_in_of b)) (sym c.in-Copy.is) ∙ c.in-Some.ensures) (c.copies.ensures c.args.name)
 
 pub returns-in-Exchange : goal.returns-in-Exchange
 returns-in-Exchange c =
     let xs = numbered_exps (map expression_of c.args.args.now) in
     member_comes (env_of c.args.env.now) (expression_of c.args.e.now) c.args.at (expression_of c.args.receiver.now) c.args.name xs (Some member.Exchange) c.args.answers.now _ c.requires
-    (ap (λ (b : BuiltIn). Some (built_in_of b)) (sym c.in-Exchange.is) ∙ c.in-Some.ensures) (c.exchange.ensures c.args.name)
+    (ap (λ (b : BuiltIn). Some (built_in_of b)) (sym c.in-Exchange.is) ∙ c.in-Some.ensures) (c.exchanges.ensures c.args.name)
 
 pub returns-in-Delete : goal.returns-in-Delete
 returns-in-Delete c =

@@ -88,6 +88,12 @@ returns-in-Empty c =
     let r = c.args.answers.now in
     ap (λ (a : Stmt). statement E (statement_of a) r) c.in-Empty.is ∙ ap (λ (m : Move). Gives m r) (sym (c.goes.ensures E (statement_of c.args.s.now)))
 
+pub returns-in-Barrier : goal.returns-in-Barrier
+returns-in-Barrier c =
+    let E = env_of c.args.env.now in
+    let r = c.args.answers.now in
+    ap (λ (a : Stmt). statement E (statement_of a) r) c.in-Barrier.is ∙ c.meets.ensures E (statement_of c.args.s.now) r
+
 pub returns-in-Break : goal.returns-in-Break
 returns-in-Break c = ap (λ (a : Stmt). statement (env_of c.args.env.now) (statement_of a) c.args.answers.now) c.in-Break.is
 

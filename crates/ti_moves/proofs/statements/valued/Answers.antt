@@ -9,18 +9,19 @@ use Rattle.ti_eval.specs.Comes.{ComesAs}
 use Rattle.ti_eval.specs.Envs.{env_of}
 use Rattle.ti_moves.specs.Moves.{move_of}
 use Rattle.ti_moves.specs.Receiving.{receiver_of}
-use Rattle.ti_moves.proofs.Coming.{called_first}
 use Rattle.ti_moves.proofs.statements.valued.Goals as goal
 
 pub returns-in-Some : goal.returns-in-Some
 returns-in-Some c =
+    let E = env_of c.args.env.now in
     let x = statement_of c.args.s.now in
-    called_first (env_of c.args.env.now) x (expression_of c.args.e.now) c.args.answers.now c.in-Some.came (c.in-Some.ensures x)
+    let e = expression_of c.args.e.now in
+    subst (λ (o : Option Call). ComesAs (move_of E x) c.calling.result (valued_or_called E (receiver_of x) e o c.args.answers.now)) (sym c.in-Some.ensures) (c.calling.ensures x)
 
 pub returns-in-None : goal.returns-in-None
 returns-in-None c =
     let E = env_of c.args.env.now in
     let x = statement_of c.args.s.now in
     let e = expression_of c.args.e.now in
-    subst (λ (o : Option Call). ComesAs (move_of E x) c.receives.result (valued_or_called E (receiver_of x) e o c.args.answers.now)) (sym (c.in-None.ensures x))
+    subst (λ (o : Option Call). ComesAs (move_of E x) c.receives.result (valued_or_called E (receiver_of x) e o c.args.answers.now)) (sym c.in-None.ensures)
     (subst (λ (r : Receiver). ComesAs (move_of E x) c.receives.result (receives E r (eval E e) c.args.answers.now)) c.receiver_at.ensures (c.receives.ensures x))

@@ -10,11 +10,11 @@ use Rattle.ti_moves.specs.Ways.{GoesBy}
 use Rattle.ti_moves.proofs.Silent.{put_by}
 use Rattle.ti_moves.proofs.ways.assigned.Goals as goal
 
-pub returns-in-Some : goal.returns-in-Some
-returns-in-Some c = λ at.
+pub returns : goal.returns
+returns c = λ at.
     let E = env_of c.args.env.now in
     let v = initial_of c.args.value.now in
     let p = c.in-Variable.field-0 in
     let t = exp.Variable p (variable_of c.in-Variable.v) in
     subst (λ (a : Expr). GoesBy E (stm.Assign at (expression_of a) v) c.changed.result) (sym c.in-Variable.is)
-    (put_by E (stm.Assign at t v) (Assigned at t) (held_of_scalar c.in-Some.x) c.changed.result (c.in-Some.ensures (Assigned at t)) (c.changed.ensures E at p))
+    (put_by E (stm.Assign at t v) (Assigned at t) (held_of_scalar c.in_ok-initial.field-0) c.changed.result (c.in_ok-initial.ensures (Assigned at t)) (c.changed.ensures E at p))

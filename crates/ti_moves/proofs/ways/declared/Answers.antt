@@ -9,9 +9,9 @@ use Rattle.ti_eval.specs.Scalars.{held_of_scalar}
 use Rattle.ti_moves.proofs.Silent.{new_there}
 use Rattle.ti_moves.proofs.ways.declared.Goals as goal
 
-pub returns-in-Some-as_scalar : goal.returns-in-Some-as_scalar
-returns-in-Some-as_scalar c = λ at answers.
+pub returns : goal.returns
+returns c = λ at answers.
     let d = declared_as (type_use_of c.args.ty.now) c.args.variable in
-    c.in-Some.ensures (Declared at d) answers
+    c.in_ok-x.ensures (Declared at d) answers
     ∙ ap (λ (g : Got (List Variable)). followed g (λ vs. gives (Goes vs [])))
-    (new_there (env_of c.args.env.now) at d (held_of_scalar c.in-Some.x) (held_of_scalar c.in-Some-as_scalar.k) answers (c.in-Some-as_scalar.ensures at answers))
+    (new_there (env_of c.args.env.now) at d (held_of_scalar c.in_ok-x.x) (held_of_scalar c.in_ok-as_scalar.field-0) answers (c.in_ok-as_scalar.ensures at answers))

@@ -8,12 +8,12 @@ use Rattle.ti_moves.specs.Ways.{PutsBy}
 use Rattle.ti_moves.proofs.Silent.{updated_there}
 use Rattle.ti_moves.proofs.ways.updated.Goals as goal
 
-pub returns-in-Some-of_scalars : goal.returns-in-Some-of_scalars
-returns-in-Some-of_scalars c = λ at.
+pub returns : goal.returns
+returns c = λ at.
     let E = env_of c.args.env.now in
     let y = held_of_scalar c.args.y in
     let p = c.in-Variable.field-0 in
     subst (λ (a : Expr). PutsBy E (Updated at c.args.op (expression_of a)) y c.changed.result) (sym c.in-Variable.is)
-    (updated_there E at p (variable_of c.in-Variable.v) c.args.op (held_of_scalar c.in-Some.x) y
-    (held_of_scalar c.in-Some-of_scalars.z) c.changed.result c.in-Some.ensures c.in-Some-of_scalars.ensures
+    (updated_there E at p (variable_of c.in-Variable.v) c.args.op (held_of_scalar c.in_ok-x.x) y
+    (held_of_scalar c.in_ok-of_scalars.field-0) c.changed.result c.in_ok-x.ensures c.in_ok-of_scalars.ensures
     (c.changed.ensures E at p))
