@@ -10,7 +10,7 @@ use Rattle.ti_lang.specs.Program.Statements.{Call}
 use Rattle.ti_lang.specs.Meaning.Asking.{Reference}
 use Rattle.ti_lang.specs.Meaning.Copies.{first_type}
 use Rattle.ti_lang.specs.Meaning.Held.{Held, points_in}
-use Rattle.ti_lang.specs.Meaning.Processes.{Work, CopyAll}
+use Rattle.ti_lang.specs.Meaning.Processes.{CopyAll}
 use Rattle.ti_lang.specs.Meaning.Scoping.{Env, type_of}
 use Rattle.ti_eval.specs.declared.frame.Copy.{Copy}
 use Rattle.ti_eval.specs.declared.frame.Todo.TheVariants.{Copying}

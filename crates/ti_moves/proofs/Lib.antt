@@ -5,7 +5,5 @@ mod Entering
 mod Goings
 mod Leaving
 mod MethodLaws
-mod SameRects
 mod Silent
-mod Teams
 pub mod Lemmas

@@ -4,6 +4,5 @@ pub mod Moves
 pub mod Receiving
 pub mod Scopes
 pub mod Targets
-pub mod Teams
 pub mod Things
 pub mod Ways

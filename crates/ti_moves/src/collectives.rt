@@ -1,9 +1,7 @@
 // What processes do together, up to their arrival.
 
-ghost use Rattle.std.specs.Prelude.{◌≡◌, ◌<◌, ◌^◌, ℕ, List, map, None};
+ghost use Rattle.std.specs.Prelude.{◌≡◌, ℕ, List, map, None};
 ghost use Rattle.ti_base.specs.declared.entry.Answer.{Answer};
-ghost use Rattle.ti_base.specs.Points.{IsPoint};
-ghost use Rattle.ti_base.specs.Rects.{IsRect, IsIn, points_of};
 ghost use Rattle.ti_lang.specs.Program.Types.{Region};
 ghost use Rattle.ti_lang.specs.Program.Expressions.{numbered_exps};
 ghost use Rattle.ti_lang.specs.Program.Expressions as exp;
@@ -14,26 +12,22 @@ ghost use Rattle.ti_lang.specs.Typing.Kinds.{element_of};
 ghost use Rattle.ti_lang.specs.Typing.Seen.{seen};
 ghost use Rattle.ti_lang.specs.Meaning.Held.{as_type as as_type_spec};
 ghost use Rattle.ti_lang.specs.Meaning.Asking.{Gives};
-ghost use Rattle.ti_lang.specs.Meaning.Operands.{same_points};
-ghost use Rattle.ti_lang.specs.Meaning.Copies.{element_at as element_at_spec};
 ghost use Rattle.ti_lang.specs.Meaning.Scoping.{Env as Where, type_here};
 ghost use Rattle.ti_lang.specs.Meaning.Collectives as collectives;
 ghost use Rattle.ti_eval.specs.Comes.{Comes, ComesAs};
 ghost use Rattle.ti_eval.specs.Envs.{env_of};
 ghost use Rattle.ti_moves.specs.Moves.{move_of, type_received};
 ghost use Rattle.ti_moves.specs.Receiving.{receiver_of};
-ghost use Rattle.ti_moves.specs.Teams.{last_of};
 
-use crate::copies::element_at;
 use crate::moves::{Meeting, Move};
 use crate::things::{first, needed};
 use std::alloc::Global;
-use ti_base::{Action, CollKind, Deposit, FaultKind, Place, Point, Rect};
-use ti_eval::{Env, Held, Stop, Todo, Told, as_type, asked, evaluate, evaluate_all, type_of};
+use ti_base::{Action, CollKind, Deposit, FaultKind, Place};
+use ti_eval::{
+    Env, Held, Stop, Todo, Told, as_type, asked, evaluate, evaluate_all, is_of_team, type_of,
+};
 use ti_lang::program::Expr;
 use ti_lang::typing::Seen as Kind;
-use ti_rect::rect::is_empty;
-use ti_rect::rect_make;
 
 // An arrival without an argument.
 fn meeting(place: Place, kind: CollKind) -> Meeting
@@ -151,47 +145,6 @@ pub fn broadcasts<'a, 'c>(
 }
 
 // ---- exchanges
-
-// The element of the last of so many processes.
-fn last_element(procs: u32) -> Point
-    requires { procs < 2 ^ 31 }
-    ensures value { result ≡ last_of procs }
-    ensures form { IsPoint result }
-{
-    Point {
-        dim: 1,
-        x1: procs as i32 - 1,
-        x2: 0,
-        x3: 0,
-    }
-}
-
-// One element for each process.
-fn team(procs: u32) -> Rect
-    requires { procs < 2 ^ 31 }
-    ensures value { result ≡ collectives.team procs }
-    ensures form { IsRect result }
-    ensures first { 0 < procs → IsIn result (element_at_spec 0) }
-{
-    match rect_make(&element_at(0), &last_element(procs), &element_at(1)) {
-        Ok(r) => r,
-        Err(_) => unreachable!(),
-    }
-}
-
-// Whether a rectangular domain has one element for each process. That of a team of none is empty, as those
-// of other dimensions can be.
-fn is_of_team(r: &Rect, procs: u32) -> bool
-    requires form { IsRect r.now }
-    requires small { procs < 2 ^ 31 }
-    ensures { result ≡ same_points (points_of r.now) (points_of (collectives.team procs)) }
-{
-    if procs == 0 {
-        is_empty(r)
-    } else {
-        *r == team(procs)
-    }
-}
 
 // A value as that of an element.
 fn as_element<'p>(t: Kind<'p>, h: Held) -> Held

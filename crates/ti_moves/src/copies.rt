@@ -2,7 +2,6 @@
 
 ghost use Rattle.std.specs.Prelude.{◌≡◌, ◌<◌, ◌^◌, ℕ, List, [], ◌∷◌, map};
 ghost use Rattle.ti_base.specs.declared.point.Point.{Point as At};
-ghost use Rattle.ti_base.specs.Points.{IsPoint};
 ghost use Rattle.ti_base.specs.Rects.{IsRect};
 ghost use Rattle.ti_lang.specs.Program.Types.{ValueType};
 ghost use Rattle.ti_lang.specs.Program.Expressions.{numbered_exps};
@@ -23,7 +22,7 @@ use crate::statements::goes;
 use crate::things::{first, needed};
 use std::alloc::Global;
 use ti_base::{Action, Id, Place, Point, Rect, Value};
-use ti_eval::{Copy, Env, Held, Stop, Todo, Told, asked, evaluate, evaluate_all};
+use ti_eval::{Copy, Env, Held, Stop, Todo, Told, asked, element_at, evaluate, evaluate_all};
 use ti_lang::program::Expr;
 use ti_rect::rect_meet;
 
@@ -90,20 +89,6 @@ pub fn copy_element<'a>(
     };
     let (_, answers) = asked(at, action, answers)?;
     Ok(((), answers))
-}
-
-/// The element of a process in a grid of one dimension.
-pub fn element_at(number: u32) -> Point
-    requires { number < 2 ^ 31 }
-    ensures value { result ≡ copying.element_at number }
-    ensures form { IsPoint result }
-{
-    Point {
-        dim: 1,
-        x1: number as i32,
-        x2: 0,
-        x3: 0,
-    }
 }
 
 /// The value of a process is taken and written into the grid; those of the other processes are left.
