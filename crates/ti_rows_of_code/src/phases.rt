@@ -17,20 +17,29 @@ use ti_syntax::tree::Tree;
 #[derive(Clone, Copy)]
 pub(crate) struct Stopped;
 
-// Whatever stops a phase stops the text.
-macro_rules! stopped_by {
-    ($($error:ty),*) => {
-        $(
-            impl From<$error> for Stopped {
-                fn from(_error: $error) -> Stopped {
-                    Stopped
-                }
-            }
-        )*
-    };
+impl From<LexErr> for Stopped {
+    fn from(_error: LexErr) -> Stopped {
+        Stopped
+    }
 }
 
-stopped_by!(LexErr, ParseErr, NameErr, CheckErr);
+impl From<ParseErr> for Stopped {
+    fn from(_error: ParseErr) -> Stopped {
+        Stopped
+    }
+}
+
+impl From<NameErr> for Stopped {
+    fn from(_error: NameErr) -> Stopped {
+        Stopped
+    }
+}
+
+impl From<CheckErr> for Stopped {
+    fn from(_error: CheckErr) -> Stopped {
+        Stopped
+    }
+}
 
 fn tokens(alloc: Global, text: &[u8]) -> Result<Vec<Token>, Stopped>
     ensures { IfOk result (λ list. EndsAtEnd list.items) }

@@ -50,23 +50,41 @@ pub(crate) enum Phase {
     Rules,
 }
 
-// Each phase refuses the text, or memory is wanting.
-macro_rules! stopped_by {
-    ($($error:ident),*) => {
-        $(
-            impl From<$error> for Stopped {
-                fn from(error: $error) -> Stopped {
-                    match error {
-                        $error::Refused(refusal) => Stopped::Refused(refusal),
-                        $error::Memory => Stopped::Memory,
-                    }
-                }
-            }
-        )*
-    };
+impl From<LexErr> for Stopped {
+    fn from(error: LexErr) -> Stopped {
+        match error {
+            LexErr::Refused(refusal) => Stopped::Refused(refusal),
+            LexErr::Memory => Stopped::Memory,
+        }
+    }
 }
 
-stopped_by!(LexErr, ParseErr, NameErr, CheckErr);
+impl From<ParseErr> for Stopped {
+    fn from(error: ParseErr) -> Stopped {
+        match error {
+            ParseErr::Refused(refusal) => Stopped::Refused(refusal),
+            ParseErr::Memory => Stopped::Memory,
+        }
+    }
+}
+
+impl From<NameErr> for Stopped {
+    fn from(error: NameErr) -> Stopped {
+        match error {
+            NameErr::Refused(refusal) => Stopped::Refused(refusal),
+            NameErr::Memory => Stopped::Memory,
+        }
+    }
+}
+
+impl From<CheckErr> for Stopped {
+    fn from(error: CheckErr) -> Stopped {
+        match error {
+            CheckErr::Refused(refusal) => Stopped::Refused(refusal),
+            CheckErr::Memory => Stopped::Memory,
+        }
+    }
+}
 
 /// The tokens of a text.
 fn tokens(alloc: Global, text: &[u8]) -> Result<Vec<Token>, Stopped>
