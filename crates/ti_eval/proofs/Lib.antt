@@ -3,7 +3,6 @@ mod Evaluating
 mod LiteralLaws
 mod MemberLaws
 mod Nexts
-mod Operands
 mod Points
 mod PointsAbove
 mod SameRects

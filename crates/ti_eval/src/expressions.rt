@@ -33,7 +33,7 @@ use crate::literals::{
 use crate::members::{indexed, member};
 use crate::operators::{operated, operated_alone, settled};
 use crate::parts::fetch_field;
-use crate::scalars::{Scalar, computed};
+use crate::scalars::Scalar;
 use crate::told::{Given, Told};
 use std::alloc::Global;
 use ti_base::{Id, Place, Value};
@@ -104,7 +104,7 @@ fn unary<'a>(
 ) -> Given<'a, Held>
     ensures { (at : At) → Comes result (evaluation.eval (env_of env.now) (form.Unary at op (expression_of operand.now)) answers.now) }
 {
-    let (h, answers) = evaluated(alloc, env, operand, answers)?;
+    let (h, answers) = evaluate(alloc, env, operand, answers)?;
     Ok((operated_alone(op, h), answers))
 }
 
@@ -125,7 +125,7 @@ fn with_right<'a>(
     if let Some(k) = settled(op, h) {
         return Ok((k, answers));
     }
-    let (k, answers) = evaluated(alloc, env, right, answers)?;
+    let (k, answers) = evaluate(alloc, env, right, answers)?;
     operated(alloc, at, op, h, k, answers)
 }
 
@@ -142,7 +142,7 @@ fn cast<'a>(
 ) -> Given<'a, Held>
     ensures { Comes result (evaluation.eval (env_of env.now) (form.Cast at (type_use_of to.now) (expression_of operand.now)) answers.now) }
 {
-    let (h, answers) = evaluated(alloc, env, operand, answers)?;
+    let (h, answers) = evaluate(alloc, env, operand, answers)?;
     let (k, answers) = converted(alloc, at, &to.ty, h, answers)?;
     kept_local(env.team.number, at, &to.ty, k, answers)
 }
@@ -160,7 +160,7 @@ fn selected<'a>(
 ) -> Given<'a, Held>
     ensures { Comes result (evaluation.eval (env_of env.now) (form.Select at (expression_of receiver.now) name) answers.now) }
 {
-    let (h, answers) = evaluated(alloc, env, receiver, answers)?;
+    let (h, answers) = evaluate(alloc, env, receiver, answers)?;
     let field = field_selected(env, receiver, name)?;
     fetch_field(at, &h, field, answers)
 }
@@ -292,19 +292,8 @@ pub fn evaluate_ranges<'a>(
 /// the answers are used up, and fails with a fault where the language says so; a call of a declared
 /// method has no value here.
 #[cycle(evaluate)]
-pub fn evaluate<'a>(alloc: Global, env: &Env, e: &Expr, answers: &'a [Told]) -> Given<'a, Held>
-    ensures { Comes result (evaluation.eval (env_of env.now) (expression_of e.now) answers.now) }
-{
-    match computed(env, e) {
-        Some(x) => made(x, answers),
-        None => evaluated(alloc, env, e, answers),
-    }
-}
-
-// The same, of an expression of any form.
-#[cycle(evaluate)]
 #[tactic(auto, using(crate::proofs::Evaluating::evaluating))]
-fn evaluated<'a>(alloc: Global, env: &Env, e: &Expr, answers: &'a [Told]) -> Given<'a, Held>
+pub fn evaluate<'a>(alloc: Global, env: &Env, e: &Expr, answers: &'a [Told]) -> Given<'a, Held>
     ensures { Comes result (evaluation.eval (env_of env.now) (expression_of e.now) answers.now) }
 {
     match e {
@@ -330,7 +319,7 @@ fn evaluated<'a>(alloc: Global, env: &Env, e: &Expr, answers: &'a [Told]) -> Giv
             left,
             right,
         } => {
-            let (h, answers) = evaluated(alloc, env, left, answers)?;
+            let (h, answers) = evaluate(alloc, env, left, answers)?;
             with_right(alloc, env, *place, *operator, &h, right, answers)
         }
         Expr::Cast { place, to, operand } => cast(alloc, env, *place, to, operand, answers),
@@ -345,7 +334,7 @@ fn evaluated<'a>(alloc: Global, env: &Env, e: &Expr, answers: &'a [Told]) -> Giv
             name,
             args,
         } => {
-            let (h, answers) = evaluated(alloc, env, receiver, answers)?;
+            let (h, answers) = evaluate(alloc, env, receiver, answers)?;
             let called = called_member(env, receiver, *name);
             with_arguments(alloc, env, *place, called, &h, args, answers)
         }
@@ -354,7 +343,7 @@ fn evaluated<'a>(alloc: Global, env: &Env, e: &Expr, answers: &'a [Told]) -> Giv
             receiver,
             indices,
         } => {
-            let (h, answers) = evaluated(alloc, env, receiver, answers)?;
+            let (h, answers) = evaluate(alloc, env, receiver, answers)?;
             let is_point = is_point(env, receiver);
             with_indices(alloc, env, *place, is_point, &h, indices, answers)
         }

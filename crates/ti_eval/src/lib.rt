@@ -33,11 +33,11 @@ pub use expressions::{evaluate, evaluate_all, evaluate_numbers, evaluate_ranges}
 pub use fields::field_selected;
 pub use frame::{Copy, Level, Part, Slot, Spot, Todo};
 pub use held::Held;
-pub use literals::{point_of_numbers, rect_from};
+pub use literals::{point_of_numbers, rect_within};
 pub use members::{indexed, member};
 pub use operators::{operated, operated_alone, settled};
 pub use parts::{asked, fetch_element, fetch_field};
-pub use scalars::{Scalar, computed, of_scalars, scalar_in};
+pub use scalars::{Scalar, of_scalars};
 pub use stop::Stop;
 pub use team::Team;
 pub use teams::{element_at, is_of_team, rect_of_team};

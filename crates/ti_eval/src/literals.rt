@@ -4,9 +4,8 @@ ghost use Rattle.std.specs.Prelude.{◌≡◌, ◌++◌, pos, int_le, map, true,
 ghost use Rattle.std.specs.List.{list_all};
 ghost use Rattle.ti_base.specs.Points.{IsPoint};
 ghost use Rattle.ti_base.specs.Rects.{IsRect};
-ghost use Rattle.ti_lang.specs.Meaning.Asking.{Got, followed};
 ghost use Rattle.ti_lang.specs.Meaning.Literals as literal;
-ghost use Rattle.ti_eval.specs.Comes.{Comes, ComesAs};
+ghost use Rattle.ti_eval.specs.Comes.{Comes};
 ghost use Rattle.ti_eval.specs.Bounds.{bounds_of};
 
 use crate::bounds::Bounds;
@@ -187,13 +186,4 @@ pub fn rect_within<'a>(at: Place, b: &Bounds, answers: &'a [Told]) -> Given<'a, 
         return Err(Stop::Fails(FaultKind::BadStride, at));
     }
     Ok((Held::plain(Value::Rc(rect_of(b))), answers))
-}
-
-/// The same, behind the bounds that a computation comes to.
-#[tactic(auto, using(crate::proofs::Steps::steps))]
-pub fn rect_from<'a>(at: Place, got: Given<'a, Bounds>) -> Given<'a, Held>
-    ensures { (m : Got literal.Bounds) → ComesAs bounds_of got.entry m → Comes result (followed m (λ b. literal.rect_within at b)) }
-{
-    let (bounds, answers) = got?;
-    rect_within(at, &bounds, answers)
 }

@@ -3,41 +3,25 @@
 ghost use Rattle.std.specs.Prelude.{◌≡◌, ℕ, ◌<◌, ◌∷◌, [], ◌++◌, length, List, IfOk, OnOk, Option};
 ghost use Rattle.ti_base.specs.declared.value.Id.{Id as Thing};
 ghost use Rattle.ti_lang.specs.Program.Classes.{NumberedProgram};
-ghost use Rattle.ti_lang.specs.Program.Statements.{NumberedStm};
 ghost use Rattle.ti_lang.specs.Program.Views.{program_of};
 ghost use Rattle.ti_lang.specs.Meaning.Moves as move;
 ghost use Rattle.ti_lang.specs.Meaning.Processes.{Work};
 ghost use Rattle.ti_lang.specs.Meaning.Steps as steps;
-ghost use Rattle.ti_eval.specs.Frames.{Site, slots_of};
+ghost use Rattle.ti_eval.specs.Frames.{slots_of};
 ghost use Rattle.ti_moves.specs.Moves.{method_at, changed, move_of, works_of};
 ghost use Rattle.ti_moves.specs.Receiving.{receiver_of};
-ghost use Rattle.ti_moves.specs.Ways.{move_by, works_by};
 ghost use Rattle.ti_exec.specs.States.{IsStep, IsMoved, process_of, going_on, top_of, below_of, site_of, here, rest, env_in};
 
 use crate::process::{Call, Mode, Turn, Variables, Walker};
 use std::alloc::Global;
 use std::mem;
 use ti_base::{CollKind, Deposit, FaultKind, Id, Memory, Place};
-use ti_eval::{Held, Part, Slot, Todo};
+use ti_eval::{Held, Slot, Todo};
 use ti_lang::program::Parts;
-use ti_moves::{Change, Left, Meeting, Move, Way};
+use ti_moves::{Change, Left, Meeting, Move};
 
 // How many frames a process may have.
 const MOST_FRAMES: usize = 200;
-
-// What is left of a statement that goes on so.
-fn left_by(way: Way) -> Left
-    ensures { (site : Site) (x : NumberedStm) → works_of site x result ≡ works_by site x way.entry }
-{
-    match way {
-        Way::List => Left::Of(Todo::From(0)),
-        Way::Loop => Left::Of(Todo::Before),
-        Way::First => Left::Part(Part::First, Todo::Before),
-        Way::Then => Left::Part(Part::Then, Todo::Inside),
-        Way::Else => Left::Part(Part::Else, Todo::Inside),
-        _ => Left::Of(Todo::Inside),
-    }
-}
 
 impl Walker {
     /// The current work is done, and the process goes on so.
@@ -73,18 +57,7 @@ impl Walker {
         }
     }
 
-    /// The variables change, and this is left of the innermost statement.
-    pub fn goes_by(&mut self, alloc: Global, way: Way) -> Result<Turn, Memory>
-        requires { 0 < length self.old.top.levels.items }
-        ensures { (c : NumberedProgram) → IfOk result (λ t. IsMoved c self.old
-            (move_by (env_in c self.old) (here c self.old.top) way.entry) t self.new) }
-    {
-        self.top.variables.vary_by(alloc, way)?;
-        self.goes(left_by(way))?;
-        Ok(Turn::Went)
-    }
-
-    // The same of any change.
+    // The variables change, and this is left of the innermost statement.
     fn varies(&mut self, change: Change, left: Left) -> Result<Turn, Memory>
         requires { 0 < length self.old.top.levels.items }
         ensures { (c : NumberedProgram) → IfOk result (λ t. IsMoved c self.old

@@ -12,7 +12,6 @@ ghost use Rattle.ti_eval.specs.declared.frame.Todo.TheVariants.{Here};
 ghost use Rattle.ti_eval.specs.Comes.{ComesAs};
 ghost use Rattle.ti_moves.specs.Moves.{move_of};
 ghost use Rattle.ti_moves.specs.Receiving.{receiver_of};
-ghost use Rattle.ti_moves.specs.Ways.{GoesBy};
 ghost use Rattle.ti_moves.specs.declared.moves.Meeting.{Meeting as Met};
 ghost use Rattle.ti_exec.specs.declared.process.Mode.TheVariants.{Walks, Waits, Expects};
 ghost use Rattle.ti_exec.specs.States.{IsTurn, IsSettled, IsWalking, IsReceiving, env_in, here};
@@ -22,7 +21,7 @@ use std::alloc::Global;
 use ti_base::{Action, Memory, Place};
 use ti_eval::{Held, Stop, Todo, Told};
 use ti_lang::program::Parts;
-use ti_moves::{Move, Way, method, received, statement, unasked};
+use ti_moves::{Move, method, received, statement};
 
 /// The place of the brace that closes `main`.
 pub fn end_place(c: &Parts) -> Place
@@ -42,14 +41,6 @@ impl Walker {
             (statement_spec (env_in (program_of c.now) self.now) (here (program_of c.now) self.now.top) self.now.answers.items) }
     {
         statement(alloc, &self.env(c), self.top.stands(c), &self.answers)
-    }
-
-    // How it goes on, where it asks for no action.
-    fn way_at<'c>(&self, c: &'c Parts) -> Option<Way<'c>>
-        requires { 0 < length self.now.top.levels.items }
-        ensures { GoesBy (env_in (program_of c.now) self.now) (here (program_of c.now) self.now.top) result }
-    {
-        unasked(&self.env(c), self.top.stands(c))
     }
 
     // What it comes to when a value has gone to where it wants it.
@@ -73,12 +64,9 @@ impl Walker {
         requires mode { self.old.mode ≡ Walks Here }
         ensures { IfOk result (λ t. IsTurn (program_of c.now) self.old t self.new) }
     {
-        match self.way_at(c) {
-            Some(way) => self.goes_by(alloc, way),
-            None => match self.stated(alloc, c) {
-                Ok((m, _)) => self.moves(alloc, c, m),
-                Err(stop) => self.stops(alloc, stop),
-            },
+        match self.stated(alloc, c) {
+            Ok((m, _)) => self.moves(alloc, c, m),
+            Err(stop) => self.stops(alloc, stop),
         }
     }
 

@@ -9,14 +9,13 @@ ghost use Rattle.ti_lang.specs.Meaning.Steps.{lies_in as lies_in_spec};
 ghost use Rattle.ti_eval.specs.Frames.{slots_of};
 ghost use Rattle.ti_moves.specs.Moves.{changed};
 ghost use Rattle.ti_moves.specs.Receiving.{stm_seen};
-ghost use Rattle.ti_moves.specs.Ways.{changed_by};
 
 use crate::process::{Call, Variables};
 use std::alloc::Global;
 use ti_base::{Id, Memory};
 use ti_eval::{Slot, change};
 use ti_lang::program::Stmt;
-use ti_moves::{Change, Way, leave, new_slot};
+use ti_moves::{Change, leave};
 
 // How many variables a call has room for.
 const ROOM: usize = 16777215;
@@ -74,21 +73,6 @@ impl Variables {
                 change(&mut self.slots, variable, held);
                 Ok(())
             }
-        }
-    }
-
-    /// The same by the way of a statement that asks for no action.
-    #[tactic(auto, using(crate::proofs::Few::few))]
-    pub fn vary_by(&mut self, alloc: Global, by: Way) -> Result<(), Memory>
-        ensures { OnOk result (slots_of self.new.slots.items ≡ changed_by by.entry (slots_of self.old.slots.items)) }
-    {
-        match by {
-            Way::Changed(variable, x) => {
-                change(&mut self.slots, variable, x.held());
-                Ok(())
-            }
-            Way::New(ty, variable, x) => Ok(self.add(new_slot(alloc, ty, variable, x.held())?)?),
-            _ => Ok(()),
         }
     }
 

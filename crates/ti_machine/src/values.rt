@@ -18,7 +18,7 @@ use ti_base::{FaultKind, Place, Value};
 use ti_code::{Member, OneOperand, Operation};
 use ti_eval::{
     Held, Stop, Team, Told, as_int, as_long, indexed, is_of_team, kept_local, member, operated,
-    operated_alone, point_of_numbers, rect_from, rect_of_team, to_domain,
+    operated_alone, point_of_numbers, rect_of_team, rect_within, to_domain,
 };
 use ti_lang::program::Ty;
 use ti_lang::typing::BuiltIn;
@@ -240,7 +240,7 @@ impl Desk {
     {
         let args = self.take_args(alloc, 3 * u64::from(n))?;
         let b = bounds(alloc, &args)?;
-        let got = value_of(rect_from(at, Ok((b, &[]))));
+        let got = value_of(rect_within(at, &b, &[]));
         self.push_got(got, next)
     }
 

@@ -5,5 +5,4 @@ mod Entering
 mod Goings
 mod Leaving
 mod MethodLaws
-mod Silent
 pub mod Lemmas

@@ -5,4 +5,3 @@ pub mod Receiving
 pub mod Scopes
 pub mod Targets
 pub mod Things
-pub mod Ways

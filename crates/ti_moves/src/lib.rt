@@ -13,7 +13,6 @@ mod spots;
 mod statements;
 mod targets;
 mod things;
-mod ways;
 
 pub use calls::{argument, body_of, method, number_called};
 pub use collectives::{delete, root_among};
@@ -23,4 +22,3 @@ pub use receiving::{Receiver, Right, new_slot, receiver_at, receives};
 pub use scopes::leave;
 pub use spots::{condition, count, has_update, is_for, loop_place, statement_at};
 pub use statements::{goes, received, returns, statement};
-pub use ways::{Way, unasked};

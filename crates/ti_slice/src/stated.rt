@@ -1,10 +1,9 @@
 // What a statement with effects comes to in the slice, from single values alone.
 
-ghost use Rattle.std.specs.Prelude.{◌≡◌, ℕ, pos, List, [], ◌∷◌, Option, None, Some, map};
+ghost use Rattle.std.specs.Prelude.{◌≡◌, pos, [], Option, None, Some, map};
 ghost use Rattle.std.specs.declared.vec.Vec.{Vec as Row};
 ghost use Rattle.std.specs.declared.alloc.Global.{Global as Heap};
 ghost use Rattle.ti_base.specs.declared.place.Place.{Place as At};
-ghost use Rattle.ti_base.specs.declared.action.CollKind.TheVariants as coll;
 ghost use Rattle.ti_base.specs.declared.action.Deposit.TheVariants as deposit;
 ghost use Rattle.ti_syntax.specs.Trees.Views.{maybe_of};
 ghost use Rattle.ti_lang.specs.Program.Types.{Typed};
@@ -16,8 +15,6 @@ ghost use Rattle.ti_lang.specs.Program.Scope.{this_of};
 ghost use Rattle.ti_lang.specs.Program.Views.{program_of, expression_of, value_type_of, numbered_param_of, initial_of, statement_of};
 ghost use Rattle.ti_lang.specs.Typing.Called.{member_called};
 ghost use Rattle.ti_lang.specs.Typing.Singleness.{has_single_result as has_single_result_spec};
-ghost use Rattle.ti_lang.specs.Meaning.Asking.{Got, ValueOf, followed, gives};
-ghost use Rattle.ti_lang.specs.Meaning.Processes.{Variable as Named};
 ghost use Rattle.ti_lang.specs.Meaning.Scoping.{Env as Where, type_here};
 ghost use Rattle.ti_lang.specs.Meaning.Calls.{called, call_by, call_of as made_call, parameters_from, parameters_of};
 ghost use Rattle.ti_lang.specs.Meaning.Moves as move;
@@ -75,26 +72,8 @@ fn gives_single(m: Option<&Method>) -> bool
 
 // ---- arguments
 
-// One more parameter, behind its argument.
-#[tactic(auto, using(ti_eval::proofs::Lemmas::steps, ti_eval::proofs::Lemmas::one_more))]
-fn found_from<'a>(
-    found: Vec<Slot>,
-    got: Result<(Slot, &'a [Told]), Stop>,
-) -> Result<(Vec<Slot>, &'a [Told]), Stop>
-    ensures { (m : Got Named) → ComesAs slot_of got.entry m → ComesAs (λ (v : Row Kept Heap). slots_of v.items) result
-        (followed m (λ w. gives (w ∷ slots_of found.items))) }
-{
-    match got {
-        Ok((slot, answers)) => {
-            let mut found = found;
-            found.push(slot)?;
-            Ok((found, answers))
-        }
-        Err(stop) => Err(stop),
-    }
-}
-
 // The parameter of a number beside those found so far, if it is single.
+#[tactic(auto, using(ti_eval::proofs::Lemmas::steps, ti_eval::proofs::Lemmas::one_more))]
 fn found_with<'a>(
     alloc: Global,
     env: &Env,
@@ -108,11 +87,13 @@ fn found_with<'a>(
         (single_found (env_of env.now) (record { number = number; declared = Typed param.now.ty.single (value_type_of param.now.ty.ty) })
         (expression_of x.now) (slots_of found.items) answers.now) }
 {
-    if param.ty.single {
-        found_from(found, argument(alloc, env, number, param, x, answers))
-    } else {
-        Ok((found, answers))
+    if !param.ty.single {
+        return Ok((found, answers));
     }
+    let (slot, answers) = argument(alloc, env, number, param, x, answers)?;
+    let mut found = found;
+    found.push(slot)?;
+    Ok((found, answers))
 }
 
 // The single parameters with the values of their arguments, as far as both go.
@@ -131,13 +112,9 @@ fn bind<'a>(
     let mut left = answers;
     let mut i = 0;
     while i < params.len() && i < args.len() {
-        match found_with(alloc, env, i, &params[i], &args[i], found, left) {
-            Ok((more, rest)) => {
-                found = more;
-                left = rest;
-            }
-            Err(stop) => return Err(stop),
-        }
+        let (more, rest) = found_with(alloc, env, i, &params[i], &args[i], found, left)?;
+        found = more;
+        left = rest;
         i += 1;
     }
     Ok((found, left))
@@ -158,32 +135,23 @@ fn params_in<'p>(m: Option<&'p Method>) -> &'p [Param]
 
 // ---- calls
 
-// The call, behind its single parameters.
-#[tactic(auto, using(ti_eval::proofs::Lemmas::steps))]
-fn calls_with<'a, 'c>(
-    at: Place,
-    method: usize,
-    got: Result<(Vec<Slot>, &'a [Told]), Stop>,
-) -> Result<(Move<'c>, &'a [Told]), Stop>
-    ensures { (env : Where) (x : NumberedStm) (m : Got (List Named)) → ComesAs (λ (v : Row Kept Heap). slots_of v.items) got.entry m
-        → ComesAs (move_of env x) result (followed m (λ parameters. gives
-        (move.Calls at (method_at env.program method) None parameters (receiver_of x)))) }
+// The single parameters of a method.
+fn parameters<'a>(
+    alloc: Global,
+    env: &Env,
+    m: Option<&Method>,
+    args: &[Expr],
+    answers: &'a [Told],
+) -> Result<(Vec<Slot>, &'a [Told]), Stop>
+    ensures { ComesAs (λ (v : Row Kept Heap). slots_of v.items) result
+        (slice.single_bound (env_of env.now) (parameters_of (method_seen m.entry).params)
+        (numbered_exps (map expression_of args.now)) [] answers.now) }
 {
-    match got {
-        Ok((parameters, answers)) => {
-            let call = Move::Calls {
-                at,
-                method,
-                this: None,
-                parameters,
-            };
-            Ok((call, answers))
-        }
-        Err(stop) => Err(stop),
-    }
+    bind(alloc, env, params_in(m), args, answers)
 }
 
 // The call of the method of a number; its object is left out.
+#[tactic(auto, using(ti_eval::proofs::Lemmas::steps))]
 fn calls<'a, 'c>(
     alloc: Global,
     env: &Env,
@@ -196,8 +164,15 @@ fn calls<'a, 'c>(
         (slice.single_calling (env_of env.now) (receiver_of x) (made_call at object (numbered_exps (map expression_of args.now))
         (method_at (program_of env.now.program.now) number)) answers.now) }
 {
-    let params = params_in(method(env.program, number));
-    calls_with(at, number, bind(alloc, env, params, args, answers))
+    let callee = method(env.program, number);
+    let (parameters, answers) = parameters(alloc, env, callee, args, answers)?;
+    let call = Move::Calls {
+        at,
+        method: number,
+        this: None,
+        parameters,
+    };
+    Ok((call, answers))
 }
 
 // The call that an expression is, of the method of a number.
@@ -287,41 +262,6 @@ fn step<'a, 'c>(
     received(alloc, env, s, Right::Known(&one), answers)
 }
 
-// The arrival at a broadcast, behind the number of its root.
-#[tactic(auto, using(ti_eval::proofs::Lemmas::steps))]
-fn broadcast_from<'a, 'c>(
-    at: Place,
-    got: Result<(u32, &'a [Told]), Stop>,
-) -> Result<(Move<'c>, &'a [Told]), Stop>
-    ensures { (env : Where) (x : NumberedStm) (m : Got ℕ) → Comes got.entry m
-        → ComesAs (move_of env x) result (followed m (λ root. slice.arriving
-        (record {
-          place = at;
-          kind = coll.Broadcast;
-          arg = Some root;
-          wanted = ValueOf (type_received env x);
-          receiver = receiver_of x;
-        }))) }
-{
-    match got {
-        Ok((root, answers)) => {
-            let meeting = Meeting {
-                place: at,
-                kind: CollKind::Broadcast,
-                arg: Some(root),
-            };
-            Ok((
-                Move::Expects {
-                    meeting,
-                    deposit: Deposit::Nothing,
-                },
-                answers,
-            ))
-        }
-        Err(stop) => Err(stop),
-    }
-}
-
 // The statement waits for the value of the root of a broadcast; what it gives is left out.
 #[tactic(auto, using(ti_eval::proofs::Lemmas::steps))]
 fn broadcast<'a, 'c>(
@@ -335,10 +275,15 @@ fn broadcast<'a, 'c>(
         → ComesAs (move_of (env_of env.now) x) result (slice.single_broadcast (env_of env.now) (receiver_of x) at value
         (expression_of root.now) answers.now) }
 {
-    match evaluate(alloc, env, root, answers) {
-        Ok((h, answers)) => broadcast_from(at, root_among(env.team.procs, at, &h, answers)),
-        Err(stop) => Err(stop),
-    }
+    let (h, answers) = evaluate(alloc, env, root, answers)?;
+    let (root, answers) = root_among(env.team.procs, at, &h, answers)?;
+    let meeting = Meeting {
+        place: at,
+        kind: CollKind::Broadcast,
+        arg: Some(root),
+    };
+    let deposit = Deposit::Nothing;
+    Ok((Move::Expects { meeting, deposit }, answers))
 }
 
 // The right side of a declaration or an assignment. A new object or grid is left out.

@@ -32,28 +32,28 @@ use Rattle.ti_eval.proofs.expressions.+evaluate.Goals as goal
 at_arm : (E : Env) (e a : Expr) (answers : List Answer) (r : Result (Held × Bor (List Answer)) Stop) → e ≡ a → Comes r (eval E (expression_of a) answers) → Comes r (eval E (expression_of e) answers)
 at_arm E e a answers r is h = subst (λ (z : Expr). Comes r (eval E (expression_of z) answers)) (sym is) h
 
-pub evaluated-returns-in-Point : goal.evaluated-returns-in-Point
-evaluated-returns-in-Point t c =
+pub evaluate-returns-in-Point : goal.evaluate-returns-in-Point
+evaluate-returns-in-Point t c =
     let b = seen_numbered_point c.args.e.now c.in-Point.field-0 c.in-Point.parts c.in-Point.is in
     subst (λ (y : NumberedExp). Comes c.point.result (eval (env_of c.args.env.now) y c.args.answers.now))
     (ap (λ (ys : List Expr). x.Point c.in-Point.field-0 (numbered_exps (map expression_of ys))) c.deref.ensures.value ∙ sym b)
     (c.point.ensures c.in-Point.field-0)
 
-pub evaluated-returns-in-Rect : goal.evaluated-returns-in-Rect
-evaluated-returns-in-Rect t c =
+pub evaluate-returns-in-Rect : goal.evaluate-returns-in-Rect
+evaluate-returns-in-Rect t c =
     let b = seen_numbered_rect c.args.e.now c.in-Rect.place c.in-Rect.ranges c.in-Rect.is in
     subst (λ (y : NumberedExp). Comes c.rectangle.result (eval (env_of c.args.env.now) y c.args.answers.now))
     (ap (λ (ys : List Range). x.Rect c.in-Rect.place (numbered_ranges (map bound_of ys))) c.deref-in-Rect.ensures.value ∙ sym b)
     c.rectangle.ensures
 
-pub evaluated-returns-in-Unary : goal.evaluated-returns-in-Unary
-evaluated-returns-in-Unary t c =
+pub evaluate-returns-in-Unary : goal.evaluate-returns-in-Unary
+evaluate-returns-in-Unary t c =
     subst (λ (y : NumberedExp). Comes c.unary.result (eval (env_of c.args.env.now) y c.args.answers.now))
     (ap (λ (z : Expr). x.Unary c.in-Unary.place c.in-Unary.operator (expression_of z)) c.deref-in-Unary.ensures ∙ sym (ap expression_of c.in-Unary.is))
     (c.unary.ensures c.in-Unary.place)
 
-pub evaluated-returns-in_ok-h-in-Binary : goal.evaluated-returns-in_ok-h-in-Binary
-evaluated-returns-in_ok-h-in-Binary t c =
+pub evaluate-returns-in_ok-h-in-Binary : goal.evaluate-returns-in_ok-h-in-Binary
+evaluate-returns-in_ok-h-in-Binary t c =
     let E = env_of c.args.env.now in
     let at = c.in-Binary.place in
     let op = c.in-Binary.operator in
@@ -66,8 +66,8 @@ evaluated-returns-in_ok-h-in-Binary t c =
     (subst (λ (g : Got Held). Comes c.with_right.result (followed g (λ k. with_right at op k (eval E r)))) (sym e)
     (subst (λ (z : Expr). Comes c.with_right.result (with_right at op h (eval E (expression_of z)) rest)) c.deref-in-Binary-2.ensures c.with_right.ensures))
 
-pub evaluated-returns-in-Cast : goal.evaluated-returns-in-Cast
-evaluated-returns-in-Cast t c =
+pub evaluate-returns-in-Cast : goal.evaluate-returns-in-Cast
+evaluate-returns-in-Cast t c =
     let at = c.in-Cast.place in
     subst (λ (y : NumberedExp). Comes c.cast.result (eval (env_of c.args.env.now) y c.args.answers.now))
     (ap (λ (u : TypeUse). x.Cast at (type_use_of u) (expression_of c.deref-in-Cast-2.result.now)) c.deref-in-Cast.ensures
@@ -75,14 +75,14 @@ evaluated-returns-in-Cast t c =
     ∙ sym (ap expression_of c.in-Cast.is))
     c.cast.ensures
 
-pub evaluated-returns-in-Select : goal.evaluated-returns-in-Select
-evaluated-returns-in-Select t c =
+pub evaluate-returns-in-Select : goal.evaluate-returns-in-Select
+evaluate-returns-in-Select t c =
     subst (λ (y : NumberedExp). Comes c.selected.result (eval (env_of c.args.env.now) y c.args.answers.now))
     (ap (λ (z : Expr). x.Select c.in-Select.place (expression_of z) c.in-Select.name) c.deref-in-Select.ensures ∙ sym (ap expression_of c.in-Select.is))
     c.selected.ensures
 
-pub evaluated-returns-in_ok-h-in-Member : goal.evaluated-returns-in_ok-h-in-Member
-evaluated-returns-in_ok-h-in-Member t c =
+pub evaluate-returns-in_ok-h-in-Member : goal.evaluate-returns-in_ok-h-in-Member
+evaluate-returns-in_ok-h-in-Member t c =
     let E = env_of c.args.env.now in
     let at = c.in-Member.place in
     let name = c.in-Member.name in
@@ -105,8 +105,8 @@ evaluated-returns-in_ok-h-in-Member t c =
     (subst (λ (o : Option BuiltIn). Comes c.with_arguments.result (followed (eval_all E (numbered_exps (map expression_of c.deref-in-Member-3.result.now)) rest)
     (λ hs. member at type o through h hs))) k (c.with_arguments.ensures type through))))
 
-pub evaluated-returns-in_ok-h-in-Index : goal.evaluated-returns-in_ok-h-in-Index
-evaluated-returns-in_ok-h-in-Index t c =
+pub evaluate-returns-in_ok-h-in-Index : goal.evaluate-returns-in_ok-h-in-Index
+evaluate-returns-in_ok-h-in-Index t c =
     let E = env_of c.args.env.now in
     let at = c.in-Index.place in
     let y = expression_of c.in-Index.receiver.value in
@@ -127,8 +127,8 @@ evaluated-returns-in_ok-h-in-Index t c =
     (subst (λ (o : Bool). Comes c.with_indices.result (followed (eval_numbers E (numbered_exps (map expression_of c.deref-in-Index-3.result.now)) rest)
     (λ ns. indexed o at type through h ns))) k (c.with_indices.ensures type through))))
 
-pub evaluated-returns-in_err-h-in-Binary : goal.evaluated-returns-in_err-h-in-Binary
-evaluated-returns-in_err-h-in-Binary t c =
+pub evaluate-returns-in_err-h-in-Binary : goal.evaluate-returns-in_err-h-in-Binary
+evaluate-returns-in_err-h-in-Binary t c =
     let E = env_of c.args.env.now in
     let s = c.in_err-h-in-Binary.field-0.0 in
     let p = err_from_is_err_and c.from_residual.result c.from_residual.ensures.1 in
@@ -136,8 +136,8 @@ evaluated-returns-in_err-h-in-Binary t c =
     (rw (p.1, p.2) (then_stops s (eval E (expression_of c.in-Binary.left.value) c.args.answers.now) (λ k. with_right c.in-Binary.place c.in-Binary.operator k (eval E (expression_of c.in-Binary.right.value)))
     (subst (λ (z : Expr). Stops s (eval E (expression_of z) c.args.answers.now)) c.deref-in-Binary.ensures c.in_err-h-in-Binary.ensures)))
 
-pub evaluated-returns-in_err-h-in-Member : goal.evaluated-returns-in_err-h-in-Member
-evaluated-returns-in_err-h-in-Member t c =
+pub evaluate-returns-in_err-h-in-Member : goal.evaluate-returns-in_err-h-in-Member
+evaluate-returns-in_err-h-in-Member t c =
     let E = env_of c.args.env.now in
     let s = c.in_err-h-in-Member.field-0.0 in
     let p = err_from_is_err_and c.from_residual-in_err-h-in-Member.result c.from_residual-in_err-h-in-Member.ensures.1 in
@@ -145,8 +145,8 @@ evaluated-returns-in_err-h-in-Member t c =
     (rw (p.1, p.2) (then_stops s (eval E (expression_of c.in-Member.receiver.value) c.args.answers.now) _
     (subst (λ (z : Expr). Stops s (eval E (expression_of z) c.args.answers.now)) c.deref-in-Member.ensures c.in_err-h-in-Member.ensures)))
 
-pub evaluated-returns-in_err-h-in-Index : goal.evaluated-returns-in_err-h-in-Index
-evaluated-returns-in_err-h-in-Index t c =
+pub evaluate-returns-in_err-h-in-Index : goal.evaluate-returns-in_err-h-in-Index
+evaluate-returns-in_err-h-in-Index t c =
     let E = env_of c.args.env.now in
     let s = c.in_err-h-in-Index.field-0.0 in
     let p = err_from_is_err_and c.from_residual-in_err-h-in-Index.result c.from_residual-in_err-h-in-Index.ensures.1 in
@@ -239,23 +239,20 @@ range-returns-in_ok-stepped_bounds-in-Stepped t c =
     ∙ ap (λ (g : Got Held). followed g (λ k. gives (literal.stepped_bounds a b k))) c.in_ok-c-in-Stepped.ensures
     ∙ ap (λ (m : literal.Bounds). Gives m c.in_ok-c-in-Stepped.answers.now) (sym c.in_ok-stepped_bounds-in-Stepped.ensures)
 
-pub evaluate-returns-in-Some : goal.evaluate-returns-in-Some
-evaluate-returns-in-Some t c = subst (λ (g : Got Held). Comes c.made.result g) (sym (c.in-Some.ensures.value c.args.answers.now)) c.made.ensures
+pub evaluate-returns-in-Truth : goal.evaluate-returns-in-Truth
+evaluate-returns-in-Truth t c = at_arm (env_of c.args.env.now) c.args.e.now _ c.args.answers.now c.made-in-Truth.result c.in-Truth.is c.made-in-Truth.ensures
 
-pub evaluated-returns-in-Truth : goal.evaluated-returns-in-Truth
-evaluated-returns-in-Truth t c = at_arm (env_of c.args.env.now) c.args.e.now _ c.args.answers.now c.made-in-Truth.result c.in-Truth.is c.made-in-Truth.ensures
+pub evaluate-returns-in-Null : goal.evaluate-returns-in-Null
+evaluate-returns-in-Null t c = at_arm (env_of c.args.env.now) c.args.e.now _ c.args.answers.now c.object.result c.in-Null.is c.object.ensures
 
-pub evaluated-returns-in-Null : goal.evaluated-returns-in-Null
-evaluated-returns-in-Null t c = at_arm (env_of c.args.env.now) c.args.e.now _ c.args.answers.now c.object.result c.in-Null.is c.object.ensures
+pub evaluate-returns-in-This : goal.evaluate-returns-in-This
+evaluate-returns-in-This t c = at_arm (env_of c.args.env.now) c.args.e.now _ c.args.answers.now c.object-in-This.result c.in-This.is c.object-in-This.ensures
 
-pub evaluated-returns-in-This : goal.evaluated-returns-in-This
-evaluated-returns-in-This t c = at_arm (env_of c.args.env.now) c.args.e.now _ c.args.answers.now c.object-in-This.result c.in-This.is c.object-in-This.ensures
+pub evaluate-returns-in-Variable : goal.evaluate-returns-in-Variable
+evaluate-returns-in-Variable t c = at_arm (env_of c.args.env.now) c.args.e.now _ c.args.answers.now c.held_by.result c.in-Variable.is c.held_by.ensures
 
-pub evaluated-returns-in-Variable : goal.evaluated-returns-in-Variable
-evaluated-returns-in-Variable t c = at_arm (env_of c.args.env.now) c.args.e.now _ c.args.answers.now c.held_by.result c.in-Variable.is c.held_by.ensures
+pub evaluate-returns-in-Call : goal.evaluate-returns-in-Call
+evaluate-returns-in-Call t c = at_arm (env_of c.args.env.now) c.args.e.now _ c.args.answers.now c.made-in-Call.result c.in-Call.is c.made-in-Call.ensures
 
-pub evaluated-returns-in-Call : goal.evaluated-returns-in-Call
-evaluated-returns-in-Call t c = at_arm (env_of c.args.env.now) c.args.e.now _ c.args.answers.now c.made-in-Call.result c.in-Call.is c.made-in-Call.ensures
-
-pub evaluated-returns-in-OwnCall : goal.evaluated-returns-in-OwnCall
-evaluated-returns-in-OwnCall t c = at_arm (env_of c.args.env.now) c.args.e.now _ c.args.answers.now c.made-in-OwnCall.result c.in-OwnCall.is c.made-in-OwnCall.ensures
+pub evaluate-returns-in-OwnCall : goal.evaluate-returns-in-OwnCall
+evaluate-returns-in-OwnCall t c = at_arm (env_of c.args.env.now) c.args.e.now _ c.args.answers.now c.made-in-OwnCall.result c.in-OwnCall.is c.made-in-OwnCall.ensures

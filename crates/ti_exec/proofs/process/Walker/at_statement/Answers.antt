@@ -13,16 +13,6 @@ use Rattle.ti_exec.proofs.Asked.{valued_gives}
 use Rattle.ti_exec.proofs.Works.{left_within, walks_at, turn_at, of_result}
 use Rattle.ti_exec.proofs.process.Walker.at_statement.Goals as goal
 
-pub returns-in-Some : goal.returns-in-Some
-returns-in-Some c =
-    let p = program_of c.args.c.now in
-    let w = c.args.self.now in
-    let new = c.goes_by.new.self in
-    let ws : List Work = Do (here p w.top) ∷ rest p w.team.procs w.top in
-    let left = left_within (site_of p w.team.procs w.top) (body_of p w.top) w.top.levels.items Here c.requires.inner in
-    of_result c.goes_by.result _ (λ t. IsTurn p w t new)
-    (λ t h. turn_at p w new _ t (walks_at p w Here ws c.requires.mode left) (valued_gives p (process_of p w) _ _ _ _ _ _ (c.in-Some.ensures w.answers.items) (h ws))) (c.goes_by.ensures p)
-
 pub returns-in-Ok : goal.returns-in-Ok
 returns-in-Ok c =
     let p = program_of c.args.c.now in

@@ -1,8 +1,6 @@
 use Rattle.std.proofs.Common.{◌≡◌, ◌∙◌, ap, subst, ℕ, [], ◌*◌}
 use Rattle.ti_code.specs.Effects.{under, taken, bounds_of}
 use Rattle.ti_machine.specs.Mirrors.Desks.{spot_of, Given}
-use Rattle.std.specs.Prelude.{refl}
-use Rattle.ti_lang.specs.Meaning.Asking.{Gives}
 use Rattle.ti_lang.specs.Meaning.Literals as literal
 use Rattle.ti_lang.proofs.Lemmas.{silent_guarded}
 use Rattle.ti_eval.specs.Bounds as found
@@ -20,5 +18,5 @@ returns c w =
     let bounds : b ≡ bounds_of (taken k s.stack []) = c.in_ok-b.ensures ∙ ap bounds_of (c.deref.ensures.value ∙ (c.in_ok-args.ensures.args ∙ ap (λ (j : ℕ). taken j s.stack []) n)) in
     let r = c.value_of-got.result in
     let given : Given r (literal.rect_within at b) =
-    c.value_of-got.ensures (literal.rect_within at b) (silent_tells (literal.rect_within at b) (silent_guarded _ _ at _)) (c.rect_from.ensures (Gives b []) refl) in
+    c.value_of-got.ensures (literal.rect_within at b) (silent_tells (literal.rect_within at b) (silent_guarded _ _ at _)) c.rect_within.ensures in
     c.push_got.ensures s (under k s.stack) (literal.rect_within at (bounds_of (taken k s.stack []))) rest c.requires.next (subst (λ z. Given r (literal.rect_within at z)) bounds given)

@@ -2,20 +2,17 @@ use Rattle.std.proofs.Common.{subst, map, List, []}
 use Rattle.std.specs.declared.vec.Vec.{Vec}
 use Rattle.std.specs.declared.alloc.Global.{Global}
 use Rattle.ti_lang.specs.Program.Types.{VariableUse}
-use Rattle.ti_lang.specs.Program.Classes.{NumberedMethod}
 use Rattle.ti_lang.specs.Program.Expressions.{numbered_exps}
 use Rattle.ti_lang.specs.Program.Views.{expression_of}
-use Rattle.ti_lang.specs.Meaning.Calls.{parameters_of}
 use Rattle.ti_align.specs.Slice.{single_bound}
 use Rattle.ti_eval.specs.declared.frame.Slot.{Slot}
 use Rattle.ti_eval.specs.Comes.{ComesAs}
 use Rattle.ti_eval.specs.Envs.{env_of}
 use Rattle.ti_eval.specs.Frames.{slots_of}
-use Rattle.ti_slice.proofs.stated.calls.Goals as goal
+use Rattle.ti_slice.proofs.stated.parameters.Goals as goal
 
 pub returns : goal.returns
-returns c = λ object x.
+returns c =
     let E = env_of c.args.env.now in
     let xs = numbered_exps (map expression_of c.args.args.now) in
-    let found = λ (ps : List VariableUse). ComesAs (λ (v : Vec Slot Global). slots_of v.items) c.bind.result (single_bound E ps xs [] c.args.answers.now) in
-    c.calls_with.ensures E x _ (subst (λ (m : NumberedMethod). found (parameters_of m.params)) c.method.ensures (subst found c.params_in-params.ensures c.bind.ensures))
+    subst (λ (ps : List VariableUse). ComesAs (λ (v : Vec Slot Global). slots_of v.items) c.bind.result (single_bound E ps xs [] c.args.answers.now)) c.params_in.ensures c.bind.ensures
