@@ -1,5 +1,4 @@
 -- What proofs carry from step to step. Nobody has to believe it: the laws of runs say what holds of every run without it.
-pub mod Literals
 pub mod Fitting
 pub mod Sound
 pub mod Work

@@ -22,7 +22,6 @@ ghost use Rattle.ti_align.specs.Formed.{ActionsFormed};
 ghost use Rattle.ti_align.specs.Dangling.{NothingDangles};
 ghost use Rattle.ti_align.specs.Counted.{CellsCounted};
 
-use crate::reading::literals_fit;
 use ti_rules::Checked;
 
 /// In every run of a checked program, for every n, the nth arrivals of any two processes are at the
@@ -47,25 +46,19 @@ pub fn aligned(c: &Checked)
     ensures aligned { IsAligned (program_of c.now.program.parts) }
     ensures owners { OfEveryRun OwnersKept (program_of c.now.program.parts) }
     ensures regions { OfEveryRun NothingDangles (program_of c.now.program.parts) }
-{
-    literals_fit(c.program());
-}
+{}
 
 /// In every run of a checked program each variable of a region holds one that was made, and each
 /// region that a process comes to delete was made.
 pub fn regions_made(c: &Checked)
     ensures { OfEveryRun RegionsMade (program_of c.now.program.parts) }
-{
-    literals_fit(c.program());
-}
+{}
 
 /// In every run of a checked program each action for which its process needn't wait comes to an answer
 /// or a fault.
 pub fn none_impossible(c: &Checked)
     ensures { OfEveryRun NoneImpossible (program_of c.now.program.parts) }
-{
-    literals_fit(c.program());
-}
+{}
 
 /// The fields of a checked program have types with one to three dimensions, wherever they have any.
 pub fn fields_fit(c: &Checked)
@@ -92,25 +85,19 @@ pub fn rounds_balance(c: &Checked)
 /// wants is what the action gives. Its points and domains are in their forms.
 pub fn run_typed(c: &Checked)
     ensures { OfEveryRun RunTyped (program_of c.now.program.parts) }
-{
-    literals_fit(c.program());
-}
+{}
 
 /// In every run of a checked program all processes hand in values of one type at their nth arrivals, and
 /// what a process takes behind a broadcast or an exchange it takes at that type.
 pub fn taken_as_given(c: &Checked)
     ensures { OfEveryRun TakenAsGiven (program_of c.now.program.parts) }
-{
-    literals_fit(c.program());
-}
+{}
 
 /// In every run of a checked program the variables that a process uses in the work that it does next are
 /// in scope in its frame.
 pub fn variables_in_scope(c: &Checked)
     ensures { OfEveryRun VariablesInScope (program_of c.now.program.parts) }
-{
-    literals_fit(c.program());
-}
+{}
 
 /// In every run of a checked program what a reference of local type names, if it names something, lies
 /// in the memory of its own process: a local variable names a thing of the process whose variable it is,
@@ -118,33 +105,25 @@ pub fn variables_in_scope(c: &Checked)
 /// action through a local reference uses a thing of the process that acts.
 pub fn owners_kept(c: &Checked)
     ensures { OfEveryRun OwnersKept (program_of c.now.program.parts) }
-{
-    literals_fit(c.program());
-}
+{}
 
 /// In every run of a checked program the values, points and domains that a process hands in with the
 /// action that it has next are in their one form.
 pub fn actions_formed(c: &Checked)
     ensures { OfEveryRun ActionsFormed (program_of c.now.program.parts) }
-{
-    literals_fit(c.program());
-}
+{}
 
 /// In every run of a checked program whatever a process has next neither uses nor hands on a thing in a
 /// region that is gone; and 0, which is no region, is never gone.
 pub fn nothing_dangles(c: &Checked)
     ensures { OfEveryRun NothingDangles (program_of c.now.program.parts) }
-{
-    literals_fit(c.program());
-}
+{}
 
 /// In every run of a checked program all cells are counted among those of the run: each that was
 /// written, each field that holds something, and each that a grid has for a point of its domain.
 pub fn cells_are_counted(c: &Checked)
     ensures { OfEveryRun (λ s es. CellsCounted s.program (history_of es)) (program_of c.now.program.parts) }
-{
-    literals_fit(c.program());
-}
+{}
 
 /// A value of a type that names no thing and no region has the form of the type: a number is within its
 /// range, a point has coordinates of 32 bits, and a rectangular domain is in its one form.

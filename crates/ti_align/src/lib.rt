@@ -3,7 +3,6 @@
 
 mod laws;
 mod names;
-mod reading;
 mod slices;
 
 pub use laws::{
@@ -12,5 +11,4 @@ pub use laws::{
     rounds_balance, run_typed, taken_as_given, values_have_forms, variables_in_scope,
 };
 pub use names::{answers_fit, names_fit, regions_named};
-pub use reading::literals_fit;
 pub use slices::{SliceStep, one_slice_answer, slice_tells};

@@ -6,24 +6,19 @@ ghost use Rattle.ti_align.specs.Answering.{AnswersFit};
 ghost use Rattle.ti_align.specs.Names.{RunNamesFit};
 ghost use Rattle.ti_align.specs.Placed.{ThingsPlaced};
 
-use crate::reading::literals_fit;
 use ti_rules::Checked;
 
 /// In every run of a checked program all things that are there have names of 32 bits, and so have the
 /// regions that were made.
 pub fn names_fit(c: &Checked)
     ensures { OfEveryRun RunNamesFit (program_of c.now.program.parts) }
-{
-    literals_fit(c.program());
-}
+{}
 
 /// In every run of a checked program all things that are there, views among them, lie in no region or in
 /// one that was made, and so will the things that processes make next.
 pub fn regions_named(c: &Checked)
     ensures { OfEveryRun ThingsPlaced (program_of c.now.program.parts) }
-{
-    literals_fit(c.program());
-}
+{}
 
 /// In every run of a checked program what a process is answered fits what it wants: where it reads a field,
 /// an element, a domain or what another process handed in, a value in the form of the type that the text
@@ -31,6 +26,4 @@ pub fn regions_named(c: &Checked)
 /// and else nothing.
 pub fn answers_fit(c: &Checked)
     ensures { OfEveryRun AnswersFit (program_of c.now.program.parts) }
-{
-    literals_fit(c.program());
-}
+{}

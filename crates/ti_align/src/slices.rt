@@ -8,7 +8,6 @@ ghost use Rattle.ti_align.specs.Alignment.{OfEveryRun};
 ghost use Rattle.ti_align.specs.declared.slices.SliceStep.{SliceStep as Step};
 ghost use Rattle.ti_align.specs.Slice.{SliceAnswers, SliceTells};
 
-use crate::reading::literals_fit;
 use ti_base::{CollKind, FaultKind, Place};
 use ti_rules::Checked;
 
@@ -32,9 +31,7 @@ pub enum SliceStep {
 /// it, and a process has its end only where the slice has ended behind those of all its departures.
 pub fn slice_tells(c: &Checked)
     ensures { OfEveryRun SliceTells (program_of c.now.program.parts) }
-{
-    literals_fit(c.program());
-}
+{}
 
 /// The slice of a checked program comes to an answer, whatever the outcomes, and to one alone.
 pub fn one_slice_answer(c: &Checked)

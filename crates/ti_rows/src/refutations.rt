@@ -20,7 +20,7 @@ ghost use Rattle.ti_align.specs.Counted.{CellsCounted};
 ghost use Rattle.ti_align.specs.Dangling.{NothingDangles};
 ghost use Rattle.ti_align.specs.Formed.{ActionsFormed};
 ghost use Rattle.ti_align.specs.Heap.{Elements, FieldsFit, FieldsStorable, KeepsTypes};
-ghost use Rattle.ti_align.specs.Mirrors.Literals.{LiteralsFit};
+ghost use Rattle.ti_rules.specs.Mirrors.Literals.{LiteralsFit};
 ghost use Rattle.ti_align.specs.Names.{RunNamesFit};
 ghost use Rattle.ti_align.specs.Owners.{OwnersKept};
 ghost use Rattle.ti_align.specs.Placed.{ThingsPlaced};

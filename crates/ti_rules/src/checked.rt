@@ -2,8 +2,11 @@
 
 ghost use Rattle.std.specs.Prelude.{◌≡◌};
 ghost use Rattle.ti_lang.specs.Program.Views.{program_of};
+ghost use Rattle.ti_rules.specs.Mirrors.LiteralFacts.{one_way};
+ghost use Rattle.ti_rules.specs.Mirrors.Literals.{LiteralsFit};
 ghost use Rattle.ti_rules.specs.ProgramRefusals.{BreaksNothing, IsChecked};
 
+use crate::reading::literals_fit;
 use ti_lang::program::Program;
 
 /// A program that breaks no rule: none of names, of types and qualifiers, and of single values.
@@ -11,14 +14,17 @@ use ti_lang::program::Program;
 pub struct Checked {
     pub program: Program,
     ghost unbroken: { BreaksNothing (program_of program.parts) },
+    ghost literals: { LiteralsFit (program_of program.parts) } by { one_way (program_of program.parts) },
 }
 
 impl Checked {
-    /// A program that breaks none of the rules which come behind those of names; these every program keeps.
+    /// A program that breaks none of the rules which come behind those of names; these every program keeps. Its numbers are read once, so that
+    /// all are known from here on to be within the ranges of their types.
     pub fn of(p: Program) -> Checked
         requires { BreaksNothing (program_of p.parts) }
         ensures { result.program ≡ p }
     {
+        literals_fit(&p);
         Checked { program: p }
     }
 

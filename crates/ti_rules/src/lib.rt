@@ -4,6 +4,7 @@
 mod checked;
 mod laws;
 mod order;
+mod reading;
 mod refusal;
 mod rule;
 

@@ -13,7 +13,7 @@ use Rattle.ti_lang.specs.Meaning.Evaluation.{is_own}
 use Rattle.ti_lang.specs.Meaning.Histories.{history_of}
 use Rattle.ti_rules.specs.ProgramRefusals.{IsChecked}
 use Rattle.ti_align.specs.Alignment.{OfEveryRun}
-use Rattle.ti_align.specs.Mirrors.Literals.{LiteralsFit}
+use Rattle.ti_rules.specs.Mirrors.Literals.{LiteralsFit}
 use Rattle.ti_align.specs.Owners.{AllOwn, AllOwnIn, OwnersKept}
 use Rattle.ti_align.specs.Things.{Things, IsOf, VariablesFit}
 use Rattle.ti_align.specs.Heap.{things_of}

@@ -16,7 +16,7 @@ use Rattle.ti_lang.specs.Meaning.Runs as run
 use Rattle.ti_lang.proofs.Lemmas.{history_grows}
 use Rattle.ti_rules.specs.ProgramRefusals.{IsChecked}
 use Rattle.ti_align.specs.Alignment.{OfEveryRun}
-use Rattle.ti_align.specs.Mirrors.Literals.{LiteralsFit}
+use Rattle.ti_rules.specs.Mirrors.Literals.{LiteralsFit}
 use Rattle.ti_align.specs.Counted.{CellsCounted}
 use Rattle.ti_align.specs.Dangling.{NothingDangles}
 use Rattle.ti_align.proofs.Runs.Vars.{not_true}

@@ -26,7 +26,7 @@ use Rattle.ti_lang.specs.Meaning.Processes.{Setting}
 use Rattle.ti_lang.specs.Meaning.Histories.{history_of}
 use Rattle.ti_lang.specs.Meaning.Runs.{AllEnded}
 use Rattle.ti_rules.specs.ProgramRefusals.{IsChecked}
-use Rattle.ti_align.specs.Mirrors.Literals.{LiteralsFit}
+use Rattle.ti_rules.specs.Mirrors.Literals.{LiteralsFit}
 use Rattle.ti_align.specs.Alignment.{NoneStuck, OfEveryRun, IsAligned}
 use Rattle.ti_align.proofs.Alignment.Stopping.{DeletesNothing}
 use Rattle.ti_align.proofs.Scope.Using.{checked_stands}

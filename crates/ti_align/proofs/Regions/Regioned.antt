@@ -28,7 +28,7 @@ use Rattle.ti_rules.specs.InitialTypes.{can_broadcast, is_region}
 use Rattle.ti_rules.specs.Broken.Statements.{narrows}
 use Rattle.ti_rules.specs.Standing.{variables_inside}
 use Rattle.ti_rules.specs.ProgramRefusals.{IsChecked}
-use Rattle.ti_align.specs.Mirrors.Literals.{LiteralsFit}
+use Rattle.ti_rules.specs.Mirrors.Literals.{LiteralsFit}
 use Rattle.ti_align.specs.Mirrors.Work.{ReceiverFits, WholeFits, InitFits, StmFits, MaybeFits, StmsFit, MethodsFit}
 use Rattle.ti_align.proofs.Runs.Vars.{true_false, and_left, and_right}
 use Rattle.ti_align.proofs.RunTypes.Operating.{none_some, some_same, where_some, or_either}

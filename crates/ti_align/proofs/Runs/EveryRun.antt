@@ -15,7 +15,7 @@ use Rattle.ti_align.specs.Alignment.{ArrivalsAgree, NoneAfterEnd, OfEveryRun}
 use Rattle.ti_align.specs.Stopping.{is_delete, RoundsBalance}
 use Rattle.ti_align.proofs.Alignment.Stopping.{NoneWaits}
 use Rattle.ti_align.proofs.Alignment.Possible.{never}
-use Rattle.ti_align.specs.Mirrors.Literals.{LiteralsFit}
+use Rattle.ti_rules.specs.Mirrors.Literals.{LiteralsFit}
 use Rattle.ti_align.specs.Typed.{RunTyped, TakenAsGiven}
 use Rattle.ti_align.specs.Scoped.{VariablesInScope}
 use Rattle.ti_align.specs.Formed.{ActionsFormed}

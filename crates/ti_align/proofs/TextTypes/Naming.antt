@@ -33,7 +33,7 @@ use Rattle.ti_lang.specs.Numbering as number
 use Rattle.ti_lang.specs.Numbering.{IsKnownBase, NumbersExp, NumbersExps, NumbersRange, NumbersRanges, NumbersMaybe}
 use Rattle.ti_lang.specs.Numbering.{NumbersDims, NumbersInit, NumbersPrint, NumbersStm, NumbersMaybeStm}
 use Rattle.ti_base.specs.Forms.{is_dim}
-use Rattle.ti_align.specs.Mirrors.Literals.{InExp, InExps, InRange, InRanges, InOption, InDims, InInit, InPrint}
+use Rattle.ti_rules.specs.Mirrors.Literals.{InExp, InExps, InRange, InRanges, InOption, InDims, InInit, InPrint}
 use Rattle.ti_align.specs.Mirrors.Work.{is_form_of_call}
 use Rattle.ti_align.proofs.Runs.Vars.{true_false, not_true, and_left, and_right}
 use Rattle.ti_align.proofs.RunTypes.Operating.{none_some, some_same}

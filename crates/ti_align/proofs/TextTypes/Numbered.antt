@@ -13,7 +13,7 @@ use Rattle.ti_lang.specs.Scopes.{Site, declares, typed_as, past, past_maybe, beh
 use Rattle.ti_lang.specs.Typing.Declared.{fields_of_class, field_type, is_static_method}
 use Rattle.ti_lang.specs.Numbering as number
 use Rattle.ti_lang.specs.Numbering.{NumbersType, NumbersStm, NumbersMaybeStm, NumbersStms, NumbersFields, NumbersClasses, NumbersParamList, NumbersParams, NumbersMethod, NumbersMethods, Numbers, IsNumbered}
-use Rattle.ti_align.specs.Mirrors.Literals.{InStm, InMaybe, InStms, InMethods, LiteralsFit}
+use Rattle.ti_rules.specs.Mirrors.Literals.{InStm, InMaybe, InStms, InMethods, LiteralsFit}
 use Rattle.ti_align.proofs.RunTypes.Operating.{none_some, some_same}
 use Rattle.ti_align.proofs.RunTypes.Evaluating.{mapped}
 use Rattle.ti_align.proofs.TextTypes.Meant.{storable, formed, StmMeant, MaybeMeant, StmsMeant, MethodsMeant, FieldsMeant}

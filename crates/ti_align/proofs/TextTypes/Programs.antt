@@ -9,7 +9,7 @@ use Rattle.ti_rules.specs.TypeRules.{class_refusals, head_refusals, end_refusals
 use Rattle.ti_rules.specs.ProgramRefusals.{IsChecked}
 use Rattle.ti_rules.proofs.Lemmas.{nil_left, nil_right}
 use Rattle.ti_align.specs.Heap.{FieldsFit, FieldsStorable}
-use Rattle.ti_align.specs.Mirrors.Literals.{LiteralsFit}
+use Rattle.ti_rules.specs.Mirrors.Literals.{LiteralsFit}
 use Rattle.ti_align.specs.Mirrors.Work.{MethodFits, MethodsFit}
 use Rattle.ti_align.specs.Mirrors.Processes.{ProgramFits}
 use Rattle.ti_align.proofs.Runs.Vars.{and_right}

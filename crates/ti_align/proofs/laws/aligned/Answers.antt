@@ -1,7 +1,4 @@
-use Rattle.std.proofs.Common.{subst}
-use Rattle.ti_lang.specs.declared.program.numbered.Program.{Program}
 use Rattle.ti_lang.specs.Program.Views.{program_of}
-use Rattle.ti_align.specs.Mirrors.Literals.{LiteralsFit}
 use Rattle.ti_align.proofs.Regions.Ended as ended
 use Rattle.ti_align.proofs.Owners.Owned as owned
 use Rattle.ti_align.proofs.Regions.Dangling as dangling
@@ -10,14 +7,14 @@ use Rattle.ti_align.proofs.laws.aligned.Goals as goal
 pub returns-clause-aligned : goal.returns-clause-aligned
 returns-clause-aligned c =
     ended.aligned (program_of c.args.c.now.program.parts) (record { numbered = c.args.c.now.program.numbered; unbroken = c.args.c.now.unbroken })
-    (subst (λ (p : Program). LiteralsFit (program_of p.parts)) c.program.ensures.program c.literals_fit.ensures)
+    c.args.c.now.literals
 
 pub returns-clause-owners : goal.returns-clause-owners
 returns-clause-owners c =
     owned.owners_kept (program_of c.args.c.now.program.parts) (record { numbered = c.args.c.now.program.numbered; unbroken = c.args.c.now.unbroken })
-    (subst (λ (p : Program). LiteralsFit (program_of p.parts)) c.program.ensures.program c.literals_fit.ensures)
+    c.args.c.now.literals
 
 pub returns-clause-regions : goal.returns-clause-regions
 returns-clause-regions c =
     dangling.nothing_dangles (program_of c.args.c.now.program.parts) (record { numbered = c.args.c.now.program.numbered; unbroken = c.args.c.now.unbroken })
-    (subst (λ (p : Program). LiteralsFit (program_of p.parts)) c.program.ensures.program c.literals_fit.ensures)
+    c.args.c.now.literals

@@ -5,7 +5,7 @@ ghost use Rattle.ti_syntax.specs.Trees.Views.{maybe_of};
 ghost use Rattle.ti_lang.specs.Program.Expressions.{numbered_exps, numbered_ranges};
 ghost use Rattle.ti_lang.specs.Program.Statements.{numbered_stms};
 ghost use Rattle.ti_lang.specs.Program.Views.{program_of, expression_of, bound_of, extent_of, initial_of, printed_of, statement_of, numbered_method_of};
-ghost use Rattle.ti_align.specs.Mirrors.Literals.{InExp, InExps, InRange, InRanges, InOption, InDims, InInit, InPrint, InStm, InStms, InMethods, LiteralsFit};
+ghost use Rattle.ti_rules.specs.Mirrors.Literals.{InExp, InExps, InRange, InRanges, InOption, InDims, InInit, InPrint, InStm, InStms, InMethods, LiteralsFit};
 
 use ti_lang::program::{Dims, Expr, Init, Method, Printed, Program, Range, Stmt};
 

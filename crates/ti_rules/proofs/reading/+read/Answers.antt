@@ -3,8 +3,8 @@ use Rattle.ti_lang.specs.Program.Expressions.{numbered_exps, numbered_ranges}
 use Rattle.ti_lang.specs.Program.Views.{expression_of, bound_of}
 use Rattle.ti_lang.proofs.Lemmas.{seen_static_call, seen_own_call, seen_numbered_point, seen_numbered_rect, seen_numbered_member}
 use Rattle.ti_lang.proofs.Lemmas.{seen_numbered_index}
-use Rattle.ti_align.specs.Mirrors.Literals.{InExp, InExps, InRanges}
-use Rattle.ti_align.proofs.reading.+read.Goals as goal
+use Rattle.ti_rules.specs.Mirrors.Literals.{InExp, InExps, InRanges}
+use Rattle.ti_rules.proofs.reading.+read.Goals as goal
 
 pub read-returns-in-Call : goal.read-returns-in-Call
 read-returns-in-Call t c =
