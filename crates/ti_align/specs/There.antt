@@ -41,20 +41,20 @@ abbrev pub IsFieldOf : NumberedProgram → Things → Id → ℕ → ValueType �
 IsFieldOf p w obj field type = (class : ℕ) × (w.class_at obj ≡ Some class) × (field_type p class field ≡ Some type)
 
 -- what an action names is there; what is written to a cell is of its type in the memory in which the cell lies
-abbrev pub IsThere : NumberedProgram → Things → Action → Wanted → Type 0
-IsThere p w (act.GetField obj field) wanted = (type : ValueType) × IsFieldOf p w obj field type
-IsThere p w (act.PutField obj field value) wanted =
+abbrev pub IsAtHand : NumberedProgram → Things → Action → Wanted → Type 0
+IsAtHand p w (act.GetField obj field) wanted = (type : ValueType) × IsFieldOf p w obj field type
+IsAtHand p w (act.PutField obj field value) wanted =
     (type : ValueType) × IsFieldOf p w obj field type × IsOf (seen_by obj.owner w) type (Plain value)
-IsThere p w (act.NewObj class region) wanted = (zeros : List Zero) × (zeros_of_class p class ≡ Some zeros) × IsPlaced w region
-IsThere p w (act.NewGrid zero domain region) wanted =
+IsAtHand p w (act.NewObj class region) wanted = (zeros : List Zero) × (zeros_of_class p class ≡ Some zeros) × IsPlaced w region
+IsAtHand p w (act.NewGrid zero domain region) wanted =
     (element : ValueType) × (n : ℕ) × (wanted ≡ NewThing (t.Grid element n true)) × (zero ≡ zero_of_type element) × IsRectOf n domain
     × IsDim n × IsPlaced w region × IsStorable element
-IsThere p w (act.GetElem grid at) wanted = (element : ValueType) × (n : ℕ) × IsGridOf w element n grid × IsPointOf n at
-IsThere p w (act.PutElem grid at value) wanted =
+IsAtHand p w (act.GetElem grid at) wanted = (element : ValueType) × (n : ℕ) × IsGridOf w element n grid × IsPointOf n at
+IsAtHand p w (act.PutElem grid at value) wanted =
     (element : ValueType) × (n : ℕ) × IsGridOf w element n grid × IsPointOf n at × IsOf (seen_by grid.owner w) element (Plain value)
-IsThere p w (act.MakeView grid how) wanted = (element : ValueType) × (n : ℕ) × IsGridOf w element n grid × SuitsView how n
-IsThere p w (act.DomainOf grid) wanted = (element : ValueType) × (n : ℕ) × IsGridOf w element n grid
-IsThere p w a wanted = Unit {0}
+IsAtHand p w (act.MakeView grid how) wanted = (element : ValueType) × (n : ℕ) × IsGridOf w element n grid × SuitsView how n
+IsAtHand p w (act.DomainOf grid) wanted = (element : ValueType) × (n : ℕ) × IsGridOf w element n grid
+IsAtHand p w a wanted = Unit {0}
 
 -- two types whose values have one form: they are the same, but for whether they are local
 abbrev pub SameForm : ValueType → ValueType → Type 0

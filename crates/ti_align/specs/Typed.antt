@@ -26,7 +26,7 @@ use Rattle.ti_lang.specs.Meaning.RoundsOf as rounds
 use Rattle.ti_align.specs.Things.{IsOf, FramesHold, DepositFits}
 use Rattle.ti_align.specs.Alignment.{Arrival, ArrivesAt}
 use Rattle.ti_align.specs.Owners.{MadeWith}
-use Rattle.ti_align.specs.There.{IsThere, GoesThrough, SuitsWanted}
+use Rattle.ti_align.specs.There.{IsAtHand, GoesThrough, SuitsWanted}
 use Rattle.ti_align.specs.Given.{IsOfRound, given_by}
 use Rattle.ti_align.specs.Heap.{Elements, things_of, HeapFits}
 use Rattle.ti_align.specs.Mirrors.Processes.{ProcessFits}
@@ -85,7 +85,7 @@ pub record RunTyped (s : Setting) (es : List Entry) : Type 0 where
       × IsOfRound (λ u. given_by q ≡ Some u) kind type
   pub there : (i : ℕ) (p q : Process) (request : Request) (go : Answer → Process)
       → i < s.procs → World s es i p → Reaches p q → step q ≡ At request go
-      → IsThere s.program (things_of i fits.elements (history_of es)) request.action request.wanted
+      → IsAtHand s.program (things_of i fits.elements (history_of es)) request.action request.wanted
       × GoesThrough (things_of i fits.elements (history_of es)) request.through request.action
       × SuitsWanted s.program (things_of i fits.elements (history_of es)) request.action request.wanted
 

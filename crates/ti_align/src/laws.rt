@@ -14,7 +14,7 @@ ghost use Rattle.ti_align.specs.Alignment.{ArrivalsAgree, NoneAfterEnd, OfEveryR
 ghost use Rattle.ti_align.specs.Stopping.{NoneImpossible, RoundsBalance, RegionsMade};
 ghost use Rattle.ti_align.specs.Owners.{OwnersKept};
 ghost use Rattle.ti_align.specs.Things.{Things, IsOf, NamesNothing};
-ghost use Rattle.ti_align.specs.There.{IsThere};
+ghost use Rattle.ti_align.specs.There.{IsAtHand};
 ghost use Rattle.ti_align.specs.Heap.{FieldsFit, Elements, things_of, FieldsStorable, HeapFits, KeepsTypes};
 ghost use Rattle.ti_align.specs.Typed.{RunTyped, TakenAsGiven};
 ghost use Rattle.ti_align.specs.Scoped.{VariablesInScope};
@@ -135,5 +135,5 @@ pub fn values_have_forms()
 /// fields and elements is of their types, and its answer fits.
 pub fn heap_fits()
     ensures { (p : NumberedProgram) (elements : Elements) (h : History) (i : ℕ) (a : Action) (wanted : Wanted) → FieldsStorable p → IsAnswered p h → HeapFits p elements h
-        → IsThere p (things_of i elements h) a wanted → KeepsTypes p elements h i a wanted }
+        → IsAtHand p (things_of i elements h) a wanted → KeepsTypes p elements h i a wanted }
 {}

@@ -10,7 +10,7 @@ use Rattle.ti_lang.specs.Meaning.NextStep.{IsNext, After}
 
 -- the program, how many processes there are, the fuel of each, which of them this is, the answers that it was told so far, and
 -- whether it stands at an action
-pub record Standing : Type 0 where
+pub record TreeStanding : Type 0 where
   pub program : Parts
   pub procs : ℕ
   pub fuel : ℕ
@@ -19,19 +19,19 @@ pub record Standing : Type 0 where
   pub asks : Bool
 
 -- what all processes of its run share
-abbrev pub setting_of : Standing → Setting
+abbrev pub setting_of : TreeStanding → Setting
 setting_of s = record { program = program_of s.program; procs = s.procs; fuel = s.fuel }
 
 -- the process of the definition before its first step
-abbrev pub begun_of : Standing → Process
+abbrev pub begun_of : TreeStanding → Process
 begun_of s = begin (setting_of s) s.number
 
 -- the process of the definition after the answers so far
-abbrev pub IsProcess : Standing → Process → Type 0
+abbrev pub IsProcess : TreeStanding → Process → Type 0
 IsProcess s p = After (begun_of s) s.told p
 
 -- there is that process, and it has this next
-abbrev pub HasNext : Standing → Next → Type 0
+abbrev pub HasNext : TreeStanding → Next → Type 0
 HasNext s n = (p : Process) × IsProcess s p × IsNext p n
 
 -- what is next is an action
@@ -40,7 +40,7 @@ is_act (next.Act at action) = true
 is_act n = false
 
 -- the process of the second is that of the first after one answer more
-pub record IsAnswered (s : Standing) (a : Answer) (t : Standing) : Type 0 where
+pub record IsAnswered (s : TreeStanding) (a : Answer) (t : TreeStanding) : Type 0 where
   pub before : Process
   pub was : IsProcess s before
   pub behind : Process

@@ -6,13 +6,13 @@ ghost use Rattle.ti_base.specs.declared.entry.Next.{Next};
 ghost use Rattle.ti_lang.specs.Meaning.Answers.{FitsAction};
 ghost use Rattle.ti_lang.specs.Meaning.Processes.{Process};
 ghost use Rattle.ti_eval.specs.Forms.{IsFormedAnswer};
-ghost use Rattle.ti_exec.specs.Standing.{Standing, HasNext};
+ghost use Rattle.ti_exec.specs.Standing.{TreeStanding, HasNext};
 
 use crate::tree_proc::TreeProc;
 
 /// A process has one thing next, and that hangs on what it began with and the answers that it was told alone.
 pub fn has_one_next()
-    ensures { (s : Standing) (m n : Next) → HasNext s m → HasNext s n → m ≡ n }
+    ensures { (s : TreeStanding) (m n : Next) → HasNext s m → HasNext s n → m ≡ n }
 {}
 
 /// An answer that fits the action which a process has next is in the form that `TreeProc::answer` asks for.

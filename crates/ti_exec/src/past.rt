@@ -4,7 +4,7 @@ ghost use Rattle.std.specs.Prelude.{◌≡◌, [], ◌∷◌, ◌++◌, false};
 ghost use Rattle.std.specs.Borrow.{ftrue};
 ghost use Rattle.ti_base.specs.contracts.entry.Answer as one_answer;
 ghost use Rattle.ti_lang.specs.contracts.program.classes.Parts as parts;
-ghost use Rattle.ti_exec.specs.Standing.{Standing};
+ghost use Rattle.ti_exec.specs.Standing.{TreeStanding};
 ghost use Rattle.ti_exec.specs.Mirrors.Standing.{standing_code};
 
 use std::marker::Model;
@@ -15,7 +15,7 @@ use ti_lang::program::Parts;
 /// What a process began with and what it was told so far, for clauses alone: it takes no room, and its calls do nothing.
 #[derive(Drop)]
 pub struct Past {
-    pub ghost standing: { Standing } by { standing_code parts.the_row.coded one_answer.the_row.coded },
+    pub ghost standing: { TreeStanding } by { standing_code parts.the_row.coded one_answer.the_row.coded },
 }
 
 impl Model for Past {

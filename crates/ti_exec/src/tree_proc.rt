@@ -30,10 +30,10 @@ pub struct TreeProc {
 impl Model for TreeProc {
     ghost use Rattle.ti_base.specs.contracts.entry.Answer as one_answer;
     ghost use Rattle.ti_lang.specs.contracts.program.classes.Parts as parts;
-    ghost use Rattle.ti_exec.specs.Standing.{Standing};
+    ghost use Rattle.ti_exec.specs.Standing.{TreeStanding};
     ghost use Rattle.ti_exec.specs.Mirrors.Standing.{standing_code};
 
-    ghost Value = { Standing };
+    ghost Value = { TreeStanding };
 
     ghost coded = { standing_code parts.the_row.coded one_answer.the_row.coded };
 

@@ -17,5 +17,5 @@ pub use kinds::{
 pub use pieces::{
     add, add_conversion, add_point, add_pops, counted, declared_zero, number_behind, own,
 };
-pub use site::{Site, Told};
+pub use site::{KnownValue, Site};
 pub use slots::{SlotName, Slots};

@@ -15,7 +15,7 @@ pub struct Site<'s, 'p> {
 
 /// What the text tells of the value of an expression: its type, and what is known of it for certain.
 #[derive(Clone, Copy)]
-pub struct Told<'a> {
+pub struct KnownValue<'a> {
     pub ty: Seen<'a>,
     pub known: Known,
 }

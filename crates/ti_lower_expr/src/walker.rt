@@ -28,7 +28,7 @@ use crate::pieces::{
     add, add_alone, add_cast, add_index, add_member, add_point, add_variable, jump_where,
     number_behind, own, rect_instr,
 };
-use crate::site::{Site, Told};
+use crate::site::{KnownValue, Site};
 use ti_base::{Memory, Place, Value};
 use ti_code::Instr;
 use ti_lang::program::{Declared, Expr, Range, Variable};
@@ -50,11 +50,11 @@ fn used_type<'a>(v: &'a Variable) -> Seen<'a>
 }
 
 // Of an expression that has its type of itself.
-fn told<'s, 'a>(s: &Site<'s, 'a>, e: &'a Expr) -> Told<'a>
+fn told<'s, 'a>(s: &Site<'s, 'a>, e: &'a Expr) -> KnownValue<'a>
     ensures ty { seen result.ty ≡ type_in s.now (expression_of e.now) }
     ensures known { result.known ≡ known_in s.now (expression_of e.now) }
 {
-    Told {
+    KnownValue {
         ty: type_in_text(s.program, s.this, e),
         known: known_of(s.program, s.this, e),
     }
@@ -96,7 +96,7 @@ fn leaf<'s, 'a>(
     e: &'a Expr,
     instr: Instr,
     out: &mut Vec<Instr>,
-) -> Result<Told<'a>, Memory>
+) -> Result<KnownValue<'a>, Memory>
     ensures code { OnOk result (out.new.items ≡ out.old.items ++ instr ∷ []) }
     ensures ty { IfOk result (λ t. seen t.ty ≡ type_in s.now (expression_of e.now)) }
     ensures known { IfOk result (λ t. t.known ≡ known_in s.now (expression_of e.now)) }
@@ -138,7 +138,7 @@ fn operated<'s, 'a>(
     left: Seen<'a>,
     right: &'a Expr,
     out: &mut Vec<Instr>,
-) -> Result<Told<'a>, Memory>
+) -> Result<KnownValue<'a>, Memory>
     ensures code { OnOk result (out.new.items ≡ operated (coding.laziness operator)
         (coding.operation operator (coding.kind_of_type (seen left.entry))
         (coding.kind_of_type (type_in s.now (expression_of right.now)))) place
@@ -228,7 +228,7 @@ fn field<'s, 'a>(
     receiver: Seen<'a>,
     name: u32,
     out: &mut Vec<Instr>,
-) -> Result<Told<'a>, Memory>
+) -> Result<KnownValue<'a>, Memory>
     ensures code { OnOk result (out.new.items ≡ out.old.items ++ i.GetField
         (unwrap_or (option_and_then (field_numbered (program_of s.now.program.now) name) (class_of_type (seen receiver.entry))) 0) place
         ∷ []) }
@@ -239,7 +239,7 @@ fn field<'s, 'a>(
         Instr::GetField(field_behind(s.program, receiver, name)?, place),
         out,
     )?;
-    Ok(Told {
+    Ok(KnownValue {
         ty: field_seen(s.program, name, receiver),
         known: Known::Other,
     })
@@ -254,7 +254,7 @@ fn member<'s, 'a>(
     name: u32,
     args: &[Expr],
     out: &mut Vec<Instr>,
-) -> Result<Told<'a>, Memory>
+) -> Result<KnownValue<'a>, Memory>
     ensures code { OnOk result (out.new.items ≡ out.old.items ++ coding.member_code (called_behind s.now (seen receiver.entry) name)
         (how_many (numbered_exps (map expression_of args.now))) place) }
     ensures ty { IfOk result (λ t. seen t.ty ≡ member_spec (program_of s.now.program.now) name (seen receiver.entry)) }
@@ -262,7 +262,7 @@ fn member<'s, 'a>(
 {
     let called = member_behind(s, receiver, name);
     add_member(shown_member(called), args.len(), place, out)?;
-    Ok(Told {
+    Ok(KnownValue {
         ty: member_seen(s.program, name, receiver),
         known: known_member(called),
     })
@@ -275,7 +275,7 @@ fn index<'a>(
     receiver: Seen<'a>,
     indices: &[Expr],
     out: &mut Vec<Instr>,
-) -> Result<Told<'a>, Memory>
+) -> Result<KnownValue<'a>, Memory>
     ensures code { OnOk result (out.new.items ≡ out.old.items ++ coding.index_code (is_point_spec (seen receiver.entry))
         (how_many (numbered_exps (map expression_of indices.now))) place) }
     ensures ty { IfOk result (λ t. seen t.ty ≡ element_spec (seen receiver.entry)) }
@@ -283,34 +283,38 @@ fn index<'a>(
 {
     let coordinate = is_point(receiver);
     add_index(coordinate, indices.len(), place, out)?;
-    Ok(Told {
+    Ok(KnownValue {
         ty: element_seen(receiver),
         known: known_indexed(coordinate),
     })
 }
 
 // A whole number of 32 bits.
-fn number<'a>(n: i32, out: &mut Vec<Instr>) -> Result<Told<'a>, Memory>
+fn number<'a>(n: i32, out: &mut Vec<Instr>) -> Result<KnownValue<'a>, Memory>
     ensures code { OnOk result (out.new.items ≡ out.old.items ++ i.Const (v.Int n) ∷ []) }
     ensures ty { IfOk result (λ t. seen t.ty ≡ IntType) }
     ensures known { IfOk result (λ t. t.known ≡ known.Int) }
 {
     add(Instr::Const(Value::Int(n)), out)?;
-    Ok(Told {
+    Ok(KnownValue {
         ty: Seen::Int,
         known: Known::Int,
     })
 }
 
 // A variable.
-fn load<'s, 'a>(s: &Site<'s, 'a>, v: &'a Variable, out: &mut Vec<Instr>) -> Result<Told<'a>, Memory>
+fn load<'s, 'a>(
+    s: &Site<'s, 'a>,
+    v: &'a Variable,
+    out: &mut Vec<Instr>,
+) -> Result<KnownValue<'a>, Memory>
     ensures code { OnOk result (out.new.items ≡ out.old.items ++ coding.loaded (find_slot (variable_of v.now) (names_in s.now.slots.now))
         (variable_of v.now) ∷ []) }
     ensures ty { IfOk result (λ t. seen t.ty ≡ used_spec (λ _. 1) (variable_of v.now).number (variable_of v.now).declared) }
     ensures known { IfOk result (λ t. t.known ≡ knowing.known_declared (variable_of v.now).declared) }
 {
     add_variable(s.slots, v, out)?;
-    Ok(Told {
+    Ok(KnownValue {
         ty: used_type(v),
         known: known_declared(&v.declared),
     })
@@ -319,7 +323,11 @@ fn load<'s, 'a>(s: &Site<'s, 'a>, v: &'a Variable, out: &mut Vec<Instr>) -> Resu
 /// An expression. What the text tells of its value comes out. The commonest need not pay for what the others want.
 #[cycle(walk)]
 #[tactic(auto, using(ti_lang::proofs::Lemmas::program_bridges))]
-pub fn walk<'s, 'a>(s: &Site<'s, 'a>, e: &'a Expr, out: &mut Vec<Instr>) -> Result<Told<'a>, Memory>
+pub fn walk<'s, 'a>(
+    s: &Site<'s, 'a>,
+    e: &'a Expr,
+    out: &mut Vec<Instr>,
+) -> Result<KnownValue<'a>, Memory>
     ensures code { OnOk result (out.new.items ≡ walked_in s.now (expression_of e.now) out.old.items) }
     ensures ty { IfOk result (λ t. seen t.ty ≡ type_in s.now (expression_of e.now)) }
     ensures known { IfOk result (λ t. t.known ≡ known_in s.now (expression_of e.now)) }
@@ -335,7 +343,7 @@ pub fn walk<'s, 'a>(s: &Site<'s, 'a>, e: &'a Expr, out: &mut Vec<Instr>) -> Resu
         } => {
             let first = walk(s, left, out)?;
             let second = operated(s, *operator, *place, first.ty, right, out)?;
-            Ok(Told {
+            Ok(KnownValue {
                 ty: operator_type(*operator, first.ty, second.ty),
                 known: known_operated(*operator, first.known, second.known),
             })
@@ -348,7 +356,11 @@ pub fn walk<'s, 'a>(s: &Site<'s, 'a>, e: &'a Expr, out: &mut Vec<Instr>) -> Resu
 #[cycle(walk)]
 #[inline(never)]
 #[tactic(auto, using(ti_lang::proofs::Lemmas::program_bridges))]
-fn form<'s, 'a>(s: &Site<'s, 'a>, e: &'a Expr, out: &mut Vec<Instr>) -> Result<Told<'a>, Memory>
+fn form<'s, 'a>(
+    s: &Site<'s, 'a>,
+    e: &'a Expr,
+    out: &mut Vec<Instr>,
+) -> Result<KnownValue<'a>, Memory>
     ensures code { OnOk result (out.new.items ≡ walked_in s.now (expression_of e.now) out.old.items) }
     ensures ty { IfOk result (λ t. seen t.ty ≡ type_in s.now (expression_of e.now)) }
     ensures known { IfOk result (λ t. t.known ≡ known_in s.now (expression_of e.now)) }
@@ -383,7 +395,7 @@ fn form<'s, 'a>(s: &Site<'s, 'a>, e: &'a Expr, out: &mut Vec<Instr>) -> Result<T
         } => {
             let t = walk(s, operand, out)?;
             add_alone(*operator, out)?;
-            Ok(Told {
+            Ok(KnownValue {
                 ty: t.ty,
                 known: known_alone(*operator, t.known),
             })
@@ -396,7 +408,7 @@ fn form<'s, 'a>(s: &Site<'s, 'a>, e: &'a Expr, out: &mut Vec<Instr>) -> Result<T
         } => {
             let first = walk(s, left, out)?;
             let second = operated(s, *operator, *place, first.ty, right, out)?;
-            Ok(Told {
+            Ok(KnownValue {
                 ty: operator_type(*operator, first.ty, second.ty),
                 known: known_operated(*operator, first.known, second.known),
             })

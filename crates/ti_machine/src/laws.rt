@@ -6,18 +6,18 @@ ghost use Rattle.ti_lang.specs.Program.Classes.{NumberedProgram};
 ghost use Rattle.ti_lang.specs.Meaning.Processes.{Process, begin};
 ghost use Rattle.ti_lang.specs.Meaning.NextStep.{After, IsNext};
 ghost use Rattle.ti_code.specs.Follows.{Fit, Follows};
-ghost use Rattle.ti_machine.specs.Standing.{Standing, HasNext};
+ghost use Rattle.ti_machine.specs.Standing.{CodeStanding, HasNext};
 
 use crate::proc::Proc;
 
 /// A process has one thing next, and that hangs on what it began with and the answers that it was told alone.
 pub fn has_one_next()
-    ensures { (s : Standing) (m n : Next) → HasNext s m → HasNext s n → m ≡ n }
+    ensures { (s : CodeStanding) (m n : Next) → HasNext s m → HasNext s n → m ≡ n }
 {}
 
 /// Where the code follows a program, a process has next what that of the program has after the same answers, as long as each fits.
 pub fn following_code_goes_on()
-    ensures { (s : Standing) (program : NumberedProgram) → Follows s.code program
+    ensures { (s : CodeStanding) (program : NumberedProgram) → Follows s.code program
         → 1 ≤ s.procs → s.procs ≤ 32 → 1 ≤ s.fuel → s.fuel ≤ 4000000 → s.number < s.procs
         → (q : Process) (n : Next) → Fit (begin (record { program = program; procs = s.procs; fuel = s.fuel }) s.number) s.told
         → After (begin (record { program = program; procs = s.procs; fuel = s.fuel }) s.number) s.told q → IsNext q n → HasNext s n }

@@ -4,7 +4,7 @@ ghost use Rattle.std.specs.Prelude.{◌≡◌, [], ◌∷◌, ◌++◌, false};
 ghost use Rattle.std.specs.Borrow.{ftrue};
 ghost use Rattle.ti_base.specs.contracts.entry.Answer as one_answer;
 ghost use Rattle.ti_code.specs.contracts.code.Code as all_code;
-ghost use Rattle.ti_machine.specs.Standing.{Standing};
+ghost use Rattle.ti_machine.specs.Standing.{CodeStanding};
 ghost use Rattle.ti_machine.specs.Mirrors.Standing.{standing_code};
 
 use std::marker::Model;
@@ -15,7 +15,7 @@ use ti_eval::Team;
 /// What a process began with and what it was told so far, for clauses alone: it takes no room, and its calls do nothing.
 #[derive(Drop)]
 pub struct Past {
-    pub ghost standing: { Standing } by { standing_code all_code.the_row.coded one_answer.the_row.coded },
+    pub ghost standing: { CodeStanding } by { standing_code all_code.the_row.coded one_answer.the_row.coded },
 }
 
 impl Model for Past {

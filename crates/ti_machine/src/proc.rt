@@ -41,10 +41,10 @@ pub struct Proc {
 impl Model for Proc {
     ghost use Rattle.ti_base.specs.contracts.entry.Answer as one_answer;
     ghost use Rattle.ti_code.specs.contracts.code.Code as all_code;
-    ghost use Rattle.ti_machine.specs.Standing.{Standing};
+    ghost use Rattle.ti_machine.specs.Standing.{CodeStanding};
     ghost use Rattle.ti_machine.specs.Mirrors.Standing.{standing_code};
 
-    ghost Value = { Standing };
+    ghost Value = { CodeStanding };
 
     ghost coded = { standing_code all_code.the_row.coded one_answer.the_row.coded };
 

@@ -25,7 +25,7 @@ use ti_rect::rect_size;
 /// What a history tells: of each name of an object the number of the entry that made it last, of each name of a grid how the one lies that
 /// was made last, of each process how many collectives it has left, and how many entries there are.
 #[derive(Drop)]
-pub struct Told {
+pub struct SoFar {
     pub objects: HashMap<Name, u32>,
     pub grids: HashMap<Name, Option<Lying>>,
     pub phases: HashMap<u32, u32>,
@@ -136,12 +136,12 @@ fn block_of(number: u32, id: Id, domain: &Rect) -> Option<Lying>
     })
 }
 
-impl Told {
+impl SoFar {
     /// Of no entry.
-    pub fn new(alloc: Global) -> Told
+    pub fn new(alloc: Global) -> SoFar
         ensures { Tells result [] }
     {
-        Told {
+        SoFar {
             objects: HashMap::new(alloc),
             grids: HashMap::new(alloc),
             phases: HashMap::new(alloc),

@@ -4,14 +4,14 @@ ghost use Rattle.ti_base.specs.declared.entry.Entry.{Entry as Listed};
 ghost use Rattle.ti_race.specs.Mirrors.Told.{one_or_none, Gathers};
 
 use crate::spots::Use;
-use crate::told::Told;
+use crate::told::SoFar;
 use std::alloc::Global;
 use ti_base::{Entry, Memory};
 
 /// What is kept of a list of entries that are told one by one.
 #[derive(Drop)]
 pub struct Uses {
-    pub told: Told,
+    pub told: SoFar,
     /// The uses in the order of the entries.
     pub found: Vec<Use>,
 }
@@ -33,7 +33,7 @@ impl Uses {
         ensures { Gathers result [] }
     {
         Uses {
-            told: Told::new(alloc),
+            told: SoFar::new(alloc),
             found: Vec::new(alloc),
         }
     }

@@ -10,7 +10,7 @@ ghost use Rattle.ti_lang.specs.Meaning.Answers.{FitsAction};
 ghost use Rattle.ti_lang.specs.Meaning.Evaluation.{eval};
 ghost use Rattle.ti_lang.specs.Meaning.Scoping.{Env};
 ghost use Rattle.ti_eval.specs.Forms.{IsFormedAnswer};
-ghost use Rattle.ti_exec.specs.Standing.{Standing, HasNext};
+ghost use Rattle.ti_exec.specs.Standing.{TreeStanding, HasNext};
 ghost use Rattle.ti_code.specs.Follows as code;
 ghost use Rattle.ti_code.specs.Machine.{first};
 ghost use Rattle.ti_lower_expr.specs.Doing.{Does, Pushes, who_in};
@@ -23,8 +23,8 @@ ghost use Rattle.ti_rows.specs.Refuted.Things.{a_number, fresh};
 
 /// What a process has next, and which answers fit it.
 pub fn processes()
-    ensures something_is_next { (s : Standing) → s.told ≡ [] → (n : Next) × HasNext s n }
-    ensures an_end_as_an_action { (s : Standing) (at : Place) → HasNext s (next.Act at act.End) → ⊥ }
+    ensures something_is_next { (s : TreeStanding) → s.told ≡ [] → (n : Next) × HasNext s n }
+    ensures an_end_as_an_action { (s : TreeStanding) (at : Place) → HasNext s (next.Act at act.End) → ⊥ }
     ensures an_answer { FitsAction (fresh 0) Done }
     ensures a_number_for_an_arrival { FitsAction (fresh 0) (Val (v.Int (pos 1))) → ⊥ }
     ensures a_point_without_its_form { IsFormedAnswer (Val (v.Pt two_coordinates)) → ⊥ }

@@ -4,7 +4,7 @@ use Rattle.atomic_table.specs.Seated.{TableId}
 use Rattle.atomic_table.proofs.Lists.{at_last, at_longer}
 use Rattle.ti_lang.specs.Meaning.Processes.{Setting}
 use Rattle.ti_code.specs.Programs.{Code}
-use Rattle.ti_machine.specs.Standing.{Standing, GoesOn}
+use Rattle.ti_machine.specs.Standing.{CodeStanding, GoesOn}
 use Rattle.ti_turnstile.specs.declared.turnstile.Pass.{Pass}
 use Rattle.ti_turnstile.specs.Turnstiles.{turnstile_of, number_of, seen_by, AreNew}
 use Rattle.ti_runtime.specs.declared.seat.Seat.{Seat}
@@ -23,7 +23,7 @@ pub one_longer : {X : Type 0} (all xs : List X) (x : X) → all ≡ xs ++ x ∷ 
 one_longer all xs x is = omega (arith, ap length is, length-append xs (x ∷ []))
 
 -- a process before its first entry
-abbrev unbegun_at : Code → ℕ → ℕ → ℕ → Standing
+abbrev unbegun_at : Code → ℕ → ℕ → ℕ → CodeStanding
 unbegun_at code procs fuel i = record { code = code; procs = procs; fuel = fuel; number = i; told = []; asks = false }
 
 pub begins_here : (code here : Code) (s : Setting) (procs fuel i : ℕ) → MayRun code s → here ≡ code → procs ≡ s.procs → fuel ≡ s.fuel → i < s.procs → GoesOn (unbegun_at here procs fuel i)

@@ -11,7 +11,7 @@ use Rattle.ti_lang.specs.Meaning.Runs.{IsRun, IsSolo, AllEnded}
 use Rattle.ti_lang.specs.Meaning.Runs as run
 use Rattle.ti_align.specs.Alignment.{NoneStuck}
 use Rattle.ti_code.specs.Programs.{Code}
-use Rattle.ti_machine.specs.Standing.{Standing, HasFinished}
+use Rattle.ti_machine.specs.Standing.{CodeStanding, HasFinished}
 use Rattle.ti_runtime.specs.declared.cursor.Cursor.{Cursor}
 use Rattle.ti_runtime.specs.declared.seat.Seat.{Seat}
 use Rattle.ti_runtime.specs.declared.seat.Stop.TheVariants as stop
@@ -68,7 +68,7 @@ begins code s seats count seated = starts code s [] seats run.none refl count se
 
 -- a process that stands at what it has next was told all answers
 pub told_seated : (code : Code) (s : Setting) (es : List Entry) (i : ℕ) (seat : Seat) → Seated code s es i seat → IsTold code s es i seat
-told_seated code s es i seat y = ap (λ (t : Standing). record t { asks = false }) y.process
+told_seated code s es i seat y = ap (λ (t : CodeStanding). record t { asks = false }) y.process
 
 all_told : (code : Code) (s : Setting) (es : List Entry) (seats : List Seat) → AllSeated code s es seats → AllTold code s es seats
 all_told code s es seats seated d i l = told_seated code s es i (get_or seats i d) (seated d i l)

@@ -10,7 +10,7 @@ use Rattle.ti_lang.proofs.Lemmas.{next_some}
 use Rattle.ti_align.specs.Answering.{AnswersFit}
 use Rattle.ti_code.specs.Programs.{Code}
 use Rattle.ti_code.specs.Follows.{Follows}
-use Rattle.ti_machine.specs.Standing.{Standing, HasNext, GoesOn}
+use Rattle.ti_machine.specs.Standing.{CodeStanding, HasNext, GoesOn}
 use Rattle.ti_store.specs.Conditions.{IsWithin}
 use Rattle.ti_store.proofs.Lemmas.{fitting, fits_none}
 use Rattle.ti_runtime.specs.declared.seat.Seat.{Seat}
@@ -21,7 +21,7 @@ use Rattle.ti_runtime.specs.Mirrors.Team.{StandsAt, Seated}
 
 -- a process of code has one thing next
 abbrev pub OneNext : Type 0
-OneNext = (t : Standing) (m n : Next) → HasNext t m → HasNext t n → m ≡ n
+OneNext = (t : CodeStanding) (m n : Next) → HasNext t m → HasNext t n → m ≡ n
 
 module _ (code : Code) (s : Setting) (f : Follows code s.program) (w : IsWithin s.procs s.fuel) (es : List Entry) (fit : AnswersFit s es) (i : ℕ) (l : i < s.procs) (q : Process) (x : World s es i q) where
   code_next : (n : Next) → IsNext q n → HasNext (standing_of code s es i) n

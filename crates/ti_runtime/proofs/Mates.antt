@@ -15,7 +15,7 @@ use Rattle.ti_store.specs.declared.act_err.ActErr.TheVariants as err
 use Rattle.ti_store.specs.Stores.{StoreState, setting_of, log_of, fault_entry, IsDone, IsRefused}
 use Rattle.ti_store.proofs.Lemmas.{end_more, answers_still}
 use Rattle.ti_code.specs.Programs.{Code}
-use Rattle.ti_machine.specs.Standing.{Standing, GoesOn, is_act}
+use Rattle.ti_machine.specs.Standing.{CodeStanding, GoesOn, is_act}
 use Rattle.ti_runtime.specs.declared.cursor.Turn.{Turn}
 use Rattle.ti_runtime.specs.declared.seat.Seat.{Seat}
 use Rattle.ti_runtime.specs.Mirrors.Team.{place_of, action_of, told_more, IsTold, Seated, Moves, MayRun, IsOpen}
@@ -118,7 +118,7 @@ module _ (code : Code) (s : Setting) (st : StoreState) (i : ℕ) (old : Seat) (m
           ∙ end_more i st.entries (record { proc = i; place = place_of old; act = action_of old; answer = answer }) refl
           ∙ or_neither (has_end i st.entries) (is_end (action_of old)) (y.ended ∙ u) (answered_act y.there old.next y.is_next e).0
           ∙ sym (kept ∙ u);
-      told = ap (λ (t : Standing). record t { asks = false }) heard
+      told = ap (λ (t : CodeStanding). record t { asks = false }) heard
           ∙ subst (λ v. told_more old.process answer ≡ standing_of code v new.entries i) same
           (told_behind code st opened run i inside old here u answer new d e);
       seated = λ w. cc;

@@ -5,12 +5,12 @@ use Rattle.ti_lang.specs.Meaning.Processes.{Setting}
 use Rattle.ti_lang.specs.Meaning.Histories.{answers_of, has_fault}
 use Rattle.ti_lang.specs.Meaning.Runs.{IsRun, IsSolo, AllEnded}
 use Rattle.ti_code.specs.Programs.{Code}
-use Rattle.ti_machine.specs.Standing.{Standing, HasFinished}
+use Rattle.ti_machine.specs.Standing.{CodeStanding, HasFinished}
 use Rattle.ti_runtime.specs.declared.runner.How.TheVariants.{Ended, Faulted, Memory}
 use Rattle.ti_runtime.specs.declared.runner.RunEnd.{RunEnd}
 
 -- process i of the code, after the answers of its entries other than an end and a fault
-abbrev pub standing_of : Code → Setting → List Entry → ℕ → Standing
+abbrev pub standing_of : Code → Setting → List Entry → ℕ → CodeStanding
 standing_of code s es i = record { code = code; procs = s.procs; fuel = s.fuel; number = i; told = answers_of i es; asks = false }
 
 -- for each process, in the order of their numbers, how many instructions of the code it has finished for these answers

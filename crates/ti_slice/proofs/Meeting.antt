@@ -38,7 +38,7 @@ use Rattle.ti_exec.proofs.Lemmas.{moved, with_room, left_behind, handed_on}
 use Rattle.ti_slice.specs.declared.answer.Slice.{Slice}
 use Rattle.ti_slice.specs.declared.stands.Stand.{Stand}
 use Rattle.ti_slice.specs.declared.stands.Stand.TheVariants as stand
-use Rattle.ti_slice.specs.Mirrors.Answer.{Free, begins, IsFree, Leads, IsArrival, Arrives, IsStand, GoesOn, IsWaiting, wanted_of, Fits, Leaves, Departs, Meets}
+use Rattle.ti_slice.specs.Mirrors.Answer.{Free, begins, IsFree, Leads, IsArrival, Arrives, IsStand, GoesOn, IsWaiting, wanted_of, Fits, Leaves, Departs, SliceMeets}
 use Rattle.ti_slice.proofs.Coming.{free_arrives, leaves_free}
 use Rattle.ti_slice.proofs.Paying.{paid}
 
@@ -236,7 +236,7 @@ module _ (c : NumberedProgram) (old mid : Slice) (w : Walker) (kind : CollKind) 
       (subst (λ (p : Process). Comes p mid.gone.items k (r ∷ rest) x) there z)))
 
   -- it leaves the next collective
-  met : (r : Answer) (new : Slice) → Leaves c mid r new → Meets c old r new true
+  met : (r : Answer) (new : Slice) → Leaves c mid r new → SliceMeets c old r new true
   met r new l = (
     subst (IsFree c) l.behind (leaves_free c (process_of c w) a.request l.request a.go l.go r a.is (sym (ap slice_step there) ∙ l.is) g.free),
     λ k rest x z.
@@ -245,16 +245,16 @@ module _ (c : NumberedProgram) (old mid : Slice) (w : Walker) (kind : CollKind) 
         (subst (λ (gone : List ℕ). Comes (l.go r) gone (k + 1) rest x) l.gone (subst (λ (p : Process). Comes p new.gone.items (k + 1) rest x) (sym l.behind) z))),
   )
 
-  pub meets : (r : Answer) (new : Slice) (b : Bool) → Departs c mid r new b → Meets c old r new b
+  pub meets : (r : Answer) (new : Slice) (b : Bool) → Departs c mid r new b → SliceMeets c old r new b
   meets r new true l = met r new l
   meets r new false l = λ k rest. before k r rest (answer.Unfit k) (l k rest)
 
 -- it comes to none
-pub meets_end : (c : NumberedProgram) (old new : Slice) (w : Walker) (r : Answer) → GoesOn c old.walker old.gone.items stand.Ends w → Meets c old r new false
+pub meets_end : (c : NumberedProgram) (old new : Slice) (w : Walker) (r : Answer) → GoesOn c old.walker old.gone.items stand.Ends w → SliceMeets c old r new false
 meets_end c old new w r g k rest = g.leads old.gone.items k (r ∷ rest) (answer.Unfit k) (ended g.stands.1)
 
 pub meets_fault : (c : NumberedProgram) (old new : Slice) (w : Walker) (kind : FaultKind) (at : Place) (r : Answer)
-    → GoesOn c old.walker old.gone.items (stand.Fails kind at) w → Meets c old r new false
+    → GoesOn c old.walker old.gone.items (stand.Fails kind at) w → SliceMeets c old r new false
 meets_fault c old new w kind at r g k rest = g.leads old.gone.items k (r ∷ rest) (answer.Unfit k) (faulted g.stands)
 
 -- ---- where no outcome is left
@@ -296,7 +296,7 @@ drop_at xs k d h = drop-cons xs k d h ∙ rw add-one refl
 
 -- one outcome more is taken
 pub takes_on : (n : Setting) (s new : Slice) (outcomes : List Answer) (k : ℕ) (d : Answer) → k < length outcomes
-    → ((x : SliceStep) → Comes (process_of n.program s.walker) s.gone.items k (drop k outcomes) x → SliceAnswers n outcomes x) → Meets n.program s (get_or outcomes k d) new true → (x : SliceStep)
+    → ((x : SliceStep) → Comes (process_of n.program s.walker) s.gone.items k (drop k outcomes) x → SliceAnswers n outcomes x) → SliceMeets n.program s (get_or outcomes k d) new true → (x : SliceStep)
     → Comes (process_of n.program new.walker) new.gone.items (k + 1) (drop (k + 1) outcomes) x → SliceAnswers n outcomes x
 takes_on n s new outcomes k d h leads m x z =
     leads x (subst (λ (rs : List Answer). Comes (process_of n.program s.walker) s.gone.items k rs x) (sym (drop_at outcomes k d h)) (m.1 k (drop (k + 1) outcomes) x z))
@@ -304,7 +304,7 @@ takes_on n s new outcomes k d h leads m x z =
 -- or none
 pub takes_none : (n : Setting) (s new : Slice) (outcomes : List Answer) (k : ℕ) (d : Answer) → k < length outcomes
     → ((x : SliceStep) → Comes (process_of n.program s.walker) s.gone.items k (drop k outcomes) x → SliceAnswers n outcomes x)
-    → Meets n.program s (get_or outcomes k d) new false → SliceAnswers n outcomes (answer.Unfit k)
+    → SliceMeets n.program s (get_or outcomes k d) new false → SliceAnswers n outcomes (answer.Unfit k)
 takes_none n s new outcomes k d h leads m =
     leads (answer.Unfit k) (subst (λ (rs : List Answer). Comes (process_of n.program s.walker) s.gone.items k rs (answer.Unfit k)) (sym (drop_at outcomes k d h)) (m k (drop (k + 1) outcomes)))
 

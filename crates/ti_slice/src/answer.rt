@@ -13,7 +13,7 @@ ghost use Rattle.ti_moves.specs.Moves.{type_received};
 ghost use Rattle.ti_moves.specs.Receiving.{stm_seen};
 ghost use Rattle.ti_exec.specs.declared.process.Pending.TheVariants.{Left};
 ghost use Rattle.ti_exec.specs.States.{process_of, wait_in, told, here};
-ghost use Rattle.ti_slice.specs.Mirrors.Answer.{IsFree, IsWaiting, wanted_of, Fits, listed, Departs, Meets};
+ghost use Rattle.ti_slice.specs.Mirrors.Answer.{IsFree, IsWaiting, wanted_of, Fits, listed, Departs, SliceMeets};
 
 use crate::fits::{fits_departure, is_done};
 use crate::stands::{Stand, goes_on};
@@ -146,7 +146,7 @@ impl Slice {
     // It comes to its next collective and leaves it, if there is one and the outcome fits.
     fn meets(&mut self, alloc: Global, c: &Checked, outcome: &Answer) -> Result<bool, Memory>
         requires { IsFree (program_of c.now.program.parts) (process_of (program_of c.now.program.parts) self.old.walker) }
-        ensures { IfOk result (λ b. Meets (program_of c.now.program.parts) self.old outcome.now self.new b) }
+        ensures { IfOk result (λ b. SliceMeets (program_of c.now.program.parts) self.old outcome.now self.new b) }
     {
         match goes_on(&mut self.walker, alloc, c, &self.gone)? {
             Stand::Arrives(_, _, _, pending) => {

@@ -38,7 +38,7 @@ use Rattle.ti_top.specs.Mirrors.Work.{kept_in, RanNothing, Ran, WasRefused, WasC
 use Rattle.ti_top.specs.Call.{most_read, Call, IsCommand, IsNoCommand, file_in, file_of, SinkRose, ErrRose, Yields, WantsReport}
 use Rattle.ti_top.specs.Clauses.{IsAcceptedIn, IsRefusalIn, InfersMarks, IsReadWhole, IsWholeIn, HasText, ReadsText, MakesText, GetsText}
 use Rattle.ti_top.specs.Clauses.{RefusesExactly, KeepsRun, RunsCode, CountsInstructions, WhereAccepted, WhereRun, WritesAll, WritesOutput}
-use Rattle.ti_top.specs.Clauses.{IsAlignedRun, IsDeterminate, EndsRun, NothingFailed, IsComplete, MeetsBesideErr, Says, before_err, Meets}
+use Rattle.ti_top.specs.Clauses.{HasAlignedRun, IsDeterminate, EndsRun, NothingFailed, IsComplete, MeetsBesideErr, Says, before_err, Meets}
 use Rattle.ti_top.specs.Traces.{IsWrongTrace, VerifiesTrace, TraceDecides}
 use Rattle.ti_top.specs.Inference.{marks_text}
 use Rattle.ti_top.specs.Mirrors.Compiling.{HasNoProgram}
@@ -228,7 +228,7 @@ pub record Clauses (job : Job) (c : Call) : Type 0 where
   pub code : RunsCode job c
   pub count : CountsInstructions job c
   pub output : WritesOutput c
-  pub alignment : (Infers job.mode → ⊥) → IsAlignedRun c
+  pub alignment : (Infers job.mode → ⊥) → HasAlignedRun c
   pub determinacy : IsDeterminate job c
   pub end : EndsRun job c
   pub trace : VerifiesTrace job c
@@ -1202,7 +1202,7 @@ beside_command before job c x leaves from =
       count = λ other some. subst (λ j. CountsInstructions j c) (job_same c job other x.command some) k.count;
       output = k.output;
       flushes = flushes_out c before from leaves;
-      alignment = λ other some. subst (λ (j : Job). (Infers j.mode → ⊥) → IsAlignedRun c) (job_same c job other x.command some) k.alignment;
+      alignment = λ other some. subst (λ (j : Job). (Infers j.mode → ⊥) → HasAlignedRun c) (job_same c job other x.command some) k.alignment;
       determinacy = λ other some. subst (λ j. IsDeterminate j c) (job_same c job other x.command some) k.determinacy;
       end = λ other some. subst (λ j. EndsRun j c) (job_same c job other x.command some) k.end;
       trace = λ other some. subst (λ j. VerifiesTrace j c) (job_same c job other x.command some) k.trace;

@@ -11,7 +11,7 @@ use Rattle.ti_lang.specs.Meaning.Processes.{Setting}
 use Rattle.ti_code.specs.Programs.{Code}
 use Rattle.ti_code.specs.Machine.{Machine, Turn, On}
 use Rattle.ti_code.specs.Follows.{Finishes, all, one}
-use Rattle.ti_machine.specs.Standing.{Standing, counted, HasFinished}
+use Rattle.ti_machine.specs.Standing.{CodeStanding, counted, HasFinished}
 use Rattle.ti_runtime.specs.Ran.{standing_of, IsDone}
 
 on_same : (a b : Machine) (xs ys : List Answer) → ◌≡◌ {A = Got Turn} (Gives (On a) xs) (Gives (On b) ys) → a ≡ b
@@ -28,7 +28,7 @@ finishes_same c (one {n} {rest = rest} {k = j} t f) (one {n = o} {rest = left} {
     let same = left_same o n left rest (sym u ∙ t) in
     ap (λ (i : ℕ). i + 1) (finishes_same c f (subst (λ (xs : List Answer). Finishes c n xs k) same (subst (λ (x : Machine). Finishes c x left k) there g)))
 
-finished_same : (s : Standing) (a b : ℕ) → HasFinished s a → HasFinished s b → a ≡ b
+finished_same : (s : CodeStanding) (a b : ℕ) → HasFinished s a → HasFinished s b → a ≡ b
 finished_same s a b x y = x.2 ∙ ap counted (finishes_same s.code x.1 y.1) ∙ sym y.2
 
 pub one_count : (c : Code) (s : Setting) (es ds : List Entry) (xs ys : List ℕ) → ((i : ℕ) → entries_of i es ≡ entries_of i ds) → IsDone c s es xs → IsDone c s ds ys → xs ≡ ys

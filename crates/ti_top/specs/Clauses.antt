@@ -200,7 +200,7 @@ pub record InfersMarks (job : Job) (c : Call) : Type 0 where
   pub unwritten : Infers job.mode → (c.status ≡ 0 → ⊥) → (c.status ≡ 5 → ⊥) → c.out_after.taken ≡ c.out.taken
 
 -- Alignment: with status 0, 2 or 7 the program of the text is aligned.
-pub record IsAlignedRun (c : Call) : Type 0 where
+pub record HasAlignedRun (c : Call) : Type 0 where
   pub done : c.status ≡ 0 → (program : NumberedProgram) → HasProgram c.text program → IsAligned program
   pub faulted : c.status ≡ 2 → (program : NumberedProgram) → HasProgram c.text program → IsAligned program
   pub wrong : c.status ≡ 7 → (program : NumberedProgram) → HasProgram c.text program → IsAligned program
@@ -234,7 +234,7 @@ pub record MeetsBesideErr (c : Call) : Type 0 where
   pub count : (job : Job) → IsCommand c job → CountsInstructions job c
   pub output : WritesOutput c
   pub flushes : FlushesOut c
-  pub alignment : (job : Job) → IsCommand c job → (Infers job.mode → ⊥) → IsAlignedRun c
+  pub alignment : (job : Job) → IsCommand c job → (Infers job.mode → ⊥) → HasAlignedRun c
   pub determinacy : (job : Job) → IsCommand c job → IsDeterminate job c
   pub end : (job : Job) → IsCommand c job → EndsRun job c
   pub trace : (job : Job) → IsCommand c job → VerifiesTrace job c

@@ -17,7 +17,7 @@ use Rattle.ti_lang.proofs.Lemmas.{within, no_end_asked, next_same, after_same}
 use Rattle.ti_align.specs.Answering.{AnswersFit}
 use Rattle.ti_align.proofs.Lemmas.{after_pays, or_right}
 use Rattle.ti_code.specs.Programs.{Code}
-use Rattle.ti_machine.specs.Standing.{Standing, is_act}
+use Rattle.ti_machine.specs.Standing.{CodeStanding, is_act}
 use Rattle.ti_machine.specs.Standing as machine
 use Rattle.ti_store.specs.Conditions as store
 use Rattle.ti_store.specs.Stores.{StoreState, setting_of, next_of, Becomes, fault_entry, IsDone, IsRefused}
@@ -85,7 +85,7 @@ seated_with code s es all i seat ended same e y = record {
 
 module _ (code : Code) (s : Setting) (es : List Entry) (i : ℕ) (seat : Seat) (y : Seated code s es i seat) where
   few : length seat.process.told ≤ s.fuel
-  few = subst (λ xs. length xs ≤ s.fuel) (sym (ap (λ (x : Standing). x.told) y.process)) (answers_few s i (answers_of i es) y.there y.world)
+  few = subst (λ xs. length xs ≤ s.fuel) (sym (ap (λ (x : CodeStanding). x.told) y.process)) (answers_few s i (answers_of i es) y.there y.world)
 
   next_taken : IsNext y.there (next_of (place_of seat) (action_of seat))
   next_taken = subst (IsNext y.there) (sym (next_back y.there seat.next y.is_next)) y.is_next
@@ -194,7 +194,7 @@ module _ (code : Code) (st : StoreState) (o : IsOpen code st) (run : IsRun (sett
     lighter_heard : OneNext → (seat : Seat) → is_act old.next ≡ true → Hears old answer seat → steps_left s seat < steps_left s old
     lighter_heard one seat e h =
         let limit : length seat.process.told ≤ s.fuel = few code s all i seat (seated_heard one seat e h) in
-        let more : length seat.process.told ≡ length old.process.told + 1 = ap (λ (x : Standing). length x.told) h.stands.process ∙ length-append old.process.told (answer ∷ []) in
+        let more : length seat.process.told ≡ length old.process.told + 1 = ap (λ (x : CodeStanding). length x.told) h.stands.process ∙ length-append old.process.told (answer ∷ []) in
         rw (h.ended, u) (one_fewer s.fuel (length old.process.told) (length seat.process.told) more limit)
       where
         one_fewer : (fuel m n : ℕ) → n ≡ m + 1 → n ≤ fuel → (fuel - n) + 1 < (fuel - m) + 1

@@ -4,7 +4,7 @@ ghost use Rattle.ti_io.specs.Faults.{Rose};
 ghost use Rattle.ti_io.specs.Source.{SameFiles};
 ghost use Rattle.ti_store.specs.Stores.{setting_of};
 ghost use Rattle.ti_trace_check.specs.declared.error.TraceErr.TheVariants.{Read};
-ghost use Rattle.ti_trace_check.specs.Mirrors.Seats.{IsOpen, Stands, Meets, CameTo, LeavesText};
+ghost use Rattle.ti_trace_check.specs.Mirrors.Seats.{IsOpen, Stands, MeetsAt, CameTo, LeavesText};
 
 use crate::error::TraceErr;
 use crate::line::entry_line;
@@ -34,7 +34,7 @@ fn meet<J: Terms>(
 ) -> Result<bool, Memory>
     requires open { IsOpen code.now store.old }
     requires stands { Stands code.now (setting_of store.old) store.old.entries seats.old.items }
-    ensures meets { IfOk result (λ met. Meets code.now (setting_of store.old) store.old.entries seats.old.items store.new.entries
+    ensures meets { IfOk result (λ met. MeetsAt code.now (setting_of store.old) store.old.entries seats.old.items store.new.entries
         seats.new.items line.now met) }
     ensures store { store.new ≡ record store.old { entries = store.new.entries } }
 {

@@ -17,7 +17,7 @@ use Rattle.ti_rules.specs.Broken.Misplaced.{misplaced_at, misplaced, all_misplac
 use Rattle.ti_rules.specs.Broken.Expressions.{places_of, refusals_at, exp_refusals}
 use Rattle.ti_rules.proofs.Lemmas.{first_append, first_append_each}
 use Rattle.ti_types.specs.declared.judged.Judged.{Judged}
-use Rattle.ti_types.specs.declared.arguments.Told.{Told}
+use Rattle.ti_types.specs.declared.arguments.ArgumentTypes.{ArgumentTypes}
 use Rattle.ti_types.specs.declared.rects.Bounds.{Bounds}
 use Rattle.ti_types.specs.declared.rects.Ends.{Ends}
 use Rattle.ti_types.specs.Judging.{typed_of, IsJudged}
@@ -38,14 +38,14 @@ rest_next xs i d lt = ap (λ l. numbered_exps (map expression_of l)) (drop_next 
 
 -- of no arguments
 pub none_found : (p : NumberedProgram) (s : ScopeContents) (us : List ValueType) (xs : List Expr) (i : ℕ) (inner placed : Option Refusal)
-    (types : Option Told) → length xs ≤ i → inner ≡ first_of [] → placed ≡ first_of [] → option_map told_of types ≡ Some (told [] [] [])
+    (types : Option ArgumentTypes) → length xs ≤ i → inner ≡ first_of [] → placed ≡ first_of [] → option_map told_of types ≡ Some (told [] [] [])
     → AreFound p s (rest_of xs i) us inner placed types
 none_found p s us xs i inner placed types le is_inner is_misplaced is_types =
     subst (λ l. AreFound p s (numbered_exps (map expression_of l)) us inner placed types) (sym (drop_all i xs le)) (is_inner, is_misplaced, is_types)
 
 -- of one argument more
 pub one_more : (p : NumberedProgram) (s : ScopeContents) (us : List ValueType) (i : ℕ) (e : NumberedExp) (rest : NumberedExps) (j : Judged)
-    (inner next_inner placed next_placed : Option Refusal) (types next_types : Option Told) (at : Place) (u : Option ValueType)
+    (inner next_inner placed next_placed : Option Refusal) (types next_types : Option ArgumentTypes) (at : Place) (u : Option ValueType)
     → IsJudged p s e j → at ≡ place_of_numbered e → u ≡ slice_get us i → AreFound p s rest (drop (i + 1) us) inner placed types
     → next_inner ≡ sooner j.first inner → next_placed ≡ sooner (first_of (misplaced_at at (typed_of j))) placed
     → option_map told_of next_types ≡ both (operand (typed_of j)) (option_map told_of types) (λ t others. Some (more at u t others))
@@ -63,7 +63,7 @@ one_more p s us i e rest j inner next_inner placed next_placed types next_types 
 
 -- the same in a list
 pub arguments_step : (p : NumberedProgram) (s : ScopeContents) (us : List ValueType) (xs : List Expr) (i : ℕ) (d : Expr) (j : Judged)
-    (inner next_inner placed next_placed : Option Refusal) (types next_types : Option Told) (at : Place) (u : Option ValueType)
+    (inner next_inner placed next_placed : Option Refusal) (types next_types : Option ArgumentTypes) (at : Place) (u : Option ValueType)
     → i < length xs
     → IsJudged p s (expression_of (get_or xs i d)) j → at ≡ place_of_numbered (expression_of (get_or xs i d)) → u ≡ slice_get us i
     → AreFound p s (rest_of xs (i + 1)) (drop (i + 1) us) inner placed types
@@ -154,7 +154,7 @@ ranges_step p s rs i d b inner next_inner placed next_placed types next_types lt
 -- ---- loops that go back
 
 pub arguments_back : (p : NumberedProgram) (s : ScopeContents) (us : List ValueType) (xs : List Expr) (i : ℕ) (d : Expr) (j : Judged)
-    (inner next_inner placed next_placed : Option Refusal) (types next_types : Option Told) (at : Place) (u : Option ValueType)
+    (inner next_inner placed next_placed : Option Refusal) (types next_types : Option ArgumentTypes) (at : Place) (u : Option ValueType)
     → 0 < i → i ≤ length xs → IsJudged p s (expression_of d) j → d ≡ get_or xs (i - 1) d → at ≡ place_of_numbered (expression_of d) → u
     ≡ slice_get us (i - 1) → AreFound p s (rest_of xs i) (drop i us) inner placed types
     → next_inner ≡ sooner j.first inner → next_placed ≡ sooner (first_of (misplaced_at at (typed_of j))) placed
@@ -166,7 +166,7 @@ arguments_back p s us xs i d j inner next_inner placed next_placed types next_ty
     (is_at ∙ ap (λ z. place_of_numbered (expression_of z)) is_d) is_u (subst (λ n. AreFound p s (rest_of xs n) (drop n us) inner placed types) (sym e) are) is_inner is_misplaced is_types
 
 pub arguments_end : (p : NumberedProgram) (s : ScopeContents) (us : List ValueType) (xs : List Expr) (i : ℕ) (inner placed : Option Refusal)
-    (types : Option Told) → i ≤ 0 → AreFound p s (rest_of xs i) (drop i us) inner placed types
+    (types : Option ArgumentTypes) → i ≤ 0 → AreFound p s (rest_of xs i) (drop i us) inner placed types
     → AreFound p s (numbered_exps (map expression_of xs)) us inner placed types
 arguments_end p s us xs zero inner placed types le are = are
 arguments_end p s us xs (suc i) inner placed types le are = absurd (omega (arith, le))

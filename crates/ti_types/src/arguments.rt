@@ -22,7 +22,7 @@ use ti_rules::{Refusal, Rule, refused_if, sooner};
 
 /// What the rules ask of the types of arguments.
 #[derive(Clone, Copy)]
-pub struct Told<'a> {
+pub struct ArgumentTypes<'a> {
     /// All are ints.
     pub ints: bool,
     /// The first of them.
@@ -41,7 +41,7 @@ pub struct Arguments<'a> {
     /// What counts of the calls that can't stand there.
     pub misplaced: Option<Refusal>,
     /// What is told of their types, where all have some.
-    pub types: Option<Told<'a>>,
+    pub types: Option<ArgumentTypes<'a>>,
 }
 
 #[tactic(auto, unfolding(ti_rules::specs::Mirrors::First::first_of))]
@@ -61,12 +61,12 @@ pub fn is_int(t: Seen) -> bool
     matches!(t, Seen::Int)
 }
 
-impl<'a> Told<'a> {
+impl<'a> ArgumentTypes<'a> {
     /// Of one type more in front of others.
-    fn more(self, place: Place, wanted: Option<Seen<'a>>, t: Seen<'a>) -> Told<'a>
+    fn more(self, place: Place, wanted: Option<Seen<'a>>, t: Seen<'a>) -> ArgumentTypes<'a>
         ensures { told_of result ≡ more place (option_map seen wanted.entry) (seen t.entry) (told_of self.entry) }
     {
-        Told {
+        ArgumentTypes {
             ints: is_int(t) && self.ints,
             first: Some(t),
             second: self.first,
@@ -79,8 +79,8 @@ fn told_more<'a>(
     place: Place,
     wanted: Option<Seen<'a>>,
     t: Option<Seen<'a>>,
-    rest: Option<Told<'a>>,
-) -> Option<Told<'a>>
+    rest: Option<ArgumentTypes<'a>>,
+) -> Option<ArgumentTypes<'a>>
     ensures { option_map told_of result ≡ both (option_map seen t.entry) (option_map told_of rest.entry)
         (λ u others. Some (more place (option_map seen wanted.entry) u others)) }
 {
@@ -101,7 +101,7 @@ impl<'a> Arguments<'a> {
         Arguments {
             inner: None,
             misplaced: None,
-            types: Some(Told {
+            types: Some(ArgumentTypes {
                 ints: true,
                 first: None,
                 second: None,
@@ -205,7 +205,7 @@ pub fn result_type(m: &Method) -> Seen<'_>
     }
 }
 
-fn call_type<'a>(m: Option<&'a Method>, count: usize, told: Told<'a>) -> Option<Seen<'a>>
+fn call_type<'a>(m: Option<&'a Method>, count: usize, told: ArgumentTypes<'a>) -> Option<Seen<'a>>
     ensures { option_map seen result ≡ told_call (option_map (λ m. numbered_method_of m.now) m.entry) count (told_of told.entry) }
 {
     match m {
@@ -264,7 +264,7 @@ fn call_refusal<'a>(
     m: Option<&'a Method>,
     otherwise: Option<Refusal>,
     args: &[Expr],
-    told: Option<Told<'a>>,
+    told: Option<ArgumentTypes<'a>>,
 ) -> Option<Refusal>
     ensures { result ≡ told_refusal place (places_of (numbered_exps (map expression_of args.now)))
         (option_map (λ m. numbered_method_of m.now) m.entry) otherwise (length args.now) (option_map told_of told.entry) }
@@ -282,7 +282,7 @@ pub fn called<'a>(
     m: Option<&'a Method>,
     otherwise: Option<Refusal>,
     args: &[Expr],
-    types: Option<Told<'a>>,
+    types: Option<ArgumentTypes<'a>>,
 ) -> Judged<'a>
     ensures known { typed_of result ≡ told_called (option_map (λ m. numbered_method_of m.now) m.entry) (length args.now)
         (option_map told_of types.entry) }

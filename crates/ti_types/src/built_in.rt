@@ -12,7 +12,7 @@ ghost use Rattle.ti_types.specs.Judging.{typed_of};
 ghost use Rattle.ti_lang.specs.Typing.Expressions.{plain};
 ghost use Rattle.ti_lang.specs.Typing.Kinds.{where_true};
 
-use crate::arguments::{Told, is_int};
+use crate::arguments::{ArgumentTypes, is_int};
 use crate::fitting::fits;
 use crate::judged::Judged;
 use crate::refused::mistaken;
@@ -198,7 +198,7 @@ fn given_two<'a>(b: BuiltIn, t: Seen<'a>, u: Seen<'a>, v: Seen<'a>) -> Option<Se
 }
 
 /// What a member gives.
-pub fn given<'a>(b: BuiltIn, t: Seen<'a>, count: usize, told: Told<'a>) -> Option<Seen<'a>>
+pub fn given<'a>(b: BuiltIn, t: Seen<'a>, count: usize, told: ArgumentTypes<'a>) -> Option<Seen<'a>>
     ensures { option_map seen result ≡ told_member (built_in_of b) (seen t.entry) count (told_of told.entry) }
 {
     match (told.first, told.second) {
@@ -314,7 +314,12 @@ fn refusal_of_one<'a>(place: Place, b: BuiltIn, t: Seen<'a>, u: Seen<'a>) -> Opt
 
 /// What counts of what is wrong with the arguments of a member, of which there are as many as it takes.
 #[tactic(auto, unfolding(ti_rules::specs::Mirrors::First::first_of))]
-fn argument_refusal<'a>(place: Place, b: BuiltIn, t: Seen<'a>, told: Told<'a>) -> Option<Refusal>
+fn argument_refusal<'a>(
+    place: Place,
+    b: BuiltIn,
+    t: Seen<'a>,
+    told: ArgumentTypes<'a>,
+) -> Option<Refusal>
     ensures { result ≡ first_of (told_arguments place (built_in_of b) (seen t.entry) (told_of told.entry)) }
 {
     match arity(b) {
@@ -337,7 +342,7 @@ fn built_in_refusal<'a>(
     b: Option<BuiltIn>,
     t: Seen<'a>,
     count: usize,
-    told: Told<'a>,
+    told: ArgumentTypes<'a>,
 ) -> Option<Refusal>
     ensures { result ≡ first_of (told_built_in place (option_map built_in_of b) (seen t.entry) count (told_of told.entry)) }
 {
@@ -359,7 +364,7 @@ fn maybe_given<'a>(
     b: Option<BuiltIn>,
     t: Seen<'a>,
     count: usize,
-    told: Told<'a>,
+    told: ArgumentTypes<'a>,
 ) -> Option<Seen<'a>>
     ensures { option_map seen result ≡ option_and_then (λ b. told_member b (seen t.entry) count (told_of told.entry))
         (option_map built_in_of b) }
@@ -376,7 +381,7 @@ pub fn member_given<'a>(
     b: Option<BuiltIn>,
     t: Seen<'a>,
     count: usize,
-    told: Told<'a>,
+    told: ArgumentTypes<'a>,
 ) -> Judged<'a>
     ensures known { typed_of result ≡ plain (option_and_then (λ b. told_member b (seen t.entry) count (told_of told.entry))
         (option_map built_in_of b)) }

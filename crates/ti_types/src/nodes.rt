@@ -14,7 +14,7 @@ ghost use Rattle.ti_lang.specs.Typing.Seen.{seen};
 ghost use Rattle.ti_types.specs.Mirrors.Arguments.{ToldTypes, told_of};
 ghost use Rattle.ti_types.specs.Mirrors.Nodes.{are_indices, told_index, is_index, told_other, told_behind, behind_refusal};
 
-use crate::arguments::{Told, called};
+use crate::arguments::{ArgumentTypes, called};
 use crate::built_in::member_given;
 use crate::judged::Judged;
 use crate::refused::mistaken;
@@ -23,7 +23,7 @@ use ti_lang::program::{Expr, Method, Parts};
 use ti_lang::typing::{Seen, built_in, select_type};
 use ti_rules::{Refusal, Rule, refused_if};
 
-fn point_type<'a>(count: usize, types: Option<Told<'a>>) -> Option<Seen<'a>>
+fn point_type<'a>(count: usize, types: Option<ArgumentTypes<'a>>) -> Option<Seen<'a>>
     ensures { option_map seen result ≡ option_and_then (λ (t : ToldTypes). where_true t.ints (Pt count)) (option_map told_of types.entry) }
 {
     match types {
@@ -37,7 +37,7 @@ fn point_type<'a>(count: usize, types: Option<Told<'a>>) -> Option<Seen<'a>>
 }
 
 #[tactic(auto, unfolding(ti_rules::specs::Mirrors::First::first_of))]
-fn point_refusal(place: Place, types: Option<Told>) -> Option<Refusal>
+fn point_refusal(place: Place, types: Option<ArgumentTypes>) -> Option<Refusal>
     ensures { result ≡ first_of (judged (option_map told_of types.entry) (λ (t : ToldTypes). mistaken_at place t.ints false)) }
 {
     match types {
@@ -47,7 +47,7 @@ fn point_refusal(place: Place, types: Option<Told>) -> Option<Refusal>
 }
 
 /// So many coordinates at a place.
-pub fn point<'a>(place: Place, count: usize, types: Option<Told<'a>>) -> Judged<'a>
+pub fn point<'a>(place: Place, count: usize, types: Option<ArgumentTypes<'a>>) -> Judged<'a>
     ensures known { typed_of result ≡ plain (option_and_then (λ (t : ToldTypes). where_true t.ints (Pt count))
         (option_map told_of types.entry)) }
     ensures first { result.first ≡ first_of (judged (option_map told_of types.entry) (λ (t : ToldTypes). mistaken_at place t.ints false)) }
@@ -64,7 +64,7 @@ fn are_indices<'a>(dim: usize, count: usize, first: Option<Seen<'a>>, ints: bool
     }
 }
 
-fn index_type<'a>(count: usize, t: Seen<'a>, told: Told<'a>) -> Option<Seen<'a>>
+fn index_type<'a>(count: usize, t: Seen<'a>, told: ArgumentTypes<'a>) -> Option<Seen<'a>>
     ensures { option_map seen result ≡ told_index count (seen t.entry) (told_of told.entry) }
 {
     match t {
@@ -95,7 +95,7 @@ fn is_index(first: Option<Seen>) -> bool
     matches!(first, Some(Seen::Int | Seen::Pt(_)))
 }
 
-fn other_indices<'a>(count: usize, t: Seen<'a>, told: Told<'a>) -> bool
+fn other_indices<'a>(count: usize, t: Seen<'a>, told: ArgumentTypes<'a>) -> bool
     ensures { result ≡ told_other count (seen t.entry) (told_of told.entry) }
 {
     match t {
@@ -111,7 +111,11 @@ fn other_indices<'a>(count: usize, t: Seen<'a>, told: Told<'a>) -> bool
     }
 }
 
-fn maybe_index<'a>(count: usize, t: Option<Seen<'a>>, types: Option<Told<'a>>) -> Option<Seen<'a>>
+fn maybe_index<'a>(
+    count: usize,
+    t: Option<Seen<'a>>,
+    types: Option<ArgumentTypes<'a>>,
+) -> Option<Seen<'a>>
     ensures { option_map seen result ≡ both (option_map seen t.entry) (option_map told_of types.entry) (told_index count) }
 {
     match (t, types) {
@@ -125,7 +129,7 @@ fn index_refusal<'a>(
     place: Place,
     count: usize,
     t: Option<Seen<'a>>,
-    types: Option<Told<'a>>,
+    types: Option<ArgumentTypes<'a>>,
 ) -> Option<Refusal>
     ensures { result ≡ first_of (both_judged (option_map seen t.entry) (option_map told_of types.entry)
         (λ u told. mistaken_at place (is_some (told_index count u told)) (told_other count u told))) }
@@ -144,7 +148,7 @@ pub fn index<'a>(
     place: Place,
     count: usize,
     t: Option<Seen<'a>>,
-    types: Option<Told<'a>>,
+    types: Option<ArgumentTypes<'a>>,
 ) -> Judged<'a>
     ensures known { typed_of result ≡ plain (both (option_map seen t.entry) (option_map told_of types.entry) (told_index count)) }
     ensures first { result.first ≡ first_of (both_judged (option_map seen t.entry) (option_map told_of types.entry)
@@ -165,7 +169,7 @@ pub fn member<'a>(
     name: u32,
     m: Option<&'a Method>,
     args: &'a [Expr],
-    types: Option<Told<'a>>,
+    types: Option<ArgumentTypes<'a>>,
 ) -> Judged<'a>
     ensures known { typed_of result ≡ told_behind (program_of program.now) (option_map seen t.entry) name
         (option_map (λ m. numbered_method_of m.now) m.entry) (length args.now) (option_map told_of types.entry) }

@@ -38,7 +38,7 @@ use Rattle.ti_lang.proofs.Lemmas.{possible_then, some_then, fault_then, answer_s
 use Rattle.ti_align.specs.Alignment.{ArrivalsAgree}
 use Rattle.ti_align.specs.Owners.{MadeWith}
 use Rattle.ti_align.specs.Things.{Things, seen_by, IsGridOf, IsOf}
-use Rattle.ti_align.specs.There.{dims_viewed, IsFieldOf, IsThere, FitsAsked}
+use Rattle.ti_align.specs.There.{dims_viewed, IsFieldOf, IsAtHand, FitsAsked}
 use Rattle.ti_align.specs.Heap.{Elements, things_of, FieldsStorable, HeapFits, is_of_heap}
 use Rattle.ti_align.specs.Mirrors.Processes.{ProcessFits}
 use Rattle.ti_align.specs.Typed.{GivesAt, GivesLast, hands_in}
@@ -210,7 +210,7 @@ module _ (p : NumberedProgram) (h later : History) (i : ℕ) (r : Answer) (w u :
 
   -- so its answer names only what lives
   pub fits_living : (gone : (n : ℕ) → is_gone n h ≡ false → is_gone n later ≡ false) → (a : Action) (wanted : Wanted) → is_of_heap a ≡ true
-      → IsThere p (living later w) a wanted → heap_answer p h i a ≡ Answers r → FitsAsked p u a wanted r
+      → IsAtHand p (living later w) a wanted → heap_answer p h i a ≡ Answers r → FitsAsked p u a wanted r
       → FitsAsked p (living later u) a wanted r
   fits_living gone (act.GetField obj field) wanted is there q k =
       λ type f. of_living later (seen_by obj.owner u) type (told r) (k type (field_of obj field type f))

@@ -19,7 +19,7 @@ use Rattle.ti_lang.specs.Meaning.Steps.{lies_in, named_in}
 use Rattle.ti_lang.specs.Meaning.Histories.{History}
 use Rattle.ti_lang.specs.Meaning.RegionsOf.{is_gone}
 use Rattle.ti_align.specs.Things.{Things, seen_by, Grows, IsGridOf, IsOf, HoldsOf, VariablesFit, ThisFits, DepositFits}
-use Rattle.ti_align.specs.There.{IsThere}
+use Rattle.ti_align.specs.There.{IsAtHand}
 use Rattle.ti_align.specs.Mirrors.Work.{WorksFit}
 use Rattle.ti_align.specs.Mirrors.Processes.{FramesFit, NextFits, ProcessFits}
 use Rattle.ti_align.specs.Heap.{FieldsStorable}
@@ -104,7 +104,7 @@ module _ (h : History) (w : Things) where
 
 module _ (h : History) (w : Things) where
   -- where what an action names is among what lives, all of it lives
-  pub used_lives : (p : NumberedProgram) (a : Action) (wanted : Wanted) → IsThere p (living h w) a wanted → IfNamedLives h (used_by a)
+  pub used_lives : (p : NumberedProgram) (a : Action) (wanted : Wanted) → IsAtHand p (living h w) a wanted → IfNamedLives h (used_by a)
   used_lives p (act.GetField obj field) wanted k = class_lives h w obj k.1.0 k.1.1
   used_lives p (act.PutField obj field value) wanted k = class_lives h w obj k.1.0 k.1.1
   used_lives p (act.GetElem grid at) wanted k = grid_lives h w grid k.2.0 k.2.1
@@ -114,10 +114,10 @@ module _ (h : History) (w : Things) where
   used_lives p _ wanted k = tt
 
   pub field_lives : (p : NumberedProgram) (obj : Id) (field : ℕ) (value : _) (wanted : Wanted) → FieldsStorable p
-      → IsThere p (living h w) (act.PutField obj field value) wanted → IfNamedLives h (thing_of (Plain value))
+      → IsAtHand p (living h w) (act.PutField obj field value) wanted → IfNamedLives h (thing_of (Plain value))
   field_lives p obj field value wanted f k = value_lives h (seen_by obj.owner w) k.0 (Plain value) (stored_value k.0 (f k.1.0 field k.0 k.1.2)) k.2
 
-  pub element_lives : (p : NumberedProgram) (grid : Id) (at : _) (value : _) (wanted : Wanted) → IsThere p (living h w) (act.PutElem grid at value) wanted → IfNamedLives h (thing_of (Plain value))
+  pub element_lives : (p : NumberedProgram) (grid : Id) (at : _) (value : _) (wanted : Wanted) → IsAtHand p (living h w) (act.PutElem grid at value) wanted → IfNamedLives h (thing_of (Plain value))
   element_lives p grid at value wanted k = value_lives h (seen_by grid.owner w) k.0 (Plain value) (stored_value k.0 k.2.4) k.4
 
   pub deposit_lives : (type : ValueType) (given : Deposit) → DepositFits (living h w) type given → IfNamedLives h (deposited_by given)

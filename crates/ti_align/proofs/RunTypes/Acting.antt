@@ -14,7 +14,7 @@ use Rattle.ti_lang.specs.Meaning.Steps.{step}
 use Rattle.ti_lang.specs.Meaning.NextStep.{IsNext}
 use Rattle.ti_lang.specs.Meaning.Histories.{history_of}
 use Rattle.ti_lang.specs.Meaning.Runs.{World}
-use Rattle.ti_align.specs.There.{IsThere}
+use Rattle.ti_align.specs.There.{IsAtHand}
 use Rattle.ti_align.specs.Things.{DepositFits}
 use Rattle.ti_align.specs.Heap.{things_of}
 use Rattle.ti_align.specs.Typed.{RunTyped}
@@ -22,7 +22,7 @@ use Rattle.ti_align.proofs.Runs.Ways.{asking}
 use Rattle.ti_align.proofs.Runs.Running.{at_action}
 
 module _ (s : Setting) (es : List Entry) (typed : RunTyped s es) (i : ℕ) (p : Process) (at : Place) where
-  pub next_there : (a : Action) → i < s.procs → World s es i p → IsNext p (next.Act at a) → (wanted : Wanted) × IsThere s.program (things_of i typed.fits.elements (history_of es)) a wanted
+  pub next_there : (a : Action) → i < s.procs → World s es i p → IsNext p (next.Act at a) → (wanted : Wanted) × IsAtHand s.program (things_of i typed.fits.elements (history_of es)) a wanted
   next_there a b x n =
       let k = at_action (step n.0) at a n.1.stands in
       (k.0.1, (typed.there i p n.0 (asking at a k.0) k.1 b x n.1.reaches k.2).0)

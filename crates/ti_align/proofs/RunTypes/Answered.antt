@@ -22,7 +22,7 @@ use Rattle.ti_align.specs.Alignment.{most_procs, ArrivalsAgree}
 use Rattle.ti_align.specs.Answering.{AnswersFit}
 use Rattle.ti_align.specs.Names.{NamesFit}
 use Rattle.ti_align.specs.Things.{Things, IsStorable, IsOf}
-use Rattle.ti_align.specs.There.{IsThere, SuitsWanted}
+use Rattle.ti_align.specs.There.{IsAtHand, SuitsWanted}
 use Rattle.ti_align.specs.Heap.{things_of, is_of_heap}
 use Rattle.ti_align.specs.Mirrors.Processes.{ProgramFits}
 use Rattle.ti_align.specs.Typed.{GivesLast, hands_in, RunTyped}
@@ -80,8 +80,8 @@ module _ (s : Setting) (fits : ProgramFits s.program) (fine : FineMethods s.prog
     abbrev wanted : Wanted
     wanted = asked.0.1
 
-    there : IsThere s.program w e.act wanted
-    there = subst (λ (x : Setting). IsThere x.program w e.act wanted) asked.2 asked.3.0
+    there : IsAtHand s.program w e.act wanted
+    there = subst (λ (x : Setting). IsAtHand x.program w e.act wanted) asked.2 asked.3.0
 
     suits : SuitsWanted s.program w e.act wanted
     suits = subst (λ (x : Setting). SuitsWanted x.program w e.act wanted) asked.2 asked.3.3

@@ -16,7 +16,7 @@ use Rattle.ti_lang.specs.Meaning.Evaluation.{is_own}
 use Rattle.ti_align.specs.Dangling.{used_by}
 use Rattle.ti_align.specs.Things.{Things, seen_by, Grows, IsGridOf, IsPlaced, IsOwn, IsOf, IsThingOf}
 use Rattle.ti_align.proofs.Runs.Vars.{true_false}
-use Rattle.ti_align.specs.There.{IsThere, GoesThrough, SuitsWanted, FitsAsked}
+use Rattle.ti_align.specs.There.{IsAtHand, GoesThrough, SuitsWanted, FitsAsked}
 use Rattle.ti_align.specs.Mirrors.Sound.{ReferenceFits, Sound, value, fault, asks}
 
 -- ---- what is there grows
@@ -137,11 +137,11 @@ module _ (p : NumberedProgram) where
 
   -- an action that goes through no reference
   pub sound_request : (P : Things → Held → Type 0) (w : Things) (at : Place) (a : Action) (wanted : Wanted) → used_by a ≡ None
-      → IsThere p w a wanted → SuitsWanted p w a wanted → ((u : Things) → Grows w u → (r : Answer) → FitsAsked p u a wanted r
+      → IsAtHand p w a wanted → SuitsWanted p w a wanted → ((u : Things) → Grows w u → (r : Answer) → FitsAsked p u a wanted r
       → P u (told r)) → Sound p P w (asked (request at a wanted))
   sound_request P w at a wanted n i s f = asks (request at a wanted) refl (i, goes_alone w a n, s) (λ u g r t. value (told r) (f u g r t) (λ rest. refl))
 
-  pub sound_asked : (P : Things → Held → Type 0) (w : Things) (q : Request) → IsThere p w q.action q.wanted
+  pub sound_asked : (P : Things → Held → Type 0) (w : Things) (q : Request) → IsAtHand p w q.action q.wanted
       × GoesThrough w q.through q.action × SuitsWanted p w q.action q.wanted
       → ((u : Things) → Grows w u → (r : Answer) → FitsAsked p u q.action q.wanted r → P u (told r)) → Sound p P w (asked q)
   sound_asked P w q i f = asks q refl i (λ u g r t. value (told r) (f u g r t) (λ rest. refl))

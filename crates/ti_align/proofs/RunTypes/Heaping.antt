@@ -35,7 +35,7 @@ use Rattle.ti_lang.specs.Meaning.RegionsOf.{is_region, is_made, is_place}
 use Rattle.ti_lang.specs.Meaning.HeapAnswers.{Outcome, Answers, Impossible, where_some, possible_if, faults_if, makes, places, at_point, views, heap_answer, IsAnswered, more}
 use Rattle.ti_lang.proofs.Lemmas.{dim_is, made_once, fault_then, answer_same, views_then, placed, grid_then, class_then, same_name}
 use Rattle.ti_align.specs.Things.{Things, Grows, IsStorable, IsGridOf, IsPlaced, IsOf}
-use Rattle.ti_align.specs.There.{SuitsView, dims_viewed, IsFieldOf, IsThere, FitsAsked}
+use Rattle.ti_align.specs.There.{SuitsView, dims_viewed, IsFieldOf, IsAtHand, FitsAsked}
 use Rattle.ti_align.specs.Heap.{Elements, things_of, IsBlock, FieldsStorable, HeapFits, is_of_heap, elements_behind, MayHold, KeepsTypes}
 use Rattle.ti_align.proofs.Runs.Vars.{true_false, and_left, and_right, if_true, if_false}
 use Rattle.ti_align.proofs.RunTypes.Operating.{none_some, some_same}
@@ -213,7 +213,7 @@ module _ (p : NumberedProgram) (elements : Elements) (h : History) (fits : HeapF
       → IsPointOf n at → (o ≡ Impossible → ⊥) → at_point k.0 at o ≡ Impossible → ⊥
   point_not element n id at o k d x z = possible_not _ _ (eq-eqb at.dim k.0.domain.dim (d.dim_is ∙ sym k.2.dim_is)) (faults_not _ fault.Bounds _ x) z
 
-  pub is_possible : (a : Action) (wanted : Wanted) → is_of_heap a ≡ true → IsThere p (things_of i elements h) a wanted → heap_answer p h i a ≡ Impossible → ⊥
+  pub is_possible : (a : Action) (wanted : Wanted) → is_of_heap a ≡ true → IsAtHand p (things_of i elements h) a wanted → heap_answer p h i a ≡ Impossible → ⊥
   is_possible (act.GetField obj field) wanted t k z =
       let v = field_value p elements h fits store obj field k.0 k.1 in
       some_not (cell_value p (Field obj field) h) v.0 (λ x. Answers (Val x)) v.1 (answer_not _) z
@@ -254,7 +254,7 @@ pair_second c d v x z = ap (λ (k : Cell × Value). k.1) (some_same (c, v) (d, x
 
 -- what an action that names what is there writes, the cell may hold
 may_write : (p : NumberedProgram) (elements : Elements) (h : History) (i : ℕ) (a : Action) (wanted : Wanted)
-    → IsThere p (things_of i elements h) a wanted → (c : Cell) (x : Value) → written_by a h ≡ Some (c, x) → HoldsIn p elements h c x
+    → IsAtHand p (things_of i elements h) a wanted → (c : Cell) (x : Value) → written_by a h ≡ Some (c, x) → HoldsIn p elements h c x
 may_write p elements h i (act.PutField obj field value) wanted k c x z =
     subst (λ d. HoldsIn p elements h d x) (pair_first _ _ _ _ z) (subst (λ y. HoldsIn p elements h (Field obj field) y) (pair_second _ _ _ _ z) (k.0, k.1, k.2))
 may_write p elements h i (act.PutElem grid at value) wanted k c x z =
@@ -347,7 +347,7 @@ module _ (p : NumberedProgram) (elements : Elements) (h : History) (answered : I
   grown_in : (j : ℕ) (a : Action) (r : Answer) → heap_answer p h i a ≡ Answers r → Grows (things_of j elements h) (things_of j elements (entry a r ∷ h))
   grown_in j a r said = grown_behind p h (entry a r) (more answered said) elements elements (λ id type z. z) j
 
-  kept_same : (a : Action) (wanted : Wanted) (r : Answer) → IsThere p (things_of i elements h) a wanted → heap_answer p h i a ≡ Answers r → HeapFits p elements (entry a r ∷ h)
+  kept_same : (a : Action) (wanted : Wanted) (r : Answer) → IsAtHand p (things_of i elements h) a wanted → heap_answer p h i a ≡ Answers r → HeapFits p elements (entry a r ∷ h)
   kept_same a wanted r k said = kept_behind p h (entry a r) (more answered said) elements elements (λ id type z. z) fits (may_write p elements h i a wanted k) (λ id type z. inl z)
 
   object_fits : (class region : ℕ) (new : Id) → new.owner ≡ i → IsOf
@@ -420,7 +420,7 @@ module _ (p : NumberedProgram) (elements : Elements) (h : History) (answered : I
         λ z. eq-eqb new.owner i own,
       )
 
-  pub behind : (a : Action) (wanted : Wanted) (r : Answer) → IsThere p (things_of i elements h) a wanted → heap_answer p h i a ≡ Answers r → Behind a wanted r
+  pub behind : (a : Action) (wanted : Wanted) (r : Answer) → IsAtHand p (things_of i elements h) a wanted → heap_answer p h i a ≡ Answers r → Behind a wanted r
   behind (act.GetField obj field) wanted r k said = (
     kept_same (act.GetField obj field) wanted r k said,
     grown_same (act.GetField obj field) r said,
@@ -486,7 +486,7 @@ module _ (p : NumberedProgram) (elements : Elements) (h : History) (answered : I
 
 -- the heap keeps to the types
 pub keeps_types : (p : NumberedProgram) (elements : Elements) (h : History) (i : ℕ) (a : Action) (wanted : Wanted) → FieldsStorable p
-    → IsAnswered p h → HeapFits p elements h → IsThere p (things_of i elements h) a wanted
+    → IsAnswered p h → HeapFits p elements h → IsAtHand p (things_of i elements h) a wanted
     → KeepsTypes p elements h i a wanted
 keeps_types p elements h i a wanted s q f k = record {
   possible = λ t z. is_possible p elements h f s i a wanted t k z;

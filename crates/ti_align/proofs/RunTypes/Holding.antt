@@ -36,7 +36,7 @@ use Rattle.ti_lang.proofs.Lemmas.{after_same, taker, history_grows, run_answered
 use Rattle.ti_align.specs.Alignment.{most_procs, ArrivalsAgree}
 use Rattle.ti_align.specs.Owners.{MadeWith}
 use Rattle.ti_align.specs.Things.{Things, Grows, IsOf, DepositFits, FramesHold}
-use Rattle.ti_align.specs.There.{IsThere, GoesThrough, SuitsWanted, FitsAsked}
+use Rattle.ti_align.specs.There.{IsAtHand, GoesThrough, SuitsWanted, FitsAsked}
 use Rattle.ti_align.specs.Given.{IsOfRound, given_by}
 use Rattle.ti_align.specs.Mirrors.Work.{WantsOf}
 use Rattle.ti_align.specs.Heap.{Elements, things_of, HeapFits, elements_behind, is_of_heap, KeepsTypes}
@@ -147,7 +147,7 @@ given_lives h deposit.Nothing value z k = absurd (none_some value z)
 given_lives h (deposit.Count n) value z k = absurd (none_some value z)
 
 -- what is made is in its form
-makes_formed : (p : NumberedProgram) (w : Things) (a : Action) (wanted : Wanted) → IsThere p w a wanted → MakesFormed a
+makes_formed : (p : NumberedProgram) (w : Things) (a : Action) (wanted : Wanted) → IsAtHand p w a wanted → MakesFormed a
 makes_formed p w (act.NewGrid first domain region) wanted k = k.4.form
 makes_formed p w (act.MakeView grid how) wanted k = is_view how k.1 k.3
 makes_formed p w _ wanted k = tt
@@ -215,7 +215,7 @@ module _ (s : Setting)
         (given_facts.stands s i t.process k.0 k.1) t.is_next.1.reaches (last.processes i t.process t.within t.world)).0
 
     -- where what the action names is there
-    module _ (wanted : Wanted) (there : IsThere s.program w e.act wanted) where
+    module _ (wanted : Wanted) (there : IsAtHand s.program w e.act wanted) where
       abbrev elements : Elements
       elements = elements_behind fit.elements e.act wanted e.answer
 
@@ -242,11 +242,11 @@ module _ (s : Setting)
       asked_fits a z k =
           fits_living s.program h later i e.answer there_now there_later (run_answered s es ran) last.cells (λ id g x. x)
           (λ n x. ap (λ b. b && is_delete_of n (last_arrival i h) || is_gone n h) (ap is_departure z ∙ no_departure a k) ∙ x) a wanted k
-          (subst (λ b. IsThere s.program w b wanted) z there) (sym (ap (heap_answer s.program h i) z) ∙ said_now)
+          (subst (λ b. IsAtHand s.program w b wanted) z there) (sym (ap (heap_answer s.program h i) z) ∙ said_now)
           (subst (λ b. FitsAsked s.program there_later b wanted e.answer) z (keeps.answered e.place e.answer (ap is_of_heap z ∙ k) said_now))
 
       -- what is written lives
-      writes_live : (a : Action) → IsThere s.program w a wanted → (c : Cell) (x : Value) → written_by a h ≡ Some (c, x) → IfNamedLives later (named_by x)
+      writes_live : (a : Action) → IsAtHand s.program w a wanted → (c : Cell) (x : Value) → written_by a h ≡ Some (c, x) → IfNamedLives later (named_by x)
       writes_live (act.PutField obj field value) k c x z = subst (λ y. IfNamedLives later (named_by y)) (pair_second _ c value x z)
           (field_lives later there_now s.program obj field value wanted fits.storable k)
       writes_live (act.PutElem grid at value) k c x z = by (grid_of grid h) z
@@ -326,7 +326,7 @@ module _ (s : Setting)
               one_less m n x = omega arith
 
     -- an end or a fault
-    closing : (a : Action) → not (is_end a || is_fault a) ≡ false → IsThere s.program w a ToBeDone × (is_arrival a ≡ false)
+    closing : (a : Action) → not (is_end a || is_fault a) ≡ false → IsAtHand s.program w a ToBeDone × (is_arrival a ≡ false)
     closing act.End z = (tt, refl)
     closing (act.Fault kind) z = (tt, refl)
     closing _ z = absurd (true_false z)
@@ -350,8 +350,8 @@ module _ (s : Setting)
           (step_fits performs w (GivesLast s es i) (GivesLast s all i) s i (last_kind i h) q refl
           (known_here performs s i (last_kind i h) q (known_of i t.within) q_stands) q_stands q_fits)
 
-      there : IsThere s.program w e.act asked.1
-      there = subst (λ (x : Setting). IsThere x.program w e.act asked.1) q_stands.0 step_here.0
+      there : IsAtHand s.program w e.act asked.1
+      there = subst (λ (x : Setting). IsAtHand x.program w e.act asked.1) q_stands.0 step_here.0
 
       abbrev after : Things
       after = u asked.1 there
@@ -553,7 +553,7 @@ module _ (s : Setting)
 
   -- what an action hands on lives
   handed : (es : List Entry) (fit : RunLives s es) (q : Process) (asked : Request) (a : Action) (wanted : Wanted) (go : Answer → Process)
-      → (i : ℕ) → IsThere s.program (living (history_of es) (things_of i fit.elements (history_of es))) a wanted
+      → (i : ℕ) → IsAtHand s.program (living (history_of es) (things_of i fit.elements (history_of es))) a wanted
       → ActionFits (living (history_of es) (things_of i fit.elements (history_of es))) (GivesLast s es i) (GivesLast s es i) q asked a go → IfNamedLives (history_of es) (handed_by a)
   handed es fit q asked (act.PutField obj field value) wanted go i k y = field_lives (history_of es) (things_of i fit.elements (history_of es)) s.program obj field value wanted fits.storable k
   handed es fit q asked (act.PutElem grid index value) wanted go i k y = element_lives (history_of es) (things_of i fit.elements (history_of es)) s.program grid index value wanted k
@@ -567,7 +567,7 @@ module _ (s : Setting)
       let h = history_of es in
       let w = things_of i fit.elements h in
       let k = next_fits es r (λ i. living h (things_of i fit.elements h)) (λ i. refl) fit.processes i p at a b x n in
-      let there : IsThere s.program (living h w) a k.0.1 = subst (λ (y : Setting). IsThere y.program (living h w) a k.0.1) k.2 k.3.0 in
+      let there : IsAtHand s.program (living h w) a k.0.1 = subst (λ (y : Setting). IsAtHand y.program (living h w) a k.0.1) k.2 k.3.0 in
       record { used = used_lives h w s.program a k.0.1 there; handed = handed es fit n.0 (asking at a k.0) a k.0.1 k.1 i there k.3.2 }
 
   -- what an arrival hands in is of the type at which it does
@@ -585,11 +585,11 @@ module _ (s : Setting)
 
     -- and what is asked for is there
     next_there : (i : ℕ) (p q : Process) (request : Request) (go : Answer → Process) → i < s.procs → World s es i p → Reaches p q → step q ≡ At request go
-        → IsThere s.program (present i) request.action request.wanted × GoesThrough (present i) request.through request.action × SuitsWanted s.program (present i) request.action request.wanted
+        → IsAtHand s.program (present i) request.action request.wanted × GoesThrough (present i) request.through request.action × SuitsWanted s.program (present i) request.action request.wanted
     next_there i p q request go b x y z =
         let k = step_reached es ran present (λ i. refl) fit.processes i p q request go b x y z in
         let e = (reached es ran present (λ i. refl) fit.processes i p q b x y).1.0 in (
-          subst (λ (n : Setting). IsThere n.program (present i) request.action request.wanted) e k.0,
+          subst (λ (n : Setting). IsAtHand n.program (present i) request.action request.wanted) e k.0,
           k.1,
           subst (λ (n : Setting). SuitsWanted n.program (present i) request.action request.wanted) e k.3,
         )

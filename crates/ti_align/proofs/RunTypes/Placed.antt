@@ -15,7 +15,7 @@ use Rattle.ti_lang.specs.Meaning.HeapAnswers.{Answers, heap_answer, IsAnswered}
 use Rattle.ti_lang.specs.Meaning.HeapAnswers as heap
 use Rattle.ti_lang.specs.Meaning.Runs.{IsRun}
 use Rattle.ti_lang.proofs.Lemmas.{run_answered}
-use Rattle.ti_align.specs.There.{IsThere}
+use Rattle.ti_align.specs.There.{IsAtHand}
 use Rattle.ti_align.specs.Heap.{Elements, things_of}
 use Rattle.ti_align.specs.Typed.{RunTyped}
 use Rattle.ti_align.specs.Placed.{region_of_making, ThingsPlaced}
@@ -86,7 +86,7 @@ placed program _ (heap.more {h = h} {e = e} a told) =
 
 -- ---- what is made next
 
-making_placed : (p : NumberedProgram) (i : ℕ) (elements : Elements) (h : History) → Placed h → (a : Action) (wanted : Wanted) → IsThere p (things_of i elements h) a wanted
+making_placed : (p : NumberedProgram) (i : ℕ) (elements : Elements) (h : History) → Placed h → (a : Action) (wanted : Wanted) → IsAtHand p (things_of i elements h) a wanted
     → (r : ℕ) → region_of_making a ≡ Some r → is_place r h ≡ true
 making_placed p i elements h k (act.NewObj class region) wanted there r z = subst (λ n. is_place n h ≡ true) (some_same region r z) (place_is i elements h region there.2)
 making_placed p i elements h k (act.NewGrid zero domain region) wanted there r z = subst (λ n. is_place n h ≡ true) (some_same region r z) (place_is i elements h region there.6)

@@ -19,7 +19,7 @@ use Rattle.ti_lang.specs.Meaning.Scoping.{env_of}
 use Rattle.ti_lang.specs.Meaning.Moves.{Move, Goes, Turns, Breaks, Continues, Calls, Returns, Meets, Deletes}
 use Rattle.ti_lang.specs.Meaning.Performing.{performed}
 use Rattle.ti_align.specs.Things.{Things, seen_by, Grows, ThisFits, DepositFits}
-use Rattle.ti_align.specs.There.{IsThere, SuitsWanted}
+use Rattle.ti_align.specs.There.{IsAtHand, SuitsWanted}
 use Rattle.ti_align.specs.Mirrors.Sound.{Sound, value, fault, asks}
 use Rattle.ti_align.specs.Given.{scope_over, given_type, IsOfRound}
 use Rattle.ti_align.specs.Mirrors.Work.{taken_type, WorkFits, WorksFit, MoveFits}
@@ -76,7 +76,7 @@ module _ (p : NumberedProgram) (m : NumberedMethod) where
 
 -- ---- computations
 
-pub there_stays : (p : NumberedProgram) (u w : Things) (a : Action) (wanted : Wanted) → Grows u w → IsThere p u a wanted → IsThere p w a wanted
+pub there_stays : (p : NumberedProgram) (u w : Things) (a : Action) (wanted : Wanted) → Grows u w → IsAtHand p u a wanted → IsAtHand p w a wanted
 there_stays p u w (act.GetField obj field) wanted g k = (k.0, (k.1.0, g.classes obj k.1.0 k.1.1, k.1.2))
 there_stays p u w (act.PutField obj field v) wanted g k = (
   k.0,

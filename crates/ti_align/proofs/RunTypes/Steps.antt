@@ -8,7 +8,7 @@ use Rattle.ti_lang.specs.Meaning.Asking.{ToBeDone, ValueOf, Request, told}
 use Rattle.ti_lang.specs.Meaning.Processes.{Wait, Process}
 use Rattle.ti_lang.specs.Meaning.Steps.{Step, To, At}
 use Rattle.ti_align.specs.Things.{Things, Grows, IsOf, DepositFits}
-use Rattle.ti_align.specs.There.{IsThere, GoesThrough, SuitsWanted, FitsAsked}
+use Rattle.ti_align.specs.There.{IsAtHand, GoesThrough, SuitsWanted, FitsAsked}
 use Rattle.ti_align.specs.Given.{IsOfRound, given_by}
 use Rattle.ti_align.specs.Mirrors.Work.{WantsOf}
 use Rattle.ti_align.specs.Mirrors.Processes.{ProcessFits}
@@ -31,6 +31,6 @@ ActionFits w G H pr request a go = (u : Things) → Grows w u → (r : Answer) �
 abbrev pub StepFits : Things → (ValueType → Type 0) → (ValueType → Type 0) → Process → Step → Type 0
 StepFits w G H pr (To q) = ProcessFits w G q
 StepFits w G H pr (At request go) =
-    IsThere pr.setting.program w request.action request.wanted × GoesThrough w request.through request.action × ActionFits w G H pr request request.action go
+    IsAtHand pr.setting.program w request.action request.wanted × GoesThrough w request.through request.action × ActionFits w G H pr request request.action go
     × SuitsWanted pr.setting.program w request.action request.wanted
 StepFits w G H pr step = Unit {0}

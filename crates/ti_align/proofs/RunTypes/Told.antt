@@ -26,7 +26,7 @@ use Rattle.ti_lang.specs.Meaning.HeapAnswers.{Answers, at_point, arrives, where_
 use Rattle.ti_lang.proofs.Lemmas.{fault_then, answer_same, views_then, placed}
 use Rattle.ti_rules.specs.InitialTypes.{can_broadcast}
 use Rattle.ti_align.specs.Things.{Grows, IsStorable, IsOf}
-use Rattle.ti_align.specs.There.{IsThere, SameForm, WantsGrid, SuitsWanted}
+use Rattle.ti_align.specs.There.{IsAtHand, SameForm, WantsGrid, SuitsWanted}
 use Rattle.ti_align.specs.Heap.{Elements, things_of, FieldsStorable, HeapFits, elements_behind, is_of_heap, KeepsTypes}
 use Rattle.ti_align.specs.Names.{NamesFit}
 use Rattle.ti_align.proofs.Runs.Vars.{true_false}
@@ -122,15 +122,15 @@ module _ (p : NumberedProgram) (elements : Elements) (h : History) (told_all : I
   abbrev after : Action → Wanted → Answer → Elements
   after a wanted r = elements_behind elements a wanted r
 
-  keeps : (a : Action) (wanted : Wanted) → IsThere p (things_of i elements h) a wanted → KeepsTypes p elements h i a wanted
+  keeps : (a : Action) (wanted : Wanted) → IsAtHand p (things_of i elements h) a wanted → KeepsTypes p elements h i a wanted
   keeps a wanted k = keeps_types p elements h i a wanted store told_all fits k
 
-  grown : (a : Action) (wanted : Wanted) (r : Answer) → IsThere p (things_of i elements h) a wanted → heap_answer p h i a ≡ Answers r
+  grown : (a : Action) (wanted : Wanted) (r : Answer) → IsAtHand p (things_of i elements h) a wanted → heap_answer p h i a ≡ Answers r
       → Grows (things_of i elements h) (things_of i (after a wanted r) (behind a r))
   grown a wanted r k said = (keeps a wanted k).grown place r said
 
   -- an answer of the heap
-  pub heap_told : (a : Action) (wanted : Wanted) (r : Answer) → is_of_heap a ≡ true → IsThere p (things_of i elements h) a wanted
+  pub heap_told : (a : Action) (wanted : Wanted) (r : Answer) → is_of_heap a ≡ true → IsAtHand p (things_of i elements h) a wanted
       → SuitsWanted p (things_of i elements h) a wanted → heap_answer p h i a ≡ Answers r → NamesFit (behind a r)
       → FitsWanted wanted r
   heap_told (act.GetField obj field) wanted r q k s said n =

@@ -7,7 +7,7 @@ use Rattle.ti_lang.specs.Program.Classes.{NumberedProgram}
 use Rattle.ti_lang.specs.Typing.Kinds.{is_local}
 use Rattle.ti_lang.specs.Meaning.Asking.{Request, Reference, Asking, Gives, Asks, Fails}
 use Rattle.ti_align.specs.Things.{Things, IsOwn, Grows, IsThingOf}
-use Rattle.ti_align.specs.There.{IsThere, GoesThrough, SuitsWanted, FitsAsked}
+use Rattle.ti_align.specs.There.{IsAtHand, GoesThrough, SuitsWanted, FitsAsked}
 
 -- what the reference names is a thing of its type, and lies in the memory of the process where the reference is local
 abbrev pub ReferenceFits : Things → Reference → Type 0
@@ -21,6 +21,6 @@ ReferenceFits w r = IsOwn w (is_local r.type) (Some r.thing) × IsThingOf w r.ty
 pub data Sound (p : NumberedProgram) {A : Type 0} (P : Things → A → Type 0) : Things → Asking A → Type 0 where
   value : {w : Things} {m : Asking A} (a : A) → P w a → ((rest : List Answer) → m rest ≡ Gives a rest) → Sound p P w m
   fault : {w : Things} {m : Asking A} (kind : FaultKind) (at : Place) → ((rest : List Answer) → m rest ≡ Fails kind at) → Sound p P w m
-  asks : {w : Things} {m : Asking A} (q : Request) → m [] ≡ Asks q → IsThere p w q.action q.wanted × GoesThrough w q.through q.action
+  asks : {w : Things} {m : Asking A} (q : Request) → m [] ≡ Asks q → IsAtHand p w q.action q.wanted × GoesThrough w q.through q.action
       × SuitsWanted p w q.action q.wanted
       → ((u : Things) → Grows w u → (r : Answer) → FitsAsked p u q.action q.wanted r → Sound p P u (λ rest. m (r ∷ rest))) → Sound p P w m

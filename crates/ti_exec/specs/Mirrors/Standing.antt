@@ -3,10 +3,10 @@ use Rattle.std.specs.Prelude.{ℕ, Bool, List, refl}
 use Rattle.std.specs.Coded.{Coded, code_by, coded×, coded_ℕ, coded_bool, coded_list}
 use Rattle.ti_base.specs.declared.entry.Answer.{Answer}
 use Rattle.ti_lang.specs.declared.program.classes.Parts.{Parts}
-use Rattle.ti_exec.specs.Standing.{Standing}
+use Rattle.ti_exec.specs.Standing.{TreeStanding}
 
 -- it is stored as its parts
-abbrev pub standing_code : Coded Parts → Coded Answer → Coded Standing
+abbrev pub standing_code : Coded Parts → Coded Answer → Coded TreeStanding
 standing_code parts answer =
     code_by (Parts × (ℕ × (ℕ × (ℕ × (List Answer × Bool))))) (coded× parts
     (coded× coded_ℕ (coded× coded_ℕ (coded× coded_ℕ (coded× (coded_list answer) coded_bool)))))

@@ -12,15 +12,15 @@ use Rattle.ti_exec.specs.declared.going_on.State.{State}
 use Rattle.ti_exec.specs.declared.going_on.State.TheVariants as state
 use Rattle.ti_exec.specs.declared.tree_proc.TreeProc.TheInside.{Inside}
 use Rattle.ti_exec.specs.States.{process_of, told, Stands}
-use Rattle.ti_exec.specs.Standing.{Standing, IsProcess}
+use Rattle.ti_exec.specs.Standing.{TreeStanding, IsProcess}
 use Rattle.ti_exec.specs.Mirrors.GoingOn.{asks_in}
 
 -- what contracts see
-abbrev pub standing_in : Inside → Standing
+abbrev pub standing_in : Inside → TreeStanding
 standing_in t = record t.past.standing { asks = asks_in t.state }
 
 -- silent steps lead from the process after the answers so far to that of the code
-pub record Follows (s : Standing) (w : Walker) : Type 0 where
+pub record Follows (s : TreeStanding) (w : Walker) : Type 0 where
   pub process : Process
   pub is : IsProcess s process
   pub reaches : Reaches process (process_of (program_of s.program) w)
@@ -32,7 +32,7 @@ pub record Awaits (c : NumberedProgram) (w : Walker) (pending : Pending) : Type 
   pub room : vec_len w.answers < vec_capacity w.answers
 
 -- the process of the code is where contracts see it
-abbrev pub Agrees : Standing → Walker → State → Type 0
+abbrev pub Agrees : TreeStanding → Walker → State → Type 0
 Agrees s w state.Goes = Follows s w
 Agrees s w (state.Asks asking) = Follows s w × Awaits (program_of s.program) w asking.value.pending
 Agrees s w state.Spent = Unit {0}

@@ -29,7 +29,7 @@ use Rattle.ti_race.specs.declared.spots.Thing.TheVariants as thing
 use Rattle.ti_race.specs.declared.spots.Spot.{Spot}
 use Rattle.ti_race.specs.declared.spots.Spot.TheVariants as spot
 use Rattle.ti_race.specs.declared.spots.Use.{Use}
-use Rattle.ti_race.specs.declared.told.Told.{Told}
+use Rattle.ti_race.specs.declared.told.SoFar.{SoFar}
 use Rattle.ti_race.specs.declared.uses.Uses.{Uses}
 use Rattle.ti_race.specs.contracts.spots.NamePartialEq.TheImpl as name_eq
 use Rattle.ti_race.specs.Mirrors.Lying.{Keeps}
@@ -93,19 +93,19 @@ phase_in None = 0
 phase_in (Some n) = n
 
 -- how many collectives each process has left
-abbrev pub TellsPhases : Told → History → Type 0
+abbrev pub TellsPhases : SoFar → History → Type 0
 TellsPhases t h = (i : ℕ) → phase_in (get ◌==◌ t.phases i) ≡ departures i h
 
 -- which entry made the object of each name last
-abbrev pub TellsObjects : Told → History → Type 0
+abbrev pub TellsObjects : SoFar → History → Type 0
 TellsObjects t h = (id : Id) → get (name_eq.ghosts).eq t.objects (name_key id) ≡ object_told id h
 
 -- how the grid lies that was made last of each name
-abbrev pub TellsGrids : Told → History → Type 0
+abbrev pub TellsGrids : SoFar → History → Type 0
 TellsGrids t h = (id : Id) → Lies h (lying_in (get (name_eq.ghosts).eq t.grids (name_key id))) (grid_told id h)
 
 -- this is kept of a history
-pub record Tells (t : Told) (h : History) : Type 0 where
+pub record Tells (t : SoFar) (h : History) : Type 0 where
   pub count : t.count ≡ length h
   pub phases : TellsPhases t h
   pub objects : TellsObjects t h

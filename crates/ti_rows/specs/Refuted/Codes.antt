@@ -8,7 +8,7 @@ use Rattle.ti_code.specs.declared.instr.Instr.{Instr}
 use Rattle.ti_code.specs.declared.instr.Instr.TheVariants as i
 use Rattle.ti_code.specs.Effects.{Spot}
 use Rattle.ti_code.specs.Programs.{Code}
-use Rattle.ti_machine.specs.Standing.{Standing}
+use Rattle.ti_machine.specs.Standing.{CodeStanding}
 use Rattle.ti_rows.specs.Texts.{pl}
 
 -- a method `main` alone, of these instructions
@@ -32,7 +32,7 @@ abbrev pub the_end : Next
 the_end = next.End (pl 1 74)
 
 -- the first of two processes of the code, before its first answer
-abbrev pub standing : Code → Standing
+abbrev pub standing : Code → CodeStanding
 standing code = record { code = code; procs = 2; fuel = 1000; number = 0; told = []; asks = false }
 
 -- ---- expressions

@@ -19,7 +19,7 @@ use Rattle.ti_store.specs.Conditions.{IsWithin}
 use Rattle.ti_store.specs.Stores.{StoreState, setting_of}
 use Rattle.ti_code.specs.Programs.{Code}
 use Rattle.ti_code.specs.Follows.{Follows}
-use Rattle.ti_machine.specs.Standing.{Standing, HasNext, is_act}
+use Rattle.ti_machine.specs.Standing.{CodeStanding, HasNext, is_act}
 use Rattle.ti_runtime.specs.declared.cursor.Cursor.{Cursor}
 use Rattle.ti_runtime.specs.declared.cursor.Turn.{Turn}
 use Rattle.ti_runtime.specs.declared.cursor.Turn.TheVariants as turn
@@ -48,7 +48,7 @@ abbrev pub action_of : Seat → Action
 action_of seat = (doing_of seat.next).1
 
 -- the process of the seat stands there, at what it has next
-pub record StandsAt (t : Standing) (seat : Seat) : Type 0 where
+pub record StandsAt (t : CodeStanding) (seat : Seat) : Type 0 where
   pub process : seat.process ≡ record t { asks = is_act seat.next }
   pub next : HasNext t seat.next
 
@@ -65,7 +65,7 @@ abbrev pub IsTold : Code → Setting → List Entry → ℕ → Seat → Type 0
 IsTold code s es i seat = record seat.process { asks = false } ≡ standing_of code s es i
 
 -- with one answer more
-abbrev pub told_more : Standing → Answer → Standing
+abbrev pub told_more : CodeStanding → Answer → CodeStanding
 told_more t answer = record t { told = t.told ++ answer ∷ []; asks = false }
 
 -- the process heard an answer, and stands at what it has next then

@@ -110,9 +110,9 @@ Departs c old r new true = Leaves c old r new
 Departs c old r new false = (k : ℕ) (rest : List Answer) → Comes (process_of c old.walker) old.gone.items k (r ∷ rest) (answer.Unfit k)
 
 -- whether it comes to its next collective and leaves it so
-abbrev pub Meets : NumberedProgram → Slice → Answer → Slice → Bool → Type 0
-Meets c old r new true =
+abbrev pub SliceMeets : NumberedProgram → Slice → Answer → Slice → Bool → Type 0
+SliceMeets c old r new true =
     IsFree c (process_of c new.walker)
     × ((k : ℕ) (rest : List Answer) (x : SliceStep) → Comes (process_of c new.walker) new.gone.items (k + 1) rest x
     → Comes (process_of c old.walker) old.gone.items k (r ∷ rest) x)
-Meets c old r new false = (k : ℕ) (rest : List Answer) → Comes (process_of c old.walker) old.gone.items k (r ∷ rest) (answer.Unfit k)
+SliceMeets c old r new false = (k : ℕ) (rest : List Answer) → Comes (process_of c old.walker) old.gone.items k (r ∷ rest) (answer.Unfit k)

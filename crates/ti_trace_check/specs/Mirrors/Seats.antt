@@ -16,7 +16,7 @@ use Rattle.ti_align.specs.Alignment.{OfEveryRun}
 use Rattle.ti_align.specs.Answering.{AnswersFit}
 use Rattle.ti_code.specs.Programs.{Code}
 use Rattle.ti_code.specs.Follows.{Follows}
-use Rattle.ti_machine.specs.Standing.{Standing, HasNext, is_act}
+use Rattle.ti_machine.specs.Standing.{CodeStanding, HasNext, is_act}
 use Rattle.ti_store.specs.Conditions.{IsWithin}
 use Rattle.ti_store.specs.Stores.{StoreState, setting_of}
 use Rattle.ti_watch.specs.Lines.{line_room}
@@ -43,12 +43,12 @@ abbrev pub action_of : Seat → Action
 action_of seat = (doing_of seat.next).1
 
 -- the seat stands at what this process has next
-pub record StandsAt (t : Standing) (seat : Seat) : Type 0 where
+pub record StandsAt (t : CodeStanding) (seat : Seat) : Type 0 where
   pub process : seat.process ≡ record t { asks = is_act seat.next }
   pub next : HasNext t seat.next
 
 -- process i of the code, after the answers of its entries other than an end and a fault
-abbrev pub standing_of : Code → Setting → List Entry → ℕ → Standing
+abbrev pub standing_of : Code → Setting → List Entry → ℕ → CodeStanding
 standing_of code s es i = record { code = code; procs = s.procs; fuel = s.fuel; number = i; told = answers_of i es; asks = false }
 
 -- the seat tells where process i stands after these entries: what the program has next, with the code there
@@ -60,7 +60,7 @@ pub record Seated (code : Code) (s : Setting) (es : List Entry) (i : ℕ) (seat 
   pub ended : has_end i es ≡ seat.ended
 
 -- with one answer more
-abbrev pub told_more : Standing → Answer → Standing
+abbrev pub told_more : CodeStanding → Answer → CodeStanding
 told_more t answer = record t { told = t.told ++ answer ∷ []; asks = false }
 
 -- the process heard an answer, and stands at what it has next then
@@ -135,9 +135,9 @@ pub record IsOff (s : Setting) (es all : List Entry) (line : List ℕ) : Type 0 
       ⊎ (line_room ≤ length line) → ⊥
 
 -- what a line makes of the entries and the seats
-abbrev pub Meets : Code → Setting → List Entry → List Seat → List Entry → List Seat → List ℕ → Bool → Type 0
-Meets code s es old all new line true = GoesOn code s es old all new line
-Meets code s es old all new line false = IsOff s es all line
+abbrev pub MeetsAt : Code → Setting → List Entry → List Seat → List Entry → List Seat → List ℕ → Bool → Type 0
+MeetsAt code s es old all new line true = GoesOn code s es old all new line
+MeetsAt code s es old all new line false = IsOff s es all line
 
 -- ---- texts
 

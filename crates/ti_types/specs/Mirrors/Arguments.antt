@@ -12,7 +12,7 @@ use Rattle.ti_rules.specs.declared.refusal.Refusal.{Refusal}
 use Rattle.ti_rules.specs.Mirrors.First.{sooner, first_of}
 use Rattle.ti_rules.specs.Broken.Refused.{refused, misfit}
 use Rattle.ti_rules.specs.Broken.Calls.{misfits, first_misfit}
-use Rattle.ti_types.specs.declared.arguments.Told.{Told}
+use Rattle.ti_types.specs.declared.arguments.ArgumentTypes.{ArgumentTypes}
 use Rattle.ti_lang.specs.Typing.Seen.{seen}
 
 -- what the rules ask of a list of types: whether all are ints, the first two, and what counts of those that don't fit their parameters
@@ -47,7 +47,7 @@ more at u t rest =
     record { ints = is_int t && rest.ints; first = Some t; second = rest.first; misfit = sooner (wanted_misfit at t u) rest.misfit }
 
 -- what clauses see of what is told
-abbrev pub told_of : Told → ToldTypes
+abbrev pub told_of : ArgumentTypes → ToldTypes
 told_of t = record { ints = t.ints; first = option_map seen t.first; second = option_map seen t.second; misfit = t.misfit }
 
 -- the types of parameters; `String[] x` has none that a value could have

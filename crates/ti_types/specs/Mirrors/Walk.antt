@@ -12,14 +12,14 @@ use Rattle.ti_rules.specs.Parts.{parts_of_all, parts_of_range, parts_of_ranges}
 use Rattle.ti_rules.specs.Broken.Misplaced.{all_misplaced, bound_misplaced, bounds_misplaced}
 use Rattle.ti_rules.specs.Broken.Expressions.{places_of, refusals_at}
 use Rattle.ti_types.specs.declared.arguments.Arguments.{Arguments}
-use Rattle.ti_types.specs.declared.arguments.Told.{Told}
+use Rattle.ti_types.specs.declared.arguments.ArgumentTypes.{ArgumentTypes}
 use Rattle.ti_types.specs.declared.rects.Ends.{Ends}
 use Rattle.ti_types.specs.declared.rects.Bounds.{Bounds}
 use Rattle.ti_types.specs.Mirrors.Arguments.{told, told_of}
 use Rattle.ti_types.specs.Mirrors.Nodes.{ends, ends_of, ranges_told}
 
 -- this is found of arguments, where these types are wanted
-abbrev pub AreFound : NumberedProgram → ScopeContents → NumberedExps → List ValueType → Option Refusal → Option Refusal → Option Told
+abbrev pub AreFound : NumberedProgram → ScopeContents → NumberedExps → List ValueType → Option Refusal → Option Refusal → Option ArgumentTypes
     → Type 0
 AreFound p s xs us inner placed types =
     (inner ≡ first_of (flat_map (refusals_at p s) (parts_of_all xs)))

@@ -4,7 +4,7 @@ use Rattle.ti_lang.specs.Meaning.Processes.{Setting}
 use Rattle.ti_align.specs.Slice.{Comes, SliceAnswers}
 use Rattle.ti_exec.specs.States.{process_of}
 use Rattle.ti_exec.proofs.Lemmas.{of_result}
-use Rattle.ti_slice.specs.Mirrors.Answer.{Meets}
+use Rattle.ti_slice.specs.Mirrors.Answer.{SliceMeets}
 use Rattle.ti_slice.proofs.Meeting.{begins_free, begins_all, takes_on, takes_none, taken_all}
 use Rattle.ti_slice.proofs.answer.slice_next.Goals as goal
 
@@ -18,14 +18,14 @@ pub loop-k-preserved : goal.loop-k-preserved
 loop-k-preserved c =
     let n : Setting = record { program = program_of c.args.c.now.program.parts; procs = c.args.procs; fuel = c.args.fuel } in
     let h : c.loop-k.k < length c.args.outcomes.now = grind arith in
-    let m = subst (Meets n.program c.loop-k.slice _ c.meets.new.self) c.if-not-met.false c.in_ok-met.ensures in
+    let m = subst (SliceMeets n.program c.loop-k.slice _ c.meets.new.self) c.if-not-met.false c.in_ok-met.ensures in
     record { free = m.0; leads = takes_on n c.loop-k.slice c.meets.new.self c.args.outcomes.now c.loop-k.k _ h c.loop-k.invariant.leads m }
 
 pub returns-then-not-met : goal.returns-then-not-met
 returns-then-not-met c =
     let n : Setting = record { program = program_of c.args.c.now.program.parts; procs = c.args.procs; fuel = c.args.fuel } in
     let h : c.loop-k.k < length c.args.outcomes.now = grind arith in
-    let m = subst (Meets n.program c.loop-k.slice _ c.meets.new.self) c.if-not-met.true c.in_ok-met.ensures in
+    let m = subst (SliceMeets n.program c.loop-k.slice _ c.meets.new.self) c.if-not-met.true c.in_ok-met.ensures in
     takes_none n c.loop-k.slice c.meets.new.self c.args.outcomes.now c.loop-k.k _ h c.loop-k.invariant.leads m
 
 pub returns : goal.returns

@@ -2,7 +2,7 @@ use Rattle.std.proofs.Common.{◌≡◌, ◌≤◌, ◌∙◌, Bool, true, false
 use Rattle.std.specs.Cmp.Lexicographic.{same_text, other_text}
 use Rattle.ti_store.specs.Stores.{setting_of}
 use Rattle.ti_watch.specs.Reports.{entry_text}
-use Rattle.ti_trace_check.specs.Mirrors.Seats.{Takes, Meets}
+use Rattle.ti_trace_check.specs.Mirrors.Seats.{Takes, MeetsAt}
 use Rattle.ti_trace_check.proofs.Turns.{goes_on}
 use Rattle.ti_trace_check.proofs.Refusing.{finds_of, short_of, unnamed, outside, none_taken, other_line, line_is}
 use Rattle.ti_trace_check.proofs.following.meet.Goals as goal
@@ -41,7 +41,7 @@ returns-clause-meets g c = by c.eq.result refl
     text = line_is c.args.store.now.entries c.take_turn.new.store.entries c.history-number.result.now c.history.result.now took.entry _
         c.entry_line.result c.history-number.ensures.entries c.history.ensures.entries took.after c.entry_line.ensures.text
 
-    by : (b : Bool) → c.eq.result ≡ b → Meets c.args.code.now (setting_of c.args.store.now) c.args.store.now.entries c.args.seats.now.items
+    by : (b : Bool) → c.eq.result ≡ b → MeetsAt c.args.code.now (setting_of c.args.store.now) c.args.store.now.entries c.args.seats.now.items
         c.take_turn.new.store.entries (slice_set c.args.seats.now.items c.in-Some.p c.take_turn.new.self) c.args.line.now b
     by true e =
         goes_on c.args.code.now (setting_of c.args.store.now) c.args.store.now.entries c.take_turn.new.store.entries c.args.seats.now.items

@@ -1,7 +1,7 @@
 use Rattle.std.proofs.Common.{◌≡◌, ◌∙◌, ◌<◌, sym, ap, subst, vec_len, vec_capacity, arith}
 use Rattle.ti_lang.specs.declared.program.numbered.Program.{Program}
 use Rattle.ti_lang.specs.Program.Views.{program_of}
-use Rattle.ti_exec.specs.Standing.{Standing, HasNext}
+use Rattle.ti_exec.specs.Standing.{TreeStanding, HasNext}
 use Rattle.ti_exec.specs.Mirrors.GoingOn.{GoesOn}
 use Rattle.ti_exec.specs.Mirrors.TreeProc.{standing_in, Agrees}
 use Rattle.ti_exec.proofs.Standings.{unspent, has_next, agrees}
@@ -12,7 +12,7 @@ invariant_of-self-2 c =
     let t = c.self.inside in
     let s = standing_in t in
     let same : program_of c.program.result.now.parts ≡ program_of s.program =
-    ap (λ (q : Program). program_of q.parts) c.program.ensures.program ∙ c.requires ∙ ap (λ (u : Standing). program_of u.program) (sym c.self.view_is) in
+    ap (λ (q : Program). program_of q.parts) c.program.ensures.program ∙ c.requires ∙ ap (λ (u : TreeStanding). program_of u.program) (sym c.self.view_is) in
     let goes = subst (λ p. GoesOn p t.walker c.in_ok-next.next c.in_ok-next.state c.go_on.new.self) same c.in_ok-next.ensures in
     let room : vec_len c.reserve.new.self < vec_capacity c.reserve.new.self = omega (arith, c.in_ok-reserve.ensures.ok) in
     let follows = unspent s t.walker t.state c.self.invariant (sym c.is_spent.ensures ∙ c.if-is_spent.false) in
@@ -24,7 +24,7 @@ returns-clause-next c =
     let t = c.self.inside in
     let s = standing_in t in
     let same : program_of c.program.result.now.parts ≡ program_of s.program =
-    ap (λ (q : Program). program_of q.parts) c.program.ensures.program ∙ c.requires ∙ ap (λ (u : Standing). program_of u.program) (sym c.self.view_is) in
+    ap (λ (q : Program). program_of q.parts) c.program.ensures.program ∙ c.requires ∙ ap (λ (u : TreeStanding). program_of u.program) (sym c.self.view_is) in
     let goes = subst (λ p. GoesOn p t.walker c.in_ok-next.next c.in_ok-next.state c.go_on.new.self) same c.in_ok-next.ensures in
     let follows = unspent s t.walker t.state c.self.invariant (sym c.is_spent.ensures ∙ c.if-is_spent.false) in
-    subst (λ (u : Standing). HasNext u c.in_ok-next.next) c.self.view_is (has_next s t.walker c.go_on.new.self c.in_ok-next.next c.in_ok-next.state follows goes)
+    subst (λ (u : TreeStanding). HasNext u c.in_ok-next.next) c.self.view_is (has_next s t.walker c.go_on.new.self c.in_ok-next.next c.in_ok-next.state follows goes)

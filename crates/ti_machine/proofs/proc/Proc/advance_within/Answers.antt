@@ -5,7 +5,7 @@ use Rattle.ti_machine.specs.Mirrors.Machines.{machine_of, Stood}
 use Rattle.ti_machine.specs.declared.going_on.Way.{Way}
 use Rattle.ti_machine.specs.Mirrors.GoingOn.{IsWay}
 use Rattle.ti_machine.specs.Mirrors.Proc.{standing_in, Agrees}
-use Rattle.ti_machine.specs.Standing.{Standing, is_act, HasNext}
+use Rattle.ti_machine.specs.Standing.{CodeStanding, is_act, HasNext}
 use Rattle.ti_machine.proofs.Paths.{stood_next, reached_on, reached_asks}
 use Rattle.ti_machine.proofs.proc.Proc.advance_within.Goals as goal
 
@@ -14,7 +14,7 @@ returns-in-Stands-clause-next c =
     let t = c.self.inside in
     let s = standing_in t in
     let a = subst (Agrees s t.steps t.machine) c.in-Stands.is c.self.invariant.agrees in
-    subst (λ (u : Standing). HasNext u c.in-Stands.next) c.self.view_is (stood_next s t.steps a.0 (machine_of s.code t.machine) c.in-Stands.next c.in-Stands.field-1 a.1 a.2)
+    subst (λ (u : CodeStanding). HasNext u c.in-Stands.next) c.self.view_is (stood_next s t.steps a.0 (machine_of s.code t.machine) c.in-Stands.next c.in-Stands.field-1 a.1 a.2)
 
 pub invariant_of-self-2 : goal.invariant_of-self-2
 invariant_of-self-2 c =
@@ -23,7 +23,7 @@ invariant_of-self-2 c =
     let n = c.in-Some.way.next in
     let w = c.in-Some.way.hears in
     let m = c.make_room.new.self in
-    let same : c.args.code.now ≡ s.code = c.requires.code ∙ ap (λ (u : Standing). u.code) (sym c.self.view_is) in
+    let same : c.args.code.now ≡ s.code = c.requires.code ∙ ap (λ (u : CodeStanding). u.code) (sym c.self.view_is) in
     let a = subst (Agrees s t.steps t.machine) c.in-Goes.is c.self.invariant.agrees in
     let went = subst (λ (o : Option Way). IfSome o (λ w. IsWay c.args.code.now (machine_of c.args.code.now t.machine) w
     (machine_of c.args.code.now c.go_on_within.new.self))) c.in-Some.is c.in_ok-went.ensures in
@@ -46,11 +46,11 @@ returns-clause-next c =
     let s = standing_in t in
     let n = c.in-Some.way.next in
     let w = c.in-Some.way.hears in
-    let same : c.args.code.now ≡ s.code = c.requires.code ∙ ap (λ (u : Standing). u.code) (sym c.self.view_is) in
+    let same : c.args.code.now ≡ s.code = c.requires.code ∙ ap (λ (u : CodeStanding). u.code) (sym c.self.view_is) in
     let a = subst (Agrees s t.steps t.machine) c.in-Goes.is c.self.invariant.agrees in
     let went = subst (λ (o : Option Way). IfSome o (λ w. IsWay c.args.code.now (machine_of c.args.code.now t.machine) w
     (machine_of c.args.code.now c.go_on_within.new.self))) c.in-Some.is c.in_ok-went.ensures in
     let way = subst (λ (p : Code). IsWay p (machine_of p t.machine) c.in-Some.way (machine_of p c.go_on_within.new.self)) same went in
     let on = reached_on s t.steps c.in-Some.way.count c.saturating_add-self-inside.result
     (machine_of s.code t.machine) way.there way.number a way.silently way.count_is c.saturating_add-self-inside.ensures in
-    subst (λ (u : Standing). HasNext u n) c.self.view_is (stood_next s c.saturating_add-self-inside.result way.there (machine_of s.code c.go_on_within.new.self) n w on way.stood)
+    subst (λ (u : CodeStanding). HasNext u n) c.self.view_is (stood_next s c.saturating_add-self-inside.result way.there (machine_of s.code c.go_on_within.new.self) n w on way.stood)

@@ -1,7 +1,7 @@
 use Rattle.std.proofs.Common.{refl}
 use Rattle.ti_lang.specs.Program.Views.{program_of}
 use Rattle.ti_slice.specs.declared.answer.Slice.{Slice}
-use Rattle.ti_slice.specs.Mirrors.Answer.{Departs, Meets}
+use Rattle.ti_slice.specs.Mirrors.Answer.{Departs, SliceMeets}
 use Rattle.ti_exec.proofs.Lemmas.{of_result}
 use Rattle.ti_slice.proofs.Coming.{checked}
 use Rattle.ti_slice.proofs.Meeting.{gone_as, arrival_tick, arrival_waits, meets, meets_end, meets_fault}
@@ -26,7 +26,7 @@ returns-in_ok-hear-in-Arrives c =
     let mid : Slice = record { walker = c.hear.new.w; gone = old.gone } in
     let r = c.args.outcome.now in
     let g = gone_as p old.walker c.goes_on.new.w _ _ _ _ c.deref.ensures.value c.in-Arrives.is c.in_ok-pending.ensures in
-    of_result c.departs.result (λ b. Departs p mid r c.departs.new.self b) (λ b. Meets p old r c.departs.new.self b)
+    of_result c.departs.result (λ b. Departs p mid r c.departs.new.self b) (λ b. SliceMeets p old r c.departs.new.self b)
     (λ b d. meets p old mid c.goes_on.new.w _ _ _ _ g (c.in_ok-hear-in-Arrives.ensures p) refl r c.departs.new.self b d) c.departs.ensures
 
 pub returns-in-Ends : goal.returns-in-Ends

@@ -6,7 +6,7 @@ use Rattle.ti_race.specs.contracts.spots.NamePartialEq.TheImpl as name_eq
 use Rattle.ti_race.specs.declared.lying.Lying.{Lying}
 use Rattle.ti_race.specs.Mirrors.Told.{name_key, Lies, lying_in}
 use Rattle.ti_race.proofs.ToldThings.{grids_more, grids_stay, no_making, no_name, no_some, same_at, on_err}
-use Rattle.ti_race.proofs.told.Told.note_grid.Goals as goal
+use Rattle.ti_race.proofs.told.SoFar.note_grid.Goals as goal
 
 pub returns-in_ok-insert-clause-grids : goal.returns-in_ok-insert-clause-grids
 returns-in_ok-insert-clause-grids c h counted tells id =

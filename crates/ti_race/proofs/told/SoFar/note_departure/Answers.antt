@@ -1,7 +1,7 @@
 use Rattle.std.proofs.Common.{rules, ◌∙◌, ◌==◌, ap, sym}
 use Rattle.ti_race.specs.Mirrors.Told.{phase_in}
 use Rattle.ti_race.proofs.ToldThings.{phases_more, same_at, on_err}
-use Rattle.ti_race.proofs.told.Told.note_departure.Goals as goal
+use Rattle.ti_race.proofs.told.SoFar.note_departure.Goals as goal
 
 pub returns-in_ok-insert-clause-phases : goal.returns-in_ok-insert-clause-phases
 returns-in_ok-insert-clause-phases c h tells i =

@@ -6,7 +6,7 @@ use Rattle.ti_race.specs.contracts.spots.NamePartialEq.TheImpl as name_eq
 use Rattle.ti_race.specs.Mirrors.Told.{Lies, lying_in}
 use Rattle.ti_race.proofs.Seen.{true_false}
 use Rattle.ti_race.proofs.ToldThings.{view_tested, formless_view, told_view}
-use Rattle.ti_race.proofs.told.Told.view_made.Goals as goal
+use Rattle.ti_race.proofs.told.SoFar.view_made.Goals as goal
 
 pub returns-then-not-is_view : goal.returns-then-not-is_view
 returns-then-not-is_view c h tells =
