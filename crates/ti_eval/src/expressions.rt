@@ -76,10 +76,10 @@ fn point<'a>(alloc: Global, env: &Env, parts: &[Expr], answers: &'a [Told]) -> G
     Ok((Held::plain(Value::Pt(point_of_numbers(&numbers))), answers))
 }
 
-// A rectangular domain.
+/// The rectangular domain within ranges, coordinate by coordinate.
 #[cycle(evaluate)]
 #[tactic(auto, using(crate::proofs::Steps::steps))]
-fn rectangle<'a>(
+pub fn rectangle<'a>(
     alloc: Global,
     env: &Env,
     at: Place,

@@ -29,7 +29,7 @@ mod walking;
 pub use bounds::Bounds;
 pub use conversions::{as_domain, as_int, as_long, as_type, converted, kept_local, to_domain};
 pub use env::{Env, called_member, class_of_this, type_of, variable};
-pub use expressions::{evaluate, evaluate_all, evaluate_numbers, evaluate_ranges};
+pub use expressions::{evaluate, evaluate_all, evaluate_numbers, rectangle};
 pub use fields::field_selected;
 pub use frame::{Copy, Level, Part, Slot, Spot, Todo};
 pub use held::Held;

@@ -9,7 +9,7 @@ ghost use Rattle.ti_eval.specs.Envs.{env_of};
 
 use std::alloc::Global;
 use ti_base::{Action, Place};
-use ti_eval::{Env, Held, Stop, Told, asked, evaluate, evaluate_ranges, rect_within};
+use ti_eval::{Env, Held, Stop, Told, asked, evaluate, rectangle};
 use ti_lang::program::{Dims, Expr, Ty};
 use ti_lang::typing::zero_of_type;
 
@@ -55,7 +55,6 @@ pub fn new_object<'a>(
 // ---- grids
 
 // The domain that a new grid spreads over.
-#[tactic(auto, using(ti_eval::proofs::Lemmas::steps))]
 fn spread<'a>(
     alloc: Global,
     env: &Env,
@@ -67,10 +66,7 @@ fn spread<'a>(
 {
     match dims {
         Dims::Domain(x) => evaluate(alloc, env, x, answers),
-        Dims::Ranges(ranges) => {
-            let (bounds, answers) = evaluate_ranges(alloc, env, ranges, answers)?;
-            rect_within(at, &bounds, answers)
-        }
+        Dims::Ranges(ranges) => rectangle(alloc, env, at, ranges, answers),
     }
 }
 

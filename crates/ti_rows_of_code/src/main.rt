@@ -1,7 +1,7 @@
 //! Programs whose code must do what their trees do, from the files that the arguments name. A program whose trees do something else is
-//! printed with the first entry where it does, and at the end how many programs agree, how many entries they have, and how many agree where each process
-//! has a worker of its own, and how many break no rule with the marks that are inferred in place of their own; then comes the text
-//! of code that is made by hand, and how many instructions a process of it finishes. Nothing of the programs is proved.
+//! printed with the first entry where it does, and at the end how many programs agree, how many entries they have, and how many agree
+//! where each process has a worker of its own, and how many break no rule with the marks that are inferred in place of their own; then
+//! comes the text of code that is made by hand, and how many instructions a process of it finishes. Nothing of the programs is proved.
 #![tactic(auto)]
 
 mod by_code;

@@ -53,7 +53,8 @@ abbrev pub output : Job → NumberedProgram → List Entry → List Watcher → 
 output job program history watchers = output_in job.mode (run_of program job) history watchers
 
 -- the lines of a history or the summary of its run were written, and the reports of the first few of these watchers
-pub record WroteFew (mode : Mode) (run : Setting) (watchers : List Watcher) (history : List Entry) (out out_after : SinkState) : Type 0 where
+pub record WroteFew (mode : Mode) (run : Setting) (watchers : List Watcher) (history : List Entry)
+    (out out_after : SinkState) : Type 0 where
   pub few : List Watcher
   pub others : List Watcher
   pub first : few ++ others ≡ watchers

@@ -23,8 +23,8 @@ pub struct Outcome {
     pub status: u8,
     /// What was read, or in mode gen what was made.
     pub text: Vec<u8>,
-    /// The code of the text's program, which in the modes run and gen was run: there in the modes run, code and gen where the status is 0 or 2, and
-    /// where a write to out or err failed or the run was out of memory. Else there is none.
+    /// The code of the text's program, which in the modes run and gen was run: there in the modes run, code and gen where the status is 0
+    /// or 2, and where a write to out or err failed or the run was out of memory. Else there is none.
     pub code: Option<Code>,
     /// The entries of the run, in order. In mode verify those of the trace: of its complete run, or of the lines before the wrong one.
     pub history: Vec<Entry>,
@@ -56,14 +56,15 @@ impl Outcome {
 /// its text or makes its code and runs it, writes the lines of the run to `out` and behind them the reports of the watchers
 /// whose flag is given, and where it can't be done a line to `err`. In mode check it runs nothing and writes
 /// nothing to `out`. In mode code it runs nothing either, and writes the code of the program. In mode gen no
-/// file is named: it makes the text from a seed, and in place of the lines writes one that sums up the run. In mode verify it runs nothing and
-/// writes nothing to `out`: it says whether a trace that is named is that of a complete run, and else which of its lines is wrong. In mode
-/// infer the marks of single values in the text don't count: it writes those of the greatest marking under which the text is accepted.
+/// file is named: it makes the text from a seed, and in place of the lines writes one that sums up the run. In mode verify it runs
+/// nothing and writes nothing to `out`: it says whether a trace that is named is that of a complete run, and else which of its lines is
+/// wrong. In mode infer the marks of single values in the text don't count: it writes those of the greatest marking under which the text
+/// is accepted.
 ///
-/// The words are `--mode run`, `--mode check`, `--mode code`, `--mode gen`, `--mode verify` or `--mode infer`, `--procs`, `--workers`, `--fuel`, each with a
-/// number, and `--trace`, `--stats` and `--races`, each at most once, and a file's name, or in mode gen `--seed` with a
-/// number, and in mode verify `--against` with the name of a trace; `docs/LANGUAGE.md` says their ranges. What the call promises is `Meets`, one record of
-/// `specs/Clauses.antt` for each clause.
+/// The words are `--mode run`, `--mode check`, `--mode code`, `--mode gen`, `--mode verify` or `--mode infer`, `--procs`, `--workers`,
+/// `--fuel`, each with a number, and `--trace`, `--stats` and `--races`, each at most once, and a file's name, or in mode gen `--seed`
+/// with a number, and in mode verify `--against` with the name of a trace; `docs/LANGUAGE.md` says their ranges. What the call promises
+/// is `Meets`, one record of `specs/Clauses.antt` for each clause.
 pub fn titan_top<R: AllocGlobal + Threads + Wait + Sync, S: Source, K: Sink, G: Gate + Sync>(
     rt: &R,
     words: &[String],

@@ -110,8 +110,8 @@ pub fn one_answer()
     one_program_refusal();
 }
 
-/// The program that a text has by the rules of bytes, tokens and names: the text becomes tokens, these become a tree, and the tree becomes a
-/// program with a number in place of each name. What isn't needed any more gives its room back at once.
+/// The program that a text has by the rules of bytes, tokens and names: the text becomes tokens, these become a tree, and the tree
+/// becomes a program with a number in place of each name. What isn't needed any more gives its room back at once.
 pub fn read_program(alloc: Global, text: &[u8]) -> Result<Program, CompileErr>
     ensures { ReadsProgram text.now result }
 {

@@ -99,8 +99,8 @@ fn verify_text<S: Source>(alloc: Global, job: &Job, text: &[u8], source: &mut S)
     }
 }
 
-/// Reads the file of a job and checks the text, and holds the trace that the job names against its program. What was read of the file stands in
-/// the text however the work ended.
+/// Reads the file of a job and checks the text, and holds the trace that the job names against its program. What was read of the file
+/// stands in the text however the work ended.
 pub fn verify_file<S: Source>(
     alloc: Global,
     job: &Job,

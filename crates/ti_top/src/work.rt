@@ -124,7 +124,8 @@ fn report_after<K: Sink>(
     }
 }
 
-// Runs a program by its code. Where nothing in the run stands in a race, it decides every other run; what does is told by the entries alone.
+// Runs a program by its code. Where nothing in the run stands in a race, it decides every other run; what does is told by the entries
+// alone.
 fn run_by_code<R: Threads + Wait + Sync, G: Gate + Sync>(
     rt: &R,
     alloc: Global,
@@ -431,8 +432,8 @@ fn work_on_trace<S: Source>(alloc: Global, job: &Job, source: &mut S) -> Worked
 }
 
 /// Does what a job asks for: reads its file, or in mode gen makes the text of its seed, and checks the text; and where the program is to
-/// be run, runs it and writes the lines of the run or its summary and the reports of the watchers whose flag is given; or writes its code; or
-/// infers its marks; or holds a trace against it. The other watchers are dropped first.
+/// be run, runs it and writes the lines of the run or its summary and the reports of the watchers whose flag is given; or writes its
+/// code; or infers its marks; or holds a trace against it. The other watchers are dropped first.
 pub fn work<R: Threads + Wait + Sync, S: Source, K: Sink, G: Gate + Sync>(
     rt: &R,
     alloc: Global,

@@ -95,7 +95,8 @@ abbrev pub all_steps_left : Setting → List Seat → ℕ
 all_steps_left s seats = sum_by (steps_left s) seats
 
 -- process i went on
-pub record GoesOn (code : Code) (s : Setting) (es : List Entry) (i : ℕ) (old : Seat) (all : List Entry) (new : Seat) (arrives : Bool) : Type 0 where
+pub record GoesOn (code : Code) (s : Setting) (es : List Entry) (i : ℕ) (old : Seat) (all : List Entry) (new : Seat)
+    (arrives : Bool) : Type 0 where
   pub takes : Takes s es i all
   pub arrives_is : is_arrival takes.entry.act ≡ arrives
   pub no_fault : is_fault takes.entry.act ≡ false
@@ -166,7 +167,8 @@ abbrev pub turns_left : Setting → List Seat → Cursor → ℕ
 turns_left s seats c = all_steps_left s seats * (s.procs + 1) + (s.procs - c.at)
 
 -- the run goes on, with fewer turns left; where the entries before were those of the solo run, so are these
-pub record StandsOn (code : Code) (s : Setting) (before : List Entry) (old : List Seat) (was : Cursor) (es : List Entry) (new : List Seat) (is : Cursor) : Type 0 where
+pub record StandsOn (code : Code) (s : Setting) (before : List Entry) (old : List Seat) (was : Cursor) (es : List Entry)
+    (new : List Seat) (is : Cursor) : Type 0 where
   pub stands : Stands code s es new is
   pub solo : IsSolo s before → IsSolo s es
   pub lighter : turns_left s new is < turns_left s old was

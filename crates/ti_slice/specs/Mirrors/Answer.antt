@@ -49,7 +49,8 @@ IsArrival (act.Arrive kind arg given) = Unit {0}
 IsArrival a = ⊥
 
 -- it stands at its arrival at a collective, which deletes no region that is gone
-pub record Arrives (c : NumberedProgram) (w : Walker) (gone : List ℕ) (kind : CollKind) (arg : Option ℕ) (at : Place) (pending : Pending) : Type 0 where
+pub record Arrives (c : NumberedProgram) (w : Walker) (gone : List ℕ) (kind : CollKind) (arg : Option ℕ) (at : Place)
+    (pending : Pending) : Type 0 where
   pub request : Request
   pub go : Answer → Process
   pub given : Deposit

@@ -86,7 +86,8 @@ head_after Gen ended program history = summary_after ended history
 head_after _ ended program history = []
 
 -- these watchers reported on a run that ended so, and the work then ends so; where memory was wanting in the run, none did
-pub record ReportedAfter (ended : Ending) (watchers : List Watcher) (history : List Entry) (out out_after : SinkState) (ending : Ending) : Type 0 where
+pub record ReportedAfter (ended : Ending) (watchers : List Watcher) (history : List Entry) (out out_after : SinkState)
+    (ending : Ending) : Type 0 where
   pub end : ReportEnd
   pub ending_is : ending ≡ ending_after end ended
   pub reported : Reported watchers history out out_after end
@@ -98,7 +99,8 @@ ReportsAfter ended watchers history out out_after ending =
 
 -- the head of a run that ended so was written, and the reports of the first few of these watchers: where memory was wanting in the run, of
 -- none
-pub record WroteFewOf (ended : Ending) (head : List ℕ) (watchers : List Watcher) (history : List Entry) (out out_after : SinkState) : Type 0 where
+pub record WroteFewOf (ended : Ending) (head : List ℕ) (watchers : List Watcher) (history : List Entry)
+    (out out_after : SinkState) : Type 0 where
   pub few : List Watcher
   pub others : List Watcher
   pub first : few ++ others ≡ watchers
@@ -107,7 +109,8 @@ pub record WroteFewOf (ended : Ending) (head : List ℕ) (watchers : List Watche
   pub not_all : (ended ≡ NoMemory → ⊥) → others ≡ [] → ⊥
 
 -- the head of a run that ended so was written, and then the reports of these watchers, up to the first call that failed
-pub record WroteRun (ended : Ending) (head : List ℕ) (watchers : List Watcher) (history : List Entry) (out out_after : SinkState) (ending : Ending) : Type 0 where
+pub record WroteRun (ended : Ending) (head : List ℕ) (watchers : List Watcher) (history : List Entry) (out out_after : SinkState)
+    (ending : Ending) : Type 0 where
   pub never_falls : out.faults ≤ out_after.faults
   pub tells : out_after.tells ≡ out.tells
   pub known : (ending ≡ ended) ⊎ (ending ≡ NoMemory) ⊎ (ending ≡ CantWrite)
@@ -125,7 +128,8 @@ pub record RanNothing (out out_after : SinkState) (kept : Kept) : Type 0 where
   pub no_count : kept.done ≡ []
 
 -- the program was run by its code, and what is written of it in the job's mode was written up to the first call that failed
-pub record RunSays (program : NumberedProgram) (job : Job) (watchers : List Watcher) (out out_after : SinkState) (kept : Kept) (ending : Ending) : Type 0 where
+pub record RunSays (program : NumberedProgram) (job : Job) (watchers : List Watcher) (out out_after : SinkState) (kept : Kept)
+    (ending : Ending) : Type 0 where
   pub run : IsRun (run_of program job) kept.history
   pub solo : job.workers ≡ 1 → IsSolo (run_of program job) kept.history
   pub determines : Determines (run_of program job) kept.history
@@ -149,7 +153,8 @@ pub record RunSays (program : NumberedProgram) (job : Job) (watchers : List Watc
       → IsDone (program_code program) (run_of program job) kept.history kept.done
 
 -- so was the program of the text
-pub record Ran (job : Job) (watchers : List Watcher) (text : List ℕ) (out out_after : SinkState) (kept : Kept) (ending : Ending) : Type 0 where
+pub record Ran (job : Job) (watchers : List Watcher) (text : List ℕ) (out out_after : SinkState) (kept : Kept)
+    (ending : Ending) : Type 0 where
   pub program : NumberedProgram
   pub compiled : IsCompiled text program
   pub says : RunSays program job watchers out out_after kept ending

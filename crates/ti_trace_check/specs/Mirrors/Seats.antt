@@ -120,7 +120,8 @@ pub record IsOpen (code : Code) (store : StoreState) : Type 0 where
   pub fit : OfEveryRun AnswersFit (setting_of store).program
 
 -- the run went on by the entry of the line
-pub record GoesOn (code : Code) (s : Setting) (es : List Entry) (old : List Seat) (all : List Entry) (new : List Seat) (line : List ℕ) : Type 0 where
+pub record GoesOn (code : Code) (s : Setting) (es : List Entry) (old : List Seat) (all : List Entry) (new : List Seat)
+    (line : List ℕ) : Type 0 where
   pub entry : Entry
   pub after : all ≡ es ++ entry ∷ []
   pub text : line ≡ entry_text (length es) entry
