@@ -348,6 +348,18 @@ pub fn walk<'s, 'a>(
                 known: known_operated(*operator, first.known, second.known),
             })
         }
+        Expr::Unary {
+            place: _,
+            operator,
+            operand,
+        } => {
+            let t = walk(s, operand, out)?;
+            add_alone(*operator, out)?;
+            Ok(KnownValue {
+                ty: t.ty,
+                known: known_alone(*operator, t.known),
+            })
+        }
         _ => form(s, e, out),
     }
 }

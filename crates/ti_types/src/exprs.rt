@@ -122,7 +122,7 @@ impl<'a> Judge<'a> {
         }
     }
 
-    /// What is known of an operator between two operands.
+    /// What is known of an operator of two operands or one.
     #[cycle(exp)]
     #[tactic(auto, using(ti_rules::proofs::Lemmas::firsts, ti_lang::proofs::Lemmas::program_bridges))]
     fn operated(&self, scope: &'a Scope, e: &'a Expr) -> Option<Judged<'a>>
@@ -138,6 +138,14 @@ impl<'a> Judge<'a> {
                 let first = self.exp(scope, left);
                 let second = self.exp(scope, right);
                 Some(first.binary(left.place(), second, right.place(), *place, *operator))
+            }
+            Expr::Unary {
+                place,
+                operator,
+                operand,
+            } => {
+                let judged = self.exp(scope, operand);
+                Some(judged.unary(operand.place(), *place, *operator))
             }
             _ => None,
         }
