@@ -3,7 +3,7 @@
 use ti_syntax::tree::{Brackets, Qualifier};
 
 /// A type. It tells nothing of `single`.
-#[derive(Debug, Drop)]
+#[derive(Drop)]
 #[cycle(ty)]
 pub enum Ty {
     Int,
@@ -28,7 +28,7 @@ pub enum Ty {
 }
 
 /// A type where it is written, with the words that qualify its parts.
-#[derive(Debug, Drop)]
+#[derive(Drop)]
 pub struct TypeUse {
     pub ty: Ty,
     /// Whether what has this type is single. At first it is where the word stands; it may be set and cleared.
@@ -40,7 +40,7 @@ pub struct TypeUse {
 }
 
 /// What is written where a variable is declared.
-#[derive(Debug, Drop)]
+#[derive(Drop)]
 pub enum Declared {
     /// Its type, and whether it is single.
     Typed { single: bool, ty: Ty },
@@ -49,7 +49,7 @@ pub enum Declared {
 }
 
 /// A variable where it is used: its number in its method, and what is written where it is declared.
-#[derive(Debug, Drop)]
+#[derive(Drop)]
 pub struct Variable {
     pub number: u32,
     pub declared: Declared,

@@ -24,7 +24,7 @@ pub struct Modifier {
 }
 
 /// A field, at its name.
-#[derive(Debug, Drop)]
+#[derive(Drop)]
 pub struct Field {
     pub modifiers: Vec<Modifier>,
     pub ty: TypeName,
@@ -33,7 +33,7 @@ pub struct Field {
 }
 
 /// A parameter, at its name.
-#[derive(Debug, Drop)]
+#[derive(Drop)]
 pub struct Param {
     pub ty: TypeName,
     pub place: Place,
@@ -41,7 +41,7 @@ pub struct Param {
 }
 
 /// What stands between the parentheses of a method.
-#[derive(Debug, Drop)]
+#[derive(Drop)]
 pub enum Params {
     /// `String[] x`, at the name.
     Words(Place, Spelled),
@@ -49,7 +49,7 @@ pub enum Params {
 }
 
 /// What a method is declared to give back.
-#[derive(Debug, Drop)]
+#[derive(Drop)]
 pub enum ResultType {
     /// `void`, at the word.
     Void(Place),
@@ -57,7 +57,7 @@ pub enum ResultType {
 }
 
 /// A method, at its name; `end` is its closing `}`.
-#[derive(Debug, Drop)]
+#[derive(Drop)]
 pub struct Method {
     pub modifiers: Vec<Modifier>,
     pub result: ResultType,
@@ -69,14 +69,14 @@ pub struct Method {
 }
 
 /// A member of a class.
-#[derive(Debug, Drop)]
+#[derive(Drop)]
 pub enum Member {
     Field(Field),
     Method(Method),
 }
 
 /// A class, at its name; `word` is the word `class`.
-#[derive(Debug, Drop)]
+#[derive(Drop)]
 pub struct Class {
     pub modifiers: Vec<Modifier>,
     pub word: Place,

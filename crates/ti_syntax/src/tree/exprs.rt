@@ -61,7 +61,7 @@ pub enum BinaryOperator {
 }
 
 /// An expression, with the place of its node.
-#[derive(Debug, Drop)]
+#[derive(Drop)]
 #[cycle(expr)]
 pub enum Expr {
     /// A whole number of 32 bits.
@@ -131,7 +131,7 @@ pub enum Expr {
 }
 
 /// A range of whole numbers or points.
-#[derive(Debug, Drop)]
+#[derive(Drop)]
 #[cycle(expr)]
 pub enum Range {
     /// `a:b`

@@ -6,7 +6,7 @@ use crate::Spelled;
 use ti_base::Place;
 
 /// What a new grid spreads over.
-#[derive(Debug, Drop)]
+#[derive(Drop)]
 pub enum Dims {
     Domain(Expr),
     /// One to three ranges, as in a bracket literal.
@@ -14,7 +14,7 @@ pub enum Dims {
 }
 
 /// The right side of a declaration or an assignment.
-#[derive(Debug, Drop)]
+#[derive(Drop)]
 pub enum Init {
     Value(Expr),
     /// `new SharedRegion()`, at `new`.
@@ -50,7 +50,7 @@ pub enum StepOperator {
 }
 
 /// What a print writes.
-#[derive(Debug, Drop)]
+#[derive(Drop)]
 pub enum Printed {
     Nothing,
     Text(Spelled),
@@ -60,7 +60,7 @@ pub enum Printed {
 }
 
 /// A statement, with the place that stands for it. Large parts are boxed, so that a statement without parts is small.
-#[derive(Debug, Drop)]
+#[derive(Drop)]
 pub enum Stmt {
     /// `;`
     Empty,

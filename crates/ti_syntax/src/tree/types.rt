@@ -18,7 +18,7 @@ pub struct Qualifier {
 }
 
 /// What a type begins with, at its word or the name of its class.
-#[derive(Debug, Drop)]
+#[derive(Drop)]
 pub enum Base {
     Int(Place),
     Long(Place),
@@ -33,14 +33,14 @@ pub enum Base {
 }
 
 /// The brackets of a grid with its number of dimensions, and what qualifies the grid.
-#[derive(Debug, Drop)]
+#[derive(Drop)]
 pub struct Brackets {
     pub dim: u8,
     pub qualifiers: Vec<Qualifier>,
 }
 
 /// A type: a base with what qualifies it, and the brackets behind it from the outermost grid on.
-#[derive(Debug, Drop)]
+#[derive(Drop)]
 pub struct TypeName {
     pub base: Base,
     pub qualifiers: Vec<Qualifier>,
