@@ -152,6 +152,8 @@ def rust_names(crate, file):
     found = {}
     for text in re.findall(r'^(?:pub(?:\([^)]*\))? )?use ([^;]+);', source(crate, file), re.M):
         found.update(use_tree(text))
+    if '*' in found:
+        sys.exit(f'believed: {crate}/{file} imports all of a module: its types have to be named')
     return found
 
 
@@ -187,6 +189,8 @@ def types_in(crate, file, text):
 def imported(line):
     """What an import of `specs/` names: (crate, path, names), or None where it is of the kit."""
     found = GHOST_USE.search(line.strip())
+    if not found and any(f'Rattle.{crate}.' in line for crate in crates()):
+        sys.exit(f'believed: what is imported here? {line.strip()}')
     if not found or found[1] not in crates():
         return None
     crate, path, group, alias = found.groups()
@@ -241,7 +245,7 @@ def views_of(item):
     pattern = r'impl(?:<.*>)? Model for ((?:\w+::)*' + item.name + r')\b'
     for file in files_below(item.crate, 'src', '.rt'):
         text = item_text(item.crate, file, pattern)
-        if text and resolve(item.crate, file, tuple(re.match(pattern, text)[1].split('::'))) == item:
+        if text and resolve(item.crate, file, tuple(re.match(pattern, text)[1].split('::'))) in (item, None):
             yield file, text
 
 
