@@ -82,8 +82,10 @@ fn refusal(alloc: Global, p: &Program) -> Result<Option<Refusal>, Memory>
 ///
 /// A program that breaks rules is refused for the one that counts. Rules of types and qualifiers count before those of single values;
 /// of several, the one at the least place counts, and at one place the one listed first. A refused program is dropped, and so it is where
-/// memory is wanting. What statements do is looked at once for the `return`s of their method; then each is judged once, and what it does
-/// is handed up to the `if`s and loops around it. The update of a `for`, a simple statement, is looked at once more.
+/// memory is wanting. What statements do is looked at once for the `return`s of their method. Then each statement is judged
+/// once, and what it does is handed up to the `if`s and loops around it; the update of a `for`, a
+/// simple statement, is looked at once more. Within a statement an expression may be typed more than
+/// once: the receiver of a target such as `a[i]` is typed up to three times.
 pub fn check(alloc: Global, p: Program) -> Result<Checked, CheckErr>
     ensures { GivesChecked p result }
 {
