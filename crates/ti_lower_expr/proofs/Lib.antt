@@ -8,6 +8,7 @@ mod Expressions
 mod Naming
 mod Growing
 mod Walked
+mod Beginning
 mod Jumping
 mod Constants
 pub mod Lemmas

@@ -1,6 +1,6 @@
 // The code of an expression, and what it does.
 
-ghost use Rattle.std.specs.Prelude.{◌≡◌, ◌++◌, ℕ, List, OnOk, length, map};
+ghost use Rattle.std.specs.Prelude.{◌≡◌, ◌++◌, ℕ, List, OnOk, OnErr, length, map};
 ghost use Rattle.ti_lang.specs.Program.Expressions.{NumberedExp, rect};
 ghost use Rattle.ti_lang.specs.Program.Scope.{this_of};
 ghost use Rattle.ti_lang.specs.Program.Views.{program_of, expression_of, bound_of};
@@ -12,7 +12,7 @@ ghost use Rattle.ti_code.specs.Leading.{Stands, behind};
 ghost use Rattle.ti_lower_expr.specs.Coding.{code_of};
 ghost use Rattle.ti_lower_expr.specs.Doing.{Does, Pushes, who_in};
 ghost use Rattle.ti_lower_expr.specs.Slots.{Name, Holds};
-ghost use Rattle.ti_lower_expr.specs.Contents.{names_in};
+ghost use Rattle.ti_lower_expr.specs.Contents.{names_in, BeginsWith};
 
 use crate::site::Site;
 use crate::walker::{walk, walk_rect};
@@ -20,24 +20,27 @@ use ti_base::{Memory, Place};
 use ti_code::Instr;
 use ti_lang::program::{Expr, Range};
 
-/// Appends the code of an expression to that of its method. On want of memory some of its instructions may stand there.
+/// Appends the code of an expression to that of its method. Out of memory, `out` is what it was, followed by some instructions or none.
 pub fn lower_expr(site: &Site, e: &Expr, out: &mut Vec<Instr>) -> Result<(), Memory>
-    ensures { OnOk result (out.new.items ≡ out.old.items ++ code_of (program_of site.now.program.now) site.now.this
+    ensures code { OnOk result (out.new.items ≡ out.old.items ++ code_of (program_of site.now.program.now) site.now.this
         (names_in site.now.slots.now) (expression_of e.now) (length out.old.items)) }
+    ensures err { OnErr result (BeginsWith out.new.items out.old.items) }
 {
     walk(site, e, out)?;
     Ok(())
 }
 
-/// Appends the code of the rectangular domain of these ranges, whose place is that of their `[`.
+/// Appends the code of the rectangular domain of these ranges, whose place is that of their `[`. Out of memory, `out` is what it was,
+/// followed by some instructions or none.
 pub fn lower_rect(
     site: &Site,
     place: Place,
     ranges: &[Range],
     out: &mut Vec<Instr>,
 ) -> Result<(), Memory>
-    ensures { OnOk result (out.new.items ≡ out.old.items ++ code_of (program_of site.now.program.now) site.now.this
+    ensures code { OnOk result (out.new.items ≡ out.old.items ++ code_of (program_of site.now.program.now) site.now.this
         (names_in site.now.slots.now) (rect place (map bound_of ranges.now)) (length out.old.items)) }
+    ensures err { OnErr result (BeginsWith out.new.items out.old.items) }
 {
     walk_rect(site, place, ranges, out)
 }

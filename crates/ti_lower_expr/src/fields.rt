@@ -1,6 +1,6 @@
 // Which field a name means.
 
-ghost use Rattle.std.specs.Prelude.{◌≡◌, IfOk};
+ghost use Rattle.std.specs.Prelude.{◌≡◌, ◌^◌, ◌≤◌, IfOk, IfErr};
 ghost use Rattle.std.specs.Option.{option_and_then, unwrap_or};
 ghost use Rattle.ti_lang.specs.Program.Views.{program_of};
 ghost use Rattle.ti_lang.specs.Typing.Kinds.{class_of_type};
@@ -12,10 +12,12 @@ use ti_base::Memory;
 use ti_lang::program::Parts;
 use ti_lang::typing::{Seen, field_number};
 
-/// The number of the field that a name means behind a value of the type; 0 where it means none. A class with more fields than a number of
-/// 32 bits counts is want of memory.
+/// The number of the field that a name means behind a value of the type; 0 where it means none. Out of memory comes exactly where the
+/// number doesn't fit.
 pub fn field_behind(program: &Parts, t: Seen, name: u32) -> Result<u32, Memory>
-    ensures { IfOk result (λ n. n ≡ unwrap_or (option_and_then (field_numbered_spec (program_of program.now) name)
+    ensures value { IfOk result (λ n. n ≡ unwrap_or (option_and_then (field_numbered_spec (program_of program.now) name)
+        (class_of_type (seen t.entry))) 0) }
+    ensures large { IfErr result (λ _. 2 ^ 32 ≤ unwrap_or (option_and_then (field_numbered_spec (program_of program.now) name)
         (class_of_type (seen t.entry))) 0) }
 {
     match field_number(program, t, name) {

@@ -1,6 +1,6 @@
 // The code of the parts of an expression that are no expressions themselves.
 
-ghost use Rattle.std.specs.Prelude.{◌≡◌, ◌∷◌, ◌++◌, ◌+◌, [], IfOk, OnOk, false, map};
+ghost use Rattle.std.specs.Prelude.{◌≡◌, ◌∷◌, ◌++◌, ◌+◌, ◌^◌, ◌≤◌, [], IfOk, IfErr, OnOk, OnErr, false, map};
 ghost use Rattle.ti_base.specs.declared.value.Value.TheVariants as v;
 ghost use Rattle.ti_base.specs.Forms.{is_dim};
 ghost use Rattle.ti_base.specs.Points.{IsDim};
@@ -15,7 +15,7 @@ ghost use Rattle.ti_lang.specs.Meaning.Held.{zero_of};
 ghost use Rattle.ti_lang.specs.Meaning.Scoping.{zero_declared};
 ghost use Rattle.ti_lower_expr.specs.Coding as coding;
 ghost use Rattle.ti_lower_expr.specs.Slots.{find_slot, has_this};
-ghost use Rattle.ti_lower_expr.specs.Contents.{names_in};
+ghost use Rattle.ti_lower_expr.specs.Contents.{names_in, BeginsWith};
 
 use crate::kinds::{Kind, Known};
 use crate::slots::Slots;
@@ -25,17 +25,20 @@ use ti_lang::program::{Declared, Expr, Ty, Variable};
 use ti_lang::tree::UnaryOperator;
 use ti_lang::typing::Seen;
 
-/// One more instruction.
+/// Adds an instruction. This and each call below that adds to `out` leaves there, out of memory, what it held, followed by some
+/// instructions or none.
 pub fn add(instr: Instr, out: &mut Vec<Instr>) -> Result<(), Memory>
-    ensures { OnOk result (out.new.items ≡ out.old.items ++ instr ∷ []) }
+    ensures code { OnOk result (out.new.items ≡ out.old.items ++ instr ∷ []) }
+    ensures err { OnErr result (BeginsWith out.new.items out.old.items) }
 {
     out.push(instr)?;
     Ok(())
 }
 
-/// How many there are, as instructions count.
+/// How many there are, as instructions count; out of memory exactly where that doesn't fit.
 pub fn counted(n: usize) -> Result<u32, Memory>
-    ensures { IfOk result (λ m. m ≡ n) }
+    ensures value { IfOk result (λ m. m ≡ n) }
+    ensures large { IfErr result (λ _. 2 ^ 32 ≤ n) }
 {
     match u32::try_from(n) {
         Ok(n) => Ok(n),
@@ -43,9 +46,10 @@ pub fn counted(n: usize) -> Result<u32, Memory>
     }
 }
 
-/// The number so far behind another, as instructions count.
+/// The sum, as instructions count; out of memory exactly where that doesn't fit.
 pub fn number_behind(n: usize, more: usize) -> Result<u32, Memory>
-    ensures { IfOk result (λ m. m ≡ n + more) }
+    ensures value { IfOk result (λ m. m ≡ n + more) }
+    ensures large { IfErr result (λ _. 2 ^ 32 ≤ n + more) }
 {
     match n.checked_add(more) {
         Some(m) => counted(m),
@@ -152,8 +156,9 @@ pub fn declared_zero(declared: &Declared) -> Instr
 
 /// Adds the push of what a variable holds.
 pub fn add_variable(slots: &Slots, v: &Variable, out: &mut Vec<Instr>) -> Result<(), Memory>
-    ensures { OnOk result (out.new.items ≡ out.old.items ++ coding.loaded (find_slot (variable_of v.now) (names_in slots.now))
+    ensures code { OnOk result (out.new.items ≡ out.old.items ++ coding.loaded (find_slot (variable_of v.now) (names_in slots.now))
         (variable_of v.now) ∷ []) }
+    ensures err { OnErr result (BeginsWith out.new.items out.old.items) }
 {
     match slots.find(v) {
         Some(k) => {
@@ -179,15 +184,17 @@ pub fn own(slots: &Slots) -> Instr
 
 /// Makes the point of so many parts.
 pub fn add_point(parts: &[Expr], out: &mut Vec<Instr>) -> Result<(), Memory>
-    ensures { OnOk result (out.new.items ≡ out.old.items ++ i.MakePt (how_many (numbered_exps (map expression_of parts.now))) ∷ []) }
+    ensures code { OnOk result (out.new.items ≡ out.old.items ++ i.MakePt (how_many (numbered_exps (map expression_of parts.now))) ∷ []) }
+    ensures err { OnErr result (BeginsWith out.new.items out.old.items) }
 {
     let n = counted(parts.len())?;
     add(Instr::MakePt(n), out)
 }
 
-/// Makes the rectangular domain of so many ranges.
+/// Makes the rectangular domain of so many ranges; out of memory only where they can't be counted.
 pub fn rect_instr(kind: Kind, n: usize, place: Place) -> Result<Instr, Memory>
-    ensures { IfOk result (λ i. i ≡ coding.rect_instr kind n place) }
+    ensures value { IfOk result (λ i. i ≡ coding.rect_instr kind n place) }
+    ensures large { IfErr result (λ _. 2 ^ 32 ≤ n) }
 {
     match kind {
         Kind::Points => if n == 1 {
@@ -205,7 +212,8 @@ pub fn rect_instr(kind: Kind, n: usize, place: Place) -> Result<Instr, Memory>
 
 /// An operator of one operand.
 pub fn add_alone(operator: UnaryOperator, out: &mut Vec<Instr>) -> Result<(), Memory>
-    ensures { OnOk result (out.new.items ≡ out.old.items ++ coding.alone_code operator) }
+    ensures code { OnOk result (out.new.items ≡ out.old.items ++ coding.alone_code operator) }
+    ensures err { OnErr result (BeginsWith out.new.items out.old.items) }
 {
     match operator {
         UnaryOperator::Minus => add(Instr::Alone(OneOperand::Neg), out),
@@ -228,7 +236,8 @@ pub fn jump_where(left: bool, target: u32) -> Instr
 
 // A value that goes into an int, a long, an object or a grid, and may change there.
 fn add_narrow(known: Known, out: &mut Vec<Instr>) -> Result<(), Memory>
-    ensures { OnOk result (out.new.items ≡ out.old.items ++ coding.into_int known) }
+    ensures code { OnOk result (out.new.items ≡ out.old.items ++ coding.into_int known) }
+    ensures err { OnErr result (BeginsWith out.new.items out.old.items) }
 {
     match known {
         Known::Int => Ok(()),
@@ -237,7 +246,8 @@ fn add_narrow(known: Known, out: &mut Vec<Instr>) -> Result<(), Memory>
 }
 
 fn add_widen(known: Known, out: &mut Vec<Instr>) -> Result<(), Memory>
-    ensures { OnOk result (out.new.items ≡ out.old.items ++ coding.into_long known) }
+    ensures code { OnOk result (out.new.items ≡ out.old.items ++ coding.into_long known) }
+    ensures err { OnErr result (BeginsWith out.new.items out.old.items) }
 {
     match known {
         Known::Long => Ok(()),
@@ -246,7 +256,8 @@ fn add_widen(known: Known, out: &mut Vec<Instr>) -> Result<(), Memory>
 }
 
 fn add_as_object(known: Known, out: &mut Vec<Instr>) -> Result<(), Memory>
-    ensures { OnOk result (out.new.items ≡ out.old.items ++ coding.into_object known) }
+    ensures code { OnOk result (out.new.items ≡ out.old.items ++ coding.into_object known) }
+    ensures err { OnErr result (BeginsWith out.new.items out.old.items) }
 {
     match known {
         Known::Object => Ok(()),
@@ -255,7 +266,8 @@ fn add_as_object(known: Known, out: &mut Vec<Instr>) -> Result<(), Memory>
 }
 
 fn add_as_grid(known: Known, out: &mut Vec<Instr>) -> Result<(), Memory>
-    ensures { OnOk result (out.new.items ≡ out.old.items ++ coding.into_grid known) }
+    ensures code { OnOk result (out.new.items ≡ out.old.items ++ coding.into_grid known) }
+    ensures err { OnErr result (BeginsWith out.new.items out.old.items) }
 {
     match known {
         Known::Grid => Ok(()),
@@ -270,7 +282,8 @@ pub fn add_conversion(
     known: Known,
     out: &mut Vec<Instr>,
 ) -> Result<(), Memory>
-    ensures { OnOk result (out.new.items ≡ out.old.items ++ coding.conversion place (seen ty.entry) known) }
+    ensures code { OnOk result (out.new.items ≡ out.old.items ++ coding.conversion place (seen ty.entry) known) }
+    ensures err { OnErr result (BeginsWith out.new.items out.old.items) }
 {
     match ty {
         Seen::Dm(_) => add(Instr::ToDom(place), out),
@@ -304,7 +317,8 @@ fn is_local(ty: &Ty) -> bool
 
 // A reference of local type names a thing of the own process.
 fn add_local_test(place: Place, is_local: bool, out: &mut Vec<Instr>) -> Result<(), Memory>
-    ensures { OnOk result (out.new.items ≡ out.old.items ++ coding.local_test place is_local) }
+    ensures code { OnOk result (out.new.items ≡ out.old.items ++ coding.local_test place is_local) }
+    ensures err { OnErr result (BeginsWith out.new.items out.old.items) }
 {
     if is_local {
         add(Instr::CastLocal(place), out)
@@ -315,8 +329,9 @@ fn add_local_test(place: Place, is_local: bool, out: &mut Vec<Instr>) -> Result<
 
 /// A cast of a value, of which so much is known, to a type.
 pub fn add_cast(place: Place, ty: &Ty, known: Known, out: &mut Vec<Instr>) -> Result<(), Memory>
-    ensures { OnOk result (out.new.items ≡ out.old.items ++ coding.conversion place (value_type_of ty.now) known
+    ensures code { OnOk result (out.new.items ≡ out.old.items ++ coding.conversion place (value_type_of ty.now) known
         ++ coding.local_test place (is_local (value_type_of ty.now))) }
+    ensures err { OnErr result (BeginsWith out.new.items out.old.items) }
 {
     add_conversion(place, Seen::of(ty, false), known, out)?;
     add_local_test(place, is_local(ty), out)
@@ -326,7 +341,8 @@ pub fn add_cast(place: Place, ty: &Ty, known: Known, out: &mut Vec<Instr>) -> Re
 
 /// Drops so many operands.
 pub fn add_pops(n: usize, out: &mut Vec<Instr>) -> Result<(), Memory>
-    ensures { OnOk result (out.new.items ≡ out.old.items ++ coding.pops n) }
+    ensures code { OnOk result (out.new.items ≡ out.old.items ++ coding.pops n) }
+    ensures err { OnErr result (BeginsWith out.new.items out.old.items) }
 {
     let mut left = n;
     while left > 0 {
@@ -338,7 +354,8 @@ pub fn add_pops(n: usize, out: &mut Vec<Instr>) -> Result<(), Memory>
 
 // No member that has a value: its operands are dropped.
 fn add_no_member(n: usize, out: &mut Vec<Instr>) -> Result<(), Memory>
-    ensures { OnOk result (out.new.items ≡ out.old.items ++ (i.Pop ∷ coding.pops n ++ i.Const (v.Bool false) ∷ [])) }
+    ensures code { OnOk result (out.new.items ≡ out.old.items ++ (i.Pop ∷ coding.pops n ++ i.Const (v.Bool false) ∷ [])) }
+    ensures err { OnErr result (BeginsWith out.new.items out.old.items) }
 {
     add(Instr::Pop, out)?;
     add_pops(n, out)?;
@@ -352,7 +369,8 @@ pub fn add_member(
     place: Place,
     out: &mut Vec<Instr>,
 ) -> Result<(), Memory>
-    ensures { OnOk result (out.new.items ≡ out.old.items ++ coding.kind_code member n place) }
+    ensures code { OnOk result (out.new.items ≡ out.old.items ++ coding.kind_code member n place) }
+    ensures err { OnErr result (BeginsWith out.new.items out.old.items) }
 {
     match member {
         Some(member) => {
@@ -365,7 +383,8 @@ pub fn add_member(
 
 /// An index behind a point or a grid and so many indices.
 pub fn add_index(is_point: bool, n: usize, place: Place, out: &mut Vec<Instr>) -> Result<(), Memory>
-    ensures { OnOk result (out.new.items ≡ out.old.items ++ coding.index_code is_point n place) }
+    ensures code { OnOk result (out.new.items ≡ out.old.items ++ coding.index_code is_point n place) }
+    ensures err { OnErr result (BeginsWith out.new.items out.old.items) }
 {
     let n = counted(n)?;
     if is_point {

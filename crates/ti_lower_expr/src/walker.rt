@@ -2,7 +2,7 @@
 // the walk reads each part once. Callers get the code alone: to know the value's type, they read the
 // expression again.
 
-ghost use Rattle.std.specs.Prelude.{◌≡◌, ◌∷◌, ◌++◌, [], OnOk, IfOk, map, option_map, option_and_then, unwrap_or};
+ghost use Rattle.std.specs.Prelude.{◌≡◌, ◌∷◌, ◌++◌, [], OnOk, OnErr, IfOk, take, map, option_map, option_and_then, unwrap_or};
 ghost use Rattle.ti_base.specs.declared.value.Value.TheVariants as v;
 ghost use Rattle.ti_code.specs.declared.instr.Instr.TheVariants as i;
 ghost use Rattle.ti_lang.specs.Program.Expressions.{numbered_exps, numbered_ranges};
@@ -16,7 +16,7 @@ ghost use Rattle.ti_lang.specs.Typing.Kinds.{is_point as is_point_spec, class_of
 ghost use Rattle.ti_lower_expr.specs.declared.kinds.Known.TheVariants as known;
 ghost use Rattle.ti_lower_expr.specs.Knowing as knowing;
 ghost use Rattle.ti_lower_expr.specs.Coding as coding;
-ghost use Rattle.ti_lower_expr.specs.Contents.{names_in};
+ghost use Rattle.ti_lower_expr.specs.Contents.{names_in, BeginsWith};
 ghost use Rattle.ti_lower_expr.specs.Slots.{find_slot};
 ghost use Rattle.ti_lower_expr.specs.Mirrors.Walking.{around, operated};
 ghost use Rattle.ti_lower_expr.specs.Mirrors.Sites.{type_in, known_in, called_behind, walked_in, all_in, range_in, ranges_in};
@@ -102,6 +102,7 @@ fn leaf<'s, 'a>(
     ensures code { OnOk result (out.new.items ≡ out.old.items ++ instr ∷ []) }
     ensures ty { IfOk result (λ t. seen t.ty ≡ type_in s.now (expression_of e.now)) }
     ensures known { IfOk result (λ t. t.known ≡ known_in s.now (expression_of e.now)) }
+    ensures err { OnErr result (BeginsWith out.new.items out.old.items) }
 {
     add(instr, out)?;
     Ok(told(s, e))
@@ -110,9 +111,10 @@ fn leaf<'s, 'a>(
 // The rectangular domain of its ranges.
 #[tactic(auto, using(crate::proofs::Growing::counts))]
 fn add_rect(s: &Site, place: Place, ranges: &[Range], out: &mut Vec<Instr>) -> Result<(), Memory>
-    ensures { OnOk result (out.new.items ≡ out.old.items ++ coding.rect_instr
+    ensures code { OnOk result (out.new.items ≡ out.old.items ++ coding.rect_instr
         (coding.kind_of_ranges (program_of s.now.program.now) s.now.this (numbered_ranges (map bound_of ranges.now)))
         (coding.how_many_ranges (numbered_ranges (map bound_of ranges.now))) place ∷ []) }
+    ensures err { OnErr result (BeginsWith out.new.items out.old.items) }
 {
     let kind = kind_of_ranges(s, ranges);
     add(rect_instr(kind, ranges.len(), place)?, out)
@@ -120,7 +122,8 @@ fn add_rect(s: &Site, place: Place, ranges: &[Range], out: &mut Vec<Instr>) -> R
 
 // The jumps around a right operand that may be left out, of which the first has this number.
 fn close(left: bool, jump: usize, out: &mut Vec<Instr>) -> Result<(), Memory>
-    ensures { OnOk result (out.new.items ≡ around left jump out.old.items) }
+    ensures code { OnOk result (out.new.items ≡ around left jump out.old.items) }
+    ensures err { OnErr result (BeginsWith out.new.items (take jump out.old.items)) }
 {
     let pushed = number_behind(out.len(), 1)?;
     let end = number_behind(out.len(), 2)?;
@@ -147,6 +150,7 @@ fn operated<'s, 'a>(
         (walked_in s.now (expression_of right.now)) out.old.items) }
     ensures ty { IfOk result (λ t. seen t.ty ≡ type_in s.now (expression_of right.now)) }
     ensures known { IfOk result (λ t. t.known ≡ known_in s.now (expression_of right.now)) }
+    ensures err { OnErr result (BeginsWith out.new.items out.old.items) }
 {
     match laziness_of(operator) {
         Laziness::Never => {
@@ -167,7 +171,8 @@ fn operated<'s, 'a>(
 
 // A field of the own object.
 fn own_field(s: &Site, place: Place, field: u32, out: &mut Vec<Instr>) -> Result<(), Memory>
-    ensures { OnOk result (out.new.items ≡ walked_in s.now (x.OwnField place field) out.old.items) }
+    ensures code { OnOk result (out.new.items ≡ walked_in s.now (x.OwnField place field) out.old.items) }
+    ensures err { OnErr result (BeginsWith out.new.items out.old.items) }
 {
     add(own(s.slots), out)?;
     add(Instr::GetField(field, place), out)
@@ -178,7 +183,8 @@ fn own_field(s: &Site, place: Place, field: u32, out: &mut Vec<Instr>) -> Result
 /// Expressions, in order.
 #[cycle(walk)]
 fn walk_all<'s, 'a>(s: &Site<'s, 'a>, xs: &'a [Expr], out: &mut Vec<Instr>) -> Result<(), Memory>
-    ensures { OnOk result (out.new.items ≡ all_in s.now (numbered_exps (map expression_of xs.now)) out.old.items) }
+    ensures code { OnOk result (out.new.items ≡ all_in s.now (numbered_exps (map expression_of xs.now)) out.old.items) }
+    ensures err { OnErr result (BeginsWith out.new.items out.old.items) }
 {
     for x in xs {
         walk(s, x, out)?;
@@ -189,7 +195,8 @@ fn walk_all<'s, 'a>(s: &Site<'s, 'a>, xs: &'a [Expr], out: &mut Vec<Instr>) -> R
 // The bounds of a range and its step.
 #[cycle(walk)]
 fn walk_range<'s, 'a>(s: &Site<'s, 'a>, r: &'a Range, out: &mut Vec<Instr>) -> Result<(), Memory>
-    ensures { OnOk result (out.new.items ≡ range_in s.now (bound_of r.now) out.old.items) }
+    ensures code { OnOk result (out.new.items ≡ range_in s.now (bound_of r.now) out.old.items) }
+    ensures err { OnErr result (BeginsWith out.new.items out.old.items) }
 {
     match r {
         Range::Plain { low, high } => {
@@ -213,7 +220,8 @@ fn walk_ranges<'s, 'a>(
     ranges: &'a [Range],
     out: &mut Vec<Instr>,
 ) -> Result<(), Memory>
-    ensures { OnOk result (out.new.items ≡ ranges_in s.now (numbered_ranges (map bound_of ranges.now)) out.old.items) }
+    ensures code { OnOk result (out.new.items ≡ ranges_in s.now (numbered_ranges (map bound_of ranges.now)) out.old.items) }
+    ensures err { OnErr result (BeginsWith out.new.items out.old.items) }
 {
     for r in ranges {
         walk_range(s, r, out)?;
@@ -236,6 +244,7 @@ fn field<'s, 'a>(
         ∷ []) }
     ensures ty { IfOk result (λ t. seen t.ty ≡ field_spec (program_of s.now.program.now) name (seen receiver.entry)) }
     ensures known { IfOk result (λ t. t.known ≡ known.Other) }
+    ensures err { OnErr result (BeginsWith out.new.items out.old.items) }
 {
     add(
         Instr::GetField(field_behind(s.program, receiver, name)?, place),
@@ -261,6 +270,7 @@ fn member<'s, 'a>(
         (how_many (numbered_exps (map expression_of args.now))) place) }
     ensures ty { IfOk result (λ t. seen t.ty ≡ member_spec (program_of s.now.program.now) name (seen receiver.entry)) }
     ensures known { IfOk result (λ t. t.known ≡ knowing.member_known (called_behind s.now (seen receiver.entry) name)) }
+    ensures err { OnErr result (BeginsWith out.new.items out.old.items) }
 {
     let called = member_behind(s, receiver, name);
     add_member(shown_member(called), args.len(), place, out)?;
@@ -282,6 +292,7 @@ fn index<'a>(
         (how_many (numbered_exps (map expression_of indices.now))) place) }
     ensures ty { IfOk result (λ t. seen t.ty ≡ element_spec (seen receiver.entry)) }
     ensures known { IfOk result (λ t. t.known ≡ knowing.index_known (is_point_spec (seen receiver.entry))) }
+    ensures err { OnErr result (BeginsWith out.new.items out.old.items) }
 {
     let coordinate = is_point(receiver);
     add_index(coordinate, indices.len(), place, out)?;
@@ -296,6 +307,7 @@ fn number<'a>(n: i32, out: &mut Vec<Instr>) -> Result<KnownValue<'a>, Memory>
     ensures code { OnOk result (out.new.items ≡ out.old.items ++ i.Const (v.Int n) ∷ []) }
     ensures ty { IfOk result (λ t. seen t.ty ≡ IntType) }
     ensures known { IfOk result (λ t. t.known ≡ known.Int) }
+    ensures err { OnErr result (BeginsWith out.new.items out.old.items) }
 {
     add(Instr::Const(Value::Int(n)), out)?;
     Ok(KnownValue {
@@ -314,6 +326,7 @@ fn load<'s, 'a>(
         (variable_of v.now) ∷ []) }
     ensures ty { IfOk result (λ t. seen t.ty ≡ used_spec (λ _. 1) (variable_of v.now).number (variable_of v.now).declared) }
     ensures known { IfOk result (λ t. t.known ≡ knowing.known_declared (variable_of v.now).declared) }
+    ensures err { OnErr result (BeginsWith out.new.items out.old.items) }
 {
     add_variable(s.slots, v, out)?;
     Ok(KnownValue {
@@ -333,6 +346,7 @@ pub fn walk<'s, 'a>(
     ensures code { OnOk result (out.new.items ≡ walked_in s.now (expression_of e.now) out.old.items) }
     ensures ty { IfOk result (λ t. seen t.ty ≡ type_in s.now (expression_of e.now)) }
     ensures known { IfOk result (λ t. t.known ≡ known_in s.now (expression_of e.now)) }
+    ensures err { OnErr result (BeginsWith out.new.items out.old.items) }
 {
     match e {
         Expr::Variable(_, v) => load(s, v, out),
@@ -378,6 +392,7 @@ fn form<'s, 'a>(
     ensures code { OnOk result (out.new.items ≡ walked_in s.now (expression_of e.now) out.old.items) }
     ensures ty { IfOk result (λ t. seen t.ty ≡ type_in s.now (expression_of e.now)) }
     ensures known { IfOk result (λ t. t.known ≡ known_in s.now (expression_of e.now)) }
+    ensures err { OnErr result (BeginsWith out.new.items out.old.items) }
 {
     match e {
         Expr::Int(_, n) => number(*n, out),
@@ -471,7 +486,8 @@ pub fn walk_rect<'s, 'a>(
     ranges: &'a [Range],
     out: &mut Vec<Instr>,
 ) -> Result<(), Memory>
-    ensures { OnOk result (out.new.items ≡ walked_in s.now (x.rect place (map bound_of ranges.now)) out.old.items) }
+    ensures code { OnOk result (out.new.items ≡ walked_in s.now (x.rect place (map bound_of ranges.now)) out.old.items) }
+    ensures err { OnErr result (BeginsWith out.new.items out.old.items) }
 {
     walk_ranges(s, ranges, out)?;
     add_rect(s, place, ranges, out)

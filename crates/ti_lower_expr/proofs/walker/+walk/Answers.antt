@@ -1,5 +1,5 @@
-use Rattle.std.proofs.Common.{◌≡◌, ◌∙◌, sym, ap, subst, ◌+◌, ◌++◌, ◌∷◌, [], List, map, drop, OnOk}
-use Rattle.std.proofs.lemmas.Result.{on_ok_weaker}
+use Rattle.std.proofs.Common.{◌≡◌, ◌∙◌, refl, sym, ap, subst, ◌+◌, ◌++◌, ◌∷◌, [], List, map, length, take, drop, get_or, ℕ, arith, OnOk}
+use Rattle.std.proofs.lemmas.Result.{on_ok_weaker, on_err_weaker}
 use Rattle.ti_lang.specs.declared.program.exprs.Expr.{Expr}
 use Rattle.ti_lang.specs.declared.program.exprs.Range.{Range}
 use Rattle.ti_lang.specs.Program.Types.{ValueType}
@@ -10,7 +10,9 @@ use Rattle.ti_lang.specs.Typing.Seen.{seen}
 use Rattle.ti_lang.specs.Typing.TextTypes.{how_many}
 use Rattle.ti_lang.proofs.Lemmas.{seen_numbered_rect, seen_numbered_member, seen_numbered_index}
 use Rattle.ti_lower_expr.specs.Coding.{rect_instr, kind_of_ranges, how_many_ranges, member_code, index_code}
+use Rattle.ti_lower_expr.specs.Contents.{BeginsWith}
 use Rattle.ti_lower_expr.specs.Mirrors.Sites.{type_in, called_behind, walked_in, range_in, all_in, ranges_in}
+use Rattle.ti_lower_expr.proofs.Beginning.{on_any_err, same_begins, both_begin, jump_begins, walked_begins, all_begin, range_begins, ranges_begin}
 use Rattle.ti_lower_expr.proofs.Growing.{exps_at, ranges_at}
 use Rattle.ti_lower_expr.proofs.walker.+walk.Goals as goal
 
@@ -23,9 +25,9 @@ form-returns-in_ok-add_rect-in-Rect-clause-code t c =
     let at = c.in-Rect.place in
     let last = λ (rs : List Range). rect_instr (kind_of_ranges (program_of s.program.now) s.this (numbered_ranges (map bound_of rs))) (how_many_ranges (numbered_ranges (map bound_of rs))) at ∷ [] in
     subst (λ (y : NumberedExp). n ≡ walked_in s y o) (sym (seen_numbered_rect c.args.e.now at c.in-Rect.ranges c.in-Rect.is))
-    (subst (λ (ys : List Range). n ≡ m ++ last ys) c.deref-in-Rect-2.ensures.value c.in_ok-add_rect-in-Rect.ensures
+    (subst (λ (ys : List Range). n ≡ m ++ last ys) c.deref-in-Rect-2.ensures.value c.in_ok-add_rect-in-Rect.ensures.code
     ∙ ap (λ z. z ++ last c.in-Rect.ranges.items)
-    (subst (λ (ys : List Range). m ≡ ranges_in s (numbered_ranges (map bound_of ys)) o) c.deref-in-Rect.ensures.value c.in_ok-walk_ranges-in-Rect.ensures))
+    (subst (λ (ys : List Range). m ≡ ranges_in s (numbered_ranges (map bound_of ys)) o) c.deref-in-Rect.ensures.value c.in_ok-walk_ranges-in-Rect.ensures.code))
 
 pub form-returns-in_ok-walk_all-in-Member-clause-code : goal.form-returns-in_ok-walk_all-in-Member-clause-code
 form-returns-in_ok-walk_all-in-Member-clause-code t c =
@@ -44,7 +46,7 @@ form-returns-in_ok-walk_all-in-Member-clause-code t c =
     let code = λ (u : ValueType) (ys : List Expr). member_code (called_behind s u name) (how_many (exps ys)) at in
     let first : m ≡ walked_in s a o = subst (λ (z : Expr). m ≡ walked_in s (expression_of z) o) c.deref-in-Member.ensures c.in_ok-t-in-Member.ensures.code in
     let type : told ≡ type_in s a = subst (λ (z : Expr). told ≡ type_in s (expression_of z)) c.deref-in-Member.ensures c.in_ok-t-in-Member.ensures.ty in
-    let rest : k ≡ all_in s (exps xs) m = subst (λ (ys : List Expr). k ≡ all_in s (exps ys) m) c.deref-in-Member-2.ensures.value c.in_ok-walk_all-in-Member.ensures in
+    let rest : k ≡ all_in s (exps xs) m = subst (λ (ys : List Expr). k ≡ all_in s (exps ys) m) c.deref-in-Member-2.ensures.value c.in_ok-walk_all-in-Member.ensures.code in
     subst (λ (y : NumberedExp). OnOk r (n ≡ walked_in s y o)) (sym (seen_numbered_member c.args.e.now at c.in-Member.receiver name c.in-Member.args c.in-Member.is))
     (on_ok_weaker r (λ (h : n ≡ k ++ code told xs). h ∙ ap (λ u. k ++ code u xs) type ∙ ap (λ z. z ++ code (type_in s a) xs) (rest ∙ ap (all_in s (exps xs)) first))
     (subst (λ (ys : List Expr). OnOk r (n ≡ k ++ code told ys)) c.deref-in-Member-3.ensures.value c.member.ensures.code))
@@ -65,10 +67,13 @@ form-returns-in_ok-walk_all-in-Index-clause-code t c =
     let code = λ (u : ValueType) (ys : List Expr). index_code (is_point u) (how_many (exps ys)) at in
     let first : m ≡ walked_in s a o = subst (λ (z : Expr). m ≡ walked_in s (expression_of z) o) c.deref-in-Index.ensures c.in_ok-t-in-Index.ensures.code in
     let type : told ≡ type_in s a = subst (λ (z : Expr). told ≡ type_in s (expression_of z)) c.deref-in-Index.ensures c.in_ok-t-in-Index.ensures.ty in
-    let rest : k ≡ all_in s (exps xs) m = subst (λ (ys : List Expr). k ≡ all_in s (exps ys) m) c.deref-in-Index-2.ensures.value c.in_ok-walk_all-in-Index.ensures in
+    let rest : k ≡ all_in s (exps xs) m = subst (λ (ys : List Expr). k ≡ all_in s (exps ys) m) c.deref-in-Index-2.ensures.value c.in_ok-walk_all-in-Index.ensures.code in
     subst (λ (y : NumberedExp). OnOk r (n ≡ walked_in s y o)) (sym (seen_numbered_index c.args.e.now at c.in-Index.receiver c.in-Index.indices c.in-Index.is))
     (on_ok_weaker r (λ (h : n ≡ k ++ code told xs). h ∙ ap (λ u. k ++ code u xs) type ∙ ap (λ z. z ++ code (type_in s a) xs) (rest ∙ ap (all_in s (exps xs)) first))
     (subst (λ (ys : List Expr). OnOk r (n ≡ k ++ code told ys)) c.deref-in-Index-3.ensures.value c.index.ensures.code))
+
+pub walk_all-loop-x-init : goal.walk_all-loop-x-init
+walk_all-loop-x-init t c = record { code = refl; begins = same_begins refl }
 
 pub walk_all-loop-x-preserved : goal.walk_all-loop-x-preserved
 walk_all-loop-x-preserved t c =
@@ -76,9 +81,15 @@ walk_all-loop-x-preserved t c =
     let xs = c.args.xs.now in
     let j = c.loop-x.x-index in
     let d = c.x-item.result in
-    ap (all_in s (numbered_exps (map expression_of (drop (j + 1) xs))))
-    (subst (λ (z : Expr). c.walk.new.out.items ≡ walked_in s (expression_of z) c.loop-x.out.items) c.x-item.is c.in_ok-walk.ensures.code)
-    ∙ ap (λ (ys : NumberedExps). all_in s ys c.loop-x.out.items) (sym (exps_at xs j d c.loop-x-test.true)) ∙ c.loop-x.invariant
+    let one = subst (λ (z : Expr). c.walk.new.out.items ≡ walked_in s (expression_of z) c.loop-x.out.items) c.x-item.is c.in_ok-walk.ensures.code in
+    record {
+      code = ap (all_in s (numbered_exps (map expression_of (drop (j + 1) xs)))) one
+          ∙ ap (λ (ys : NumberedExps). all_in s ys c.loop-x.out.items) (sym (exps_at xs j d c.loop-x-test.true)) ∙ c.loop-x.invariant.code;
+      begins = both_begin c.loop-x.invariant.begins (walked_begins s (expression_of (get_or xs j d)) one);
+    }
+
+pub walk_ranges-loop-r-init : goal.walk_ranges-loop-r-init
+walk_ranges-loop-r-init t c = record { code = refl; begins = same_begins refl }
 
 pub walk_ranges-loop-r-preserved : goal.walk_ranges-loop-r-preserved
 walk_ranges-loop-r-preserved t c =
@@ -86,6 +97,96 @@ walk_ranges-loop-r-preserved t c =
     let rs = c.args.ranges.now in
     let j = c.loop-r.r-index in
     let d = c.r-item.result in
-    ap (ranges_in s (numbered_ranges (map bound_of (drop (j + 1) rs))))
-    (subst (λ (z : Range). c.walk_range.new.out.items ≡ range_in s (bound_of z) c.loop-r.out.items) c.r-item.is c.in_ok-walk_range.ensures)
-    ∙ ap (λ (ys : NumberedRanges). ranges_in s ys c.loop-r.out.items) (sym (ranges_at rs j d c.loop-r-test.true)) ∙ c.loop-r.invariant
+    let one = subst (λ (z : Range). c.walk_range.new.out.items ≡ range_in s (bound_of z) c.loop-r.out.items) c.r-item.is c.in_ok-walk_range.ensures.code in
+    record {
+      code = ap (ranges_in s (numbered_ranges (map bound_of (drop (j + 1) rs)))) one
+          ∙ ap (λ (ys : NumberedRanges). ranges_in s ys c.loop-r.out.items) (sym (ranges_at rs j d c.loop-r-test.true)) ∙ c.loop-r.invariant.code;
+      begins = both_begin c.loop-r.invariant.begins (range_begins s (bound_of (get_or rs j d)) one);
+    }
+
+-- ---- out of memory
+
+pub operated-returns-in_err-add-in-Never-clause-err : goal.operated-returns-in_err-add-in-Never-clause-err
+operated-returns-in_err-add-in-Never-clause-err t c =
+    on_any_err _ (both_begin (walked_begins c.args.s.now (expression_of c.args.right.now) c.in_ok-t-in-Never.ensures.code) c.in_err-add-in-Never.ensures.err)
+
+pub operated-returns-in_err-close-in-Where-clause-err : goal.operated-returns-in_err-close-in-Where-clause-err
+operated-returns-in_err-close-in-Where-clause-err t c =
+    let o = c.args.out.now.items in
+    let long : c.len-jump.result ≡ length o = omega (arith, c.len-jump.ensures) in
+    let before = subst (BeginsWith c.walk-in-Where.new.out.items) c.in_ok-add-in-Where.ensures.code (walked_begins c.args.s.now (expression_of c.args.right.now) c.in_ok-t-in-Where.ensures.code) in
+    let after = subst (λ (n : ℕ). BeginsWith c.close.new.out.items (take n c.walk-in-Where.new.out.items)) long c.in_err-close-in-Where.ensures.err in
+    on_any_err _ (jump_begins o c.walk-in-Where.new.out.items c.close.new.out.items c.jump_where.result before after)
+
+pub walk-returns-in_err-second-in-Binary-clause-err : goal.walk-returns-in_err-second-in-Binary-clause-err
+walk-returns-in_err-second-in-Binary-clause-err t c =
+    on_any_err _ (both_begin (walked_begins c.args.s.now (expression_of c.deref.result.now) c.in_ok-first-in-Binary.ensures.code) c.in_err-second-in-Binary.ensures.err)
+
+pub walk-returns-in_err-add_alone-in-Unary-clause-err : goal.walk-returns-in_err-add_alone-in-Unary-clause-err
+walk-returns-in_err-add_alone-in-Unary-clause-err t c =
+    on_any_err _ (both_begin (walked_begins c.args.s.now (expression_of c.deref-in-Unary.result.now) c.in_ok-t-in-Unary.ensures.code) c.in_err-add_alone-in-Unary.ensures.err)
+
+pub form-returns-in_err-add_point-in-Point-clause-err : goal.form-returns-in_err-add_point-in-Point-clause-err
+form-returns-in_err-add_point-in-Point-clause-err t c =
+    on_any_err _ (both_begin (all_begin c.args.s.now (numbered_exps (map expression_of c.deref.result.now)) c.in_ok-walk_all-in-Point.ensures.code) c.in_err-add_point-in-Point.ensures.err)
+
+pub form-returns-in_err-add_rect-in-Rect-clause-err : goal.form-returns-in_err-add_rect-in-Rect-clause-err
+form-returns-in_err-add_rect-in-Rect-clause-err t c =
+    on_any_err _ (both_begin (ranges_begin c.args.s.now (numbered_ranges (map bound_of c.deref-in-Rect.result.now)) c.in_ok-walk_ranges-in-Rect.ensures.code) c.in_err-add_rect-in-Rect.ensures.err)
+
+pub form-returns-in_err-add_alone-in-Unary-clause-err : goal.form-returns-in_err-add_alone-in-Unary-clause-err
+form-returns-in_err-add_alone-in-Unary-clause-err t c =
+    on_any_err _ (both_begin (walked_begins c.args.s.now (expression_of c.deref-in-Unary.result.now) c.in_ok-t-in-Unary.ensures.code) c.in_err-add_alone-in-Unary.ensures.err)
+
+pub form-returns-in_err-second-in-Binary-clause-err : goal.form-returns-in_err-second-in-Binary-clause-err
+form-returns-in_err-second-in-Binary-clause-err t c =
+    on_any_err _ (both_begin (walked_begins c.args.s.now (expression_of c.deref-in-Binary.result.now) c.in_ok-first-in-Binary.ensures.code) c.in_err-second-in-Binary.ensures.err)
+
+pub form-returns-in_err-add_cast-in-Cast-clause-err : goal.form-returns-in_err-add_cast-in-Cast-clause-err
+form-returns-in_err-add_cast-in-Cast-clause-err t c =
+    on_any_err _ (both_begin (walked_begins c.args.s.now (expression_of c.deref-in-Cast.result.now) c.in_ok-t-in-Cast.ensures.code) c.in_err-add_cast-in-Cast.ensures.err)
+
+pub form-returns-in_ok-t-in-Select-clause-err : goal.form-returns-in_ok-t-in-Select-clause-err
+form-returns-in_ok-t-in-Select-clause-err t c =
+    on_err_weaker c.field.result (both_begin (walked_begins c.args.s.now (expression_of c.deref-in-Select.result.now) c.in_ok-t-in-Select.ensures.code)) c.field.ensures.err
+
+pub form-returns-in_err-walk_all-in-Member-clause-err : goal.form-returns-in_err-walk_all-in-Member-clause-err
+form-returns-in_err-walk_all-in-Member-clause-err t c =
+    on_any_err _ (both_begin (walked_begins c.args.s.now (expression_of c.deref-in-Member.result.now) c.in_ok-t-in-Member.ensures.code) c.in_err-walk_all-in-Member.ensures.err)
+
+pub form-returns-in_ok-walk_all-in-Member-clause-err : goal.form-returns-in_ok-walk_all-in-Member-clause-err
+form-returns-in_ok-walk_all-in-Member-clause-err t c =
+    on_err_weaker c.member.result (both_begin (both_begin (walked_begins c.args.s.now (expression_of c.deref-in-Member.result.now) c.in_ok-t-in-Member.ensures.code)
+    (all_begin c.args.s.now (numbered_exps (map expression_of c.deref-in-Member-2.result.now)) c.in_ok-walk_all-in-Member.ensures.code))) c.member.ensures.err
+
+pub form-returns-in_err-walk_all-in-Index-clause-err : goal.form-returns-in_err-walk_all-in-Index-clause-err
+form-returns-in_err-walk_all-in-Index-clause-err t c =
+    on_any_err _ (both_begin (walked_begins c.args.s.now (expression_of c.deref-in-Index.result.now) c.in_ok-t-in-Index.ensures.code) c.in_err-walk_all-in-Index.ensures.err)
+
+pub form-returns-in_ok-walk_all-in-Index-clause-err : goal.form-returns-in_ok-walk_all-in-Index-clause-err
+form-returns-in_ok-walk_all-in-Index-clause-err t c =
+    on_err_weaker c.index.result (both_begin (both_begin (walked_begins c.args.s.now (expression_of c.deref-in-Index.result.now) c.in_ok-t-in-Index.ensures.code)
+    (all_begin c.args.s.now (numbered_exps (map expression_of c.deref-in-Index-2.result.now)) c.in_ok-walk_all-in-Index.ensures.code))) c.index.ensures.err
+
+pub walk_all-returns-in_err-walk-clause-err : goal.walk_all-returns-in_err-walk-clause-err
+walk_all-returns-in_err-walk-clause-err t c = on_any_err _ (both_begin c.loop-x.invariant.begins c.in_err-walk.ensures.err)
+
+pub walk_ranges-returns-in_err-walk_range-clause-err : goal.walk_ranges-returns-in_err-walk_range-clause-err
+walk_ranges-returns-in_err-walk_range-clause-err t c = on_any_err _ (both_begin c.loop-r.invariant.begins c.in_err-walk_range.ensures.err)
+
+pub walk_range-returns-in_err-walk-in-Plain-2-clause-err : goal.walk_range-returns-in_err-walk-in-Plain-2-clause-err
+walk_range-returns-in_err-walk-in-Plain-2-clause-err t c =
+    on_any_err _ (both_begin (walked_begins c.args.s.now (expression_of c.in-Plain.low) c.in_ok-walk-in-Plain.ensures.code) c.in_err-walk-in-Plain-2.ensures.err)
+
+pub walk_range-returns-in_ok-walk-in-Plain-2-clause-err : goal.walk_range-returns-in_ok-walk-in-Plain-2-clause-err
+walk_range-returns-in_ok-walk-in-Plain-2-clause-err t c =
+    on_err_weaker c.add.result (both_begin (both_begin (walked_begins c.args.s.now (expression_of c.in-Plain.low) c.in_ok-walk-in-Plain.ensures.code)
+    (walked_begins c.args.s.now (expression_of c.in-Plain.high) c.in_ok-walk-in-Plain-2.ensures.code))) c.add.ensures.err
+
+pub walk_range-returns-in_err-walk-in-Stepped-2-clause-err : goal.walk_range-returns-in_err-walk-in-Stepped-2-clause-err
+walk_range-returns-in_err-walk-in-Stepped-2-clause-err t c =
+    on_any_err _ (both_begin (walked_begins c.args.s.now (expression_of c.in-Stepped.low) c.in_ok-walk-in-Stepped.ensures.code) c.in_err-walk-in-Stepped-2.ensures.err)
+
+pub walk_range-returns-in_err-walk-in-Stepped-3-clause-err : goal.walk_range-returns-in_err-walk-in-Stepped-3-clause-err
+walk_range-returns-in_err-walk-in-Stepped-3-clause-err t c =
+    on_any_err _ (both_begin (both_begin (walked_begins c.args.s.now (expression_of c.in-Stepped.low) c.in_ok-walk-in-Stepped.ensures.code) (walked_begins c.args.s.now (expression_of c.in-Stepped.high) c.in_ok-walk-in-Stepped-2.ensures.code)) c.in_err-walk-in-Stepped-3.ensures.err)
