@@ -1,5 +1,5 @@
 // Whole programs.
-ghost use Rattle.std.specs.Prelude.{◌≡◌, ◌<◌, map, flat_map, length, slice_get, IfOk};
+ghost use Rattle.std.specs.Prelude.{◌≡◌, ◌<◌, ◌≤◌, ◌^◌, map, flat_map, length, slice_get, IfOk, IfErr};
 ghost use Rattle.ti_lang.specs.Program.Views.{program_of, numbered_method_of};
 ghost use Rattle.ti_rules.specs.TypeRules.{method_refusals, type_refusals};
 ghost use Rattle.ti_rules.specs.SingleRules.{method_single_refusals, single_refusals};
@@ -17,8 +17,10 @@ use ti_base::Memory;
 use ti_lang::program::{Method, Program};
 use ti_rules::{Checked, Refusal, first_counts, sooner};
 
+// The number as one of 32 bits; out of memory exactly where it doesn't fit.
 fn numbered(i: usize) -> Result<u32, Memory>
-    ensures { IfOk result (λ n. n ≡ i) }
+    ensures value { IfOk result (λ n. n ≡ i) }
+    ensures large { IfErr result (λ _. 2 ^ 32 ≤ i) }
 {
     match u32::try_from(i) {
         Ok(number) => Ok(number),
