@@ -1,12 +1,12 @@
 // How a process begins, and goes on to what it has next.
 
-ghost use Rattle.std.specs.Prelude.{◌≡◌, ◌<◌, [], IfOk, IfSome, OnOk, vec_len, vec_capacity};
+ghost use Rattle.std.specs.Prelude.{◌≡◌, ◌↔◌, ◌<◌, [], length, IfOk, IfSome, IfNone, IsSome, OnOk, vec_len, vec_capacity};
 ghost use Rattle.ti_base.specs.declared.entry.Next.{Next as Shown};
 ghost use Rattle.ti_code.specs.Follows.{HasNext};
 ghost use Rattle.ti_code.specs.Programs.{Code as Methods};
 ghost use Rattle.ti_code.specs.Machine.{first};
 ghost use Rattle.ti_machine.specs.Mirrors.Machines.{machine_of};
-ghost use Rattle.ti_machine.specs.Mirrors.GoingOn.{IsWay};
+ghost use Rattle.ti_machine.specs.Mirrors.GoingOn.{IsWay, LiesFar};
 
 use crate::desk::{Desk, Hears};
 use crate::machine::{Frame, Machine, Turn};
@@ -49,9 +49,10 @@ impl Machine {
         }
     }
 
-    /// The same, where the code has the method in which a run begins.
+    /// The same; `None` exactly where the code has no method in which a run begins.
     pub(crate) fn begin_there(alloc: Global, code: &Code, team: Team, fuel: u32) -> Option<Machine>
-        ensures { IfSome result (λ m. machine_of code.now m ≡ first code.now team.procs fuel team.number) }
+        ensures some { IsSome result ↔ (code.now.main < length code.now.methods) }
+        ensures value { IfSome result (λ m. machine_of code.now m ≡ first code.now team.procs fuel team.number) }
     {
         let method = code.main() as usize;
         let methods = code.methods();
@@ -91,17 +92,19 @@ impl Machine {
         }
     }
 
-    /// The same, where it needn't have anything next: none where so many instructions or more have come to no end.
+    /// The same, where it needn't have anything next. `None` comes only where it has nothing next, or at least `turns` silent instructions
+    /// lie in front of that.
     pub(crate) fn go_on_within(
         &mut self,
         alloc: Global,
         code: &Code,
         turns: u32,
     ) -> Result<Option<Way>, Memory>
-        ensures { IfOk result (λ o. IfSome o (λ w. IsWay code.now (machine_of code.now self.old) w (machine_of code.now self.new))) }
+        ensures way { IfOk result (λ o. IfSome o (λ w. IsWay code.now (machine_of code.now self.old) w (machine_of code.now self.new))) }
+        ensures far { IfOk result (λ o. IfNone o (LiesFar code.now (machine_of code.now self.old) turns)) }
     {
         let mut count: u64 = 0;
-        for _ in 0..turns {
+        for _turn in 0..turns {
             let more = self.hurry(alloc, code);
             count = count.saturating_add(more);
             if count >= u64::from(turns) {

@@ -25,7 +25,7 @@ pub fn following_code_goes_on()
 
 fn sent<T: Send>() {}
 
-/// A process may go to another thread.
+/// A process may go to another thread. Nothing calls this: the claim is that it compiles, since `sent` has the bound `Send`.
 pub fn process_is_sent() {
     sent::<Proc>();
 }

@@ -1,6 +1,6 @@
 // Arrivals and departures.
 
-ghost use Rattle.std.specs.Prelude.{◌≡◌, ◌+◌, ℕ, count_by, Some, IfOk};
+ghost use Rattle.std.specs.Prelude.{◌≡◌, ◌+◌, ◌^◌, ◌≤◌, ◌≤ℤ◌, ℕ, pos, count_by, Some, IfOk, IfErr};
 ghost use Rattle.ti_base.specs.Ranges.{natural};
 ghost use Rattle.ti_base.specs.declared.action.CollKind.TheVariants as coll;
 ghost use Rattle.ti_lang.specs.Meaning.Held.{Held as Seen, thing_of};
@@ -38,9 +38,10 @@ fn lies_in(region: u32, id: Option<Id>) -> bool
     }
 }
 
-// So many more, while they can be counted.
+// The sum, or out of memory exactly where it doesn't fit.
 fn add(n: u32, more: usize) -> Result<u32, Memory>
-    ensures { IfOk result (λ m. m ≡ n + more) }
+    ensures value { IfOk result (λ m. m ≡ n + more) }
+    ensures large { IfErr result (λ _. 2 ^ 32 ≤ n + more) }
 {
     if more as u64 > u64::from(u32::MAX - n) {
         return Err(Memory);
@@ -48,9 +49,10 @@ fn add(n: u32, more: usize) -> Result<u32, Memory>
     Ok(n + more as u32)
 }
 
-// A number that isn't negative, or 0, while it can be told.
+// A number that isn't negative, or 0 for one that is; out of memory exactly where it doesn't fit.
 fn as_number(n: i64) -> Result<u32, Memory>
-    ensures { IfOk result (λ m. m ≡ natural n) }
+    ensures value { IfOk result (λ m. m ≡ natural n) }
+    ensures large { IfErr result (λ _. pos (2 ^ 32) ≤ℤ n) }
 {
     if n < 0 {
         return Ok(0);

@@ -1,9 +1,9 @@
 // Processes of code.
 
-ghost use Rattle.std.specs.Prelude.{◌≡◌, ◌<◌, ◌^◌, [], ◌∷◌, ◌++◌, true, false, IfOk, IfErr, IsOk, IfSome};
+ghost use Rattle.std.specs.Prelude.{◌≡◌, ◌↔◌, ◌<◌, ◌^◌, [], ◌∷◌, ◌++◌, length, true, false, IfOk, IfErr, IsOk, IfSome, IfNone, IsSome};
 ghost use Rattle.std.specs.Option.{option_map_or};
 ghost use Rattle.ti_eval.specs.Forms.{IsFormedAnswer};
-ghost use Rattle.ti_machine.specs.Standing.{is_act, HasNext, GoesOn, HasFinished};
+ghost use Rattle.ti_machine.specs.Standing.{is_act, HasNext, GoesOn, IsFar, HasFinished};
 
 use crate::desk::Hears;
 use crate::machine::Machine;
@@ -21,7 +21,7 @@ pub enum State {
     Goes,
     /// It has this next; the answer of an action is then used so.
     Stands(Next, Hears),
-    /// Memory was wanting, and it stands nowhere.
+    /// Memory was wanting, or it was given up, and it stands nowhere.
     Spent,
 }
 
@@ -74,11 +74,12 @@ impl Proc {
         })
     }
 
-    /// The same where nothing is known of what it has next; none where the code has no method in which a run begins.
+    /// The same where nothing is known of what it has next; `None` exactly where the code has no method in which a run begins.
     pub fn start_there(alloc: Global, code: &Code, p: u32, procs: u32, fuel: u32) -> Option<Proc>
         requires number { p < 2 ^ 31 }
         requires procs { procs < 2 ^ 31 }
-        ensures { IfSome result (λ s. s ≡ record { code = code.now; procs = procs; fuel = fuel; number = p; told = []; asks = false }) }
+        ensures some { IsSome result ↔ (code.now.main < length code.now.methods) }
+        ensures value { IfSome result (λ s. s ≡ record { code = code.now; procs = procs; fuel = fuel; number = p; told = []; asks = false }) }
     {
         let team = Team { number: p, procs };
         let machine = Machine::begin_there(alloc, code, team, fuel)?;
@@ -100,6 +101,7 @@ impl Proc {
         ensures next { IfOk result (λ n. HasNext self.old n) }
         ensures standing { IfOk result (λ n. self.new ≡ record self.old { asks = is_act n }) }
         ensures memory { IfErr result (λ _. self.new ≡ record self.old { asks = false }) }
+        ensures again { self.old.asks ≡ true → IsOk result }
     {
         match self.state {
             State::Stands(next, _) => return Ok(next),
@@ -114,8 +116,8 @@ impl Proc {
         Ok(way.next)
     }
 
-    /// The same where nothing is known of what it has next: none where so many instructions or more have come to nothing, and then it isn't
-    /// used further.
+    /// The same where nothing is known of what it has next. `None` comes only where it has nothing next, or at least `turns` instructions
+    /// that ask for nothing lie in front of that; then it isn't used further, as after out of memory.
     pub fn advance_within(
         &mut self,
         alloc: Global,
@@ -124,12 +126,14 @@ impl Proc {
     ) -> Result<Option<Next>, Memory>
         requires code { code.now ≡ self.old.code }
         ensures next { IfOk result (λ o. IfSome o (λ n. HasNext self.old n)) }
+        ensures far { IfOk result (λ o. IfNone o (IsFar self.old turns)) }
         ensures standing { IfOk result (λ o. self.new ≡ record self.old { asks = option_map_or is_act o false }) }
         ensures memory { IfErr result (λ _. self.new ≡ record self.old { asks = false }) }
+        ensures again { self.old.asks ≡ true → IsOk result }
     {
         match self.state {
             State::Stands(next, _) => return Ok(Some(next)),
-            State::Spent => return Ok(None),
+            State::Spent => return Err(Memory),
             State::Goes => {}
         }
         self.state = State::Spent;

@@ -4,8 +4,8 @@ use Rattle.ti_machine.specs.declared.machine.Machine.{Machine}
 use Rattle.ti_machine.proofs.Withins.{begun_machine, some_there}
 use Rattle.ti_machine.proofs.machine.Machine.begin_there.Goals as goal
 
-pub returns : goal.returns
-returns c =
+pub returns-clause-value : goal.returns-clause-value
+returns-clause-value c =
     let p = c.args.code.now in
     let low : p.main < length p.methods =
     subst (λ (ms : List MethodCode). p.main < length ms) c.methods-methods.ensures.methods

@@ -12,5 +12,5 @@ invariant_of-result c =
     let m = c.in_ok-machine.machine in
     record {
       finished = subst (λ (u : CodeStanding). HasFinished (record u { asks = false }) 0) (sym c.of.ensures) (0, all, refl);
-      agrees = subst (λ (u : CodeStanding). Reached (record u { asks = false }) 0 (machine_of u.code m)) (sym c.of.ensures) (subst (Reached s 0) (sym c.in_ok-machine.ensures) (begun s refl));
+      agrees = subst (λ (u : CodeStanding). Reached (record u { asks = false }) 0 (machine_of u.code m)) (sym c.of.ensures) (subst (Reached s 0) (sym c.in_ok-machine.ensures.value) (begun s refl));
     }
