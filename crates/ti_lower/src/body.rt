@@ -1,6 +1,6 @@
 // The code of a method as far as it is written.
 
-ghost use Rattle.std.specs.Prelude.{◌≡◌, ◌+◌, OnOk, IfOk};
+ghost use Rattle.std.specs.Prelude.{◌≡◌, ◌+◌, ◌^◌, ◌≤◌, OnOk, IfOk, IfErr};
 ghost use Rattle.ti_lang.specs.Program.Views.{program_of};
 ghost use Rattle.ti_lower_expr.specs.Contents.{names_in};
 ghost use Rattle.ti_lower.specs.Mirrors.Bodies.{written_of, target_in};
@@ -107,9 +107,10 @@ pub fn target(b: &Body, k: usize) -> u32
     if k < b.known.len() { b.known[k] } else { 0 }
 }
 
-/// The number of a target so far behind another.
+/// The number of a target so far behind another; out of memory exactly where that doesn't fit.
 pub fn later(k: usize, more: usize) -> Result<usize, Memory>
-    ensures { IfOk result (λ n. n ≡ k + more) }
+    ensures value { IfOk result (λ n. n ≡ k + more) }
+    ensures large { IfErr result (λ _. 2 ^ 64 ≤ k + more) }
 {
     match k.checked_add(more) {
         Some(n) => Ok(n),

@@ -1,6 +1,6 @@
 // Where code is written.
 
-ghost use Rattle.std.specs.Prelude.{◌≡◌, ◌+◌, IfOk, length};
+ghost use Rattle.std.specs.Prelude.{◌≡◌, ◌+◌, ◌^◌, ◌≤◌, IfOk, IfErr, length};
 ghost use Rattle.ti_lower.specs.Mirrors.Positions.{where_of, one_waits};
 
 use ti_base::Memory;
@@ -13,10 +13,11 @@ pub struct Position<'s, 'p> {
     pub waiting: usize,
 }
 
-/// How many slots there are.
+/// How many slots there are; out of memory exactly where that doesn't fit.
 #[tactic(auto, using(crate::proofs::Hiding::hidden_slots))]
 pub fn slot_count(p: &Position) -> Result<usize, Memory>
-    ensures { IfOk result (λ n. n ≡ length (where_of p.now).names) }
+    ensures value { IfOk result (λ n. n ≡ length (where_of p.now).names) }
+    ensures large { IfErr result (λ _. 2 ^ 64 ≤ length (where_of p.now).names) }
 {
     match p.site.slots.len().checked_add(p.waiting) {
         Some(n) => Ok(n),
@@ -24,16 +25,18 @@ pub fn slot_count(p: &Position) -> Result<usize, Memory>
     }
 }
 
-/// The slot so far behind the last one.
+/// The slot so far behind the last one; out of memory exactly where its number doesn't fit.
 pub fn slot_behind(p: &Position, more: usize) -> Result<u32, Memory>
-    ensures { IfOk result (λ n. n ≡ length (where_of p.now).names + more) }
+    ensures value { IfOk result (λ n. n ≡ length (where_of p.now).names + more) }
+    ensures large { IfErr result (λ _. 2 ^ 32 ≤ length (where_of p.now).names + more) }
 {
     number_behind(slot_count(p)?, more)
 }
 
-/// The same place, where one more value waits.
+/// The same place, where one more value waits; out of memory exactly where these can't be counted.
 pub fn one_waits<'s, 'p>(p: &Position<'s, 'p>) -> Result<Position<'s, 'p>, Memory>
-    ensures { IfOk result (λ q. where_of q ≡ one_waits (where_of p.now)) }
+    ensures value { IfOk result (λ q. where_of q ≡ one_waits (where_of p.now)) }
+    ensures large { IfErr result (λ _. 2 ^ 64 ≤ p.now.waiting + 1) }
 {
     match p.waiting.checked_add(1) {
         Some(waiting) => Ok(Position {

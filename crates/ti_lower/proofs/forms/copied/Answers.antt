@@ -7,6 +7,6 @@ returns c =
     c.in_ok-extend_from_slice.ensures.items
     ∙ ap (λ z. c.args.out.now.items ++ z)
     (elements_copied c.args.place c.args.n _ c.in_ok-read.read c.in_ok-written.written c.in_ok-point.point c.in_ok-number_behind.field-0 c.in_ok-number_behind-2.field-0 c.in_ok-number_behind-3.field-0
-    (omega (arith, c.in_ok-read.ensures)) (omega (arith, c.in_ok-written.ensures)) (omega (arith, c.in_ok-point.ensures))
-    (omega (arith, c.len-at.ensures, c.in_ok-number_behind.ensures)) (omega (arith, c.len-at.ensures, c.in_ok-number_behind-2.ensures))
-    (omega (arith, c.len-at.ensures, c.in_ok-number_behind-3.ensures)))
+    (omega (arith, c.in_ok-read.ensures.value)) (omega (arith, c.in_ok-written.ensures.value)) (omega (arith, c.in_ok-point.ensures.value))
+    (omega (arith, c.len-at.ensures, c.in_ok-number_behind.ensures.value)) (omega (arith, c.len-at.ensures, c.in_ok-number_behind-2.ensures.value))
+    (omega (arith, c.len-at.ensures, c.in_ok-number_behind-3.ensures.value)))

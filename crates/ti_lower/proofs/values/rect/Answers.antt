@@ -15,4 +15,4 @@ returns c =
     on_ok_weaker c.lower_rect.result
     (λ (h : c.lower_rect.new.out.items ≡ o ++ code_of (program_of s.program.now) s.this (names_in s.slots.now) x (length o)).
     h ∙ ap (λ z. o ++ z) (sym (code_hidden (program_of s.program.now) s.this c.args.p.now.waiting (names_in s.slots.now) x (length o))))
-    c.lower_rect.ensures
+    c.lower_rect.ensures.code
