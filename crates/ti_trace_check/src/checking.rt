@@ -1,5 +1,5 @@
 // The check of a trace.
-ghost use Rattle.std.specs.Prelude.{◌≡◌, ◌≤◌, ◌||◌, [], true, length, IfOk, IfErr};
+ghost use Rattle.std.specs.Prelude.{◌≡◌, ◌<◌, ◌≤◌, ◌||◌, [], true, length, IfOk, IfErr};
 ghost use Rattle.std.specs.List.{list_all};
 ghost use Rattle.ti_code.specs.Follows.{Follows};
 ghost use Rattle.ti_io.specs.Faults.{Rose};
@@ -95,6 +95,7 @@ fn check_by<J: Terms, S: Source>(
     ensures judges { IfOk result (λ v. (S.state source.old).tells ≡ true
         → Judges (record { program = program_of c.now.program.parts; procs = procs; fuel = fuel }) (S.state source.old).left v) }
     ensures read { IfErr result (λ e. e ≡ Read → Rose (S.state source.old).faults (S.state source.new).faults) }
+    ensures failed { (S.state source.old).faults < (S.state source.new).faults → result ≡ Err Read }
 {
     answers_fit(c);
     let code = lower(alloc, c)?;
@@ -108,7 +109,8 @@ fn check_by<J: Terms, S: Source>(
 /// Whether what is left of a source is the trace of a complete run of a checked program, by so many processes with so many ticks of fuel
 /// each.
 ///
-/// Each line names the process whose next entry it has to be. What is left is read in pieces, and one line is held at a time.
+/// Each line names the process whose next entry it has to be. What is left is read in pieces, and one line is held at a time. A read that
+/// fails is told as such, and nothing else is: `Err(Read)` comes only where the count of faults rose, and always where it is greater now.
 pub fn check_trace<S: Source>(
     alloc: Global,
     c: &Checked,
@@ -123,6 +125,7 @@ pub fn check_trace<S: Source>(
     ensures judges { IfOk result (λ v. (S.state source.old).tells ≡ true
         → Judges (record { program = program_of c.now.program.parts; procs = procs; fuel = fuel }) (S.state source.old).left v) }
     ensures read { IfErr result (λ e. e ≡ Read → Rose (S.state source.old).faults (S.state source.new).faults) }
+    ensures failed { (S.state source.old).faults < (S.state source.new).faults → result ≡ Err Read }
 {
     check_by::<Brand, S>(alloc, c, procs, fuel, source)
 }

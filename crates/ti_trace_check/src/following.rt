@@ -1,5 +1,5 @@
 // A run that follows the lines of a text.
-ghost use Rattle.std.specs.Prelude.{◌≡◌, ◌≤◌, [], true, IfOk, IfErr};
+ghost use Rattle.std.specs.Prelude.{◌≡◌, ◌<◌, ◌≤◌, [], true, IfOk, IfErr};
 ghost use Rattle.ti_io.specs.Faults.{Rose};
 ghost use Rattle.ti_io.specs.Source.{SameFiles};
 ghost use Rattle.ti_store.specs.Stores.{setting_of};
@@ -68,6 +68,7 @@ pub fn follow<J: Terms, S: Source>(
     ensures leaves { IfOk result (λ end. (S.state source.old).tells ≡ true
         → LeavesText (setting_of store.old) (S.state source.old).left store.new.entries end) }
     ensures read { IfErr result (λ e. e ≡ Read → Rose (S.state source.old).faults (S.state source.new).faults) }
+    ensures failed { (S.state source.old).faults < (S.state source.new).faults → result ≡ Err Read }
     ensures store { store.new ≡ record store.old { entries = store.new.entries } }
 {
     let mut pieces = Pieces::new();

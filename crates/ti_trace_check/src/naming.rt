@@ -29,7 +29,8 @@ fn small_number(text: &[u8]) -> Option<u32>
     Some(first * 10 + digit(text[1]))
 }
 
-/// The process that a line of this number names, where it names one of fewer than a hundred.
+/// The process that a line of this number names, where it names one of fewer than a hundred. The clause `short` says nothing of the result:
+/// it is a fact of the number, by which callers know that no line of an entry is too long.
 pub fn process_in(number: usize, line: &[u8]) -> Option<u32>
     ensures names { (p : ℕ) (more : List ℕ) → p < 100 → line.now ≡ decimal number ++ codes " p" ++ decimal p ++ 32 ∷ more → result
         ≡ Some p }

@@ -1,5 +1,5 @@
 // Lines of a source that is read in pieces.
-ghost use Rattle.std.specs.Prelude.{◌≡◌, ◌+◌, ◌≤◌, ◌++◌, not, true, [], length, take, IfOk};
+ghost use Rattle.std.specs.Prelude.{◌≡◌, ◌+◌, ◌≤◌, ◌++◌, not, true, [], length, take, IfOk, OnOk};
 ghost use Rattle.ti_io.specs.Faults.{HasCause};
 ghost use Rattle.ti_io.specs.Source.{SameFiles};
 ghost use Rattle.ti_trace_check.specs.Lines.{first_line, has_no_end};
@@ -53,6 +53,7 @@ impl Pieces {
     fn fill<S: Source>(&mut self, source: &mut S) -> Result<(), Failed>
         requires { IsRoom self.old }
         ensures cause { HasCause (S.state source.old).faults (S.state source.new).faults result }
+        ensures still { OnOk result ((S.state source.new).faults ≡ (S.state source.old).faults) }
         ensures same { SameFiles (S.state source.old) (S.state source.new) }
         ensures room { IsRoom self.new }
         ensures fills { IfOk result (λ _. (S.state source.old).tells ≡ true
@@ -83,6 +84,7 @@ impl Pieces {
     pub fn next_line<S: Source>(&mut self, source: &mut S) -> Result<Line, Failed>
         requires { IsRoom self.old }
         ensures cause { HasCause (S.state source.old).faults (S.state source.new).faults result }
+        ensures still { OnOk result ((S.state source.new).faults ≡ (S.state source.old).faults) }
         ensures same { SameFiles (S.state source.old) (S.state source.new) }
         ensures room { IsRoom self.new }
         ensures line { IfOk result (λ line. (S.state source.old).tells ≡ true

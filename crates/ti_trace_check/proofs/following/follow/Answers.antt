@@ -32,7 +32,7 @@ lines-preserved g c =
       stands = on.stands;
       taken = ap length c.history-taken.ensures.entries;
       room = c.in_ok-line-2.ensures.room;
-      never_falls = omega (arith, c.lines.invariant.never_falls, c.in_ok-line-2.ensures.cause.never_falls);
+      still = c.in_ok-line-2.ensures.still ∙ c.lines.invariant.still;
       same = record { tells = c.in_ok-line-2.ensures.same.tells ∙ c.lines.invariant.same.tells; files = c.in_ok-line-2.ensures.same.files ∙ c.lines.invariant.same.files };
       told = λ tells.
           goes c.args.code.now s (g.S.Source.state c.args.source.now).left c.lines.store.entries c.lines.seats.items c.meet.new.seats.items

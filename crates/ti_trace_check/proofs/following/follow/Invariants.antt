@@ -1,4 +1,4 @@
-use Rattle.std.proofs.Common.{◌≡◌, ◌≤◌, ◌++◌, true, length}
+use Rattle.std.proofs.Common.{◌≡◌, ◌++◌, true, length}
 use Rattle.ti_io.specs.Source.{SameFiles}
 use Rattle.ti_store.specs.Stores.{setting_of}
 use Rattle.ti_trace_check.specs.Mirrors.Pieces.{held, IsRoom}
@@ -12,7 +12,7 @@ invariant-lines g l = record {
   stands : Stands l.code (setting_of l.fn.store) l.store.entries l.seats.items;
   taken : l.taken ≡ length l.store.entries;
   room : IsRoom l.pieces;
-  never_falls : (g.S.Source.state l.fn.source).faults ≤ (g.S.Source.state l.source).faults;
+  still : (g.S.Source.state l.source).faults ≡ (g.S.Source.state l.fn.source).faults;
   same : SameFiles (g.S.Source.state l.fn.source) (g.S.Source.state l.source);
   told : (g.S.Source.state l.fn.source).tells ≡ true → Goes (g.S.Source.state l.fn.source).left l.store.entries l.line (held l.pieces ++ (g.S.Source.state l.source).left);
 }

@@ -32,7 +32,7 @@ pieces-preserved g c =
     let front = c.front-is_ended.result.0.now in
     record {
       room = record { at = c.front-is_ended.ensures.within; end = c.in_ok-fill.ensures.room.end; bytes = c.in_ok-fill.ensures.room.bytes };
-      never_falls = omega (arith, c.pieces.invariant.never_falls, c.in_ok-fill.ensures.cause.never_falls);
+      still = c.in_ok-fill.ensures.still ∙ c.pieces.invariant.still;
       same = record { tells = c.in_ok-fill.ensures.same.tells ∙ c.pieces.invariant.same.tells; files = c.in_ok-fill.ensures.same.files ∙ c.pieces.invariant.same.files };
       told = λ tells.
           let now = c.pieces.invariant.same.tells ∙ tells in

@@ -1,4 +1,4 @@
-use Rattle.std.proofs.Common.{◌≡◌, ◌≤◌, ◌-◌, ◌++◌, true, length}
+use Rattle.std.proofs.Common.{◌≡◌, ◌-◌, ◌++◌, true, length}
 use Rattle.ti_io.specs.Source.{SameFiles}
 use Rattle.ti_trace_check.specs.Mirrors.Pieces.{held, IsRoom}
 use Rattle.ti_trace_check.proofs.Taking.{Taken}
@@ -7,7 +7,7 @@ use Rattle.ti_trace_check.proofs.pieces.Pieces.next_line.Given as goal
 abbrev pub invariant-pieces : goal.invariant-pieces
 invariant-pieces g l = record {
   room : IsRoom l.self;
-  never_falls : (g.S.Source.state l.initial.source).faults ≤ (g.S.Source.state l.source).faults;
+  still : (g.S.Source.state l.source).faults ≡ (g.S.Source.state l.initial.source).faults;
   same : SameFiles (g.S.Source.state l.initial.source) (g.S.Source.state l.source);
   told : (g.S.Source.state l.initial.source).tells ≡ true → Taken (held l.initial.self ++ (g.S.Source.state l.initial.source).left) l.line (held l.self) (g.S.Source.state l.source).left;
 }
