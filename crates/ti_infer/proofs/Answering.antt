@@ -10,13 +10,14 @@ use Rattle.ti_blame.specs.Settling.{IsSettled}
 use Rattle.ti_infer.specs.Stripped.{stripped, HavePlainResults}
 use Rattle.ti_infer.specs.Names.{names_of}
 use Rattle.ti_infer.specs.Accepted.{IsAccepted}
-use Rattle.ti_infer.specs.Blame.{every_one, counts_to}
+use Rattle.ti_infer.specs.Limited.{every_one, counts_to}
 use Rattle.ti_infer.specs.Inferred.{IsAcceptedTo}
 use Rattle.ti_infer.specs.Answer.{IsGreatest, IsFirstUnaligned}
 use Rattle.ti_infer.specs.Mirrors.Edges.{all_reasons, program_edges}
 use Rattle.ti_infer.specs.Mirrors.Fits.{fit_edges}
 use Rattle.ti_infer.specs.Mirrors.Settled.{AreInferred}
 use Rattle.ti_infer.proofs.Descending.{by_rules, fewer_keep}
+use Rattle.ti_infer.proofs.LimitedRules.{limited_by_reasons}
 use Rattle.ti_infer.proofs.StrippedResults.{stripped_plain}
 use Rattle.ti_infer.proofs.NoMainCalls.{none_always}
 use Rattle.ti_infer.proofs.Inferring.{inferred}
@@ -30,15 +31,18 @@ are_inferred p marks first numbered types plain settled =
     record { settled = settled; inferred = inferred p (names_of p) marks first types (plain_results p plain) (none_always p numbered types plain) settled }
 
 -- what is accepted is so up to each collective
-accepted_to : (p : NumberedProgram) (a : Marks) (last : Option Place) → IsAccepted p a → IsAcceptedTo last p a
-accepted_to p a last h = record { types = h.types; single = fewer_keep (counts_to last) every_one p a (λ at k. refl) (by_rules p a h.single) }
+accepted_to : (p : NumberedProgram) (a : Marks) (last : Option Place) → HavePlainResults p.methods → IsAccepted p a → IsAcceptedTo last p a
+accepted_to p a last plain h = record {
+  types = h.types;
+  single = limited_by_reasons (counts_to last) p a plain (fewer_keep (counts_to last) every_one p a (λ at k. refl) (by_rules p a h.single));
+}
 
 pub is_greatest : (p : NumberedProgram) (marks : List Mark) → AreInferred p marks None → IsGreatest p marks
 is_greatest p marks h = record { names = h.settled.part; accepted = h.inferred.accepted refl; greatest = h.inferred.greatest; rises = h.settled.rises }
 
-pub is_first : (p : NumberedProgram) (marks : List Mark) (at : Place) → AreInferred p marks (Some at) → IsFirstUnaligned p at
-is_first p marks at h = record {
-  never = λ a names accepted. h.inferred.none a names (accepted_to p a (Some at) accepted);
+pub is_first : (p : NumberedProgram) (marks : List Mark) (at : Place) → stripped p ≡ p → AreInferred p marks (Some at) → IsFirstUnaligned p at
+is_first p marks at plain h = record {
+  never = λ a names accepted. h.inferred.none a names (accepted_to p a (Some at) (plain_results p plain) accepted);
   collective = h.inferred.collective;
   none = h.inferred.none;
   sooner = λ c before. (marks_of marks, h.settled.part, h.inferred.sooner c before);

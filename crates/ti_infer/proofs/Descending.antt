@@ -14,7 +14,8 @@ use Rattle.ti_infer.specs.Stripped.{HavePlainResults}
 use Rattle.ti_blame.specs.declared.blame.Blame.{Blame}
 use Rattle.ti_blame.specs.declared.blame.Blame.TheVariants.{OfMethod, OfResult, OfVariable, OfCollective, Always}
 use Rattle.ti_blame.specs.Marks.{holds}
-use Rattle.ti_infer.specs.Blame.{some_held, every_one, program_blamed, KeepsSingle}
+use Rattle.ti_infer.specs.Limited.{every_one}
+use Rattle.ti_infer.specs.Blame.{some_held, program_blamed, KeepsSingle}
 use Rattle.ti_infer.specs.Descent.{is_method, is_result, is_variable, without, is_fixed}
 use Rattle.ti_infer.proofs.Truths.{Grows, true_false, or_swap, grows_left, grows_right}
 use Rattle.ti_infer.proofs.Lists.{or_same}

@@ -22,7 +22,7 @@ use Rattle.ti_infer.specs.Accepted.{IsAccepted}
 use Rattle.ti_infer.proofs.Truths.{true_false}
 use Rattle.ti_infer.proofs.Same.{static_same}
 use Rattle.ti_infer.proofs.Lists.{none_both, both_none, refused_none, none_refused}
-use Rattle.ti_infer.specs.Blame.{every_one}
+use Rattle.ti_infer.specs.Limited.{every_one}
 use Rattle.ti_infer.specs.Stripped.{HavePlainResults}
 use Rattle.ti_infer.proofs.Descending.{by_rules, by_reasons, union_keeps}
 use Rattle.ti_infer.proofs.ErasingPrograms.{marks_fit_types, types_fit_marks}

@@ -18,8 +18,8 @@ use Rattle.ti_infer.specs.Marked.{marked}
 use Rattle.ti_infer.specs.Stripped.{HavePlainResults}
 use Rattle.ti_infer.specs.Accepted.{IsAccepted}
 use Rattle.ti_infer.specs.Fitting.{MarksFit}
-use Rattle.ti_infer.specs.Blame.{program_blamed, KeepsSingle, every_one, counts_to}
-use Rattle.ti_infer.specs.Collectives.{is_collective_at, program_reasons}
+use Rattle.ti_infer.specs.Limited.{every_one, counts_to}
+use Rattle.ti_infer.specs.Blame.{program_blamed, KeepsSingle}
 use Rattle.ti_infer.specs.Descent.{is_always}
 use Rattle.ti_infer.specs.Inferred.{IsAcceptedTo, IsInferred}
 use Rattle.ti_infer.specs.Mirrors.Edges.{all_reasons, program_edges}
@@ -27,6 +27,8 @@ use Rattle.ti_infer.specs.Mirrors.Fits.{fit_edges}
 use Rattle.ti_infer.proofs.Truths.{Grows, true_false, grows_right}
 use Rattle.ti_infer.proofs.Descending.{by_rules, by_reasons, fewer_keep}
 use Rattle.ti_infer.proofs.ErasingPrograms.{marks_fit_types, types_fit_marks}
+use Rattle.ti_infer.proofs.Collecting.{is_collective_at, program_reasons, is_among}
+use Rattle.ti_infer.proofs.LimitedRules.{limited_by_rules, limited_by_reasons}
 use Rattle.ti_infer.proofs.Within.{collectives_within}
 use Rattle.ti_infer.proofs.ProgramEdges.{program_meant, kept_edges, edges_kept, same_places}
 use Rattle.ti_infer.proofs.FitEdges.{edges_fit, fit_edges_kept}
@@ -100,13 +102,14 @@ module _ (p : NumberedProgram) (names marks : List Mark) (first : Option Place) 
     up_to_itself = grows_right (place_before at at) (same_place at at) (same_itself at)
 
     none_to : (a : Marks) → IsPart a (marks_of names) → IsAcceptedTo (Some at) p a → ⊥
-    none_to a part h = true_false (sym up_to_itself ∙ first_not (counts_to (Some at)) a part (keeps_all (counts_to (Some at)) a h.types h.single))
+    none_to a part h = true_false (sym up_to_itself ∙ first_not (counts_to (Some at)) a part (keeps_all (counts_to (Some at)) a h.types (limited_by_rules (counts_to (Some at)) p a h.single)))
 
     kept_sooner : (c : Place) → place_before c at ≡ true → IsAcceptedTo (Some c) p (marks_of marks)
     kept_sooner c h = record {
       types = left_types;
-      single = fewer_keep (counts_to (Some c)) (before (Some at)) p (marks_of marks) (λ q k. counted_before c at q h k)
-          (subst (λ (o : Option Place). KeepsSingle (before o) p (marks_of marks)) is left_single);
+      single = limited_by_reasons (counts_to (Some c)) p (marks_of marks) results
+          (fewer_keep (counts_to (Some c)) (before (Some at)) p (marks_of marks) (λ q k. counted_before c at q h k)
+          (subst (λ (o : Option Place). KeepsSingle (before o) p (marks_of marks)) is left_single));
     }
 
     -- those before it, and itself
@@ -162,5 +165,5 @@ inferred p names marks (Some at) plain results none s = record {
   greatest = left_greatest p names marks (Some at) plain results none s;
   none = none_to p names marks (Some at) plain results none s at refl;
   sooner = kept_sooner p names marks (Some at) plain results none s at refl;
-  collective = is_blamed p names marks (Some at) plain results none s at refl;
+  collective = is_among p at (is_blamed p names marks (Some at) plain results none s at refl);
 }

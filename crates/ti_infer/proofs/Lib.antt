@@ -15,6 +15,9 @@ pub mod Respelled
 pub mod ErasingStatements
 pub mod ErasingPrograms
 pub mod FittingTogether
+pub mod Limiting
+pub mod LimitedRules
+pub mod Collecting
 pub mod Within
 pub mod PlainRead
 pub mod Pushing

@@ -23,7 +23,8 @@ use Rattle.ti_infer.specs.Marked.{marked_declaration, marked_exp, marked_init, m
 use Rattle.ti_blame.specs.declared.blame.Blame.{Blame}
 use Rattle.ti_blame.specs.declared.blame.Blame.TheVariants.{OfCollective, Always, OfMethod}
 use Rattle.ti_blame.specs.Marks.{holds}
-use Rattle.ti_infer.specs.Blame.{every_one, guarded, method_reasons, acts_reasons, initial_reasons, place_reasons, declared_reasons, target_reasons, reasons, reasons_of_maybe, reasons_of_all, result_reasons, return_reasons, loop_reasons, effect_reasons}
+use Rattle.ti_infer.specs.Limited.{every_one}
+use Rattle.ti_infer.specs.Blame.{guarded, method_reasons, acts_reasons, initial_reasons, place_reasons, declared_reasons, target_reasons, reasons, reasons_of_maybe, reasons_of_all, result_reasons, return_reasons, loop_reasons, effect_reasons}
 use Rattle.ti_infer.proofs.Same.{this_same, call_same}
 use Rattle.ti_infer.proofs.Lists.{collective_same}
 use Rattle.ti_infer.proofs.Beside.{around_in}

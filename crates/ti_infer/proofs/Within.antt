@@ -27,10 +27,12 @@ use Rattle.ti_infer.specs.Blame.{guarded, method_reasons, acts_reasons, initial_
 use Rattle.ti_infer.specs.Blame.{reasons, reasons_of_maybe, reasons_of_all, result_reasons, return_reasons, loop_reasons, effect_reasons}
 use Rattle.ti_infer.specs.Blame.{blame_around, plain_here, arguments_blamed, params_blamed, call_blamed, whole_blamed, initial_blamed}
 use Rattle.ti_infer.specs.Blame.{condition_plain, own_blamed, blamed, blamed_of_maybe, blamed_of_all, method_blamed, program_blamed}
-use Rattle.ti_infer.specs.Blame.{every_one, KeepsSingle}
-use Rattle.ti_infer.specs.Collectives.{is_collective_at, program_reasons}
+use Rattle.ti_infer.specs.Limited.{every_one}
+use Rattle.ti_infer.specs.Blame.{KeepsSingle}
+use Rattle.ti_infer.specs.Collectives.{collectives}
 use Rattle.ti_infer.specs.Descent.{is_always}
 use Rattle.ti_infer.proofs.Truths.{Grows, true_false, grows_left, grows_right}
+use Rattle.ti_infer.proofs.Collecting.{is_collective_at, program_reasons, collectives_found}
 
 -- a collective that passes a test, or what is there in any case, where that counts
 abbrev hits : (Place → Bool) → Bool → Blame → Bool
@@ -347,5 +349,7 @@ counted_held counts m (x ∷ xs) h k =
 
 -- where all collectives of the program count, the rules are kept as where every one does
 pub all_counted : (counts : Place → Bool) (p : NumberedProgram) (m : Marks)
-    → list_any (is_collective_at (λ at. not (counts at))) (program_reasons p) ≡ false → KeepsSingle counts p m → KeepsSingle every_one p m
-all_counted counts p m h k = counted_held counts m (program_blamed p m) (is_false _ (λ t. true_false (sym (collectives_within (λ at. not (counts at)) p m t) ∙ h))) k
+    → list_any (λ at. not (counts at)) (collectives p) ≡ false → KeepsSingle counts p m → KeepsSingle every_one p m
+all_counted counts p m h k =
+    let none = collectives_found p (λ at. not (counts at)) ∙ h in
+    counted_held counts m (program_blamed p m) (is_false _ (λ t. true_false (sym (collectives_within (λ at. not (counts at)) p m t) ∙ none))) k

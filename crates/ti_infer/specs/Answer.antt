@@ -1,9 +1,8 @@
 -- What inference answers.
-use Rattle.std.specs.Prelude.{◌≡◌, true, List, map, Some, Result, Ok, Err}
-use Rattle.std.specs.List.{list_any}
+use Rattle.std.specs.Prelude.{◌≡◌, true, List, map, Some, Result, Ok, Err, Contains}
 use Rattle.std.specs.List.Sorted.{IsStrictlySortedBy}
 use Rattle.ti_base.specs.declared.place.Place.{Place}
-use Rattle.ti_base.specs.Places.{place_before, same_place}
+use Rattle.ti_base.specs.Places.{place_before}
 use Rattle.ti_lang.specs.Program.Classes.{NumberedProgram}
 use Rattle.ti_blame.specs.declared.mark.Mark.{Mark}
 use Rattle.ti_blame.specs.Names.{name_of, name_cmp}
@@ -12,7 +11,7 @@ use Rattle.ti_infer.specs.declared.inference.InferErr.{InferErr}
 use Rattle.ti_infer.specs.declared.inference.InferErr.TheVariants.{NoMarking, Memory}
 use Rattle.ti_infer.specs.Names.{names_of}
 use Rattle.ti_infer.specs.Accepted.{IsAccepted}
-use Rattle.ti_infer.specs.Collectives.{is_collective_at, program_reasons}
+use Rattle.ti_infer.specs.Collectives.{collectives}
 use Rattle.ti_infer.specs.Inferred.{IsAcceptedTo}
 
 -- a marking of names of a program
@@ -30,7 +29,7 @@ pub record IsGreatest (p : NumberedProgram) (marks : List Mark) : Type 0 where
 -- no marking of a program is accepted, and up to the collective at the place, which is the first such, none is
 pub record IsFirstUnaligned (p : NumberedProgram) (at : Place) : Type 0 where
   pub never : (a : Marks) → MarksNames p a → IsAccepted p a → ⊥
-  pub collective : list_any (is_collective_at (same_place at)) (program_reasons p) ≡ true
+  pub collective : Contains (collectives p) at
   pub none : (a : Marks) → MarksNames p a → IsAcceptedTo (Some at) p a → ⊥
   -- up to each one before it, one is
   pub sooner : (c : Place) → place_before c at ≡ true → (a : Marks) × MarksNames p a × IsAcceptedTo (Some c) p a

@@ -1,6 +1,7 @@
 -- The rules of single values once more, by reasons: for each rule that would be broken where what it asks about is there, why it is there.
--- A reason is a mark, or a collective, which counts or not. Where all collectives count, these are the rules (a law says so).
-use Rattle.std.specs.Prelude.{◌≡◌, ℕ, Bool, true, false, not, ◌||◌, if◌then◌else◌, List, [], ◌∷◌, ◌++◌, flat_map, Option, Some, None}
+-- A reason is a mark, or a collective, which counts or not. Nobody has to believe this for what `infer` answers: a law says that these
+-- are the rules, whichever collectives count (`Limited`).
+use Rattle.std.specs.Prelude.{◌≡◌, ℕ, Bool, false, not, if◌then◌else◌, List, [], ◌∷◌, ◌++◌, flat_map, Option, Some, None}
 use Rattle.std.specs.List.{list_any}
 use Rattle.std.specs.Option.{option_map_or}
 use Rattle.ti_base.specs.declared.place.Place.{Place}
@@ -14,7 +15,6 @@ use Rattle.ti_lang.specs.Program.Classes as c
 use Rattle.ti_lang.specs.Program.Scope.{ScopeVariable, parameters, this_of}
 use Rattle.ti_lang.specs.Typing.Called.{called_method, member_called}
 use Rattle.ti_lang.specs.Typing.Effects.{is_collective_call, doings, doings_of_maybe}
-use Rattle.ti_base.specs.Places.{place_before, same_place}
 use Rattle.ti_rules.specs.Standing.{Around, scope_of, variables_inside}
 use Rattle.ti_rules.specs.SingleRules.{is_plain_part, is_plain, is_plain_initial, is_delete}
 use Rattle.ti_blame.specs.declared.blame.Blame.{Blame}
@@ -26,10 +26,6 @@ use Rattle.ti_infer.specs.Marked.{marked_exp, marked_init, marked_params, marked
 -- one of them is there
 abbrev pub some_held : (Place → Bool) → Marks → List Blame → Bool
 some_held counts marks found = list_any (holds counts marks) found
-
--- all collectives count
-abbrev pub every_one : Place → Bool
-every_one at = true
 
 -- where the test holds
 abbrev pub guarded : Bool → List Blame → List Blame
@@ -215,8 +211,3 @@ program_blamed p marks = flat_map (λ m. method_blamed p m marks) p.methods
 -- under the marking no rule of single values is broken, where these collectives count
 abbrev pub KeepsSingle : (Place → Bool) → NumberedProgram → Marks → Type 0
 KeepsSingle counts p marks = some_held counts marks (program_blamed p marks) ≡ false
-
--- the collectives at places up to this one count, or, where none is said, all
-abbrev pub counts_to : Option Place → Place → Bool
-counts_to None at = true
-counts_to (Some last) at = place_before at last || same_place at last

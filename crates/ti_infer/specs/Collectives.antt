@@ -1,17 +1,35 @@
 -- The collectives of a program.
-use Rattle.std.specs.Prelude.{Bool, false, List, flat_map}
+use Rattle.std.specs.Prelude.{ℕ, if◌then◌else◌, List, [], ◌∷◌, flat_map, Option}
 use Rattle.ti_base.specs.declared.place.Place.{Place}
-use Rattle.ti_lang.specs.Program.Statements.{numbered_stms}
+use Rattle.ti_lang.specs.Program.Expressions.{NumberedExp, place_of_numbered}
+use Rattle.ti_lang.specs.Program.Statements.{NumberedInit, NumberedStm}
+use Rattle.ti_lang.specs.Program.Statements as st
 use Rattle.ti_lang.specs.Program.Classes.{NumberedProgram}
-use Rattle.ti_blame.specs.declared.blame.Blame.{Blame}
-use Rattle.ti_blame.specs.declared.blame.Blame.TheVariants.{OfCollective}
-use Rattle.ti_infer.specs.Blame.{reasons_of_all}
+use Rattle.ti_lang.specs.Program.Scope.{this_of}
+use Rattle.ti_lang.specs.Typing.Effects.{is_collective_call}
+use Rattle.ti_rules.specs.Standing.{Standing, standing_in}
 
--- why the statements of a program act
-abbrev pub program_reasons : NumberedProgram → List Blame
-program_reasons p = flat_map (λ m. reasons_of_all p m (numbered_stms m.body)) p.methods
+module _ (p : NumberedProgram) (this : Option ℕ) where
+  -- of an expression that is a statement or a right side: an exchange, or the deletion of a region
+  abbrev pub whole_collectives : NumberedExp → List Place
+  whole_collectives e = if is_collective_call p this e then place_of_numbered e ∷ [] else []
 
--- a collective at a place that passes a test
-abbrev pub is_collective_at : (Place → Bool) → Blame → Bool
-is_collective_at test (OfCollective at) = test at
-is_collective_at test b = false
+  -- of a right side: also a new region, or a broadcast
+  abbrev pub initial_collectives : NumberedInit → List Place
+  initial_collectives (st.Value e) = whole_collectives e
+  initial_collectives (st.NewRegion at) = at ∷ []
+  initial_collectives (st.Broadcast at e root) = at ∷ []
+  initial_collectives value = []
+
+  -- of a statement, apart from the statements in it
+  abbrev pub own_collectives : NumberedStm → List Place
+  own_collectives (st.Declare at type variable value) = initial_collectives value
+  own_collectives (st.Assign at target value) = initial_collectives value
+  own_collectives (st.Update at op target e) = whole_collectives e
+  own_collectives (st.Call e) = whole_collectives e
+  own_collectives (st.Barrier at) = at ∷ []
+  own_collectives s = []
+
+-- the places of the collectives of a program, in the order of its text
+abbrev pub collectives : NumberedProgram → List Place
+collectives p = flat_map (λ (s : Standing). own_collectives p (this_of s.around.method) s.statement) (standing_in p)

@@ -1,6 +1,7 @@
 pub mod Marks
 pub mod Marked
 pub mod Stripped
+pub mod Limited
 pub mod Blame
 pub mod Descent
 pub mod Mirrors

@@ -1,5 +1,5 @@
 // What falls with what by a statement apart from those in it.
-ghost use Rattle.std.specs.Prelude.{◌≡◌, ◌+◌, ◌++◌, ◌∷◌, [], map, length, not, OnOk, IfOk, if◌then◌else◌};
+ghost use Rattle.std.specs.Prelude.{◌≡◌, ◌≤◌, ◌+◌, ◌^◌, ◌++◌, ◌∷◌, [], map, length, not, OnOk, IfOk, IfErr, if◌then◌else◌};
 ghost use Rattle.std.specs.Option.{option_map};
 ghost use Rattle.ti_syntax.specs.Trees.Views.{maybe_of};
 ghost use Rattle.ti_lang.specs.Program.Expressions.{numbered_exps};
@@ -281,9 +281,10 @@ pub fn jumps_in(site: Site, x: &Option<Box<Stmt>>) -> bool
     }
 }
 
-/// A place so many further on.
+/// The place that many further on, unless that is too large a number.
 pub fn further(i: usize, n: usize) -> Result<usize, Memory>
-    ensures { IfOk result (λ k. k ≡ i + n) }
+    ensures place { IfOk result (λ k. k ≡ i + n) }
+    ensures large { IfErr result (λ _. 2 ^ 64 ≤ i + n) }
 {
     match i.checked_add(n) {
         Some(k) => Ok(k),

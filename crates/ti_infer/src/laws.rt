@@ -12,8 +12,9 @@ ghost use Rattle.ti_infer.specs.Fitting.{MarksFit};
 ghost use Rattle.ti_blame.specs.Marks.{Marks, IsPart, union};
 ghost use Rattle.ti_infer.specs.Marked.{marked, marks_main};
 ghost use Rattle.ti_infer.specs.Stripped.{stripped, HavePlainResults};
-ghost use Rattle.ti_infer.specs.Blame.{program_blamed, KeepsSingle, every_one};
-ghost use Rattle.ti_infer.specs.Collectives.{is_collective_at, program_reasons};
+ghost use Rattle.ti_infer.specs.Limited.{every_one, limited_refusals};
+ghost use Rattle.ti_infer.specs.Blame.{program_blamed, KeepsSingle};
+ghost use Rattle.ti_infer.specs.Collectives.{collectives};
 ghost use Rattle.ti_infer.specs.Descent.{without, is_fixed, is_always};
 ghost use Rattle.ti_infer.specs.Inferred.{IsInferred};
 ghost use Rattle.ti_infer.specs.Mirrors.Edges.{all_reasons, program_edges};
@@ -29,11 +30,14 @@ pub fn union_keeps_single_rules()
         → KeepsSingle counts p (union m n) }
 {}
 
-/// Where all collectives count, the rules by reasons are the rules of single values of the marked program.
+/// Whichever collectives count, the rules by reasons are the rules of single values of the marked program; where all do, these are those
+/// that a text is checked by.
 pub fn reasons_are_rules()
-    ensures by_rules { (p : NumberedProgram) (m : Marks) → single_refusals (marked m p) ≡ [] → KeepsSingle every_one p m }
-    ensures by_reasons { (p : NumberedProgram) (m : Marks) → HavePlainResults p.methods → KeepsSingle every_one p m
-        → single_refusals (marked m p) ≡ [] }
+    ensures by_rules { (counts : Place → Bool) (p : NumberedProgram) (m : Marks) → limited_refusals counts (marked m p) ≡ []
+        → KeepsSingle counts p m }
+    ensures by_reasons { (counts : Place → Bool) (p : NumberedProgram) (m : Marks) → HavePlainResults p.methods → KeepsSingle counts p m
+        → limited_refusals counts (marked m p) ≡ [] }
+    ensures all { (p : NumberedProgram) → limited_refusals every_one p ≡ single_refusals p }
     ensures stripped { (p : NumberedProgram) → HavePlainResults (stripped p).methods }
 {}
 
@@ -42,7 +46,7 @@ pub fn fewer_collectives()
     ensures fewer { (fewer more : Place → Bool) (p : NumberedProgram) (m : Marks) → ((at : Place) → fewer at ≡ true → more at ≡ true)
         → KeepsSingle more p m → KeepsSingle fewer p m }
     ensures all { (counts : Place → Bool) (p : NumberedProgram) (m : Marks)
-        → list_any (is_collective_at (λ at. not (counts at))) (program_reasons p) ≡ false → KeepsSingle counts p m
+        → list_any (λ at. not (counts at)) (collectives p) ≡ false → KeepsSingle counts p m
         → KeepsSingle every_one p m }
 {}
 

@@ -1,5 +1,5 @@
 // What falls with what in methods and programs.
-ghost use Rattle.std.specs.Prelude.{◌≡◌, ◌<◌, ◌+◌, ◌++◌, [], map, flat_map, length, slice_get, Some, OnOk, IfOk};
+ghost use Rattle.std.specs.Prelude.{◌≡◌, ◌<◌, ◌≤◌, ◌+◌, ◌^◌, ◌++◌, [], map, flat_map, length, slice_get, Some, OnOk, IfOk, IfErr};
 ghost use Rattle.ti_lang.specs.Program.Scope.{parameters};
 ghost use Rattle.ti_lang.specs.Program.Statements.{numbered_stms};
 ghost use Rattle.ti_lang.specs.Program.Views.{program_of, numbered_param_of, numbered_method_of};
@@ -21,6 +21,17 @@ use ti_single::listed_statements;
 
 // ---- the statements of a method
 
+// The next number, unless that is too large.
+fn number_after(number: u32) -> Result<u32, Memory>
+    ensures next { IfOk result (λ n. n ≡ number + 1) }
+    ensures large { IfErr result (λ _. 2 ^ 32 ≤ number + 1) }
+{
+    match number.checked_add(1) {
+        Some(next) => Ok(next),
+        None => Err(Memory),
+    }
+}
+
 fn inside_params(alloc: Global, ws: &[Param]) -> Result<Vec<Inside>, Memory>
     ensures { IfOk result (λ v. inside_of v.items ≡ params_inside 0 (map numbered_param_of ws.now)) }
 {
@@ -33,10 +44,7 @@ fn inside_params(alloc: Global, ws: &[Param]) -> Result<Vec<Inside>, Memory>
         };
         let asks = one_ask(alloc, Some(mark))?;
         found.push(Inside { number, asks })?;
-        let Some(next) = number.checked_add(1) else {
-            return Err(Memory);
-        };
-        number = next;
+        number = number_after(number)?;
     }
     Ok(found)
 }
@@ -132,8 +140,10 @@ fn method_edges(
 
 // ---- programs
 
+// A number of a method, unless it is too large.
 fn numbered(i: usize) -> Result<u32, Memory>
-    ensures { IfOk result (λ n. n ≡ i) }
+    ensures number { IfOk result (λ n. n ≡ i) }
+    ensures large { IfErr result (λ _. 2 ^ 32 ≤ i) }
 {
     match u32::try_from(i) {
         Ok(number) => Ok(number),

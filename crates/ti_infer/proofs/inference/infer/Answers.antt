@@ -7,7 +7,7 @@ use Rattle.ti_infer.proofs.inference.infer.Goals as goal
 pub returns-in-Some : goal.returns-in-Some
 returns-in-Some c =
     let p = program_of c.args.p.now.parts in
-    is_first p c.in_ok-found.found.marks.items c.in-Some.at (subst (AreInferred p c.in_ok-found.found.marks.items) c.in-Some.is c.in_ok-found.ensures)
+    is_first p c.in_ok-found.found.marks.items c.in-Some.at c.requires.stripped (subst (AreInferred p c.in_ok-found.found.marks.items) c.in-Some.is c.in_ok-found.ensures)
 
 pub returns-in-None : goal.returns-in-None
 returns-in-None c =

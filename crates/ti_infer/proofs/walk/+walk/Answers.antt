@@ -20,7 +20,7 @@ statement-returns-in_ok-maybe-in-For-2 t c =
     (maybe_of expression_of c.in-For.c) (statement_of c.boxed_statement-body-in-For.result.now)
     (statement_of c.in-For.body.value) c.args.out.now.items c.own_for.new.out.items c.maybe.new.out.items c.maybe-in-For.new.out.items
     c.statement-in-For.new.out.items
-    (c.in_ok-second-in-For.ensures ∙ ap (λ n. c.args.i + n) c.in_ok-size_of_maybe-in-For.ensures) (c.in_ok-third-in-For.ensures
+    (c.in_ok-second-in-For.ensures.place ∙ ap (λ n. c.args.i + n) c.in_ok-size_of_maybe-in-For.ensures) (c.in_ok-third-in-For.ensures.place
     ∙ ap (λ n. c.in_ok-second-in-For.second + n) c.in_ok-size_of_maybe-in-For-2.ensures)
     (ap statement_of c.boxed_statement-body-in-For.ensures) (c.deref-in-For.ensures.value ∙ c.in_ok-whats-in-For.ensures)
     (c.deref-in-For-2.ensures.value ∙ c.in_ok-whats-in-For.ensures) c.in_ok-own_for-in-For.ensures c.in_ok-maybe-in-For.ensures
