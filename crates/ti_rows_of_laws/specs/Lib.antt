@@ -1,0 +1,3 @@
+pub mod Markings
+pub mod Programs
+pub mod Texts

@@ -1,0 +1,4 @@
+//! Rows on markings: for each definition, something of which it is true and something of which it is false.
+#![tactic(auto)]
+
+pub mod markings;

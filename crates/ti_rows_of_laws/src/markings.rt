@@ -1,0 +1,92 @@
+// What the laws of markings rule out: markings of short programs of which what a law says is false, beside some of which it's true.
+ghost use Rattle.std.specs.Prelude.{◌≡◌, [], ◌∷◌, false, true, None};
+ghost use Rattle.std.specs.List.{list_any};
+ghost use Rattle.ti_base.specs.declared.place.Place.{Place};
+ghost use Rattle.ti_lang.specs.Numbering.{IsNumbered};
+ghost use Rattle.ti_blame.specs.Falling.{KeepsEdges, stands};
+ghost use Rattle.ti_blame.specs.Marks.{IsPart, marks_of, union};
+ghost use Rattle.ti_infer.specs.Accepted.{IsAccepted};
+ghost use Rattle.ti_infer.specs.Answer.{IsGreatest, IsFirstUnaligned};
+ghost use Rattle.ti_infer.specs.Blame.{KeepsSingle, program_blamed};
+ghost use Rattle.ti_infer.specs.Collectives.{collectives};
+ghost use Rattle.ti_infer.specs.Descent.{is_always, is_fixed, without};
+ghost use Rattle.ti_infer.specs.Fitting.{MarksFit};
+ghost use Rattle.ti_infer.specs.Inferred.{IsInferred};
+ghost use Rattle.ti_infer.specs.Limited.{every_one, limited_refusals};
+ghost use Rattle.ti_infer.specs.Marked.{marked};
+ghost use Rattle.ti_infer.specs.Mirrors.Edges.{all_reasons, program_edges};
+ghost use Rattle.ti_infer.specs.Mirrors.Fits.{fit_edges};
+ghost use Rattle.ti_infer.specs.Names.{names_of};
+ghost use Rattle.ti_infer.specs.Stripped.{stripped};
+ghost use Rattle.ti_rows_of_laws.specs.Texts.{pl};
+ghost use Rattle.ti_rows_of_laws.specs.Markings as marks;
+ghost use Rattle.ti_rows_of_laws.specs.Programs as programs;
+
+/// Which markings are accepted.
+pub fn accepted()
+    ensures the_variable { IsAccepted programs.a_sent_number (marks_of marks.the_first) }
+    ensures nothing { IsAccepted programs.a_sent_number (marks_of marks.nothing) → ⊥ }
+    ensures each_of_two { IsAccepted programs.two_numbers (marks_of marks.the_second) }
+    ensures both { IsAccepted programs.two_numbers (union (marks_of marks.the_first) (marks_of marks.the_second)) }
+    ensures a_union_with_main { IsAccepted programs.two_numbers (union (marks_of marks.the_first) (marks_of marks.main)) → ⊥ }
+{}
+
+/// Which marking is the greatest.
+pub fn greatest()
+    ensures the_variable { IsGreatest programs.a_sent_number marks.the_first }
+    ensures both { IsGreatest programs.two_numbers marks.both }
+    ensures one_of_two { IsGreatest programs.two_numbers marks.the_first → ⊥ }
+    ensures not_in_order { IsGreatest programs.two_numbers marks.both_falling → ⊥ }
+    ensures one_that_is_not_accepted { IsGreatest programs.an_own_number marks.the_first → ⊥ }
+    ensures inferred { IsInferred programs.a_sent_number (names_of programs.a_sent_number) marks.the_first None }
+    ensures less { IsInferred programs.a_sent_number (names_of programs.a_sent_number) marks.nothing None → ⊥ }
+{}
+
+/// Which collective is the first that no marking aligns.
+pub fn first_unaligned()
+    ensures collectives { collectives programs.an_own_number ≡ pl 1 104 ∷ pl 1 118 ∷ [] }
+    ensures the_first_barrier { IsFirstUnaligned programs.an_own_number (pl 1 104) }
+    ensures the_second_barrier { IsFirstUnaligned programs.an_own_number (pl 1 118) → ⊥ }
+    ensures no_collective { IsFirstUnaligned programs.an_own_number (pl 1 66) → ⊥ }
+    ensures where_a_marking_is_accepted { (at : Place) → IsFirstUnaligned programs.a_sent_number at → ⊥ }
+{}
+
+/// The rules of single values where some collectives count.
+pub fn rules()
+    ensures by_reasons { KeepsSingle every_one programs.a_sent_number (marks_of marks.the_first) }
+    ensures against_reasons { KeepsSingle every_one programs.an_own_number (marks_of marks.nothing) → ⊥ }
+    ensures by_rules { limited_refusals every_one (marked (marks_of marks.the_first) programs.a_sent_number) ≡ [] }
+    ensures against_rules { limited_refusals every_one programs.an_own_number ≡ [] → ⊥ }
+    ensures no_collective_counts { limited_refusals (λ at. false) programs.an_own_number ≡ [] }
+    ensures no_reason_counts { KeepsSingle (λ at. false) programs.an_own_number (marks_of marks.nothing) }
+{}
+
+/// What is taken away, and what can't be.
+pub fn descent()
+    ensures the_variable_falls { IsPart (marks_of marks.the_first)
+        (without (program_blamed programs.an_own_number (marks_of marks.the_first)) (marks_of marks.the_first)) → ⊥ }
+    ensures the_variable_stays { IsPart (marks_of marks.the_first)
+        (without (program_blamed programs.a_sent_number (marks_of marks.the_first)) (marks_of marks.the_first)) }
+    ensures a_barrier_is_fixed { list_any (is_fixed every_one) (program_blamed programs.an_own_number (marks_of marks.nothing)) ≡ true }
+    ensures a_jump_is_always { list_any is_always (program_blamed programs.an_update_that_jumps (marks_of marks.nothing)) ≡ true }
+{}
+
+/// Where marks can stand, and what falls with what.
+pub fn edges()
+    ensures a_mark_fits { MarksFit (marks_of marks.the_first) programs.a_sent_number }
+    ensures main_is_marked { MarksFit (marks_of marks.main) programs.a_sent_number → ⊥ }
+    ensures kept { KeepsEdges (stands every_one (marks_of marks.the_first)) (all_reasons programs.a_sent_number)
+        (program_edges programs.a_sent_number) }
+    ensures broken { KeepsEdges (stands every_one (marks_of marks.nothing)) (all_reasons programs.an_own_number)
+        (program_edges programs.an_own_number) → ⊥ }
+    ensures main_falls { KeepsEdges (stands every_one (marks_of marks.main)) (all_reasons programs.a_sent_number)
+        (fit_edges programs.a_sent_number) → ⊥ }
+{}
+
+/// Programs without marks.
+pub fn stripped_programs()
+    ensures nothing_to_take_off { stripped programs.two_numbers ≡ programs.two_numbers }
+    ensures a_mark_to_take_off { stripped (marked (marks_of marks.the_first) programs.two_numbers)
+        ≡ marked (marks_of marks.the_first) programs.two_numbers → ⊥ }
+    ensures of_no_text { ∥ IsNumbered (stripped programs.no_method) ∥₁ → ⊥ }
+{}
