@@ -1,3 +1,4 @@
+pub mod Following
 pub mod NextOfCode
 pub mod Reached
 pub mod Simulated

@@ -61,7 +61,7 @@ behind_by go r (Ends place) = None
 behind_by go r (Faults kind place) = None
 
 -- the process after these answers
-abbrev behind : List Answer → Process → Option Process
+abbrev pub behind : List Answer → Process → Option Process
 behind [] p = Some p
 behind (r ∷ rs) p = behind_by (behind rs) r (settle most_silent p)
 
@@ -80,7 +80,7 @@ reached_by r rs p q go (At request next) e h =
 reached_by r rs p q go (Ends place) e h = absurd (none_some q h)
 reached_by r rs p q go (Faults kind place) e h = absurd (none_some q h)
 
-reached : (rs : List Answer) (p q : Process) → behind rs p ≡ Some q → After p rs q
+pub reached : (rs : List Answer) (p q : Process) → behind rs p ≡ Some q → After p rs q
 reached [] p q h = subst (After p []) (some_same p q h) none
 reached (r ∷ rs) p q h = reached_by r rs p q (λ z k. reached rs z q k) (settle most_silent p) refl h
 

@@ -5,6 +5,7 @@
 pub mod refusals;
 pub mod refutations;
 pub mod refutations_of_meaning;
+pub mod refutations_of_races;
 pub mod refutations_of_values;
 pub mod refutations_of_walks;
 pub mod rows;

@@ -1,16 +1,17 @@
 -- Entries that are no run, of which facts of runs fail.
-use Rattle.std.specs.Prelude.{pos, List, [], ◌∷◌, None, Some}
+use Rattle.std.specs.Prelude.{ℕ, ℤ, pos, List, [], ◌∷◌, ◌++◌, None, Some}
 use Rattle.ti_base.specs.declared.fault.FaultKind.TheVariants.{Fuel}
 use Rattle.ti_base.specs.declared.value.Value.TheVariants as v
 use Rattle.ti_base.specs.declared.value.Zero.TheVariants as z
 use Rattle.ti_base.specs.declared.action.Action.TheVariants as act
 use Rattle.ti_base.specs.declared.action.CollKind.TheVariants as coll
 use Rattle.ti_base.specs.declared.action.Deposit.TheVariants as deposit
+use Rattle.ti_base.specs.declared.action.ViewHow.TheVariants.{Translate}
 use Rattle.ti_base.specs.declared.entry.Answer.TheVariants.{Done, Val}
 use Rattle.ti_base.specs.declared.entry.Entry.{Entry}
 use Rattle.ti_rows.specs.Texts.{pl}
 use Rattle.ti_rows.specs.Histories.{entry, thing}
-use Rattle.ti_rows.specs.Refuted.Sets.{evens}
+use Rattle.ti_rows.specs.Refuted.Sets.{evens, on_line}
 
 -- at a barrier a process prints, and doesn't arrive
 abbrev pub no_arrival : List Entry
@@ -100,3 +101,50 @@ an_object_is_written =
 -- a grid is made
 abbrev pub a_grid : List Entry
 a_grid = entry 0 (pl 1 62) (act.NewGrid z.Int evens 0) (Val (v.Grid (Some (thing 0 0 0)))) ∷ []
+
+-- ---- of races
+
+-- a process reads that field
+abbrev pub read_by : ℕ → Entry
+read_by i = entry i (pl 1 118) (act.GetField (thing 0 0 0) 0) (Val (v.Int (pos 1)))
+
+-- process 0 writes it, and a process reads it
+abbrev pub written_and_read_by : ℕ → List Entry
+written_and_read_by i = an_object_is_written ++ read_by i ∷ []
+
+-- two processes read it, and nobody writes it
+abbrev pub read_by_both : List Entry
+read_by_both = an_object ++ read_by 0 ∷ read_by 1 ∷ []
+
+-- process 0 writes it, both processes meet a barrier, and process 1 reads it
+abbrev pub read_after_a_barrier : List Entry
+read_after_a_barrier =
+    an_object_is_written ++ entry 0 (pl 1 110) (act.Arrive coll.Barrier None deposit.Nothing) Done ∷
+    entry 1 (pl 1 110) (act.Arrive coll.Barrier None deposit.Nothing) Done ∷
+    entry 0 (pl 1 110) act.Depart Done ∷
+    entry 1 (pl 1 110) act.Depart Done ∷
+    read_by 1 ∷
+    []
+
+-- process 0 writes the element at 2 of a grid, and process 1 one of a view of it, whose points are greater by 1
+abbrev pub written_through_a_view : ℤ → List Entry
+written_through_a_view at =
+    a_grid ++ entry 0 (pl 1 80) (act.MakeView (thing 0 0 0) (Translate (on_line (pos 1)))) (Val (v.Grid (Some (thing 0 1 0)))) ∷
+    entry 0 (pl 1 100) (act.PutElem (thing 0 0 0) (on_line (pos 2)) (v.Int (pos 1))) Done ∷
+    entry 1 (pl 1 120) (act.PutElem (thing 0 1 0) (on_line at) (v.Int (pos 1))) Done ∷
+    []
+
+-- process 0 writes a field of an object, which is then made again under the same name, and process 1 reads the field
+abbrev pub read_of_another_making : List Entry
+read_of_another_making = an_object_is_written ++ an_object ++ read_by 1 ∷ []
+
+-- two processes write an element of a grid that nobody made
+abbrev pub a_grid_of_nobody : List Entry
+a_grid_of_nobody =
+    entry 0 (pl 1 80) (act.PutElem (thing 0 0 0) (on_line (pos 2)) (v.Int (pos 1))) Done ∷
+    entry 1 (pl 1 80) (act.PutElem (thing 0 0 0) (on_line (pos 2)) (v.Int (pos 1))) Done ∷
+    []
+
+-- two processes have their ends, and have done nothing before
+abbrev pub two_ends : List Entry
+two_ends = entry 0 (pl 1 74) act.End Done ∷ entry 1 (pl 1 74) act.End Done ∷ []

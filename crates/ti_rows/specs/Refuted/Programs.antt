@@ -132,6 +132,21 @@ a_truth_in_a_number =
     []
     ) 122
 
+-- class C { int v; } class Main { public static single void main(String[] args) {
+--     C c = new C(); C d = broadcast c from 0; if (Ti.thisProc() == 0) d.v = 1; println(d.v);
+-- } }
+-- process 0 writes a field that all processes read
+abbrev pub a_field_is_shared : NumberedProgram
+a_field_is_shared =
+    main_behind ty.Int (codes "v") 33 (
+    s.Declare (pl 1 83) (plain object) 0 (s.NewObject (pl 1 87) None 0) ∷
+    s.Declare (pl 1 98) (plain object) 1 (s.Broadcast (pl 1 102) (var (pl 1 112) 0 object) (x.Int (pl 1 119) (pos 0))) ∷
+    s.If (pl 1 122) (x.Binary (pl 1 140) b.Equal (x.ThisProc (pl 1 126)) (x.Int (pl 1 143) (pos 0)))
+    (s.Assign (pl 1 150) (x.Select (pl 1 148) (var (pl 1 146) 1 object) 11) (s.Value (x.Int (pl 1 152) (pos 1)))) ∷
+    s.Print (pl 1 155) (s.Expression (x.Select (pl 1 165) (var (pl 1 163) 1 object) 11)) ∷
+    []
+    ) 169
+
 -- class C { int v; } class Main { public static single void main(String[] args) { int [1d] a = new C(); a[0] = 1; } }
 -- a variable of grids names an object
 abbrev pub an_object_for_a_grid : NumberedProgram

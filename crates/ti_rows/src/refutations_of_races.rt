@@ -1,0 +1,47 @@
+// What the laws on races rule out: in lists of entries, and in runs.
+ghost use Rattle.std.specs.Prelude.{◌≡◌, [], ◌∷◌, pos};
+ghost use Rattle.ti_lang.specs.Meaning.Determinacy.{IsFollowed, Determines};
+ghost use Rattle.ti_lang.specs.Meaning.Races.{races};
+ghost use Rattle.ti_lang.specs.Meaning.Runs.{AllEnded};
+ghost use Rattle.ti_lang.specs.Meaning.Spots.{races_told};
+ghost use Rattle.ti_rows.specs.Failing.{by_two};
+ghost use Rattle.ti_rows.specs.Simulation.{solo};
+ghost use Rattle.ti_rows.specs.Refuted.Programs as programs;
+ghost use Rattle.ti_rows.specs.Refuted.Entries as entries;
+
+/// Which entries stand in a race, where it's known what they use.
+pub fn in_runs()
+    ensures a_write_and_a_read { races (entries.written_and_read_by 1) ≡ 1 ∷ 2 ∷ [] }
+    ensures one_process { races (entries.written_and_read_by 0) ≡ [] }
+    ensures two_reads { races entries.read_by_both ≡ [] }
+    ensures a_barrier_between { races entries.read_after_a_barrier ≡ [] }
+    ensures one_cell_of_two_views { races (entries.written_through_a_view (pos 3)) ≡ 2 ∷ 3 ∷ [] }
+    ensures two_cells_of_a_grid { races (entries.written_through_a_view (pos 5)) ≡ [] }
+{}
+
+/// Which entries of any list stand in a race, as far as the entries tell. Of lists that are no runs that may be others.
+pub fn as_told()
+    ensures a_write_and_a_read { races_told (entries.written_and_read_by 1) ≡ 1 ∷ 2 ∷ [] }
+    ensures one_process { races_told (entries.written_and_read_by 0) ≡ [] }
+    ensures two_reads { races_told entries.read_by_both ≡ [] }
+    ensures a_barrier_between { races_told entries.read_after_a_barrier ≡ [] }
+    ensures one_cell_of_two_views { races_told (entries.written_through_a_view (pos 3)) ≡ 2 ∷ 3 ∷ [] }
+    ensures two_cells_of_a_grid { races_told (entries.written_through_a_view (pos 5)) ≡ [] }
+    ensures another_making { races_told entries.read_of_another_making ≡ [] }
+    ensures a_grid_of_nobody { races_told entries.a_grid_of_nobody ≡ 0 ∷ 1 ∷ [] }
+    ensures another_making_of_one_name { races entries.read_of_another_making ≡ races_told entries.read_of_another_making → ⊥ }
+    ensures no_cell_of_nobody { races entries.a_grid_of_nobody ≡ races_told entries.a_grid_of_nobody → ⊥ }
+{}
+
+/// What each process does in one run, and in all. In the run of `a_field_is_shared` that is simulated, both processes have their ends, and
+/// a race decides what process 1 reads: in another run it reads another number.
+pub fn in_every_run()
+    ensures all_have_ended { AllEnded (by_two 1000 programs.a_field_is_shared) (solo (by_two 1000 programs.a_field_is_shared) 20) }
+    ensures one_race { races (solo (by_two 1000 programs.a_field_is_shared) 20) ≡ 5 ∷ 10 ∷ [] }
+    ensures another_run_reads_another_number { IsFollowed (by_two 1000 programs.a_field_is_shared)
+        (solo (by_two 1000 programs.a_field_is_shared) 20) → ⊥ }
+    ensures all_have_ended_without_a_race { AllEnded (by_two 1000 programs.one_barrier) (solo (by_two 1000 programs.one_barrier) 10) }
+    ensures no_race { races (solo (by_two 1000 programs.one_barrier) 10) ≡ [] }
+    ensures a_run_that_is_followed { IsFollowed (by_two 1000 programs.a_print) (solo (by_two 1000 programs.a_print) 4) }
+    ensures ends_before_a_print { Determines (by_two 1000 programs.a_print) entries.two_ends → ⊥ }
+{}
