@@ -9,7 +9,7 @@ ghost use Rattle.ti_rows.specs.Simulation.{solo};
 ghost use Rattle.ti_rows.specs.Refuted.Programs as programs;
 ghost use Rattle.ti_rows.specs.Refuted.Entries as entries;
 
-/// Which entries stand in a race, where it's known what they use.
+/// Which entries of a list are in a race (`races`): two processes use one cell without a collective between them, and one writes it.
 pub fn in_runs()
     ensures a_write_and_a_read { races (entries.written_and_read_by 1) ≡ 1 ∷ 2 ∷ [] }
     ensures one_process { races (entries.written_and_read_by 0) ≡ [] }
@@ -19,7 +19,8 @@ pub fn in_runs()
     ensures two_cells_of_a_grid { races (entries.written_through_a_view (pos 5)) ≡ [] }
 {}
 
-/// Which entries of any list stand in a race, as far as the entries tell. Of lists that are no runs that may be others.
+/// Which entries of a list are in a race as far as the entries tell (`races_told`). In a list that is no run, these can be others than
+/// those of `races`: an object that is made twice under one name is two objects, and a grid that nobody made has elements.
 pub fn as_told()
     ensures a_write_and_a_read { races_told (entries.written_and_read_by 1) ≡ 1 ∷ 2 ∷ [] }
     ensures one_process { races_told (entries.written_and_read_by 0) ≡ [] }
@@ -33,8 +34,9 @@ pub fn as_told()
     ensures no_cell_of_nobody { races entries.a_grid_of_nobody ≡ races_told entries.a_grid_of_nobody → ⊥ }
 {}
 
-/// What each process does in one run, and in all. In the run of `a_field_is_shared` that is simulated, both processes have their ends, and
-/// a race decides what process 1 reads: in another run it reads another number.
+/// Whether what each process does in one run is what it does in every run. In the solo run of `a_field_is_shared` both processes end, and a
+/// race decides what process 1 reads: in another run it reads another number. Two entries without a race, an end for each process, do
+/// not determine what a program that prints does.
 pub fn in_every_run()
     ensures all_have_ended { AllEnded (by_two 1000 programs.a_field_is_shared) (solo (by_two 1000 programs.a_field_is_shared) 20) }
     ensures one_race { races (solo (by_two 1000 programs.a_field_is_shared) 20) ≡ 5 ∷ 10 ∷ [] }

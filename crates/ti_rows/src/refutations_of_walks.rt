@@ -1,6 +1,7 @@
 // What the laws of those who do the work of a process rule out: of what it has next, of answers, and of code.
-ghost use Rattle.std.specs.Prelude.{◌≡◌, [], ℕ, pos};
+ghost use Rattle.std.specs.Prelude.{◌≡◌, List, [], ◌∷◌, ℕ, pos};
 ghost use Rattle.ti_base.specs.declared.action.Action.TheVariants as act;
+ghost use Rattle.ti_base.specs.declared.entry.Answer.{Answer};
 ghost use Rattle.ti_base.specs.declared.entry.Answer.TheVariants.{Done, Val};
 ghost use Rattle.ti_base.specs.declared.entry.Next.{Next};
 ghost use Rattle.ti_base.specs.declared.entry.Next.TheVariants as next;
@@ -12,7 +13,8 @@ ghost use Rattle.ti_lang.specs.Meaning.Scoping.{Env};
 ghost use Rattle.ti_eval.specs.Forms.{IsFormedAnswer};
 ghost use Rattle.ti_exec.specs.Standing.{TreeStanding, HasNext};
 ghost use Rattle.ti_code.specs.Follows as code;
-ghost use Rattle.ti_code.specs.Machine.{first};
+ghost use Rattle.ti_code.specs.Machine.{Machine, first};
+ghost use Rattle.ti_code.specs.Programs.{Code};
 ghost use Rattle.ti_lower_expr.specs.Doing.{Does, Pushes, who_in};
 ghost use Rattle.ti_lower.specs.Programs.{program_code};
 ghost use Rattle.ti_machine.specs.Standing as machine;
@@ -42,6 +44,16 @@ pub fn codes()
     ensures the_print { code.HasNext (prints_at 62) (first (prints_at 62) 2 1000 0) [] the_print }
     ensures no_print { code.Follows stops programs.a_print → ⊥ }
     ensures a_print_elsewhere { code.Follows (prints_at 63) programs.a_print → ⊥ }
+{}
+
+/// How many instructions are finished with the last of some answers: one number at most.
+pub fn counts()
+    ensures one_number { (c : Code) (m : Machine) (rs : List Answer) (j k : ℕ) → code.Finishes c m rs j → code.Finishes c m rs k → j ≡ k }
+    ensures two_instructions { code.Finishes (prints_at 62) (first (prints_at 62) 2 1000 0) (Done ∷ []) 2 }
+    ensures three_instructions { code.Finishes (prints_at 62) (first (prints_at 62) 2 1000 0) (Done ∷ []) 3 → ⊥ }
+    ensures an_answer_to_an_end { (k : ℕ) → code.Finishes stops (first stops 2 1000 0) (Done ∷ []) k → ⊥ }
+    ensures two_as_counted { machine.HasFinished (record (standing (prints_at 62)) { told = Done ∷ [] }) 2 }
+    ensures one_as_counted { machine.HasFinished (record (standing (prints_at 62)) { told = Done ∷ [] }) 1 → ⊥ }
 {}
 
 /// What a process of code has next: one thing, and where the code follows no program, not what the program has.
