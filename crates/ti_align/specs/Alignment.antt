@@ -1,4 +1,5 @@
--- Alignment: in every run all processes meet the same collectives, with the same single values.
+-- Alignment: in every run, all processes that reach their nth collective reach the same one, with
+-- equal single values.
 use Rattle.std.specs.Prelude.{◌≡◌, ℕ, ◌≤◌, ◌<◌, true, false, List, ◌∷◌, ◌++◌, Option}
 use Rattle.ti_base.specs.declared.place.Place.{Place}
 use Rattle.ti_base.specs.declared.action.Action.TheVariants as act

@@ -1,4 +1,4 @@
-// Laws of the alignment: functions whose contracts are the laws; they do nothing, but that some read the numbers of the program.
+// Laws of alignment: functions with empty bodies, whose contracts are the laws.
 ghost use Rattle.std.specs.Prelude.{ℕ};
 ghost use Rattle.ti_base.specs.declared.action.Action.{Action};
 ghost use Rattle.ti_base.specs.declared.value.Value.{Value};
@@ -37,11 +37,11 @@ pub fn none_after_end(c: &Checked)
     ensures { OfEveryRun NoneAfterEnd (program_of c.now.program.parts) }
 {}
 
-/// A checked program is aligned: in every run all processes meet the same collectives, with the same
-/// single values, none arrives more often than one that has its end, and where there is no fault and
-/// no process can take an entry, all have their end. In every run, too, each thing that a local reference
-/// names lies in the memory of its own process, and no process uses or hands on a thing in a region that
-/// is gone.
+/// A checked program is aligned: in every run, all processes that reach their nth collective reach
+/// the same one, with equal single values; none arrives more often than one that has its end; and
+/// where there is no fault and no process can take an entry, all have their end. In every run, too,
+/// each thing that a local reference names lies in the memory of its own process, and no process uses
+/// or hands on a thing in a region that is gone.
 pub fn aligned(c: &Checked)
     ensures aligned { IsAligned (program_of c.now.program.parts) }
     ensures owners { OfEveryRun OwnersKept (program_of c.now.program.parts) }

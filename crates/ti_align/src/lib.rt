@@ -1,4 +1,5 @@
-//! Alignment: in every run of a program that breaks no rule all processes meet the same collectives.
+//! Alignment: in every run of a program that breaks no rule, all processes that reach their nth
+//! collective reach the same one.
 #![tactic(auto)]
 
 mod laws;

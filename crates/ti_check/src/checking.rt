@@ -1,5 +1,5 @@
 // Whole programs.
-ghost use Rattle.std.specs.Prelude.{◌≡◌, ◌<◌, map, flat_map, length, slice_get, IfOk};
+ghost use Rattle.std.specs.Prelude.{◌≡◌, ◌<◌, ◌≤◌, ◌^◌, map, flat_map, length, slice_get, IfOk, IfErr};
 ghost use Rattle.ti_lang.specs.Program.Views.{program_of, numbered_method_of};
 ghost use Rattle.ti_rules.specs.TypeRules.{method_refusals, type_refusals};
 ghost use Rattle.ti_rules.specs.SingleRules.{method_single_refusals, single_refusals};
@@ -17,8 +17,10 @@ use ti_base::Memory;
 use ti_lang::program::{Method, Program};
 use ti_rules::{Checked, Refusal, first_counts, sooner};
 
+// The number as one of 32 bits; out of memory exactly where it doesn't fit.
 fn numbered(i: usize) -> Result<u32, Memory>
-    ensures { IfOk result (λ n. n ≡ i) }
+    ensures value { IfOk result (λ n. n ≡ i) }
+    ensures large { IfErr result (λ _. 2 ^ 32 ≤ i) }
 {
     match u32::try_from(i) {
         Ok(number) => Ok(number),
@@ -82,8 +84,10 @@ fn refusal(alloc: Global, p: &Program) -> Result<Option<Refusal>, Memory>
 ///
 /// A program that breaks rules is refused for the one that counts. Rules of types and qualifiers count before those of single values;
 /// of several, the one at the least place counts, and at one place the one listed first. A refused program is dropped, and so it is where
-/// memory is wanting. What statements do is looked at once for the `return`s of their method; then each is judged once, and what it does
-/// is handed up to the `if`s and loops around it. The update of a `for`, a simple statement, is looked at once more.
+/// memory is wanting. What statements do is looked at once for the `return`s of their method. Then each statement is judged
+/// once, and what it does is handed up to the `if`s and loops around it; the update of a `for`, a
+/// simple statement, is looked at once more. Within a statement an expression may be typed more than
+/// once: the receiver of a target such as `a[i]` is typed up to three times.
 pub fn check(alloc: Global, p: Program) -> Result<Checked, CheckErr>
     ensures { GivesChecked p result }
 {

@@ -47,7 +47,7 @@ pub struct MethodCode {
 }
 
 /// The code of a program, which keeps the rule on jumps: from the target of a jump or a Next that doesn't lead forward, up to the next
-/// instruction that takes a tick, no instruction is a jump or a Next. So a process can't go on for ever without a tick. Each of its
+/// instruction that takes a tick, no instruction is a jump or a Next. So a process can't jump for ever without a tick. Each of its
 /// instructions is in its form. Contracts see its methods as a list, with the number of the one in which a run begins.
 #[derive(Drop)]
 pub struct Code {

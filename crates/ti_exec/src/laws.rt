@@ -22,7 +22,7 @@ pub fn fitting_is_formed()
 
 fn sent<T: Send>() {}
 
-/// A process may go to another thread.
+/// A process may go to another thread. Nothing calls this: the claim is that it compiles, since `sent` has the bound `Send`.
 pub fn process_is_sent() {
     sent::<TreeProc>();
 }

@@ -1,4 +1,6 @@
-// The code of an expression, part by part. What the text tells of its value is handed up, so that each part is read once.
+// The code of an expression, part by part. What the text tells of its value is handed up, so that
+// the walk reads each part once. Callers get the code alone: to know the value's type, they read the
+// expression again.
 
 ghost use Rattle.std.specs.Prelude.{◌≡◌, ◌∷◌, ◌++◌, [], OnOk, IfOk, map, option_map, option_and_then, unwrap_or};
 ghost use Rattle.ti_base.specs.declared.value.Value.TheVariants as v;

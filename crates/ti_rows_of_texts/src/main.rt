@@ -7,8 +7,8 @@ mod commands;
 mod evaluation;
 mod failing;
 mod fronts;
-mod parts;
 mod phases;
+mod program_text;
 mod rows;
 mod slices;
 mod stages;
@@ -16,6 +16,7 @@ mod tables;
 mod texts;
 mod things;
 mod traces;
+mod tree_text;
 mod walks;
 mod watchers;
 

@@ -4,9 +4,8 @@ ghost use Rattle.std.specs.Prelude.{IfOk};
 ghost use Rattle.ti_parse_expr.specs.Answers.{EndsAtEnd};
 
 use crate::answers::Stopped;
-use crate::parts::Parts as Shown;
+use crate::{program_text, tree_text};
 use std::alloc::{AllocError, Global};
-use std::fmt::Debug;
 use ti_base::Place;
 use ti_check::{CheckErr, check};
 use ti_lang::program::{Parts, Program, Scope, Ty};
@@ -147,17 +146,9 @@ fn read(
     }
 }
 
-fn shown<T: Debug>(alloc: Global, value: &T) -> Result<String, AllocError> {
-    format!(in alloc; "{value:?}")
-}
-
-fn measured<T: Debug>(
-    alloc: Global,
-    value: &T,
-    behind: usize,
-    used: u32,
-) -> Result<String, AllocError> {
-    format!(in alloc; "{value:?}, {behind} tokens, weight {used}")
+/// A text with how many tokens were read and the weight that is used then.
+fn measured(alloc: Global, text: &str, behind: usize, used: u32) -> Result<String, AllocError> {
+    format!(in alloc; "{text}, {behind} tokens, weight {used}")
 }
 
 fn expression(
@@ -168,12 +159,14 @@ fn expression(
     weight: u32,
 ) -> Result<String, Stopped> {
     let (tree, behind, used) = read(alloc, text, form, at, weight)?;
-    Ok(measured(alloc, &tree, behind, used)?)
+    let text = tree_text::text_of(alloc, tree_text::Item::Expr(&tree))?;
+    Ok(measured(alloc, text.as_str(), behind, used)?)
 }
 
 fn extent(alloc: Global, text: &[u8], at: usize, weight: u32) -> Result<String, Stopped> {
     let (tree, behind, used) = read(alloc, text, Form::Whole, at, weight)?;
-    Ok(measured(alloc, &tree.place(), behind, used)?)
+    let place = format!(in alloc; "{:?}", tree.place())?;
+    Ok(measured(alloc, place.as_str(), behind, used)?)
 }
 
 /// The trees of the statements of a text with one method.
@@ -184,7 +177,7 @@ fn body(alloc: Global, tree: &Tree) -> Result<String, AllocError> {
     let [Member::Method(method)] = members.as_slice() else {
         return Ok(String::new(alloc));
     };
-    shown(alloc, &method.body)
+    tree_text::text_of(alloc, tree_text::Item::Stmts(&method.body))
 }
 
 fn statements(alloc: Global, text: &[u8]) -> Result<String, Stopped> {
@@ -194,18 +187,19 @@ fn statements(alloc: Global, text: &[u8]) -> Result<String, Stopped> {
 
 fn tree(alloc: Global, text: &[u8]) -> Result<String, Stopped> {
     let tree = parsed(alloc, text)?;
-    Ok(shown(alloc, &tree)?)
+    let classes = tree_text::text_of(alloc, tree_text::Item::Classes(&tree.classes))?;
+    Ok(format!(in alloc; "Tree {{ classes: {classes} }}")?)
 }
 
 fn program(alloc: Global, text: &[u8]) -> Result<String, Stopped> {
     let program = resolved(alloc, text)?;
-    Ok(shown(alloc, &Shown::of(&program.parts))?)
+    Ok(program_text::text_of(alloc, program_text::Item::Parts(&program.parts))?)
 }
 
 /// What is shown of a copy, where it is another than what is shown of the original.
 fn compared(alloc: Global, parts: &Parts, copy: &Parts) -> Result<String, AllocError> {
-    let original = shown(alloc, &Shown::of(parts))?;
-    let copied = shown(alloc, &Shown::of(copy))?;
+    let original = program_text::text_of(alloc, program_text::Item::Parts(parts))?;
+    let copied = program_text::text_of(alloc, program_text::Item::Parts(copy))?;
     if copied == original {
         String::from_str(alloc, "the same")
     } else {
@@ -291,7 +285,7 @@ fn first_scope(alloc: Global, text: &[u8]) -> Result<Scope, Stopped> {
 
 fn grown(alloc: Global, scope: &mut Scope) -> Result<String, Stopped> {
     scope.push(2, Ty::Bool, false)?;
-    Ok(shown(alloc, scope)?)
+    Ok(program_text::text_of(alloc, program_text::Item::Scope(scope))?)
 }
 
 /// What is shown of a scope that was cut and in which a loop was set and taken back, behind what was shown before.
@@ -299,8 +293,9 @@ fn cut(alloc: Global, scope: &mut Scope, grown: &str) -> Result<String, AllocErr
     scope.cut(1);
     let none = scope.set_loop(Some(Place { line: 2, col: 3 }));
     let set = scope.set_loop(None);
+    let left = program_text::text_of(alloc, program_text::Item::Scope(scope))?;
     format!(in alloc;
-        "{grown}; {scope:?}; {none:?} {set:?} {:?}",
+        "{grown}; {left}; {none:?} {set:?} {:?}",
         scope.innermost_loop
     )
 }

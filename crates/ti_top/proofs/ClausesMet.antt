@@ -162,15 +162,20 @@ no_code job c gone unowed unfaulted = record {
   unlowered = λ _. gone;
 }
 
--- nothing is counted, and nothing is owed
-no_count : (job : Job) (c : Call) → c.done ≡ [] → (c.status ≡ 0 → Runs job.mode → (program : NumberedProgram) → HasProgram c.text program → ⊥)
-    → (c.status ≡ 2 → (program : NumberedProgram) → HasProgram c.text program → ⊥) → CountsInstructions job c
-no_count job c gone unowed unfaulted = record {
-  ended = λ is mode program has. absurd (unowed is mode program has);
-  faulted = λ is program has. absurd (unfaulted is program has);
-  none = λ _. gone;
+-- nothing is counted, and no run is complete
+no_count : (job : Job) (c : Call) → c.done ≡ []
+    → (Runs job.mode → (program : NumberedProgram) → HasProgram c.text program → IsCompleteRun (run_of program job) c.history → ⊥)
+    → CountsInstructions job c
+no_count job c gone incomplete = record {
+  complete = λ mode program has complete. absurd (incomplete mode program has complete);
+  uncoded = λ _. gone;
   unrun = λ _. gone;
 }
+
+-- where nothing was run, nothing is counted
+count_nothing : (job : Job) (c : Call) → 1 ≤ job.procs → c.history ≡ [] → c.done ≡ [] → CountsInstructions job c
+count_nothing job c some no_entry gone = no_count job c gone
+    (λ _ program _ complete. unbegun (run_of program job) some (subst (λ h. IsCompleteRun (run_of program job) h) no_entry complete))
 
 -- where nothing was run, nothing stands in a race
 no_races : (c : Call) → c.history ≡ [] → races_told c.history ≡ races c.history
@@ -260,7 +265,7 @@ clauses_refused refusal job c some from whole is no_program x = record {
   };
   run = run_nothing job c x.no_entry;
   code = no_code job c x.no_code (λ is. absurd (not_done is)) (λ is. absurd (not_faulted is));
-  count = no_count job c x.no_count (λ is. absurd (not_done is)) (λ is. absurd (not_faulted is));
+  count = count_nothing job c some x.no_entry x.no_count;
   output = output_nothing c (λ is. absurd (not_done is)) (λ is. absurd (not_faulted is)) (λ is. absurd (not_cut is)) x;
   alignment = λ _. record {
     done = λ is. absurd (not_done is);
@@ -344,7 +349,7 @@ clauses_cant_read job c some named from cause x = record {
   };
   run = run_nothing job c x.no_entry;
   code = no_code job c x.no_code (λ is. absurd (never CantRead c 0 from (λ e. omega arith) (λ e. omega arith) is)) (λ is. absurd (never CantRead c 2 from (λ e. omega arith) (λ e. omega arith) is));
-  count = no_count job c x.no_count (λ is. absurd (never CantRead c 0 from (λ e. omega arith) (λ e. omega arith) is)) (λ is. absurd (never CantRead c 2 from (λ e. omega arith) (λ e. omega arith) is));
+  count = count_nothing job c some x.no_entry x.no_count;
   output = output_nothing c (λ is. absurd (never CantRead c 0 from (λ e. omega arith) (λ e. omega arith) is))
       (λ is. absurd (never CantRead c 2 from (λ e. omega arith) (λ e. omega arith) is))
       (λ is. absurd (never CantRead c 6 from (λ e. omega arith) (λ e. omega arith) is)) x;
@@ -385,7 +390,7 @@ clauses_no_memory job c command some from x = record {
   };
   run = run_nothing job c x.no_entry;
   code = no_code job c x.no_code (λ is. absurd (never NoMemory c 0 from (λ e. omega arith) (λ e. omega arith) is)) (λ is. absurd (never NoMemory c 2 from (λ e. omega arith) (λ e. omega arith) is));
-  count = no_count job c x.no_count (λ is. absurd (never NoMemory c 0 from (λ e. omega arith) (λ e. omega arith) is)) (λ is. absurd (never NoMemory c 2 from (λ e. omega arith) (λ e. omega arith) is));
+  count = count_nothing job c (some job command) x.no_entry x.no_count;
   output = output_nothing c (λ is. absurd (never NoMemory c 0 from (λ e. omega arith) (λ e. omega arith) is))
       (λ is. absurd (never NoMemory c 2 from (λ e. omega arith) (λ e. omega arith) is))
       (λ _ other is _ program _. unbegun (run_of program other) (some other is)) x;
@@ -485,11 +490,9 @@ clauses_ran before job c mode command from whole x =
         unlowered = λ h. absurd (h (runs_has job.mode mode));
       };
       count = record {
-        ended = λ is _ p has. subst (λ (q : NumberedProgram). IsDone (program_code q) (run_of q job) c.history c.done) (sym (only p has)) (says.counted (done_at before c from is));
-        faulted = λ is p has. let f = faulted_at before c from is in
-            subst (λ (q : NumberedProgram). IsDone (program_code q) (run_of q job) c.history c.done) (sym (only p has))
-            (says.counted_at_fault f.0 f.1);
-        none = λ h. absurd (h x.program x.compiled.has);
+        complete = λ _ p has complete. subst (λ (q : NumberedProgram). IsDone (program_code q) (run_of q job) c.history c.done) (sym (only p has))
+            (says.counted (subst (λ q. IsCompleteRun (run_of q job) c.history) (only p has) complete));
+        uncoded = λ gone. absurd (none_some (program_code x.program) (sym gone ∙ says.code));
         unrun = λ unrun. absurd (unrun mode);
       };
       output = record {
@@ -619,7 +622,7 @@ clauses_checked job c command mode from whole x =
       };
       run = run_nothing job c x.nothing.no_entry;
       code = no_code job c x.nothing.no_code (λ _ has _ _. subst HasCode mode has) (λ is. absurd (never Done c 2 from (λ e. omega arith) (λ e. omega arith) is));
-      count = no_count job c x.nothing.no_count (λ _ run _ _. run_or_check job.mode run mode) (λ is. absurd (never Done c 2 from (λ e. omega arith) (λ e. omega arith) is));
+      count = no_count job c x.nothing.no_count (λ run _ _ _. run_or_check job.mode run mode);
       output = output_nothing c
           (λ _ other is _ program _. ap (λ (m : Mode). output_in m (run_of program other) c.history (wanted other c.watchers)) (checks other is))
           (λ is. absurd (never Done c 2 from (λ e. omega arith) (λ e. omega arith) is))
@@ -675,7 +678,7 @@ clauses_coded before job c command mode either from whole x =
         none = λ h. absurd (h x.program x.compiled.has);
         unlowered = λ h. absurd (h (subst HasCode (sym mode) tt));
       };
-      count = no_count job c x.no_count (λ _ run _ _. run_or_code job.mode run mode) (λ is. absurd (other 2 (λ e. omega arith) (λ e. omega arith) is));
+      count = no_count job c x.no_count (λ run _ _ _. run_or_code job.mode run mode);
       output = record {
         done = λ is told. alone (λ j q. GrewBy c.out c.out_after (output j q c.history (wanted j c.watchers)))
             (subst (λ t. GrewBy c.out c.out_after t) (sym text_is) (x.wrote.all (done_at before c from is) told));
@@ -762,7 +765,7 @@ clauses_verified before job c mode command from whole x unwritten gone uncounted
         unrun = λ h. absurd (h (subst HasHistory (sym mode) tt));
       };
       code = no_code job c gone (λ _ has _ _. subst HasCode mode has) (λ is. absurd (other 2 (λ e. omega arith) (λ e. omega arith) (λ e. omega arith) is));
-      count = no_count job c uncounted (λ _ runs _ _. unrun runs) (λ is. absurd (other 2 (λ e. omega arith) (λ e. omega arith) (λ e. omega arith) is));
+      count = no_count job c uncounted (λ runs _ _ _. unrun runs);
       output = record {
         done = λ _ _ j some _ program _. nothing_of j some program same;
         faulted = λ is. absurd (other 2 (λ e. omega arith) (λ e. omega arith) (λ e. omega arith) is);
@@ -849,7 +852,7 @@ clauses_inferred before job c command mode either from whole x =
       };
       run = run_nothing job c x.no_entry;
       code = no_code job c x.no_code (λ _ has _ _. subst HasCode mode has) (λ is. absurd (other 2 (λ e. omega arith) (λ e. omega arith) is));
-      count = no_count job c x.no_count (λ _ runs _ _. unrun runs) (λ is. absurd (other 2 (λ e. omega arith) (λ e. omega arith) is));
+      count = no_count job c x.no_count (λ runs _ _ _. unrun runs);
       output = record {
         done = λ _ _ j some marked. absurd (marked (infers_too j some));
         faulted = λ _ _ j some marked. absurd (marked (infers_too j some));

@@ -92,7 +92,8 @@ missing_alike known job c d m n x y four fourth none nought = all_alike c d (non
     (record {
       status = four ∙ sym fourth;
       history = (m.beside_err.run job x).none (nothing_has known c none) ∙ sym ((n.beside_err.run job y).none (nothing_has known d nought));
-      done = (m.beside_err.count job x).none (nothing_has known c none) ∙ sym ((n.beside_err.count job y).none (nothing_has known d nought));
+      done = (m.beside_err.count job x).uncoded ((m.beside_err.code job x).none (nothing_has known c none))
+          ∙ sym ((n.beside_err.count job y).uncoded ((n.beside_err.code job y).none (nothing_has known d nought)));
       output = λ watchers told heard. nothing_grew c d (m.beside_err.output.nothing_at_four four) (n.beside_err.output.nothing_at_four fourth);
     })
 
@@ -192,9 +193,9 @@ run_alike known job c d m n u v x y whole all same a b runs program has = record
     codes e k z (inl none) p there = (k.beside_err.code job z).there none (runs_has job.mode runs) p there
     codes e k z (inr two) p there = (k.beside_err.code job z).there_at_two two p there
 
-    counts : (e : Call) → Meets e → IsCommand e job → (e.status ≡ 0) ⊎ (e.status ≡ 2) → (p : NumberedProgram) → HasProgram e.text p → IsDone (program_code p) (run_of p job) e.history e.done
-    counts e k z (inl none) p there = (k.beside_err.count job z).ended none runs p there
-    counts e k z (inr two) p there = (k.beside_err.count job z).faulted two p there
+    counts : (e : Call) → Meets e → IsCommand e job → IsComplete job e → (p : NumberedProgram) → HasProgram e.text p
+        → IsDone (program_code p) (run_of p job) e.history e.done
+    counts e k z complete p there = (k.beside_err.count job z).complete runs p there (complete.ended runs p there)
 
     -- a history that ends with a fault tells the status
     two : (e : Call) → Meets e → IsUndisturbed e → IsCommand e job → (fault : Fault) → EndsWithFault e.history fault → e.status ≡ 2
@@ -228,7 +229,7 @@ run_alike known job c d m n u v x y whole all same a b runs program has = record
         record {
           status = statuses one a b;
           history = one;
-          done = one_count (program_code program) (run_of program job) c.history d.history c.done d.done (λ i. ap (entries_of i) one) (counts c m x a program has) (counts d n y b program has_too);
+          done = one_count (program_code program) (run_of program job) c.history d.history c.done d.done (λ i. ap (entries_of i) one) (counts c m x whole program has) (counts d n y all program has_too);
           output = λ watchers told heard. wrote_alike job c d (runs_marked job.mode runs) x y (grew c m a told) (grew d n b heard) same one watchers program has;
         }
 
@@ -244,7 +245,7 @@ run_alike known job c d m n u v x y whole all same a b runs program has = record
         record {
           status = zero ∙ sym (zero_too (none_faults s c.history d.history run ended other front complete) b);
           entries = entries;
-          done = one_count (program_code program) s c.history d.history c.done d.done entries (counts c m x a program has) (counts d n y b program has_too);
+          done = one_count (program_code program) s c.history d.history c.done d.done entries (counts c m x whole program has) (counts d n y all program has_too);
         }
       where
         zero_too : (has_fault d.history ≡ true → ⊥) → (d.status ≡ 0) ⊎ (d.status ≡ 2) → d.status ≡ 0

@@ -4,13 +4,13 @@ use Rattle.std.proofs.lemmas.List.{append-nil}
 use Rattle.ti_top.specs.declared.ending.Ending.{Ending}
 use Rattle.ti_top.specs.declared.ending.Ending.TheVariants.{Done, Refused, Faulted, NoCommand, CantRead, CantWrite, NoMemory, NoRun}
 use Rattle.ti_top.specs.Mirrors.Ended.{Ended, EndedWhole, EndedCut}
-use Rattle.ti_top.specs.Call.{Call, file_of, SinkRose}
+use Rattle.ti_top.specs.Call.{Call, file_of, OutRose}
 use Rattle.ti_top.proofs.StatusFrom.{is_done, is_cant_write}
 use Rattle.ti_top.specs.Clauses.{MeetsBesideErr, Says, before_err, WritesErr, line}
 
 -- the output failed before the line on err
-out_rose : (c : Call) (before : Ending) → before ≡ CantWrite → Says c before → SinkRose c
-out_rose c CantWrite is says = inl says.2
+out_rose : (c : Call) (before : Ending) → before ≡ CantWrite → Says c before → OutRose c
+out_rose c CantWrite is says = says.2
 out_rose c Done is says = absurd (let x = is in cc)
 out_rose c (Refused refusal) is says = absurd (let x = is in cc)
 out_rose c (Faulted fault) is says = absurd (let x = is in cc)
@@ -23,9 +23,10 @@ written_whole : (c : Call) (before : Ending) → Says c before → MeetsBesideEr
 written_whole c before says met ended = record {
   nothing = λ is. ap (λ s. s.taken) (ended.nothing (is_done before (sym ended.same ∙ is)));
   whole = λ _ told. (before, ended.same, says, ended.grew told);
-  five_only_where = λ is. out_rose c before (is_cant_write before (sym ended.same ∙ is)) says;
+  five_only_where = λ is. inl (out_rose c before (is_cant_write before (sym ended.same ∙ is)) says);
   five = λ is _ told. rw (is_cant_write before (sym ended.same ∙ is)) at (ended.grew told);
-  cut = λ is _ told. inr (before, says, met, (line c before, ([], append-nil (line c before)), ended.grew told));
+  cut = λ is _ told. inr (before, (says, met), (line c before, ([], append-nil (line c before)), ended.grew told));
+  err_alone = λ is calm. absurd (calm (out_rose c before (is_cant_write before (sym ended.same ∙ is)) says));
 }
 
 written_cut : (c : Call) (before : Ending) → Says c before → MeetsBesideErr (before_err c before) → EndedCut before (file_of c) c.err c.err_after c.status → WritesErr c
@@ -34,7 +35,8 @@ written_cut c before says met ended = record {
   whole = λ other _. absurd (other ended.five);
   five_only_where = λ _. inr ended.rose;
   five = λ _ calm _. absurd (calm ended.rose);
-  cut = λ _ _ told. inr (before, says, met, ended.grew told);
+  cut = λ _ _ told. inr (before, (says, met), ended.grew told);
+  err_alone = λ _ _. (before, (says, met));
 }
 
 -- an ending that is true of the call, with which it kept its other promises, and how its line was written

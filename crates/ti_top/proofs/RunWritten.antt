@@ -166,18 +166,17 @@ output_is Run ended s h ws runs run ends = refl
 output_is Gen ended s h ws runs run ends = ap (λ t. t ++ reports ws h) (summary_is ended s h run ends)
 output_is _ ended s h ws runs run ends = absurd runs
 
--- the program was run by its code, and the instructions of a run that ended so are counted
-pub record IsByCode (p : NumberedProgram) (job : Job) (ended : Ending) (k : Kept) : Type 0 where
+-- the program was run by its code, and the instructions of a complete run are counted
+pub record IsByCode (p : NumberedProgram) (job : Job) (k : Kept) : Type 0 where
   pub code : k.code ≡ Some (program_code p)
   pub follows : Follows (program_code p) p
-  pub counted : ended ≡ Done → IsDone (program_code p) (run_of p job) k.history k.done
-  pub counted_at_fault : (fault : Fault) → ended ≡ Faulted fault → IsDone (program_code p) (run_of p job) k.history k.done
+  pub counted : IsComplete (run_of p job) k.history → IsDone (program_code p) (run_of p job) k.history k.done
 
 -- the run of a program, and what was written of it
 pub run_says : (ended : Ending) (p : NumberedProgram) (job : Job) (ws : List Watcher) (s0 s1 : SinkState) (kept : Kept) (ending : Ending)
     → Runs job.mode → IsRun (run_of p job) kept.history → (job.workers ≡ 1 → IsSolo (run_of p job) kept.history)
     → Determines (run_of p job) kept.history → races_told kept.history ≡ races kept.history → RunEnds (run_of p job) kept.history ended
-    → IsByCode p job ended kept → WroteRun ended (head_after job.mode ended p kept.history) ws kept.history s0 s1 ending
+    → IsByCode p job kept → WroteRun ended (head_after job.mode ended p kept.history) ws kept.history s0 s1 ending
     → RunSays p job ws s0 s1 kept ending
 run_says ended p job ws s0 s1 kept ending runs run solo determines told ends by wrote = record {
   run = run;
@@ -206,8 +205,7 @@ run_says ended p job ws s0 s1 kept ending runs run solo determines told ends by 
       };
   code = by.code;
   follows = by.follows;
-  counted = λ is. by.counted (ending_is ended ending Done wrote.known is (λ e. let x = e in cc) (λ e. let x = e in cc));
-  counted_at_fault = λ fault is. by.counted_at_fault fault (ending_is ended ending (Faulted fault) wrote.known is (λ e. let x = e in cc) (λ e. let x = e in cc));
+  counted = by.counted;
 }
   where
     s : Setting

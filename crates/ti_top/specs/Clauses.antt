@@ -146,14 +146,13 @@ pub record RunsCode (job : Job) (c : Call) : Type 0 where
   pub none : ((program : NumberedProgram) → HasProgram c.text program → ⊥) → c.code ≡ None
   pub unlowered : (HasCode job.mode → ⊥) → c.code ≡ None
 
--- The count of instructions: where the program was run with status 0 or 2, there is for each process the number of instructions of the code
--- that it has finished for the answers of its entries. Where nothing was run there is none.
+-- The counts of instructions: where the program was run and the history is complete, whatever the status, there is for each process the
+-- number of instructions of the code that it has finished for the answers of its entries. Where there is no code, or the mode isn't one
+-- that runs it, there are no counts.
 pub record CountsInstructions (job : Job) (c : Call) : Type 0 where
-  pub ended : c.status ≡ 0 → Runs job.mode → (program : NumberedProgram) → HasProgram c.text program
-      → IsDone (program_code program) (run_of program job) c.history c.done
-  pub faulted : c.status ≡ 2 → (program : NumberedProgram) → HasProgram c.text program
-      → IsDone (program_code program) (run_of program job) c.history c.done
-  pub none : ((program : NumberedProgram) → HasProgram c.text program → ⊥) → c.done ≡ []
+  pub complete : Runs job.mode → (program : NumberedProgram) → HasProgram c.text program
+      → IsCompleteRun (run_of program job) c.history → IsDone (program_code program) (run_of program job) c.history c.done
+  pub uncoded : c.code ≡ None → c.done ≡ []
   pub unrun : (Runs job.mode → ⊥) → c.done ≡ []
 
 -- this holds of the job and the program wherever the text has one, in every mode but infer
@@ -263,18 +262,23 @@ TellsEnding c = (ending : Ending) × (c.status ≡ status_of ending) × Says c e
 abbrev pub before_err : Call → Ending → Call
 before_err c ending = record c { status = status_of ending; err_after = c.err }
 
--- err grew by a front of the line of the ending that the call had before err failed: one that is true of the call, and with whose status
--- the call kept its promises on everything else
-abbrev pub TellsFront : Call → Type 0
-TellsFront c = (before : Ending) × Says c before × MeetsBesideErr (before_err c before) × GrewByFront c.err c.err_after (line c before)
+-- the call had this ending before err failed: it is true of the call, and with its status the call kept its promises on everything else
+abbrev pub HadEnding : Call → Ending → Type 0
+HadEnding c before = Says c before × MeetsBesideErr (before_err c before)
 
--- The line on err: that of the status. Status 5 says that a sink failed; where err did, a front of a line stands there.
+-- err grew by a prefix of the line of the ending that the call had before err failed
+abbrev pub TellsFront : Call → Type 0
+TellsFront c = (before : Ending) × HadEnding c before × GrewByFront c.err c.err_after (line c before)
+
+-- The line on err: that of the status. Status 5 says that a sink failed; where err did, err grew by a prefix of a line. Where out didn't, the
+-- call had kept all its other promises, those on the output among them, with the ending that it had before err failed.
 pub record WritesErr (c : Call) : Type 0 where
   pub nothing : c.status ≡ 0 → c.err_after.taken ≡ c.err.taken
   pub whole : (c.status ≡ 5 → ⊥) → c.err.tells ≡ true → TellsEnding c
   pub five_only_where : c.status ≡ 5 → SinkRose c
   pub five : c.status ≡ 5 → (ErrRose c → ⊥) → c.err.tells ≡ true → GrewBy c.err c.err_after (line c CantWrite)
   pub cut : c.status ≡ 5 → ErrRose c → c.err.tells ≡ true → GrewByFront c.err c.err_after (line c CantWrite) ⊎ TellsFront c
+  pub err_alone : c.status ≡ 5 → (OutRose c → ⊥) → (before : Ending) × HadEnding c before
 
 -- nothing failed: no count of faults rose, the file is there where one is named, and it didn't run out of memory
 pub record NothingFailed (job : Job) (c : Call) : Type 0 where

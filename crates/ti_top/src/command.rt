@@ -23,8 +23,9 @@ pub struct Outcome {
     pub status: u8,
     /// What was read, or in mode gen what was made.
     pub text: Vec<u8>,
-    /// The code of the text's program, which in the modes run and gen was run: there in the modes run, code and gen where the status is 0
-    /// or 2, and where a write to out or err failed or the run was out of memory. Else there is none.
+    /// The code of the program, which the modes run and gen execute. In the modes run, code and gen
+    /// it is there with status 0 and 2, and may be there with status 5, if a write to out or err
+    /// failed; in the modes run and gen it may also be there with status 6. Otherwise there is none.
     pub code: Option<Code>,
     /// The entries of the run, in order. In mode verify those of the trace: of its complete run, or of the lines before the wrong one.
     pub history: Vec<Entry>,

@@ -5,9 +5,13 @@ use crate::compiling::one_answer;
 use crate::inferring::one_marking;
 use ti_lex::one_reading;
 
-/// Two calls on the same words, whose sources tell the same names with the same bytes, and of which neither met a fault nor ran out of
-/// memory, end with the same status, of the same text, and with the same code and the same history; and where the same watchers were
-/// handed in and both outs tell what they take, with the same output.
+/// Two calls with the same arguments, whose sources tell the same names with the same bytes, and of
+/// which neither met a fault nor ran out of memory, have the same text and the same code. Unless
+/// several workers run the program, they end with the same status, history and counts of
+/// instructions; and if the same watchers were handed in and both outs tell what they take, with the
+/// same output. With several workers too they end with the same status, the same counts and the same
+/// entries of each process, if in the first call all processes end and nothing in its history is part
+/// of a race.
 pub fn one_ending()
     ensures { OneEnding }
 {

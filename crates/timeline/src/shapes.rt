@@ -53,7 +53,7 @@ pub(crate) fn title_of(alloc: Global, number: usize, entry: &Entry) -> Result<St
     format!(in alloc; "<title>{line}</title>")
 }
 
-/// How entries of an act look.
+/// How entries of an act look. No contract says which look is whose: it decides nothing but colors.
 pub(crate) fn look(act: Act, is_racing: bool) -> &'static str {
     match act {
         _ if is_racing => "race",

@@ -39,7 +39,7 @@ pub record DeletesNothing (s : Setting) (es : List Entry) (i : ℕ) : Type 0 whe
   pub deletes : is_delete action ≡ true
   pub impossible : heap_answer s.program (history_of es) i action ≡ Impossible
 
--- no process waits for ever: where there is no fault and no process can take an entry, all have their end, or some process has
+-- a run stands still only by a fault: where there is none and no process can take an entry, all have their end, or some process has
 -- come to the delete of a region that isn't there
 abbrev pub NoneWaits : Setting → List Entry → Type 0
 NoneWaits s es = has_fault es ≡ false → ((i : ℕ) (e : Entry) → CanTake s es i e → ⊥) → AllEnded s es ⊎ ((i : ℕ) × DeletesNothing s es i)

@@ -1,4 +1,4 @@
--- A region that is deleted is there: so no process waits for ever.
+-- A region that is deleted is there: so a run stands still only by a fault.
 use Rattle.std.proofs.Common.{◌≡◌, ◌⊎◌, inl, inr, ℕ, ◌<◌, nat_lt, length, Bool, true, false, if◌then◌else◌, Option, Some, None, List, [], ◌∷◌, ◌++◌, refl, ap, sym, ◌∙◌, subst, append-nil}
 use Rattle.ti_base.specs.declared.place.Place.{Place}
 use Rattle.ti_base.specs.declared.fault.FaultKind.TheVariants.{Fuel, Depth, RegionGone}

@@ -148,9 +148,7 @@ pub record RunSays (program : NumberedProgram) (job : Job) (watchers : List Watc
   pub few : ending ≡ NoMemory → out.tells ≡ true → WroteFew job.mode (run_of program job) watchers kept.history out out_after
   pub code : kept.code ≡ Some (program_code program)
   pub follows : Follows (program_code program) program
-  pub counted : ending ≡ Done → IsDone (program_code program) (run_of program job) kept.history kept.done
-  pub counted_at_fault : (fault : Fault) → ending ≡ Faulted fault
-      → IsDone (program_code program) (run_of program job) kept.history kept.done
+  pub counted : IsComplete (run_of program job) kept.history → IsDone (program_code program) (run_of program job) kept.history kept.done
 
 -- so was the program of the text
 pub record Ran (job : Job) (watchers : List Watcher) (text : List ℕ) (out out_after : SinkState) (kept : Kept)

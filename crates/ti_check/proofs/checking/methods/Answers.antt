@@ -11,7 +11,7 @@ pub loop-i-init : goal.loop-i-init
 loop-i-init c = left_first _ _ c.nothing-found.result c.nothing-found.ensures.first
 
 pub method-requires-clause-is_method : goal.method-requires-clause-is_method
-method-requires-clause-is_method c = ap (slice_get (program_of c.args.p.now.parts).methods) c.in_ok-number.ensures ∙ c.method_at-m.ensures
+method-requires-clause-is_method c = ap (slice_get (program_of c.args.p.now.parts).methods) c.in_ok-number.ensures.value ∙ c.method_at-m.ensures
 
 pub loop-i-preserved : goal.loop-i-preserved
 loop-i-preserved c =

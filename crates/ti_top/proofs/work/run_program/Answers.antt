@@ -19,7 +19,7 @@ returns-in-Ok-clause-says g c =
     let kept : Kept = record { code = Some c.args.ready.code; history = c.run_by_code-end.result.history.items; done = c.run_by_code-end.result.done.items } in
     said_of program job _ _ _ kept _ _ c.kept_of_run.ensures
     (run_says c.ending_of-ended.result program job _ _ _ kept c.report_after.result c.requires.mode ran.run ran.solo c.run_by_code-end.ensures.determines c.run_by_code-end.ensures.told ends
-    (by_code program job c.ending_of-ended.result c.args.ready.code c.run_by_code-end.result kept c.requires.code c.requires.follows ran ends refl)
+    (by_code program job c.args.ready.code c.run_by_code-end.result kept c.requires.code c.requires.follows ran refl)
     (wrote_all _ _ _ _ _ _ _ _ _ (rw c.deref.ensures.value at c.in-Ok.ensures.written) (rw c.deref-in-Ok.ensures.value at c.report_after.ensures.reports)))
 
 pub returns-in-Ok-clause-leaves : goal.returns-in-Ok-clause-leaves
@@ -34,5 +34,5 @@ returns-in-Err-clause-says g c =
     let kept : Kept = record { code = Some c.args.ready.code; history = c.run_by_code-end.result.history.items; done = c.run_by_code-end.result.done.items } in
     said_of program job _ _ _ kept _ _ c.kept_of_run-in-Err.ensures
     (run_says c.ending_of-ended.result program job _ _ _ kept _ c.requires.mode ran.run ran.solo c.run_by_code-end.ensures.determines c.run_by_code-end.ensures.told ends
-    (by_code program job c.ending_of-ended.result c.args.ready.code c.run_by_code-end.result kept c.requires.code c.requires.follows ran ends refl)
+    (by_code program job c.args.ready.code c.run_by_code-end.result kept c.requires.code c.requires.follows ran refl)
     (wrote_cut _ _ _ _ _ _ _ (rw c.deref.ensures.value at c.in-Err.ensures.written)))

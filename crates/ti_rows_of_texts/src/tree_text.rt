@@ -1,0 +1,846 @@
+// Trees as text, in the form that a derived `Debug` would write. A stack holds what is still to be written: a node is replaced by its
+// parts and the texts between them. So each kind of node has one short function without recursion, which costs the prover little.
+
+use std::alloc::{AllocError, Global};
+use ti_base::Place;
+use ti_syntax::Spelled;
+use ti_syntax::tree::{
+    Base, BinaryOperator, Brackets, Class, Dims, Expr, Field, Init, Member, Method, Modifier,
+    Param, Params, Printed, Qualifier, Range, ResultType, StepOperator, Stmt, TypeName,
+    UnaryOperator,
+};
+
+/// What is still to be written, or a part of it.
+#[derive(Clone, Copy)]
+pub(crate) enum Item<'a> {
+    Text(&'static str),
+    Number(i64),
+    Truth(bool),
+    Place(Place),
+    Spelled(&'a Spelled),
+    Unary(UnaryOperator),
+    Binary(BinaryOperator),
+    StepOperator(StepOperator),
+    Modifier(Modifier),
+    Qualifier(Qualifier),
+    Base(&'a Base),
+    Brackets(&'a Brackets),
+    TypeName(&'a TypeName),
+    Expr(&'a Expr),
+    Range(&'a Range),
+    Dims(&'a Dims),
+    Init(&'a Init),
+    Printed(&'a Printed),
+    Stmt(&'a Stmt),
+    Field(&'a Field),
+    Param(&'a Param),
+    Params(&'a Params),
+    ResultType(&'a ResultType),
+    Method(&'a Method),
+    Member(&'a Member),
+    Class(&'a Class),
+    Exprs(&'a [Expr]),
+    Ranges(&'a [Range]),
+    Stmts(&'a [Stmt]),
+    Modifiers(&'a [Modifier]),
+    Qualifiers(&'a [Qualifier]),
+    Grids(&'a [Brackets]),
+    ParamList(&'a [Param]),
+    Members(&'a [Member]),
+    Classes(&'a [Class]),
+    MaybeExpr(&'a Option<Expr>),
+    MaybeStmt(&'a Option<Box<Stmt>>),
+}
+
+/// What is still to be written, the first last.
+#[derive(Drop)]
+pub(crate) struct Stack<'a> {
+    items: Vec<Item<'a>>,
+}
+
+impl<'a> Stack<'a> {
+    /// Puts items in front of the others.
+    pub(crate) fn put(&mut self, items: &[Item<'a>]) -> Result<(), AllocError> {
+        for item in items.iter().rev() {
+            self.items.push(*item)?;
+        }
+        Ok(())
+    }
+
+    /// Puts the elements of a list in front of the others.
+    fn list<T: Part>(&mut self, parts: &'a [T]) -> Result<(), AllocError> {
+        self.items.push(Item::Text("]"))?;
+        for (number, part) in parts.iter().enumerate().rev() {
+            self.items.push(part.item())?;
+            if number > 0 {
+                self.items.push(Item::Text(", "))?;
+            }
+        }
+        self.items.push(Item::Text("["))?;
+        Ok(())
+    }
+}
+
+/// What stands in lists.
+trait Part {
+    fn item(&self) -> Item<'_>;
+}
+
+impl Part for Expr {
+    fn item(&self) -> Item<'_> {
+        Item::Expr(self)
+    }
+}
+
+impl Part for Range {
+    fn item(&self) -> Item<'_> {
+        Item::Range(self)
+    }
+}
+
+impl Part for Stmt {
+    fn item(&self) -> Item<'_> {
+        Item::Stmt(self)
+    }
+}
+
+impl Part for Modifier {
+    fn item(&self) -> Item<'_> {
+        Item::Modifier(*self)
+    }
+}
+
+impl Part for Qualifier {
+    fn item(&self) -> Item<'_> {
+        Item::Qualifier(*self)
+    }
+}
+
+impl Part for Brackets {
+    fn item(&self) -> Item<'_> {
+        Item::Brackets(self)
+    }
+}
+
+impl Part for Param {
+    fn item(&self) -> Item<'_> {
+        Item::Param(self)
+    }
+}
+
+impl Part for Member {
+    fn item(&self) -> Item<'_> {
+        Item::Member(self)
+    }
+}
+
+impl Part for Class {
+    fn item(&self) -> Item<'_> {
+        Item::Class(self)
+    }
+}
+
+/// Writes a part that is no node.
+fn write_leaf(alloc: Global, out: &mut String, item: Item) -> Result<(), AllocError> {
+    match item {
+        Item::Text(text) => out.push_str(text),
+        Item::Number(number) => out.push_str(&format!(in alloc; "{number}")?),
+        Item::Truth(truth) => out.push_str(&format!(in alloc; "{truth}")?),
+        Item::Place(place) => out.push_str(&format!(in alloc; "{place:?}")?),
+        Item::Spelled(spelled) => out.push_str(&format!(in alloc; "{spelled:?}")?),
+        Item::Unary(operator) => out.push_str(&format!(in alloc; "{operator:?}")?),
+        Item::Binary(operator) => out.push_str(&format!(in alloc; "{operator:?}")?),
+        Item::StepOperator(operator) => out.push_str(&format!(in alloc; "{operator:?}")?),
+        Item::Modifier(modifier) => out.push_str(&format!(in alloc; "{modifier:?}")?),
+        Item::Qualifier(qualifier) => out.push_str(&format!(in alloc; "{qualifier:?}")?),
+        _ => Ok(()),
+    }
+}
+
+/// Puts the parts of a node in its place, or writes what is none.
+fn write_item<'a>(
+    alloc: Global,
+    stack: &mut Stack<'a>,
+    out: &mut String,
+    item: Item<'a>,
+) -> Result<(), AllocError> {
+    match item {
+        Item::Base(node) => base(stack, node),
+        Item::Brackets(node) => brackets(stack, node),
+        Item::TypeName(node) => type_name(stack, node),
+        Item::Expr(node) => expr(stack, node),
+        Item::Range(node) => range(stack, node),
+        Item::Dims(node) => dims(stack, node),
+        Item::Init(node) => init(stack, node),
+        Item::Printed(node) => printed(stack, node),
+        Item::Stmt(node) => stmt(stack, node),
+        Item::Field(node) => field(stack, node),
+        Item::Param(node) => param(stack, node),
+        Item::Params(node) => params(stack, node),
+        Item::ResultType(node) => result_type(stack, node),
+        Item::Method(node) => method(stack, node),
+        Item::Member(node) => member(stack, node),
+        Item::Class(node) => class(stack, node),
+        Item::Exprs(list) => stack.list(list),
+        Item::Ranges(list) => stack.list(list),
+        Item::Stmts(list) => stack.list(list),
+        Item::Modifiers(list) => stack.list(list),
+        Item::Qualifiers(list) => stack.list(list),
+        Item::Grids(list) => stack.list(list),
+        Item::ParamList(list) => stack.list(list),
+        Item::Members(list) => stack.list(list),
+        Item::Classes(list) => stack.list(list),
+        Item::MaybeExpr(Some(node)) => stack.put(&[
+            Item::Text("Some("),
+            Item::Expr(node),
+            Item::Text(")"),
+        ]),
+        Item::MaybeExpr(None) => stack.put(&[Item::Text("None")]),
+        Item::MaybeStmt(Some(node)) => stack.put(&[
+            Item::Text("Some("),
+            Item::Stmt(node),
+            Item::Text(")"),
+        ]),
+        Item::MaybeStmt(None) => stack.put(&[Item::Text("None")]),
+        leaf => write_leaf(alloc, out, leaf),
+    }
+}
+
+// So many items are written at most.
+const MOST: u32 = 100_000_000;
+
+/// The text of an item, as a derived `Debug` would write it.
+pub(crate) fn text_of(alloc: Global, item: Item) -> Result<String, AllocError> {
+    let mut stack = Stack {
+        items: Vec::new(alloc),
+    };
+    stack.put(&[item])?;
+    let mut out = String::new(alloc);
+    for _ in 0..MOST {
+        match stack.items.pop() {
+            Some(item) => write_item(alloc, &mut stack, &mut out, item)?,
+            None => return Ok(out),
+        }
+    }
+    Ok(out)
+}
+
+/// What a type begins with.
+fn base<'a>(stack: &mut Stack<'a>, base: &'a Base) -> Result<(), AllocError> {
+    match base {
+        Base::Int(place) => stack.put(&[Item::Text("Int("), Item::Place(*place), Item::Text(")")]),
+        Base::Long(place) => stack.put(&[
+            Item::Text("Long("),
+            Item::Place(*place),
+            Item::Text(")"),
+        ]),
+        Base::Boolean(place) => stack.put(&[
+            Item::Text("Boolean("),
+            Item::Place(*place),
+            Item::Text(")"),
+        ]),
+        Base::Point(place, dim) => stack.put(&[
+            Item::Text("Point("),
+            Item::Place(*place),
+            Item::Text(", "),
+            Item::Number(i64::from(*dim)),
+            Item::Text(")"),
+        ]),
+        Base::RectDomain(place, dim) => stack.put(&[
+            Item::Text("RectDomain("),
+            Item::Place(*place),
+            Item::Text(", "),
+            Item::Number(i64::from(*dim)),
+            Item::Text(")"),
+        ]),
+        Base::Domain(place, dim) => stack.put(&[
+            Item::Text("Domain("),
+            Item::Place(*place),
+            Item::Text(", "),
+            Item::Number(i64::from(*dim)),
+            Item::Text(")"),
+        ]),
+        Base::SharedRegion(place) => stack.put(&[
+            Item::Text("SharedRegion("),
+            Item::Place(*place),
+            Item::Text(")"),
+        ]),
+        Base::Named(place, name) => stack.put(&[
+            Item::Text("Named("),
+            Item::Place(*place),
+            Item::Text(", "),
+            Item::Spelled(name),
+            Item::Text(")"),
+        ]),
+    }
+}
+
+/// The brackets of a grid.
+fn brackets<'a>(stack: &mut Stack<'a>, brackets: &'a Brackets) -> Result<(), AllocError> {
+    stack.put(&[
+        Item::Text("Brackets { dim: "),
+        Item::Number(i64::from(brackets.dim)),
+        Item::Text(", qualifiers: "),
+        Item::Qualifiers(&brackets.qualifiers),
+        Item::Text(" }"),
+    ])
+}
+
+/// A type.
+fn type_name<'a>(stack: &mut Stack<'a>, ty: &'a TypeName) -> Result<(), AllocError> {
+    stack.put(&[
+        Item::Text("TypeName { base: "),
+        Item::Base(&ty.base),
+        Item::Text(", qualifiers: "),
+        Item::Qualifiers(&ty.qualifiers),
+        Item::Text(", grids: "),
+        Item::Grids(&ty.grids),
+        Item::Text(" }"),
+    ])
+}
+
+/// An expression.
+fn expr<'a>(stack: &mut Stack<'a>, e: &'a Expr) -> Result<(), AllocError> {
+    match e {
+        Expr::Int(place, n) => stack.put(&[
+            Item::Text("Int("),
+            Item::Place(*place),
+            Item::Text(", "),
+            Item::Number(i64::from(*n)),
+            Item::Text(")"),
+        ]),
+        Expr::Long(place, n) => stack.put(&[
+            Item::Text("Long("),
+            Item::Place(*place),
+            Item::Text(", "),
+            Item::Number(*n),
+            Item::Text(")"),
+        ]),
+        Expr::Truth(place, truth) => stack.put(&[
+            Item::Text("Truth("),
+            Item::Place(*place),
+            Item::Text(", "),
+            Item::Truth(*truth),
+            Item::Text(")"),
+        ]),
+        Expr::Null(place) => stack.put(&[
+            Item::Text("Null("),
+            Item::Place(*place),
+            Item::Text(")"),
+        ]),
+        Expr::This(place) => stack.put(&[
+            Item::Text("This("),
+            Item::Place(*place),
+            Item::Text(")"),
+        ]),
+        Expr::Name(place, name) => stack.put(&[
+            Item::Text("Name("),
+            Item::Place(*place),
+            Item::Text(", "),
+            Item::Spelled(name),
+            Item::Text(")"),
+        ]),
+        Expr::Call { place, name, args } => stack.put(&[
+            Item::Text("Call { place: "),
+            Item::Place(*place),
+            Item::Text(", name: "),
+            Item::Spelled(name),
+            Item::Text(", args: "),
+            Item::Exprs(args),
+            Item::Text(" }"),
+        ]),
+        Expr::ThisProc(place) => stack.put(&[
+            Item::Text("ThisProc("),
+            Item::Place(*place),
+            Item::Text(")"),
+        ]),
+        Expr::NumProcs(place) => stack.put(&[
+            Item::Text("NumProcs("),
+            Item::Place(*place),
+            Item::Text(")"),
+        ]),
+        Expr::Point(place, parts) => stack.put(&[
+            Item::Text("Point("),
+            Item::Place(*place),
+            Item::Text(", "),
+            Item::Exprs(parts),
+            Item::Text(")"),
+        ]),
+        Expr::Rect(place, ranges) => stack.put(&[
+            Item::Text("Rect("),
+            Item::Place(*place),
+            Item::Text(", "),
+            Item::Ranges(ranges),
+            Item::Text(")"),
+        ]),
+        Expr::Unary {
+            place,
+            operator,
+            operand,
+        } => stack.put(&[
+            Item::Text("Unary { place: "),
+            Item::Place(*place),
+            Item::Text(", operator: "),
+            Item::Unary(*operator),
+            Item::Text(", operand: "),
+            Item::Expr(operand),
+            Item::Text(" }"),
+        ]),
+        Expr::Binary {
+            place,
+            operator,
+            left,
+            right,
+        } => stack.put(&[
+            Item::Text("Binary { place: "),
+            Item::Place(*place),
+            Item::Text(", operator: "),
+            Item::Binary(*operator),
+            Item::Text(", left: "),
+            Item::Expr(left),
+            Item::Text(", right: "),
+            Item::Expr(right),
+            Item::Text(" }"),
+        ]),
+        Expr::Cast { place, to, operand } => stack.put(&[
+            Item::Text("Cast { place: "),
+            Item::Place(*place),
+            Item::Text(", to: "),
+            Item::TypeName(to),
+            Item::Text(", operand: "),
+            Item::Expr(operand),
+            Item::Text(" }"),
+        ]),
+        Expr::Select {
+            place,
+            receiver,
+            name,
+        } => stack.put(&[
+            Item::Text("Select { place: "),
+            Item::Place(*place),
+            Item::Text(", receiver: "),
+            Item::Expr(receiver),
+            Item::Text(", name: "),
+            Item::Spelled(name),
+            Item::Text(" }"),
+        ]),
+        Expr::Member {
+            place,
+            receiver,
+            name,
+            args,
+        } => stack.put(&[
+            Item::Text("Member { place: "),
+            Item::Place(*place),
+            Item::Text(", receiver: "),
+            Item::Expr(receiver),
+            Item::Text(", name: "),
+            Item::Spelled(name),
+            Item::Text(", args: "),
+            Item::Exprs(args),
+            Item::Text(" }"),
+        ]),
+        Expr::Index {
+            place,
+            receiver,
+            indices,
+        } => stack.put(&[
+            Item::Text("Index { place: "),
+            Item::Place(*place),
+            Item::Text(", receiver: "),
+            Item::Expr(receiver),
+            Item::Text(", indices: "),
+            Item::Exprs(indices),
+            Item::Text(" }"),
+        ]),
+    }
+}
+
+/// A range.
+fn range<'a>(stack: &mut Stack<'a>, range: &'a Range) -> Result<(), AllocError> {
+    match range {
+        Range::Plain { low, high } => stack.put(&[
+            Item::Text("Plain { low: "),
+            Item::Expr(low),
+            Item::Text(", high: "),
+            Item::Expr(high),
+            Item::Text(" }"),
+        ]),
+        Range::Stepped { low, high, step } => stack.put(&[
+            Item::Text("Stepped { low: "),
+            Item::Expr(low),
+            Item::Text(", high: "),
+            Item::Expr(high),
+            Item::Text(", step: "),
+            Item::Expr(step),
+            Item::Text(" }"),
+        ]),
+    }
+}
+
+/// The domain of a grid that is made.
+fn dims<'a>(stack: &mut Stack<'a>, dims: &'a Dims) -> Result<(), AllocError> {
+    match dims {
+        Dims::Domain(e) => stack.put(&[Item::Text("Domain("), Item::Expr(e), Item::Text(")")]),
+        Dims::Ranges(ranges) => stack.put(&[
+            Item::Text("Ranges("),
+            Item::Ranges(ranges),
+            Item::Text(")"),
+        ]),
+    }
+}
+
+/// A right side.
+fn init<'a>(stack: &mut Stack<'a>, init: &'a Init) -> Result<(), AllocError> {
+    match init {
+        Init::Value(e) => stack.put(&[Item::Text("Value("), Item::Expr(e), Item::Text(")")]),
+        Init::NewRegion(place) => stack.put(&[
+            Item::Text("NewRegion("),
+            Item::Place(*place),
+            Item::Text(")"),
+        ]),
+        Init::NewObject {
+            place,
+            region,
+            name_place,
+            name,
+        } => stack.put(&[
+            Item::Text("NewObject { place: "),
+            Item::Place(*place),
+            Item::Text(", region: "),
+            Item::MaybeExpr(region),
+            Item::Text(", name_place: "),
+            Item::Place(*name_place),
+            Item::Text(", name: "),
+            Item::Spelled(name),
+            Item::Text(" }"),
+        ]),
+        Init::NewGrid {
+            place,
+            region,
+            element,
+            bracket,
+            dims,
+        } => stack.put(&[
+            Item::Text("NewGrid { place: "),
+            Item::Place(*place),
+            Item::Text(", region: "),
+            Item::MaybeExpr(region),
+            Item::Text(", element: "),
+            Item::TypeName(element),
+            Item::Text(", bracket: "),
+            Item::Place(*bracket),
+            Item::Text(", dims: "),
+            Item::Dims(dims),
+            Item::Text(" }"),
+        ]),
+        Init::Broadcast { place, value, root } => stack.put(&[
+            Item::Text("Broadcast { place: "),
+            Item::Place(*place),
+            Item::Text(", value: "),
+            Item::Expr(value),
+            Item::Text(", root: "),
+            Item::Expr(root),
+            Item::Text(" }"),
+        ]),
+    }
+}
+
+/// What a print writes.
+fn printed<'a>(stack: &mut Stack<'a>, printed: &'a Printed) -> Result<(), AllocError> {
+    match printed {
+        Printed::Nothing => stack.put(&[Item::Text("Nothing")]),
+        Printed::Text(text) => stack.put(&[
+            Item::Text("Text("),
+            Item::Spelled(text),
+            Item::Text(")"),
+        ]),
+        Printed::Value(e) => stack.put(&[Item::Text("Value("), Item::Expr(e), Item::Text(")")]),
+        Printed::TextAndValue(text, e) => stack.put(&[
+            Item::Text("TextAndValue("),
+            Item::Spelled(text),
+            Item::Text(", "),
+            Item::Expr(e),
+            Item::Text(")"),
+        ]),
+    }
+}
+
+/// A statement.
+fn stmt<'a>(stack: &mut Stack<'a>, stmt: &'a Stmt) -> Result<(), AllocError> {
+    match stmt {
+        Stmt::Empty => stack.put(&[Item::Text("Empty")]),
+        Stmt::Declare {
+            place,
+            ty,
+            name,
+            value,
+        } => stack.put(&[
+            Item::Text("Declare { place: "),
+            Item::Place(*place),
+            Item::Text(", ty: "),
+            Item::TypeName(ty),
+            Item::Text(", name: "),
+            Item::Spelled(name),
+            Item::Text(", value: "),
+            Item::Init(value),
+            Item::Text(" }"),
+        ]),
+        Stmt::Assign {
+            place,
+            target,
+            value,
+        } => stack.put(&[
+            Item::Text("Assign { place: "),
+            Item::Place(*place),
+            Item::Text(", target: "),
+            Item::Expr(target),
+            Item::Text(", value: "),
+            Item::Init(value),
+            Item::Text(" }"),
+        ]),
+        Stmt::Update {
+            place,
+            operator,
+            target,
+            value,
+        } => stack.put(&[
+            Item::Text("Update { place: "),
+            Item::Place(*place),
+            Item::Text(", operator: "),
+            Item::Binary(*operator),
+            Item::Text(", target: "),
+            Item::Expr(target),
+            Item::Text(", value: "),
+            Item::Expr(value),
+            Item::Text(" }"),
+        ]),
+        Stmt::Step {
+            place,
+            operator,
+            target,
+        } => stack.put(&[
+            Item::Text("Step { place: "),
+            Item::Place(*place),
+            Item::Text(", operator: "),
+            Item::StepOperator(*operator),
+            Item::Text(", target: "),
+            Item::Expr(target),
+            Item::Text(" }"),
+        ]),
+        Stmt::Call(e) => stack.put(&[Item::Text("Call("), Item::Expr(e), Item::Text(")")]),
+        Stmt::Print(place, printed) => stack.put(&[
+            Item::Text("Print("),
+            Item::Place(*place),
+            Item::Text(", "),
+            Item::Printed(printed),
+            Item::Text(")"),
+        ]),
+        Stmt::Barrier(place) => stack.put(&[
+            Item::Text("Barrier("),
+            Item::Place(*place),
+            Item::Text(")"),
+        ]),
+        Stmt::Break(place) => stack.put(&[
+            Item::Text("Break("),
+            Item::Place(*place),
+            Item::Text(")"),
+        ]),
+        Stmt::Continue(place) => stack.put(&[
+            Item::Text("Continue("),
+            Item::Place(*place),
+            Item::Text(")"),
+        ]),
+        Stmt::Return(place, value) => stack.put(&[
+            Item::Text("Return("),
+            Item::Place(*place),
+            Item::Text(", "),
+            Item::MaybeExpr(value),
+            Item::Text(")"),
+        ]),
+        Stmt::Block(body) => stack.put(&[Item::Text("Block("), Item::Stmts(body), Item::Text(")")]),
+        Stmt::If {
+            place,
+            condition,
+            then,
+            otherwise,
+        } => stack.put(&[
+            Item::Text("If { place: "),
+            Item::Place(*place),
+            Item::Text(", condition: "),
+            Item::Expr(condition),
+            Item::Text(", then: "),
+            Item::Stmt(then),
+            Item::Text(", otherwise: "),
+            Item::MaybeStmt(otherwise),
+            Item::Text(" }"),
+        ]),
+        Stmt::While {
+            place,
+            condition,
+            body,
+        } => stack.put(&[
+            Item::Text("While { place: "),
+            Item::Place(*place),
+            Item::Text(", condition: "),
+            Item::Expr(condition),
+            Item::Text(", body: "),
+            Item::Stmt(body),
+            Item::Text(" }"),
+        ]),
+        Stmt::For {
+            place,
+            first,
+            condition,
+            update,
+            body,
+        } => stack.put(&[
+            Item::Text("For { place: "),
+            Item::Place(*place),
+            Item::Text(", first: "),
+            Item::MaybeStmt(first),
+            Item::Text(", condition: "),
+            Item::MaybeExpr(condition),
+            Item::Text(", update: "),
+            Item::MaybeStmt(update),
+            Item::Text(", body: "),
+            Item::Stmt(body),
+            Item::Text(" }"),
+        ]),
+        Stmt::Foreach {
+            place,
+            name_place,
+            name,
+            domain,
+            body,
+        } => stack.put(&[
+            Item::Text("Foreach { place: "),
+            Item::Place(*place),
+            Item::Text(", name_place: "),
+            Item::Place(*name_place),
+            Item::Text(", name: "),
+            Item::Spelled(name),
+            Item::Text(", domain: "),
+            Item::Expr(domain),
+            Item::Text(", body: "),
+            Item::Stmt(body),
+            Item::Text(" }"),
+        ]),
+    }
+}
+
+/// A field.
+fn field<'a>(stack: &mut Stack<'a>, field: &'a Field) -> Result<(), AllocError> {
+    stack.put(&[
+        Item::Text("Field { modifiers: "),
+        Item::Modifiers(&field.modifiers),
+        Item::Text(", ty: "),
+        Item::TypeName(&field.ty),
+        Item::Text(", place: "),
+        Item::Place(field.place),
+        Item::Text(", name: "),
+        Item::Spelled(&field.name),
+        Item::Text(" }"),
+    ])
+}
+
+/// A parameter.
+fn param<'a>(stack: &mut Stack<'a>, param: &'a Param) -> Result<(), AllocError> {
+    stack.put(&[
+        Item::Text("Param { ty: "),
+        Item::TypeName(&param.ty),
+        Item::Text(", place: "),
+        Item::Place(param.place),
+        Item::Text(", name: "),
+        Item::Spelled(&param.name),
+        Item::Text(" }"),
+    ])
+}
+
+/// The parameters of a method.
+fn params<'a>(stack: &mut Stack<'a>, params: &'a Params) -> Result<(), AllocError> {
+    match params {
+        Params::Words(place, name) => stack.put(&[
+            Item::Text("Words("),
+            Item::Place(*place),
+            Item::Text(", "),
+            Item::Spelled(name),
+            Item::Text(")"),
+        ]),
+        Params::Typed(params) => stack.put(&[
+            Item::Text("Typed("),
+            Item::ParamList(params),
+            Item::Text(")"),
+        ]),
+    }
+}
+
+/// The result of a method.
+fn result_type<'a>(stack: &mut Stack<'a>, ty: &'a ResultType) -> Result<(), AllocError> {
+    match ty {
+        ResultType::Void(place) => stack.put(&[
+            Item::Text("Void("),
+            Item::Place(*place),
+            Item::Text(")"),
+        ]),
+        ResultType::Typed(ty) => stack.put(&[
+            Item::Text("Typed("),
+            Item::TypeName(ty),
+            Item::Text(")"),
+        ]),
+    }
+}
+
+/// A method.
+fn method<'a>(stack: &mut Stack<'a>, method: &'a Method) -> Result<(), AllocError> {
+    stack.put(&[
+        Item::Text("Method { modifiers: "),
+        Item::Modifiers(&method.modifiers),
+        Item::Text(", result: "),
+        Item::ResultType(&method.result),
+        Item::Text(", place: "),
+        Item::Place(method.place),
+        Item::Text(", name: "),
+        Item::Spelled(&method.name),
+        Item::Text(", params: "),
+        Item::Params(&method.params),
+        Item::Text(", body: "),
+        Item::Stmts(&method.body),
+        Item::Text(", end: "),
+        Item::Place(method.end),
+        Item::Text(" }"),
+    ])
+}
+
+/// A member of a class.
+fn member<'a>(stack: &mut Stack<'a>, member: &'a Member) -> Result<(), AllocError> {
+    match member {
+        Member::Field(field) => stack.put(&[
+            Item::Text("Field("),
+            Item::Field(field),
+            Item::Text(")"),
+        ]),
+        Member::Method(method) => stack.put(&[
+            Item::Text("Method("),
+            Item::Method(method),
+            Item::Text(")"),
+        ]),
+    }
+}
+
+/// A class.
+fn class<'a>(stack: &mut Stack<'a>, class: &'a Class) -> Result<(), AllocError> {
+    stack.put(&[
+        Item::Text("Class { modifiers: "),
+        Item::Modifiers(&class.modifiers),
+        Item::Text(", word: "),
+        Item::Place(class.word),
+        Item::Text(", place: "),
+        Item::Place(class.place),
+        Item::Text(", name: "),
+        Item::Spelled(&class.name),
+        Item::Text(", members: "),
+        Item::Members(&class.members),
+        Item::Text(" }"),
+    ])
+}
