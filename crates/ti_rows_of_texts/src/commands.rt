@@ -1,10 +1,8 @@
 // Runs of the command over memory, with calls that fail where a row says so.
 
-use crate::answers::Stopped;
 use crate::failing::each_failing;
 use crate::fronts::fronts;
 use crate::stages::{Fails, Held, ROOM, Stage, staged};
-use crate::texts::bytes_of;
 use crate::watchers::{Handed, short_of, told_trace};
 use std::alloc::{AllocError, Global};
 use std::sync::Wait;
@@ -12,27 +10,9 @@ use std::thread::Threads;
 use ti_base::{Entry, Memory};
 use ti_io::{Gate, HoldGate, MemSink, MemSource};
 use ti_race::RaceWatch;
+use ti_row_files::{RowErr, bytes_of};
 use ti_top::{Outcome, titan_top};
 use ti_watch::{StatsWatch, TraceWatch, Watch};
-
-/// What is shown of what a command left.
-#[derive(Clone, Copy)]
-pub(crate) enum Shown {
-    /// The status, and what stands on out and err.
-    Ending,
-    /// The entries of the run, as the trace writes them.
-    History,
-    /// How many entries there are, and the last of them.
-    LastEntry,
-    /// How many instructions each process has finished.
-    Finished,
-    /// The status, how many entries there are, and whether a process that was held gave up.
-    Holding,
-    /// Of each run in which another call fails the status, and how much stands on out and err.
-    Failing,
-    /// What the command comes to over the fronts of the text.
-    Fronts,
-}
 
 /// What the processes pass: nothing, or a gate that holds two of them.
 #[derive(Drop)]
@@ -294,28 +274,31 @@ fn shown_holding(alloc: Global, left: &Left) -> Result<Vec<u8>, Memory> {
     Ok(format!(in alloc; "{status}, {} entries, {how}", history.len())?.into_bytes())
 }
 
-fn part_of(alloc: Global, asked: Shown, left: &Left) -> Result<Vec<u8>, Memory> {
+/// What a word such as `command` asks of what a run left.
+fn part_of(alloc: Global, asked: &str, left: &Left) -> Result<Vec<u8>, RowErr> {
+    let Left { outcome, sinks, .. } = left;
     match asked {
-        Shown::History => trace_of(alloc, &left.outcome.history),
-        Shown::LastEntry => last_of(alloc, &left.outcome.history),
-        Shown::Finished => spaced(alloc, &left.outcome.done),
-        Shown::Holding => shown_holding(alloc, left),
-        _ => shown_ending(alloc, left.outcome.status, &left.sinks),
+        "command" => Ok(shown_ending(alloc, outcome.status, sinks)?),
+        "history" => Ok(trace_of(alloc, &outcome.history)?),
+        "end" => Ok(last_of(alloc, &outcome.history)?),
+        "finished" => Ok(spaced(alloc, &outcome.done)?),
+        "holding" => Ok(shown_holding(alloc, left)?),
+        _ => Err(RowErr::Heading),
     }
 }
 
 fn done<R: AllocGlobal + Threads + Wait + Sync>(
     rt: &R,
-    asked: Shown,
+    asked: &str,
     line: &str,
     stage: Stage,
     texts: Texts,
-) -> Result<Vec<u8>, Stopped> {
+) -> Result<Vec<u8>, RowErr> {
     let left = left_by(rt, line, stage, texts)?;
-    Ok(part_of(rt.alloc(), asked, &left)?)
+    part_of(rt.alloc(), asked, &left)
 }
 
-/// What is given without the trace behind ` |`, and that trace as it is written.
+/// What is given without the trace after ` |`, and that trace as it is spelled.
 fn parted(given: &str) -> (&str, Option<&str>) {
     match given.split_once(" |") {
         Some((words, trace)) => (words, Some(trace.strip_prefix(" ").unwrap_or(trace))),
@@ -323,29 +306,32 @@ fn parted(given: &str) -> (&str, Option<&str>) {
     }
 }
 
-/// The bytes of a trace that is given.
-fn given_trace(alloc: Global, written: Option<&str>) -> Result<Option<Vec<u8>>, Stopped> {
-    match written {
-        Some(written) => Ok(Some(bytes_of(alloc, written)?)),
-        None => Ok(None),
+/// A text with the trace that is given.
+fn texts_of(alloc: Global, text: &[u8], trace: Option<&str>) -> Result<Texts, RowErr> {
+    let text = text.to_vec(alloc)?;
+    match trace {
+        Some(trace) => Ok(Texts {
+            text,
+            trace: Some(bytes_of(alloc, trace)?),
+        }),
+        None => Ok(Texts::of(text)),
     }
 }
 
-/// What a command leaves over a file `a.ti` that holds a text, and a file `t.tr` that holds a trace where one is given behind ` |`.
+/// What a command leaves over a file `a.ti` that holds a text, and a file `t.tr` that holds a trace where one is given after ` |`.
 pub(crate) fn command<R: AllocGlobal + Threads + Wait + Sync>(
     rt: &R,
-    asked: Shown,
+    asked: &str,
     given: &str,
-    text: Vec<u8>,
-) -> Result<Vec<u8>, Stopped> {
-    let (given, written) = parted(given);
-    let trace = given_trace(rt.alloc(), written)?;
+    text: &[u8],
+) -> Result<Vec<u8>, RowErr> {
+    let (given, trace) = parted(given);
     let Some((line, stage)) = staged(given) else {
-        return Err(Stopped::Row);
+        return Err(RowErr::Row);
     };
     match asked {
-        Shown::Failing => each_failing(rt, line, stage, &text),
-        Shown::Fronts => fronts(rt, line, stage, &text),
-        _ => done(rt, asked, line, stage, Texts { text, trace }),
+        "failing" => each_failing(rt, line, stage, text),
+        "command-fronts" => fronts(rt, line, stage, text),
+        _ => done(rt, asked, line, stage, texts_of(rt.alloc(), text, trace)?),
     }
 }

@@ -1,13 +1,13 @@
 // Runs of a command, in each of which another call fails.
 
-use crate::answers::Stopped;
+use crate::checked::checked;
 use crate::commands::{Left, Texts, left_by, trace_of};
-use crate::phases::checked;
 use crate::stages::Stage;
 use std::alloc::{AllocError, Global};
 use std::sync::Wait;
 use std::thread::Threads;
 use ti_base::{Action, Entry, Memory, Value};
+use ti_row_files::RowErr;
 use ti_rules::Checked;
 use ti_watch::{StatsWatch, Watch};
 
@@ -76,7 +76,7 @@ fn part_of(alloc: Global, written: &[u8], whole: &[u8]) -> Result<String, AllocE
 }
 
 /// The status of a run, how much of its output stands on out, and how many bytes on err.
-fn shown(alloc: Global, checked: &Checked, left: &Left) -> Result<String, Stopped> {
+fn shown(alloc: Global, checked: &Checked, left: &Left) -> Result<String, RowErr> {
     let whole = output_of(alloc, checked, &left.outcome.history)?;
     let out = part_of(alloc, left.sinks.out.bytes(), &whole)?;
     let err = left.sinks.err.bytes().len();
@@ -89,7 +89,7 @@ pub(crate) fn each_failing<R: AllocGlobal + Threads + Wait + Sync>(
     line: &str,
     stage: Stage,
     text: &[u8],
-) -> Result<Vec<u8>, Stopped> {
+) -> Result<Vec<u8>, RowErr> {
     let alloc = rt.alloc();
     let checked = checked(alloc, text)?;
     let mut found = Vec::new(alloc);

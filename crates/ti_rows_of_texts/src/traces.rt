@@ -1,12 +1,12 @@
 // Traces of runs, held against the programs that were run.
 
-use crate::answers::Stopped;
 use crate::commands::{Left, Texts, left_by, shown_ending, trace_of};
 use crate::stages::{Stage, staged};
 use std::alloc::{AllocError, Global};
 use std::sync::Wait;
 use std::thread::Threads;
 use ti_base::Memory;
+use ti_row_files::RowErr;
 
 /// A run: the words of the command, what stands around it, its text, and the trace that it left.
 #[derive(Drop)]
@@ -21,10 +21,10 @@ struct TracedRun {
 fn run_of<R: AllocGlobal + Threads + Wait + Sync>(
     rt: &R,
     given: &str,
-    text: Vec<u8>,
-) -> Result<TracedRun, Stopped> {
+    text: &[u8],
+) -> Result<TracedRun, RowErr> {
     let Some((line, stage)) = staged(given) else {
-        return Err(Stopped::Row);
+        return Err(RowErr::Row);
     };
     let alloc = rt.alloc();
     let texts = Texts::of(text.to_vec(alloc)?);
@@ -33,7 +33,7 @@ fn run_of<R: AllocGlobal + Threads + Wait + Sync>(
     Ok(TracedRun {
         line: String::from_str(alloc, line)?,
         stage,
-        text,
+        text: text.to_vec(alloc)?,
         trace,
     })
 }
@@ -57,8 +57,8 @@ fn held<R: AllocGlobal + Threads + Wait + Sync>(
 pub(crate) fn traced<R: AllocGlobal + Threads + Wait + Sync>(
     rt: &R,
     given: &str,
-    text: Vec<u8>,
-) -> Result<Vec<u8>, Stopped> {
+    text: &[u8],
+) -> Result<Vec<u8>, RowErr> {
     let run = run_of(rt, given, text)?;
     let alloc = rt.alloc();
     let left = held(rt, &run, run.trace.to_vec(alloc)?)?;
@@ -98,8 +98,8 @@ fn push_change<R: AllocGlobal + Threads + Wait + Sync>(
 pub(crate) fn changed<R: AllocGlobal + Threads + Wait + Sync>(
     rt: &R,
     given: &str,
-    text: Vec<u8>,
-) -> Result<Vec<u8>, Stopped> {
+    text: &[u8],
+) -> Result<Vec<u8>, RowErr> {
     let run = run_of(rt, given, text)?;
     let alloc = rt.alloc();
     let mut shown = format!(in alloc; "{} bytes", run.trace.len())?.into_bytes();
