@@ -17,7 +17,7 @@ const GRID: Id = Id {
 };
 
 /// The expression that the last statement of the last method prints.
-fn printed(parts: &Parts) -> Option<&Expr> {
+pub(crate) fn printed(parts: &Parts) -> Option<&Expr> {
     match parts.methods.last()?.body.last()? {
         Stmt::Print(_, Printed::Value(e)) => Some(e),
         _ => None,

@@ -4,6 +4,7 @@
 
 mod asked;
 mod evaluation;
+mod known;
 mod phases;
 mod program_text;
 mod slices;
@@ -11,6 +12,7 @@ mod stopped;
 mod tables;
 mod things;
 mod tree_text;
+mod typing;
 mod walks;
 
 use asked::Phases;

@@ -4,6 +4,7 @@ ghost use Rattle.std.specs.Prelude.{IfOk};
 ghost use Rattle.ti_parse_expr.specs.Answers.{EndsAtEnd};
 
 use crate::stopped::{NO_ROW, Stopped};
+use crate::typing::type_printed;
 use crate::{program_text, tree_text};
 use std::alloc::{AllocError, Global};
 use ti_base::Place;
@@ -197,7 +198,7 @@ fn fronts(alloc: Global, text: &[u8]) -> Result<String, Stopped> {
 }
 
 /// What is in scope at the first statement of the first method.
-fn scope_of(alloc: Global, program: &Program) -> Result<Scope, Stopped> {
+pub(crate) fn scope_of(alloc: Global, program: &Program) -> Result<Scope, Stopped> {
     if program.parts.methods.is_empty() {
         Err(NO_ROW)
     } else {
@@ -265,6 +266,7 @@ fn shown_program(alloc: Global, asked: &str, text: &[u8]) -> Result<String, Stop
         "program" => program(alloc, text),
         "copy" => copy(alloc, text),
         "scope" => scope(alloc, text),
+        "type" => type_printed(alloc, text),
         "rules" => accepted(alloc, checked(alloc, text)),
         _ => shown_expression(alloc, asked, text),
     }

@@ -8,6 +8,7 @@ use ti_names::NameErr;
 use ti_parse::ParseErr;
 use ti_row_files::RowErr;
 use ti_rules::Refusal;
+use ti_types::TypeErr;
 
 /// Why nothing came of a text.
 #[derive(Clone, Copy)]
@@ -78,6 +79,15 @@ impl From<CheckErr> for Stopped {
         match error {
             CheckErr::Refused(refusal) => Stopped::Refused(refusal),
             CheckErr::Memory => MEMORY,
+        }
+    }
+}
+
+impl From<TypeErr> for Stopped {
+    fn from(error: TypeErr) -> Stopped {
+        match error {
+            TypeErr::Refused(refusal) => Stopped::Refused(refusal),
+            TypeErr::Memory => MEMORY,
         }
     }
 }

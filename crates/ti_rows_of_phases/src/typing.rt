@@ -2,7 +2,7 @@
 
 use crate::evaluation::printed;
 use crate::known::is_known;
-use crate::phases::{first_scope_of, resolved};
+use crate::phases::{resolved, scope_of};
 use crate::program_text::{Item, text_of};
 use crate::stopped::{NO_ROW, Stopped};
 use std::alloc::Global;
@@ -41,7 +41,7 @@ fn printed_type(alloc: Global, program: &Program) -> Result<String, Stopped> {
     let ([method], Some(e)) = (program.parts.methods.as_slice(), printed(&program.parts)) else {
         return Err(NO_ROW);
     };
-    let mut scope = first_scope_of(alloc, program)?;
+    let mut scope = scope_of(alloc, program)?;
     typed(alloc, program, &mut scope, method, e)
 }
 

@@ -8,6 +8,7 @@ use std::thread::Threads;
 use ti_row_files::{Judge, Row, RowErr};
 
 /// Runs commands over the texts.
+#[derive(Drop)]
 pub(crate) struct Commands<'a, R: AllocGlobal + Threads + Wait + Sync> {
     rt: &'a R,
 }

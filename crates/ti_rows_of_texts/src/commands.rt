@@ -4,8 +4,9 @@ use crate::failing::each_failing;
 use crate::fronts::fronts;
 use crate::stages::{Fails, Held, ROOM, Stage, staged};
 use crate::watchers::{Handed, short_of, told_trace};
-use std::alloc::{AllocError, Global};
+use std::alloc::Global;
 use std::sync::Wait;
+use std::sync::atomic::{AtomicU32, Ordering};
 use std::thread::Threads;
 use ti_base::{Entry, Memory};
 use ti_io::{Gate, HoldGate, MemSink, MemSource};
@@ -14,16 +15,17 @@ use ti_row_files::{RowErr, bytes_of};
 use ti_top::{Outcome, titan_top};
 use ti_watch::{StatsWatch, TraceWatch, Watch};
 
-/// What the processes pass: nothing, or a gate that holds two of them.
+/// What the processes pass: it counts the passes, and holds two processes where it is told to.
 #[derive(Drop)]
-enum Passage {
-    Open,
-    Held(HoldGate),
+struct Passage {
+    passes: AtomicU32,
+    held: Option<HoldGate>,
 }
 
 impl Gate for Passage {
     fn pass(&self, p: u32) {
-        if let Passage::Held(gate) = self {
+        self.passes.fetch_add(1, Ordering::SeqCst);
+        if let Some(gate) = &self.held {
             gate.pass(p);
         }
     }
@@ -31,18 +33,27 @@ impl Gate for Passage {
 
 impl Passage {
     fn of(held: Option<Held>) -> Passage {
+        let passes = AtomicU32::new(0);
         match held {
-            Some(held) => Passage::Held(HoldGate::new(held.one, held.other, held.looks)),
-            None => Passage::Open,
+            Some(held) => Passage {
+                passes,
+                held: Some(HoldGate::new(held.one, held.other, held.looks)),
+            },
+            None => Passage { passes, held: None },
         }
     }
 
     /// Whether a process that was held gave up.
     fn gave_up(&self) -> bool {
-        match self {
-            Passage::Open => false,
-            Passage::Held(gate) => gate.gave_up(),
+        match &self.held {
+            Some(gate) => gate.gave_up(),
+            None => false,
         }
+    }
+
+    /// How often a process has passed.
+    fn count(&self) -> u32 {
+        self.passes.load(Ordering::SeqCst)
     }
 }
 
@@ -71,6 +82,7 @@ pub(crate) struct Left {
     pub(crate) outcome: Outcome,
     pub(crate) sinks: Sinks,
     gave_up: bool,
+    passes: u32,
 }
 
 /// What the files hold: `a.ti` a text, and `t.tr` a trace where there is one.
@@ -177,6 +189,7 @@ fn called<R: AllocGlobal + Threads + Wait + Sync>(
         outcome,
         sinks: Sinks { out, err },
         gave_up: gate.gave_up(),
+        passes: gate.count(),
     }
 }
 
@@ -274,6 +287,17 @@ fn shown_holding(alloc: Global, left: &Left) -> Result<Vec<u8>, Memory> {
     Ok(format!(in alloc; "{status}, {} entries, {how}", history.len())?.into_bytes())
 }
 
+/// The status, how many entries there are, and how often a process has passed the gate.
+fn shown_passes(alloc: Global, left: &Left) -> Result<Vec<u8>, Memory> {
+    let Outcome {
+        status,
+        history,
+        ..
+    } = &left.outcome;
+    let (count, passes) = (history.len(), left.passes);
+    Ok(format!(in alloc; "{status}, {count} entries, {passes} passes")?.into_bytes())
+}
+
 /// What a word such as `command` asks of what a run left.
 fn part_of(alloc: Global, asked: &str, left: &Left) -> Result<Vec<u8>, RowErr> {
     let Left { outcome, sinks, .. } = left;
@@ -283,6 +307,7 @@ fn part_of(alloc: Global, asked: &str, left: &Left) -> Result<Vec<u8>, RowErr> {
         "end" => Ok(last_of(alloc, &outcome.history)?),
         "finished" => Ok(spaced(alloc, &outcome.done)?),
         "holding" => Ok(shown_holding(alloc, left)?),
+        "passes" => Ok(shown_passes(alloc, left)?),
         _ => Err(RowErr::Heading),
     }
 }
