@@ -3,7 +3,7 @@
 ghost use Rattle.std.specs.Prelude.{◌≤◌, IfSome};
 
 use crate::checked::checked;
-use crate::commands::{Texts, left_by};
+use crate::commands::{Left, Texts, left_by};
 use crate::stages::PLAIN;
 use std::alloc::Global;
 use std::sync::Wait;
@@ -83,6 +83,16 @@ fn departures(
     departures_of(alloc, c, procs, history, 0)
 }
 
+/// What the run of a text with so many processes on one worker leaves.
+fn left_with<R: AllocGlobal + Threads + Wait + Sync>(
+    rt: &R,
+    procs: u32,
+    text: &[u8],
+) -> Result<Left, Memory> {
+    let line = format!(in rt.alloc(); "--procs {procs} --workers 1 a.ti")?;
+    left_by(rt, line.as_str(), PLAIN, Texts::of(text))
+}
+
 /// From how many collectives process 0 departs in the run of a text, where the slice tells those of each process.
 fn departures_in<R: AllocGlobal + Threads + Wait + Sync>(
     rt: &R,
@@ -91,11 +101,9 @@ fn departures_in<R: AllocGlobal + Threads + Wait + Sync>(
 ) -> Result<Option<usize>, RowErr>
     requires { procs ≤ 32 }
 {
-    let alloc = rt.alloc();
-    let c = checked(alloc, text)?;
-    let line = format!(in alloc; "--procs {procs} --workers 1 a.ti")?;
-    let left = left_by(rt, line.as_str(), PLAIN, Texts::of(text.to_vec(alloc)?))?;
-    Ok(departures(alloc, &c, procs, &left.outcome.history)?)
+    let left = left_with(rt, procs, text)?;
+    let c = checked(rt.alloc(), text)?;
+    Ok(departures(rt.alloc(), &c, procs, &left.outcome.history)?)
 }
 
 /// How many processes run.

@@ -86,15 +86,15 @@ pub(crate) struct Left {
 }
 
 /// What the files hold: `a.ti` a text, and `t.tr` a trace where there is one.
-#[derive(Drop)]
-pub(crate) struct Texts {
-    pub(crate) text: Vec<u8>,
-    pub(crate) trace: Option<Vec<u8>>,
+#[derive(Clone, Copy)]
+pub(crate) struct Texts<'a> {
+    pub(crate) text: &'a [u8],
+    pub(crate) trace: Option<&'a [u8]>,
 }
 
-impl Texts {
+impl<'a> Texts<'a> {
     /// A text without a trace.
-    pub(crate) fn of(text: Vec<u8>) -> Texts {
+    pub(crate) fn of(text: &'a [u8]) -> Texts<'a> {
         Texts { text, trace: None }
     }
 }
@@ -120,24 +120,23 @@ fn sinks_of(alloc: Global, stage: Stage) -> Result<Sinks, Memory> {
     Ok(Sinks { out, err })
 }
 
-/// Puts a file behind others.
+/// Puts a file after others.
 fn push_file(
     alloc: Global,
     files: &mut Vec<(String, Vec<u8>)>,
     name: &str,
-    text: Vec<u8>,
+    text: &[u8],
 ) -> Result<(), Memory> {
     let name = String::from_str(alloc, name)?;
-    files.push((name, text))?;
+    files.push((name, text.to_vec(alloc)?))?;
     Ok(())
 }
 
 /// The files with what they hold.
 fn files_of(alloc: Global, texts: Texts) -> Result<Vec<(String, Vec<u8>)>, Memory> {
-    let Texts { text, trace } = texts;
     let mut files = Vec::new(alloc);
-    push_file(alloc, &mut files, "a.ti", text)?;
-    if let Some(trace) = trace {
+    push_file(alloc, &mut files, "a.ti", texts.text)?;
+    if let Some(trace) = texts.trace {
         push_file(alloc, &mut files, "t.tr", trace)?;
     }
     Ok(files)
@@ -193,7 +192,14 @@ fn called<R: AllocGlobal + Threads + Wait + Sync>(
     }
 }
 
-/// The command with watchers, which are made here, since no function may make them and hand them out.
+/// Puts a watcher after others.
+fn put(watchers: &mut Vec<Box<dyn Watch>>, watcher: Box<dyn Watch>) -> Result<(), Memory> {
+    watchers.push(watcher)?;
+    Ok(())
+}
+
+/// The command with watchers, which are made here, since no function may make them and hand them out. They are made first: of what is alive
+/// where one finds no memory, each value has to be let go on a path of its own.
 pub(crate) fn left_by<R: AllocGlobal + Threads + Wait + Sync>(
     rt: &R,
     line: &str,
@@ -201,24 +207,24 @@ pub(crate) fn left_by<R: AllocGlobal + Threads + Wait + Sync>(
     texts: Texts,
 ) -> Result<Left, Memory> {
     let alloc = rt.alloc();
-    let call = call_of(alloc, line, stage, texts)?;
     let mut watchers: Vec<Box<dyn Watch>> = Vec::new(alloc);
     for handed in stage.watchers {
         match handed {
-            Some(Handed::Trace) => watchers.push(Box::new(alloc, TraceWatch::new(alloc))?)?,
-            Some(Handed::ToldTrace) => watchers.push(Box::new(alloc, told_trace(alloc)?)?)?,
-            Some(Handed::Stats) => watchers.push(Box::new(alloc, StatsWatch::new(alloc))?)?,
-            Some(Handed::Races) => watchers.push(Box::new(alloc, RaceWatch::new(alloc))?)?,
-            Some(Handed::Deaf) => watchers.push(Box::new(alloc, short_of(alloc, 1))?)?,
-            Some(Handed::Mute) => watchers.push(Box::new(alloc, short_of(alloc, 100))?)?,
+            Some(Handed::Trace) => put(&mut watchers, Box::new(alloc, TraceWatch::new(alloc))?)?,
+            Some(Handed::ToldTrace) => put(&mut watchers, Box::new(alloc, told_trace(alloc)?)?)?,
+            Some(Handed::Stats) => put(&mut watchers, Box::new(alloc, StatsWatch::new(alloc))?)?,
+            Some(Handed::Races) => put(&mut watchers, Box::new(alloc, RaceWatch::new(alloc))?)?,
+            Some(Handed::Deaf) => put(&mut watchers, Box::new(alloc, short_of(alloc, 1))?)?,
+            Some(Handed::Mute) => put(&mut watchers, Box::new(alloc, short_of(alloc, 100))?)?,
             None => {}
         }
     }
+    let call = call_of(alloc, line, stage, texts)?;
     let gate = Passage::of(stage.held);
     Ok(called(rt, call, &gate, watchers))
 }
 
-/// Puts bytes behind a text and a word, where there are any.
+/// Puts bytes after a text and a word, where there are any.
 fn push_named(text: &mut Vec<u8>, name: &[u8], bytes: &[u8]) -> Result<(), Memory> {
     if !bytes.is_empty() {
         text.extend_from_slice(name)?;
@@ -312,15 +318,23 @@ fn part_of(alloc: Global, asked: &str, left: &Left) -> Result<Vec<u8>, RowErr> {
     }
 }
 
-fn done<R: AllocGlobal + Threads + Wait + Sync>(
+/// What a command leaves over a text, and over a trace where one is given.
+fn left_over<R: AllocGlobal + Threads + Wait + Sync>(
     rt: &R,
-    asked: &str,
     line: &str,
     stage: Stage,
-    texts: Texts,
-) -> Result<Vec<u8>, RowErr> {
-    let left = left_by(rt, line, stage, texts)?;
-    part_of(rt.alloc(), asked, &left)
+    text: &[u8],
+    trace: Option<&str>,
+) -> Result<Left, RowErr> {
+    let Some(spelled) = trace else {
+        return Ok(left_by(rt, line, stage, Texts::of(text))?);
+    };
+    let trace = bytes_of(rt.alloc(), spelled)?;
+    let texts = Texts {
+        text,
+        trace: Some(&trace),
+    };
+    Ok(left_by(rt, line, stage, texts)?)
 }
 
 /// What is given without the trace after ` |`, and that trace as it is spelled.
@@ -328,18 +342,6 @@ fn parted(given: &str) -> (&str, Option<&str>) {
     match given.split_once(" |") {
         Some((words, trace)) => (words, Some(trace.strip_prefix(" ").unwrap_or(trace))),
         None => (given, None),
-    }
-}
-
-/// A text with the trace that is given.
-fn texts_of(alloc: Global, text: &[u8], trace: Option<&str>) -> Result<Texts, RowErr> {
-    let text = text.to_vec(alloc)?;
-    match trace {
-        Some(trace) => Ok(Texts {
-            text,
-            trace: Some(bytes_of(alloc, trace)?),
-        }),
-        None => Ok(Texts::of(text)),
     }
 }
 
@@ -357,6 +359,9 @@ pub(crate) fn command<R: AllocGlobal + Threads + Wait + Sync>(
     match asked {
         "failing" => each_failing(rt, line, stage, text),
         "command-fronts" => fronts(rt, line, stage, text),
-        _ => done(rt, asked, line, stage, texts_of(rt.alloc(), text, trace)?),
+        _ => {
+            let left = left_over(rt, line, stage, text, trace)?;
+            part_of(rt.alloc(), asked, &left)
+        }
     }
 }

@@ -83,6 +83,39 @@ fn shown(alloc: Global, checked: &Checked, left: &Left) -> Result<String, RowErr
     Ok(format!(in alloc; "{}:{}:{err}", left.outcome.status, out.as_str())?)
 }
 
+/// Appends what is shown of the run of a number.
+fn push_run<R: AllocGlobal + Threads + Wait + Sync>(
+    rt: &R,
+    found: &mut Vec<u8>,
+    line: &str,
+    stage: Stage,
+    text: &[u8],
+    checked: &Checked,
+) -> Result<(), RowErr> {
+    let left = left_by(rt, line, stage, Texts::of(text))?;
+    let shown = shown(rt.alloc(), checked, &left)?;
+    found.extend_from_slice(shown.as_bytes())?;
+    Ok(())
+}
+
+/// Appends what is shown of each run, in which the call of its number fails.
+fn push_runs<R: AllocGlobal + Threads + Wait + Sync>(
+    rt: &R,
+    found: &mut Vec<u8>,
+    line: &str,
+    stage: Stage,
+    text: &[u8],
+    checked: &Checked,
+) -> Result<(), RowErr> {
+    for number in 0..RUNS {
+        if number > 0 {
+            found.push(b' ')?;
+        }
+        push_run(rt, found, line, stage.in_run(number), text, checked)?;
+    }
+    Ok(())
+}
+
 /// Of each run in which another call fails the status, how much of its output stands on out, and how many bytes on err.
 pub(crate) fn each_failing<R: AllocGlobal + Threads + Wait + Sync>(
     rt: &R,
@@ -90,16 +123,8 @@ pub(crate) fn each_failing<R: AllocGlobal + Threads + Wait + Sync>(
     stage: Stage,
     text: &[u8],
 ) -> Result<Vec<u8>, RowErr> {
-    let alloc = rt.alloc();
-    let checked = checked(alloc, text)?;
-    let mut found = Vec::new(alloc);
-    for number in 0..RUNS {
-        let texts = Texts::of(text.to_vec(alloc)?);
-        let left = left_by(rt, line, stage.in_run(number), texts)?;
-        if number > 0 {
-            found.push(b' ')?;
-        }
-        found.extend_from_slice(shown(alloc, &checked, &left)?.as_bytes())?;
-    }
+    let checked = checked(rt.alloc(), text)?;
+    let mut found = Vec::new(rt.alloc());
+    push_runs(rt, &mut found, line, stage, text, &checked)?;
     Ok(found)
 }

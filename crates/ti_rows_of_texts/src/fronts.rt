@@ -68,6 +68,20 @@ fn push_front(
     Ok(())
 }
 
+/// Appends what a command comes to over a front, but where it is refused by its end.
+fn push_left<R: AllocGlobal + Threads + Wait + Sync>(
+    rt: &R,
+    found: &mut String,
+    line: &str,
+    stage: Stage,
+    front: &[u8],
+    end: Place,
+) -> Result<(), RowErr> {
+    let left = left_by(rt, line, stage, Texts::of(front))?;
+    push_front(rt.alloc(), found, front.len(), &left, end)?;
+    Ok(())
+}
+
 /// What a command comes to over the fronts of a text, by their lengths, but where one is refused by its end.
 pub(crate) fn fronts<R: AllocGlobal + Threads + Wait + Sync>(
     rt: &R,
@@ -75,13 +89,10 @@ pub(crate) fn fronts<R: AllocGlobal + Threads + Wait + Sync>(
     stage: Stage,
     text: &[u8],
 ) -> Result<Vec<u8>, RowErr> {
-    let alloc = rt.alloc();
-    let mut found = String::new(alloc);
+    let mut found = String::new(rt.alloc());
     let mut end = Place::first();
     for count in 0..=text.len() {
-        let texts = Texts::of(text[..count].to_vec(alloc)?);
-        let left = left_by(rt, line, stage, texts)?;
-        push_front(alloc, &mut found, count, &left, end)?;
+        push_left(rt, &mut found, line, stage, &text[..count], end)?;
         if let Some(byte) = text.get(count) {
             end = place_after(end, *byte);
         }
