@@ -1,49 +1,31 @@
 // Runs of the command over memory, with calls that fail where a row says so.
 
-use crate::answers::Stopped;
 use crate::failing::each_failing;
 use crate::fronts::fronts;
 use crate::stages::{Fails, Held, ROOM, Stage, staged};
-use crate::texts::bytes_of;
 use crate::watchers::{Handed, short_of, told_trace};
-use std::alloc::{AllocError, Global};
+use std::alloc::Global;
 use std::sync::Wait;
+use std::sync::atomic::{AtomicU32, Ordering};
 use std::thread::Threads;
 use ti_base::{Entry, Memory};
 use ti_io::{Gate, HoldGate, MemSink, MemSource};
 use ti_race::RaceWatch;
+use ti_row_files::{RowErr, bytes_of};
 use ti_top::{Outcome, titan_top};
 use ti_watch::{StatsWatch, TraceWatch, Watch};
 
-/// What is shown of what a command left.
-#[derive(Clone, Copy)]
-pub(crate) enum Shown {
-    /// The status, and what stands on out and err.
-    Ending,
-    /// The entries of the run, as the trace writes them.
-    History,
-    /// How many entries there are, and the last of them.
-    LastEntry,
-    /// How many instructions each process has finished.
-    Finished,
-    /// The status, how many entries there are, and whether a process that was held gave up.
-    Holding,
-    /// Of each run in which another call fails the status, and how much stands on out and err.
-    Failing,
-    /// What the command comes to over the fronts of the text.
-    Fronts,
-}
-
-/// What the processes pass: nothing, or a gate that holds two of them.
+/// What the processes pass: it counts the passes, and holds two processes where it is told to.
 #[derive(Drop)]
-enum Passage {
-    Open,
-    Held(HoldGate),
+struct Passage {
+    passes: AtomicU32,
+    held: Option<HoldGate>,
 }
 
 impl Gate for Passage {
     fn pass(&self, p: u32) {
-        if let Passage::Held(gate) = self {
+        self.passes.fetch_add(1, Ordering::SeqCst);
+        if let Some(gate) = &self.held {
             gate.pass(p);
         }
     }
@@ -51,18 +33,27 @@ impl Gate for Passage {
 
 impl Passage {
     fn of(held: Option<Held>) -> Passage {
+        let passes = AtomicU32::new(0);
         match held {
-            Some(held) => Passage::Held(HoldGate::new(held.one, held.other, held.looks)),
-            None => Passage::Open,
+            Some(held) => Passage {
+                passes,
+                held: Some(HoldGate::new(held.one, held.other, held.looks)),
+            },
+            None => Passage { passes, held: None },
         }
     }
 
     /// Whether a process that was held gave up.
     fn gave_up(&self) -> bool {
-        match self {
-            Passage::Open => false,
-            Passage::Held(gate) => gate.gave_up(),
+        match &self.held {
+            Some(gate) => gate.gave_up(),
+            None => false,
         }
+    }
+
+    /// How often a process has passed.
+    fn count(&self) -> u32 {
+        self.passes.load(Ordering::SeqCst)
     }
 }
 
@@ -91,18 +82,19 @@ pub(crate) struct Left {
     pub(crate) outcome: Outcome,
     pub(crate) sinks: Sinks,
     gave_up: bool,
+    passes: u32,
 }
 
 /// What the files hold: `a.ti` a text, and `t.tr` a trace where there is one.
-#[derive(Drop)]
-pub(crate) struct Texts {
-    pub(crate) text: Vec<u8>,
-    pub(crate) trace: Option<Vec<u8>>,
+#[derive(Clone, Copy)]
+pub(crate) struct Texts<'a> {
+    pub(crate) text: &'a [u8],
+    pub(crate) trace: Option<&'a [u8]>,
 }
 
-impl Texts {
+impl<'a> Texts<'a> {
     /// A text without a trace.
-    pub(crate) fn of(text: Vec<u8>) -> Texts {
+    pub(crate) fn of(text: &'a [u8]) -> Texts<'a> {
         Texts { text, trace: None }
     }
 }
@@ -128,24 +120,23 @@ fn sinks_of(alloc: Global, stage: Stage) -> Result<Sinks, Memory> {
     Ok(Sinks { out, err })
 }
 
-/// Puts a file behind others.
+/// Puts a file after others.
 fn push_file(
     alloc: Global,
     files: &mut Vec<(String, Vec<u8>)>,
     name: &str,
-    text: Vec<u8>,
+    text: &[u8],
 ) -> Result<(), Memory> {
     let name = String::from_str(alloc, name)?;
-    files.push((name, text))?;
+    files.push((name, text.to_vec(alloc)?))?;
     Ok(())
 }
 
 /// The files with what they hold.
 fn files_of(alloc: Global, texts: Texts) -> Result<Vec<(String, Vec<u8>)>, Memory> {
-    let Texts { text, trace } = texts;
     let mut files = Vec::new(alloc);
-    push_file(alloc, &mut files, "a.ti", text)?;
-    if let Some(trace) = trace {
+    push_file(alloc, &mut files, "a.ti", texts.text)?;
+    if let Some(trace) = texts.trace {
         push_file(alloc, &mut files, "t.tr", trace)?;
     }
     Ok(files)
@@ -197,10 +188,18 @@ fn called<R: AllocGlobal + Threads + Wait + Sync>(
         outcome,
         sinks: Sinks { out, err },
         gave_up: gate.gave_up(),
+        passes: gate.count(),
     }
 }
 
-/// The command with watchers, which are made here, since no function may make them and hand them out.
+/// Puts a watcher after others.
+fn put(watchers: &mut Vec<Box<dyn Watch>>, watcher: Box<dyn Watch>) -> Result<(), Memory> {
+    watchers.push(watcher)?;
+    Ok(())
+}
+
+/// The command with watchers, which are made here, since no function may make them and hand them out. They are made first: of what is alive
+/// where one finds no memory, each value has to be let go on a path of its own.
 pub(crate) fn left_by<R: AllocGlobal + Threads + Wait + Sync>(
     rt: &R,
     line: &str,
@@ -208,24 +207,24 @@ pub(crate) fn left_by<R: AllocGlobal + Threads + Wait + Sync>(
     texts: Texts,
 ) -> Result<Left, Memory> {
     let alloc = rt.alloc();
-    let call = call_of(alloc, line, stage, texts)?;
     let mut watchers: Vec<Box<dyn Watch>> = Vec::new(alloc);
     for handed in stage.watchers {
         match handed {
-            Some(Handed::Trace) => watchers.push(Box::new(alloc, TraceWatch::new(alloc))?)?,
-            Some(Handed::ToldTrace) => watchers.push(Box::new(alloc, told_trace(alloc)?)?)?,
-            Some(Handed::Stats) => watchers.push(Box::new(alloc, StatsWatch::new(alloc))?)?,
-            Some(Handed::Races) => watchers.push(Box::new(alloc, RaceWatch::new(alloc))?)?,
-            Some(Handed::Deaf) => watchers.push(Box::new(alloc, short_of(alloc, 1))?)?,
-            Some(Handed::Mute) => watchers.push(Box::new(alloc, short_of(alloc, 100))?)?,
+            Some(Handed::Trace) => put(&mut watchers, Box::new(alloc, TraceWatch::new(alloc))?)?,
+            Some(Handed::ToldTrace) => put(&mut watchers, Box::new(alloc, told_trace(alloc)?)?)?,
+            Some(Handed::Stats) => put(&mut watchers, Box::new(alloc, StatsWatch::new(alloc))?)?,
+            Some(Handed::Races) => put(&mut watchers, Box::new(alloc, RaceWatch::new(alloc))?)?,
+            Some(Handed::Deaf) => put(&mut watchers, Box::new(alloc, short_of(alloc, 1))?)?,
+            Some(Handed::Mute) => put(&mut watchers, Box::new(alloc, short_of(alloc, 100))?)?,
             None => {}
         }
     }
+    let call = call_of(alloc, line, stage, texts)?;
     let gate = Passage::of(stage.held);
     Ok(called(rt, call, &gate, watchers))
 }
 
-/// Puts bytes behind a text and a word, where there are any.
+/// Puts bytes after a text and a word, where there are any.
 fn push_named(text: &mut Vec<u8>, name: &[u8], bytes: &[u8]) -> Result<(), Memory> {
     if !bytes.is_empty() {
         text.extend_from_slice(name)?;
@@ -294,28 +293,51 @@ fn shown_holding(alloc: Global, left: &Left) -> Result<Vec<u8>, Memory> {
     Ok(format!(in alloc; "{status}, {} entries, {how}", history.len())?.into_bytes())
 }
 
-fn part_of(alloc: Global, asked: Shown, left: &Left) -> Result<Vec<u8>, Memory> {
+/// The status, how many entries there are, and how often a process has passed the gate.
+fn shown_passes(alloc: Global, left: &Left) -> Result<Vec<u8>, Memory> {
+    let Outcome {
+        status,
+        history,
+        ..
+    } = &left.outcome;
+    let (count, passes) = (history.len(), left.passes);
+    Ok(format!(in alloc; "{status}, {count} entries, {passes} passes")?.into_bytes())
+}
+
+/// What a word such as `command` asks of what a run left.
+fn part_of(alloc: Global, asked: &str, left: &Left) -> Result<Vec<u8>, RowErr> {
+    let Left { outcome, sinks, .. } = left;
     match asked {
-        Shown::History => trace_of(alloc, &left.outcome.history),
-        Shown::LastEntry => last_of(alloc, &left.outcome.history),
-        Shown::Finished => spaced(alloc, &left.outcome.done),
-        Shown::Holding => shown_holding(alloc, left),
-        _ => shown_ending(alloc, left.outcome.status, &left.sinks),
+        "command" => Ok(shown_ending(alloc, outcome.status, sinks)?),
+        "history" => Ok(trace_of(alloc, &outcome.history)?),
+        "end" => Ok(last_of(alloc, &outcome.history)?),
+        "finished" => Ok(spaced(alloc, &outcome.done)?),
+        "holding" => Ok(shown_holding(alloc, left)?),
+        "passes" => Ok(shown_passes(alloc, left)?),
+        _ => Err(RowErr::Heading),
     }
 }
 
-fn done<R: AllocGlobal + Threads + Wait + Sync>(
+/// What a command leaves over a text, and over a trace where one is given.
+fn left_over<R: AllocGlobal + Threads + Wait + Sync>(
     rt: &R,
-    asked: Shown,
     line: &str,
     stage: Stage,
-    texts: Texts,
-) -> Result<Vec<u8>, Stopped> {
-    let left = left_by(rt, line, stage, texts)?;
-    Ok(part_of(rt.alloc(), asked, &left)?)
+    text: &[u8],
+    trace: Option<&str>,
+) -> Result<Left, RowErr> {
+    let Some(spelled) = trace else {
+        return Ok(left_by(rt, line, stage, Texts::of(text))?);
+    };
+    let trace = bytes_of(rt.alloc(), spelled)?;
+    let texts = Texts {
+        text,
+        trace: Some(&trace),
+    };
+    Ok(left_by(rt, line, stage, texts)?)
 }
 
-/// What is given without the trace behind ` |`, and that trace as it is written.
+/// What is given without the trace after ` |`, and that trace as it is spelled.
 fn parted(given: &str) -> (&str, Option<&str>) {
     match given.split_once(" |") {
         Some((words, trace)) => (words, Some(trace.strip_prefix(" ").unwrap_or(trace))),
@@ -323,29 +345,23 @@ fn parted(given: &str) -> (&str, Option<&str>) {
     }
 }
 
-/// The bytes of a trace that is given.
-fn given_trace(alloc: Global, written: Option<&str>) -> Result<Option<Vec<u8>>, Stopped> {
-    match written {
-        Some(written) => Ok(Some(bytes_of(alloc, written)?)),
-        None => Ok(None),
-    }
-}
-
-/// What a command leaves over a file `a.ti` that holds a text, and a file `t.tr` that holds a trace where one is given behind ` |`.
+/// What a command leaves over a file `a.ti` that holds a text, and a file `t.tr` that holds a trace where one is given after ` |`.
 pub(crate) fn command<R: AllocGlobal + Threads + Wait + Sync>(
     rt: &R,
-    asked: Shown,
+    asked: &str,
     given: &str,
-    text: Vec<u8>,
-) -> Result<Vec<u8>, Stopped> {
-    let (given, written) = parted(given);
-    let trace = given_trace(rt.alloc(), written)?;
+    text: &[u8],
+) -> Result<Vec<u8>, RowErr> {
+    let (given, trace) = parted(given);
     let Some((line, stage)) = staged(given) else {
-        return Err(Stopped::Row);
+        return Err(RowErr::Row);
     };
     match asked {
-        Shown::Failing => each_failing(rt, line, stage, &text),
-        Shown::Fronts => fronts(rt, line, stage, &text),
-        _ => done(rt, asked, line, stage, Texts { text, trace }),
+        "failing" => each_failing(rt, line, stage, text),
+        "command-fronts" => fronts(rt, line, stage, text),
+        _ => {
+            let left = left_over(rt, line, stage, text, trace)?;
+            part_of(rt.alloc(), asked, &left)
+        }
     }
 }

@@ -1,13 +1,13 @@
 // Runs of a command, in each of which another call fails.
 
-use crate::answers::Stopped;
+use crate::checked::checked;
 use crate::commands::{Left, Texts, left_by, trace_of};
-use crate::phases::checked;
 use crate::stages::Stage;
 use std::alloc::{AllocError, Global};
 use std::sync::Wait;
 use std::thread::Threads;
 use ti_base::{Action, Entry, Memory, Value};
+use ti_row_files::RowErr;
 use ti_rules::Checked;
 use ti_watch::{StatsWatch, Watch};
 
@@ -76,11 +76,44 @@ fn part_of(alloc: Global, written: &[u8], whole: &[u8]) -> Result<String, AllocE
 }
 
 /// The status of a run, how much of its output stands on out, and how many bytes on err.
-fn shown(alloc: Global, checked: &Checked, left: &Left) -> Result<String, Stopped> {
+fn shown(alloc: Global, checked: &Checked, left: &Left) -> Result<String, RowErr> {
     let whole = output_of(alloc, checked, &left.outcome.history)?;
     let out = part_of(alloc, left.sinks.out.bytes(), &whole)?;
     let err = left.sinks.err.bytes().len();
     Ok(format!(in alloc; "{}:{}:{err}", left.outcome.status, out.as_str())?)
+}
+
+/// Appends what is shown of the run of a number.
+fn push_run<R: AllocGlobal + Threads + Wait + Sync>(
+    rt: &R,
+    found: &mut Vec<u8>,
+    line: &str,
+    stage: Stage,
+    text: &[u8],
+    checked: &Checked,
+) -> Result<(), RowErr> {
+    let left = left_by(rt, line, stage, Texts::of(text))?;
+    let shown = shown(rt.alloc(), checked, &left)?;
+    found.extend_from_slice(shown.as_bytes())?;
+    Ok(())
+}
+
+/// Appends what is shown of each run, in which the call of its number fails.
+fn push_runs<R: AllocGlobal + Threads + Wait + Sync>(
+    rt: &R,
+    found: &mut Vec<u8>,
+    line: &str,
+    stage: Stage,
+    text: &[u8],
+    checked: &Checked,
+) -> Result<(), RowErr> {
+    for number in 0..RUNS {
+        if number > 0 {
+            found.push(b' ')?;
+        }
+        push_run(rt, found, line, stage.in_run(number), text, checked)?;
+    }
+    Ok(())
 }
 
 /// Of each run in which another call fails the status, how much of its output stands on out, and how many bytes on err.
@@ -89,17 +122,9 @@ pub(crate) fn each_failing<R: AllocGlobal + Threads + Wait + Sync>(
     line: &str,
     stage: Stage,
     text: &[u8],
-) -> Result<Vec<u8>, Stopped> {
-    let alloc = rt.alloc();
-    let checked = checked(alloc, text)?;
-    let mut found = Vec::new(alloc);
-    for number in 0..RUNS {
-        let texts = Texts::of(text.to_vec(alloc)?);
-        let left = left_by(rt, line, stage.in_run(number), texts)?;
-        if number > 0 {
-            found.push(b' ')?;
-        }
-        found.extend_from_slice(shown(alloc, &checked, &left)?.as_bytes())?;
-    }
+) -> Result<Vec<u8>, RowErr> {
+    let checked = checked(rt.alloc(), text)?;
+    let mut found = Vec::new(rt.alloc());
+    push_runs(rt, &mut found, line, stage, text, &checked)?;
     Ok(found)
 }

@@ -1,13 +1,12 @@
 // A command over each front of a text.
 
-use crate::answers::Stopped;
 use crate::commands::{Left, Texts, left_by};
-use crate::phases::place_behind;
 use crate::stages::Stage;
 use std::alloc::{AllocError, Global};
 use std::sync::Wait;
 use std::thread::Threads;
 use ti_base::Place;
+use ti_row_files::RowErr;
 
 /// The place that two numbers such as `1:62` stand for.
 fn place_of(numbers: &str) -> Option<Place> {
@@ -16,6 +15,15 @@ fn place_of(numbers: &str) -> Option<Place> {
         line: line.parse::<u32>().ok()?,
         col: col.parse::<u32>().ok()?,
     })
+}
+
+/// The place after a byte.
+fn place_after(place: Place, byte: u8) -> Place {
+    let (line, col) = match byte {
+        b'\n' => (place.line.saturating_add(1), 1),
+        _ => (place.line, place.col.saturating_add(1)),
+    };
+    Place { line, col }
 }
 
 /// The rule and the place in a line of `a.ti` such as `a.ti:1:62: G1 an unexpected token`.
@@ -60,22 +68,33 @@ fn push_front(
     Ok(())
 }
 
+/// Appends what a command comes to over a front, but where it is refused by its end.
+fn push_left<R: AllocGlobal + Threads + Wait + Sync>(
+    rt: &R,
+    found: &mut String,
+    line: &str,
+    stage: Stage,
+    front: &[u8],
+    end: Place,
+) -> Result<(), RowErr> {
+    let left = left_by(rt, line, stage, Texts::of(front))?;
+    push_front(rt.alloc(), found, front.len(), &left, end)?;
+    Ok(())
+}
+
 /// What a command comes to over the fronts of a text, by their lengths, but where one is refused by its end.
 pub(crate) fn fronts<R: AllocGlobal + Threads + Wait + Sync>(
     rt: &R,
     line: &str,
     stage: Stage,
     text: &[u8],
-) -> Result<Vec<u8>, Stopped> {
-    let alloc = rt.alloc();
-    let mut found = String::new(alloc);
+) -> Result<Vec<u8>, RowErr> {
+    let mut found = String::new(rt.alloc());
     let mut end = Place::first();
     for count in 0..=text.len() {
-        let texts = Texts::of(text[..count].to_vec(alloc)?);
-        let left = left_by(rt, line, stage, texts)?;
-        push_front(alloc, &mut found, count, &left, end)?;
+        push_left(rt, &mut found, line, stage, &text[..count], end)?;
         if let Some(byte) = text.get(count) {
-            end = place_behind(end, *byte);
+            end = place_after(end, *byte);
         }
     }
     Ok(found.into_bytes())

@@ -58,7 +58,7 @@ impl Stage {
 pub(crate) const ROOM: usize = 200_000;
 
 /// No call fails, and the watchers are those that `main` hands in.
-const PLAIN: Stage = Stage {
+pub(crate) const PLAIN: Stage = Stage {
     source: Fails::Never,
     out: Fails::Never,
     err: Fails::Never,

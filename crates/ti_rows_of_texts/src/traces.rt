@@ -1,37 +1,45 @@
 // Traces of runs, held against the programs that were run.
 
-use crate::answers::Stopped;
-use crate::commands::{Left, Texts, left_by, shown_ending, trace_of};
+use crate::commands::{Texts, left_by, shown_ending, trace_of};
 use crate::stages::{Stage, staged};
 use std::alloc::{AllocError, Global};
 use std::sync::Wait;
 use std::thread::Threads;
 use ti_base::Memory;
+use ti_row_files::RowErr;
 
 /// A run: the words of the command, what stands around it, its text, and the trace that it left.
 #[derive(Drop)]
-struct TracedRun {
-    line: String,
+struct TracedRun<'a> {
+    line: &'a str,
     stage: Stage,
-    text: Vec<u8>,
+    text: &'a [u8],
     trace: Vec<u8>,
 }
 
-/// The run of a command over a text.
-fn run_of<R: AllocGlobal + Threads + Wait + Sync>(
+/// The trace that a command over a text leaves.
+fn trace_left<R: AllocGlobal + Threads + Wait + Sync>(
     rt: &R,
-    given: &str,
-    text: Vec<u8>,
-) -> Result<TracedRun, Stopped> {
+    line: &str,
+    stage: Stage,
+    text: &[u8],
+) -> Result<Vec<u8>, Memory> {
+    let left = left_by(rt, line, stage, Texts::of(text))?;
+    trace_of(rt.alloc(), &left.outcome.history)
+}
+
+/// The run of a command over a text.
+fn run_of<'a, R: AllocGlobal + Threads + Wait + Sync>(
+    rt: &R,
+    given: &'a str,
+    text: &'a [u8],
+) -> Result<TracedRun<'a>, RowErr> {
     let Some((line, stage)) = staged(given) else {
-        return Err(Stopped::Row);
+        return Err(RowErr::Row);
     };
-    let alloc = rt.alloc();
-    let texts = Texts::of(text.to_vec(alloc)?);
-    let left = left_by(rt, line, stage, texts)?;
-    let trace = trace_of(alloc, &left.outcome.history)?;
+    let trace = trace_left(rt, line, stage, text)?;
     Ok(TracedRun {
-        line: String::from_str(alloc, line)?,
+        line,
         stage,
         text,
         trace,
@@ -42,39 +50,59 @@ fn run_of<R: AllocGlobal + Threads + Wait + Sync>(
 fn held<R: AllocGlobal + Threads + Wait + Sync>(
     rt: &R,
     run: &TracedRun,
-    trace: Vec<u8>,
-) -> Result<Left, Memory> {
-    let alloc = rt.alloc();
-    let line = ["--mode verify --against t.tr ", run.line.as_str()].concat(alloc)?;
+    trace: &[u8],
+) -> Result<Vec<u8>, Memory> {
+    let line = ["--mode verify --against t.tr ", run.line].concat(rt.alloc())?;
     let texts = Texts {
-        text: run.text.to_vec(alloc)?,
+        text: run.text,
         trace: Some(trace),
     };
-    left_by(rt, line.as_str(), run.stage, texts)
+    let left = left_by(rt, line.as_str(), run.stage, texts)?;
+    shown_ending(rt.alloc(), left.outcome.status, &left.sinks)
 }
 
 /// What holding the trace of a run against its program leaves.
 pub(crate) fn traced<R: AllocGlobal + Threads + Wait + Sync>(
     rt: &R,
     given: &str,
-    text: Vec<u8>,
-) -> Result<Vec<u8>, Stopped> {
+    text: &[u8],
+) -> Result<Vec<u8>, RowErr> {
     let run = run_of(rt, given, text)?;
-    let alloc = rt.alloc();
-    let left = held(rt, &run, run.trace.to_vec(alloc)?)?;
-    Ok(shown_ending(alloc, left.outcome.status, &left.sinks)?)
+    Ok(held(rt, &run, &run.trace)?)
 }
 
-/// The bytes with one of them changed.
-fn with_change(alloc: Global, bytes: &[u8], at: usize) -> Result<Vec<u8>, AllocError> {
-    let mut changed = bytes.to_vec(alloc)?;
+/// What holding the trace of a run with this byte changed against its program leaves.
+fn held_with_change<R: AllocGlobal + Threads + Wait + Sync>(
+    rt: &R,
+    run: &TracedRun,
+    at: usize,
+) -> Result<Vec<u8>, Memory> {
+    let mut changed = run.trace.to_vec(rt.alloc())?;
     if let Some(byte) = changed.get_mut(at) {
         *byte ^= 1;
     }
-    Ok(changed)
+    held(rt, run, &changed)
 }
 
-/// Puts behind a text what holding a trace with this byte changed against the program left, unless it is refused at this line.
+/// What a command leaves that refuses a trace at a line.
+fn refused_at(alloc: Global, line: u64) -> Result<String, AllocError> {
+    format!(in alloc; "7 err: titan: the trace is no run at line {line}\n")
+}
+
+/// Appends the number of a byte, and what was found where it was changed.
+fn push_found(
+    alloc: Global,
+    shown: &mut Vec<u8>,
+    at: usize,
+    found: &[u8],
+) -> Result<(), AllocError> {
+    let named = format!(in alloc; ", but {at}: ")?;
+    shown.extend_from_slice(named.as_bytes())?;
+    shown.extend_from_slice(found)?;
+    Ok(())
+}
+
+/// Appends what holding a trace with this byte changed against the program left, unless it is refused at this line.
 fn push_change<R: AllocGlobal + Threads + Wait + Sync>(
     rt: &R,
     shown: &mut Vec<u8>,
@@ -82,13 +110,26 @@ fn push_change<R: AllocGlobal + Threads + Wait + Sync>(
     at: usize,
     line: u64,
 ) -> Result<(), Memory> {
-    let alloc = rt.alloc();
-    let left = held(rt, run, with_change(alloc, &run.trace, at)?)?;
-    let found = shown_ending(alloc, left.outcome.status, &left.sinks)?;
-    let wanted = format!(in alloc; "7 err: titan: the trace is no run at line {line}\n")?;
+    let found = held_with_change(rt, run, at)?;
+    let wanted = refused_at(rt.alloc(), line)?;
     if found.as_slice() != wanted.as_bytes() {
-        shown.extend_from_slice(format!(in alloc; ", but {at}: ")?.as_bytes())?;
-        shown.extend_from_slice(&found)?;
+        push_found(rt.alloc(), shown, at, &found)?;
+    }
+    Ok(())
+}
+
+/// Appends what is left for each byte of the trace of a run.
+fn push_changes<R: AllocGlobal + Threads + Wait + Sync>(
+    rt: &R,
+    shown: &mut Vec<u8>,
+    run: &TracedRun,
+) -> Result<(), Memory> {
+    let mut line = 1u64;
+    for (at, byte) in run.trace.iter().enumerate() {
+        push_change(rt, shown, run, at, line)?;
+        if *byte == b'\n' {
+            line = line.wrapping_add(1);
+        }
     }
     Ok(())
 }
@@ -98,17 +139,10 @@ fn push_change<R: AllocGlobal + Threads + Wait + Sync>(
 pub(crate) fn changed<R: AllocGlobal + Threads + Wait + Sync>(
     rt: &R,
     given: &str,
-    text: Vec<u8>,
-) -> Result<Vec<u8>, Stopped> {
+    text: &[u8],
+) -> Result<Vec<u8>, RowErr> {
     let run = run_of(rt, given, text)?;
-    let alloc = rt.alloc();
-    let mut shown = format!(in alloc; "{} bytes", run.trace.len())?.into_bytes();
-    let mut line = 1u64;
-    for (at, byte) in run.trace.iter().enumerate() {
-        push_change(rt, &mut shown, &run, at, line)?;
-        if *byte == b'\n' {
-            line = line.wrapping_add(1);
-        }
-    }
+    let mut shown = format!(in rt.alloc(); "{} bytes", run.trace.len())?.into_bytes();
+    push_changes(rt, &mut shown, &run)?;
     Ok(shown)
 }

@@ -1,28 +1,14 @@
 // What stands in tables: the jobs of words, rules, faults, and the texts of seeds.
 
-use crate::answers::Stopped;
-use crate::texts::bytes_of;
+use crate::stopped::{MEMORY, NO_ROW, Stopped};
 use std::alloc::{AllocError, Global};
 use ti_base::{FaultKind, fault_name};
 use ti_gen::gen_source;
+use ti_row_files::bytes_of;
 use ti_rules::{Rule, rule_text};
 use ti_words::{Job, WordsErr, read_words};
 
-/// What is asked of a table.
-#[derive(Clone, Copy)]
-pub(crate) enum Table {
-    /// The job that words ask for.
-    Job,
-    /// The code and the text of the rule of a number.
-    Rule,
-    /// The name of the fault of a number.
-    Fault,
-    /// How long the text of a seed is, and its bytes as the digits of one number.
-    Seed,
-    /// The text of a seed.
-    Source,
-}
-
+/// The rules by their numbers.
 const RULES: &[Rule] = &[
     Rule::X1,
     Rule::X2,
@@ -58,6 +44,7 @@ const RULES: &[Rule] = &[
     Rule::B1,
 ];
 
+/// The faults by their numbers.
 const FAULTS: &[FaultKind] = &[
     FaultKind::DivZero,
     FaultKind::NullRef,
@@ -103,14 +90,14 @@ fn rule(alloc: Global, number: u32) -> Result<Vec<u8>, Stopped> {
                 .concat(alloc)?
                 .into_bytes(),
         ),
-        None => Err(Stopped::Row),
+        None => Err(NO_ROW),
     }
 }
 
 fn fault(alloc: Global, number: u32) -> Result<Vec<u8>, Stopped> {
     match fault_of(number) {
         Some(kind) => Ok(fault_name(kind).as_bytes().to_vec(alloc)?),
-        None => Err(Stopped::Row),
+        None => Err(NO_ROW),
     }
 }
 
@@ -136,7 +123,7 @@ fn word_of(alloc: Global, escaped: &str) -> Result<String, Stopped> {
     }
     match String::from_utf8(bytes_of(alloc, escaped)?) {
         Ok(word) => Ok(word),
-        Err(_) => Err(Stopped::Row),
+        Err(_) => Err(NO_ROW),
     }
 }
 
@@ -169,33 +156,30 @@ fn shown_job(alloc: Global, job: &Job) -> Result<String, AllocError> {
     Ok(shown)
 }
 
-fn job(alloc: Global, row: &str) -> Result<String, Stopped> {
+/// The job that the words of a row ask for.
+pub(crate) fn job(alloc: Global, row: &str) -> Result<Vec<u8>, Stopped> {
     let words = words_of(alloc, row)?;
     match read_words(alloc, &words) {
-        Ok(job) => Ok(shown_job(alloc, &job)?),
-        Err(WordsErr::Usage) => Ok(String::from_str(alloc, "no command")?),
-        Err(WordsErr::Memory) => Err(Stopped::Memory),
+        Ok(job) => Ok(shown_job(alloc, &job)?.into_bytes()),
+        Err(WordsErr::Usage) => Ok(b"no command".to_vec(alloc)?),
+        Err(WordsErr::Memory) => Err(MEMORY),
     }
 }
 
-/// What stands in a table for a number.
-fn numbered(alloc: Global, asked: Table, number: u32) -> Result<Vec<u8>, Stopped> {
+/// What a table holds for a number.
+fn found_at(alloc: Global, asked: &str, number: u32) -> Result<Vec<u8>, Stopped> {
     match asked {
-        Table::Rule => rule(alloc, number),
-        Table::Fault => fault(alloc, number),
-        Table::Seed => seed(alloc, number),
-        Table::Source => Ok(gen_source(alloc, number)?),
-        Table::Job => Err(Stopped::Row),
+        "rule" => rule(alloc, number),
+        "fault" => fault(alloc, number),
+        "seed" => seed(alloc, number),
+        _ => Ok(gen_source(alloc, number)?),
     }
 }
 
-/// What stands in a table for the words or the number of a row.
-pub(crate) fn found_in(alloc: Global, asked: Table, row: &str) -> Result<Vec<u8>, Stopped> {
-    if matches!(asked, Table::Job) {
-        return Ok(job(alloc, row)?.into_bytes());
-    }
+/// What a table of rules, faults or generated sources holds for the number that a row spells.
+pub(crate) fn numbered(alloc: Global, asked: &str, row: &str) -> Result<Vec<u8>, Stopped> {
     match row.parse::<u32>() {
-        Ok(number) => numbered(alloc, asked, number),
-        Err(_) => Err(Stopped::Row),
+        Ok(number) => found_at(alloc, asked, number),
+        Err(_) => Err(NO_ROW),
     }
 }

@@ -3,87 +3,21 @@
 ghost use Rattle.std.specs.Prelude.{IfOk};
 ghost use Rattle.ti_parse_expr.specs.Answers.{EndsAtEnd};
 
-use crate::answers::Stopped;
+use crate::stopped::{NO_ROW, Stopped};
+use crate::typing::type_printed;
 use crate::{program_text, tree_text};
 use std::alloc::{AllocError, Global};
 use ti_base::Place;
-use ti_check::{CheckErr, check};
+use ti_check::check;
 use ti_lang::program::{Parts, Program, Scope, Ty};
-use ti_lex::{LexErr, lex};
-use ti_names::{NameErr, resolve};
-use ti_parse::{ParseErr, parse};
+use ti_lex::lex;
+use ti_names::resolve;
+use ti_parse::parse;
 use ti_parse_expr::{Form, parse_expr};
+use ti_row_files::RowErr;
 use ti_rules::{Checked, Refusal, Rule};
 use ti_syntax::Token;
 use ti_syntax::tree::{Class, Expr, Member, Tree};
-
-/// What is asked of a phase.
-#[derive(Clone, Copy)]
-pub(crate) enum Phase {
-    /// The tokens with their places, such as `1:1=Plus 1:2=End`.
-    Tokens,
-    /// The tree of the longest expression of a form from a token on, where so much weight is used already; the number of the token
-    /// behind it, and the weight used then.
-    Expression { form: Form, at: usize, weight: u32 },
-    /// The same with the place of the tree alone.
-    Extent { at: usize, weight: u32 },
-    /// The tree.
-    Tree,
-    /// The trees of the statements of the only method.
-    Statements,
-    /// Whether it is accepted by the grammar.
-    Grammar,
-    /// Which fronts of the text the grammar accepts, by how many bytes they have; and behind `!` those that it refuses for another
-    /// reason than an unexpected token or an open string, or behind their end.
-    Fronts,
-    /// Whether it is accepted by the rules of names.
-    Names,
-    /// The parts of the program.
-    Program,
-    /// Whether a copy of the program has the same parts.
-    Copy,
-    /// What is in scope at the first statement of the first method and a variable 2 behind it, then the first variable alone; and
-    /// what was the innermost loop before one was set, before it was taken back, and behind that.
-    Scope,
-    /// Whether it is accepted by all rules.
-    Rules,
-}
-
-impl From<LexErr> for Stopped {
-    fn from(error: LexErr) -> Stopped {
-        match error {
-            LexErr::Refused(refusal) => Stopped::Refused(refusal),
-            LexErr::Memory => Stopped::Memory,
-        }
-    }
-}
-
-impl From<ParseErr> for Stopped {
-    fn from(error: ParseErr) -> Stopped {
-        match error {
-            ParseErr::Refused(refusal) => Stopped::Refused(refusal),
-            ParseErr::Memory => Stopped::Memory,
-        }
-    }
-}
-
-impl From<NameErr> for Stopped {
-    fn from(error: NameErr) -> Stopped {
-        match error {
-            NameErr::Refused(refusal) => Stopped::Refused(refusal),
-            NameErr::Memory => Stopped::Memory,
-        }
-    }
-}
-
-impl From<CheckErr> for Stopped {
-    fn from(error: CheckErr) -> Stopped {
-        match error {
-            CheckErr::Refused(refusal) => Stopped::Refused(refusal),
-            CheckErr::Memory => Stopped::Memory,
-        }
-    }
-}
 
 /// The tokens of a text.
 fn tokens(alloc: Global, text: &[u8]) -> Result<Vec<Token>, Stopped>
@@ -142,7 +76,7 @@ fn read(
     if at < list.len() {
         Ok(parse_expr(alloc, &list, at, form, weight)?)
     } else {
-        Err(Stopped::Row)
+        Err(NO_ROW)
     }
 }
 
@@ -151,14 +85,8 @@ fn measured(alloc: Global, text: &str, behind: usize, used: u32) -> Result<Strin
     format!(in alloc; "{text}, {behind} tokens, weight {used}")
 }
 
-fn expression(
-    alloc: Global,
-    text: &[u8],
-    form: Form,
-    at: usize,
-    weight: u32,
-) -> Result<String, Stopped> {
-    let (tree, behind, used) = read(alloc, text, form, at, weight)?;
+fn expression(alloc: Global, text: &[u8], form: Form, weight: u32) -> Result<String, Stopped> {
+    let (tree, behind, used) = read(alloc, text, form, 0, weight)?;
     let text = tree_text::text_of(alloc, tree_text::Item::Expr(&tree))?;
     Ok(measured(alloc, text.as_str(), behind, used)?)
 }
@@ -228,7 +156,7 @@ fn refusal_of(alloc: Global, text: &[u8]) -> Result<Option<Refusal>, Stopped> {
 }
 
 /// The place behind a byte.
-pub(crate) fn place_behind(place: Place, byte: u8) -> Place {
+fn place_behind(place: Place, byte: u8) -> Place {
     let (line, col) = match byte {
         b'\n' => (place.line.saturating_add(1), 1),
         _ => (place.line, place.col.saturating_add(1)),
@@ -270,9 +198,9 @@ fn fronts(alloc: Global, text: &[u8]) -> Result<String, Stopped> {
 }
 
 /// What is in scope at the first statement of the first method.
-fn scope_of(alloc: Global, program: &Program) -> Result<Scope, Stopped> {
+pub(crate) fn scope_of(alloc: Global, program: &Program) -> Result<Scope, Stopped> {
     if program.parts.methods.is_empty() {
-        Err(Stopped::Row)
+        Err(NO_ROW)
     } else {
         Ok(Scope::begin(alloc, program, 0)?)
     }
@@ -306,24 +234,57 @@ fn scope(alloc: Global, text: &[u8]) -> Result<String, Stopped> {
     Ok(cut(alloc, &mut scope, grown.as_str())?)
 }
 
-fn shown_phase(alloc: Global, asked: Phase, text: &[u8]) -> Result<String, Stopped> {
+/// What an expression is read as, and the weight used before it, where a word such as `expression-behind-255` asks for it.
+fn read_as(asked: &str) -> Option<(Form, u32)> {
     match asked {
-        Phase::Tokens => token_list(alloc, text),
-        Phase::Expression { form, at, weight } => expression(alloc, text, form, at, weight),
-        Phase::Extent { at, weight } => extent(alloc, text, at, weight),
-        Phase::Tree => tree(alloc, text),
-        Phase::Statements => statements(alloc, text),
-        Phase::Grammar => accepted(alloc, parsed(alloc, text)),
-        Phase::Fronts => fronts(alloc, text),
-        Phase::Names => accepted(alloc, resolved(alloc, text)),
-        Phase::Program => program(alloc, text),
-        Phase::Copy => copy(alloc, text),
-        Phase::Scope => scope(alloc, text),
-        Phase::Rules => accepted(alloc, checked(alloc, text)),
+        "expression" => Some((Form::Whole, 0)),
+        "product" => Some((Form::Mul, 0)),
+        "operand" => Some((Form::Postfix, 0)),
+        "expression-behind-255" => Some((Form::Whole, 255)),
+        "expression-behind-256" => Some((Form::Whole, 256)),
+        "expression-behind-257" => Some((Form::Whole, 257)),
+        _ => None,
     }
 }
 
-/// What a phase makes of a text.
-pub(crate) fn made_by(alloc: Global, asked: Phase, text: &[u8]) -> Result<Vec<u8>, Stopped> {
-    Ok(shown_phase(alloc, asked, text)?.into_bytes())
+/// What a word asks of the expressions of a text.
+fn shown_expression(alloc: Global, asked: &str, text: &[u8]) -> Result<String, Stopped> {
+    match asked {
+        "extent" => extent(alloc, text, 0, 0),
+        "extent-at-2-behind-7" => extent(alloc, text, 2, 7),
+        _ => match read_as(asked) {
+            Some((form, weight)) => expression(alloc, text, form, weight),
+            None => Err(Stopped::Row(RowErr::Heading)),
+        },
+    }
+}
+
+/// What a word asks of the program of a text.
+fn shown_program(alloc: Global, asked: &str, text: &[u8]) -> Result<String, Stopped> {
+    match asked {
+        "names" => accepted(alloc, resolved(alloc, text)),
+        "program" => program(alloc, text),
+        "copy" => copy(alloc, text),
+        "scope" => scope(alloc, text),
+        "type" => type_printed(alloc, text),
+        "rules" => accepted(alloc, checked(alloc, text)),
+        _ => shown_expression(alloc, asked, text),
+    }
+}
+
+/// What a word such as `tokens` asks of a text.
+fn shown(alloc: Global, asked: &str, text: &[u8]) -> Result<String, Stopped> {
+    match asked {
+        "tokens" => token_list(alloc, text),
+        "tree" => tree(alloc, text),
+        "statements" => statements(alloc, text),
+        "grammar" => accepted(alloc, parsed(alloc, text)),
+        "fronts" => fronts(alloc, text),
+        _ => shown_program(alloc, asked, text),
+    }
+}
+
+/// What comes of a text in the phase that a word asks for.
+pub(crate) fn phase(alloc: Global, asked: &str, text: &[u8]) -> Result<Vec<u8>, Stopped> {
+    Ok(shown(alloc, asked, text)?.into_bytes())
 }

@@ -1,8 +1,8 @@
 // What expressions come to, from the answers that their actions have got so far. The process is number 1 of 3. The variable 0 is an int and
 // holds 5, the variable 1 holds a grid of ints.
 
-use crate::answers::Stopped;
 use crate::phases::resolved;
+use crate::stopped::{MEMORY, NO_ROW, Stopped};
 use crate::things::answer_of;
 use std::alloc::{AllocError, Global};
 use ti_base::{Action, Id, Place, Value, fault_name};
@@ -17,7 +17,7 @@ const GRID: Id = Id {
 };
 
 /// The expression that the last statement of the last method prints.
-fn printed(parts: &Parts) -> Option<&Expr> {
+pub(crate) fn printed(parts: &Parts) -> Option<&Expr> {
     match parts.methods.last()?.body.last()? {
         Stmt::Print(_, Printed::Value(e)) => Some(e),
         _ => None,
@@ -54,7 +54,7 @@ fn told(alloc: Global, given: &str) -> Result<Vec<Told>, Stopped> {
     let mut found = Vec::new(alloc);
     for word in given.split_ascii_whitespace() {
         let Some(answer) = answer_of(word) else {
-            return Err(Stopped::Row);
+            return Err(NO_ROW);
         };
         found.push(Told::of(answer))?;
     }
@@ -84,7 +84,7 @@ fn shown(alloc: Global, came: Result<(Held, &[Told]), Stop>) -> Result<String, S
             let name = fault_name(kind);
             Ok(format!(in alloc; "{name} {place:?}")?)
         }
-        Err(Stop::Memory) => Err(Stopped::Memory),
+        Err(Stop::Memory) => Err(MEMORY),
     }
 }
 
@@ -115,7 +115,7 @@ fn comes(
 ) -> Result<String, Stopped> {
     match printed(program) {
         Some(e) => shown(alloc, evaluate(alloc, &env(program, variables), e, answers)),
-        None => Err(Stopped::Row),
+        None => Err(NO_ROW),
     }
 }
 

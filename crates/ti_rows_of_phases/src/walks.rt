@@ -5,8 +5,8 @@ ghost use Rattle.std.specs.Prelude.{◌≡◌, IfOk, IfSome};
 ghost use Rattle.ti_eval.specs.Forms.{IsFormedAnswer};
 ghost use Rattle.ti_lang.specs.Program.Views.{program_of};
 
-use crate::answers::Stopped;
 use crate::phases::checked;
+use crate::stopped::{NO_ROW, Stopped};
 use crate::things::answer_of;
 use std::alloc::{AllocError, Global};
 use ti_base::{Action, Answer, CollKind, Deposit, Memory, Next, Value, fault_name};
@@ -148,7 +148,7 @@ fn say_all(alloc: Global, c: &Checked, answers: &str, shown: &mut String) -> Res
     let mut process = TreeProc::start(alloc, c, 0, 2, 1000)?;
     for n in 0..1000 {
         let Some(answer) = answer_at(answers, n) else {
-            return Err(Stopped::Row);
+            return Err(NO_ROW);
         };
         let next = turn(alloc, c, &mut process, answer)?;
         say(shown, shown_next(alloc, next)?)?;

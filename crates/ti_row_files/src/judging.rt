@@ -1,0 +1,58 @@
+// Rows, held against what comes of their texts.
+
+use crate::error::RowErr;
+use crate::judge::{Judge, Row};
+use crate::lines::{fits, parted, wanted_by};
+use crate::texts::{bytes_of, escaped, text_of};
+use std::alloc::Global;
+use std::rt::Files;
+
+/// What comes of a row below a heading such as `tokens whole`.
+fn found<R: Files + AllocGlobal, J: Judge>(
+    rt: &R,
+    judge: &J,
+    heading: &str,
+    row: &str,
+) -> Result<Vec<u8>, RowErr> {
+    let Some((asked, frame)) = heading.split_once(' ') else {
+        return Err(RowErr::Heading);
+    };
+    let (given, spelled) = parted(row);
+    let text = text_of(rt, frame, spelled)?;
+    judge.answer(
+        asked,
+        Row {
+            given,
+            spelled,
+            text: &text,
+        },
+    )
+}
+
+/// Whether what was found is what a row expects.
+fn holds(alloc: Global, found: &[u8], expected: &str) -> Result<bool, RowErr> {
+    let wanted = wanted_by(expected);
+    let bytes = bytes_of(alloc, wanted.bytes)?;
+    Ok(fits(found, wanted.is_end, wanted.is_front, &bytes))
+}
+
+/// What was found, as a row spells it, where something else is expected.
+fn differing(alloc: Global, found: &[u8], expected: &str) -> Result<Option<String>, RowErr> {
+    if holds(alloc, found, expected)? {
+        Ok(None)
+    } else {
+        Ok(Some(escaped(alloc, found)?))
+    }
+}
+
+/// What comes of a row, as a row spells it, where the row expects something else.
+pub(crate) fn judged<R: Files + AllocGlobal, J: Judge>(
+    rt: &R,
+    judge: &J,
+    heading: &str,
+    row: &str,
+    expected: &str,
+) -> Result<Option<String>, RowErr> {
+    let found = found(rt, judge, heading, row)?;
+    differing(rt.alloc(), &found, expected)
+}

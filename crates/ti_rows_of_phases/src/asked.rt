@@ -1,0 +1,60 @@
+// What is asked of the texts of rows.
+
+use crate::evaluation::value;
+use crate::phases::phase;
+use crate::slices::slice;
+use crate::stopped::Stopped;
+use crate::tables::{job, numbered};
+use crate::walks::walk;
+use std::alloc::{AllocError, Global};
+use ti_row_files::{Judge, Row, RowErr};
+use ti_rules::Refusal;
+
+/// Asks the phases of titan.
+#[derive(Clone, Copy)]
+pub(crate) struct Phases {
+    alloc: Global,
+}
+
+impl Phases {
+    pub(crate) fn new(alloc: Global) -> Phases {
+        Phases { alloc }
+    }
+}
+
+impl Judge for Phases {
+    fn answer(&self, asked: &str, row: Row) -> Result<Vec<u8>, RowErr> {
+        match found(self.alloc, asked, row) {
+            Ok(found) => Ok(found),
+            Err(Stopped::Refused(refusal)) => Ok(shown_refusal(self.alloc, refusal)?.into_bytes()),
+            Err(Stopped::Row(error)) => Err(error),
+        }
+    }
+}
+
+/// The rule that a text breaks and its place, such as `X1 1:62`.
+fn shown_refusal(alloc: Global, refusal: Refusal) -> Result<String, AllocError> {
+    format!(in alloc; "{:?} {:?}", refusal.rule, refusal.place)
+}
+
+/// What comes of a row.
+fn found(alloc: Global, asked: &str, row: Row) -> Result<Vec<u8>, Stopped> {
+    match asked {
+        "job" => job(alloc, row.spelled),
+        "rule" | "fault" | "seed" | "source" => numbered(alloc, asked, row.spelled),
+        "value" | "walk" | "slice" => match row.given {
+            Some(given) => after(alloc, asked, given, row.text),
+            None => Err(Stopped::Row(RowErr::Row)),
+        },
+        _ => phase(alloc, asked, row.text),
+    }
+}
+
+/// What comes of a text after the answers that are given.
+fn after(alloc: Global, asked: &str, given: &str, text: &[u8]) -> Result<Vec<u8>, Stopped> {
+    match asked {
+        "value" => value(alloc, given, text),
+        "walk" => walk(alloc, given, text),
+        _ => slice(alloc, given, text),
+    }
+}

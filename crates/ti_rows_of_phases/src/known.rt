@@ -1,0 +1,29 @@
+// Whether the names of an expression mean something, which `type_of` asks of its caller.
+
+ghost use Rattle.std.specs.Prelude.{IsTrue};
+ghost use Rattle.ti_lang.specs.Program.Scope.{contents_of};
+ghost use Rattle.ti_lang.specs.Program.Views.{expression_of, program_of};
+ghost use Rattle.ti_rules.specs.Known.{IsKnown};
+
+use ti_lang::program::{Expr, Parts, Scope};
+use ti_lang::typing::variable_type;
+
+/// Whether the names of an expression without lists and without `this` mean something. Of any other it says no.
+pub(crate) fn is_known(p: &Parts, s: &Scope, e: &Expr) -> bool
+    ensures { IsTrue result → IsKnown (program_of p.now) (contents_of s.now) (expression_of e.now) }
+{
+    match e {
+        Expr::Int(_, _) => true,
+        Expr::Long(_, _) => true,
+        Expr::Truth(_, _) => true,
+        Expr::Null(_) => true,
+        Expr::ThisProc(_) => true,
+        Expr::NumProcs(_) => true,
+        Expr::Variable(_, v) => variable_type(s, v).is_some(),
+        Expr::Unary { operand, .. } => is_known(p, s, operand),
+        Expr::Binary { left, right, .. } => is_known(p, s, left) && is_known(p, s, right),
+        Expr::Cast { operand, .. } => is_known(p, s, operand),
+        Expr::Select { receiver, .. } => is_known(p, s, receiver),
+        _ => false,
+    }
+}

@@ -1,0 +1,52 @@
+// The types of expressions.
+
+use crate::evaluation::printed;
+use crate::known::is_known;
+use crate::phases::{resolved, scope_of};
+use crate::program_text::{Item, text_of};
+use crate::stopped::{NO_ROW, Stopped};
+use std::alloc::Global;
+use ti_base::Memory;
+use ti_lang::program::{Expr, Method, Program, Scope, Stmt};
+use ti_types::type_of;
+
+/// Puts the variables that statements declare into a scope.
+fn declare(alloc: Global, scope: &mut Scope, body: &[Stmt]) -> Result<(), Memory> {
+    for statement in body {
+        if let Stmt::Declare { ty, variable, .. } = statement {
+            scope.push(*variable, ty.ty.copy(alloc)?, ty.single)?;
+        }
+    }
+    Ok(())
+}
+
+/// The type of an expression after the declarations of a method.
+fn typed(
+    alloc: Global,
+    program: &Program,
+    scope: &mut Scope,
+    method: &Method,
+    e: &Expr,
+) -> Result<String, Stopped> {
+    declare(alloc, scope, &method.body)?;
+    if !is_known(&program.parts, scope, e) {
+        return Err(NO_ROW);
+    }
+    let ty = type_of(alloc, program, scope, e)?;
+    Ok(text_of(alloc, Item::Ty(&ty))?)
+}
+
+/// The type of what the last statement of a program's only method prints.
+fn printed_type(alloc: Global, program: &Program) -> Result<String, Stopped> {
+    let ([method], Some(e)) = (program.parts.methods.as_slice(), printed(&program.parts)) else {
+        return Err(NO_ROW);
+    };
+    let mut scope = scope_of(alloc, program)?;
+    typed(alloc, program, &mut scope, method, e)
+}
+
+/// The type of what the last statement of a text with one method prints.
+pub(crate) fn type_printed(alloc: Global, text: &[u8]) -> Result<String, Stopped> {
+    let program = resolved(alloc, text)?;
+    printed_type(alloc, &program)
+}
