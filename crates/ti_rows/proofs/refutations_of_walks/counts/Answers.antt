@@ -6,8 +6,8 @@ use Rattle.ti_lang.specs.Meaning.Asking.{Got, Gives}
 use Rattle.ti_code.specs.Programs.{Code}
 use Rattle.ti_code.specs.Machine.{Machine, Turn, On, Ended, first, turn}
 use Rattle.ti_code.specs.Follows.{Finishes, all, one}
-use Rattle.ti_machine.specs.Standing.{HasFinished, counted}
-use Rattle.ti_rows.specs.Refuted.Codes.{prints_at, standing, stops}
+use Rattle.ti_machine.specs.Standing.{counted}
+use Rattle.ti_rows.specs.Refuted.Codes.{prints_at, stops}
 use Rattle.ti_rows.proofs.refutations_of_walks.counts.Goals as goal
 
 -- ---- one number
