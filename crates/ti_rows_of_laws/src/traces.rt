@@ -1,0 +1,22 @@
+// Texts, as traces of the run of a program that prints.
+ghost use Rattle.std.specs.Prelude.{ℕ, List, []};
+ghost use Rattle.ti_base.specs.declared.entry.Entry.{Entry};
+ghost use Rattle.ti_trace_check.specs.Verdicts.{IsTraceOf, IsWrongAt};
+ghost use Rattle.ti_rows.specs.Simulation.{solo};
+ghost use Rattle.ti_rows_of_laws.specs.Traces as traces;
+
+use ti_rows::simulation::simulates;
+use ti_trace_check::one_verdict;
+
+/// Which text is the trace of a complete run, and which line of another is the first wrong one.
+pub fn verdicts()
+    ensures all_lines { IsTraceOf traces.two_prints traces.all_lines (solo traces.two_prints 4) }
+    ensures three_lines { (es : List Entry) → IsTraceOf traces.two_prints traces.three_lines es → ⊥ }
+    ensures the_fourth_is_missing { IsWrongAt traces.two_prints traces.three_lines 4 (solo traces.two_prints 3) }
+    ensures the_third_is_right { (es : List Entry) → IsWrongAt traces.two_prints traces.three_lines 3 es → ⊥ }
+    ensures another_line { IsWrongAt traces.two_prints traces.another_line 1 [] }
+    ensures none_is_wrong { (line : ℕ) (es : List Entry) → IsWrongAt traces.two_prints traces.all_lines line es → ⊥ }
+{
+    simulates();
+    one_verdict();
+}
