@@ -1,10 +1,13 @@
-// Texts, as traces of the run of a program that prints.
-ghost use Rattle.std.specs.Prelude.{ℕ, List, []};
+// Texts, as traces of the run of a program that prints, and how many instructions of its code the processes have finished.
+ghost use Rattle.std.specs.Prelude.{ℕ, List, [], ◌∷◌};
 ghost use Rattle.ti_base.specs.declared.entry.Entry.{Entry};
+ghost use Rattle.ti_runtime.specs.Ran.{IsDone};
 ghost use Rattle.ti_trace_check.specs.Verdicts.{IsTraceOf, IsWrongAt};
 ghost use Rattle.ti_rows.specs.Simulation.{solo};
+ghost use Rattle.ti_rows.specs.Refuted.Codes.{prints_at};
 ghost use Rattle.ti_rows_of_laws.specs.Traces as traces;
 
+use ti_rows::refutations_of_walks::counts as finished;
 use ti_rows::simulation::simulates;
 use ti_trace_check::one_verdict;
 
@@ -19,4 +22,13 @@ pub fn verdicts()
 {
     simulates();
     one_verdict();
+}
+
+/// How many instructions each process has finished: two, one that pushes the number and one that prints it.
+pub fn counts()
+    ensures two_each { IsDone (prints_at 62) traces.two_prints (solo traces.two_prints 4) (2 ∷ 2 ∷ []) }
+    ensures another_number { IsDone (prints_at 62) traces.two_prints (solo traces.two_prints 4) (2 ∷ 3 ∷ []) → ⊥ }
+    ensures of_one_process { IsDone (prints_at 62) traces.two_prints (solo traces.two_prints 4) (2 ∷ []) → ⊥ }
+{
+    finished();
 }
