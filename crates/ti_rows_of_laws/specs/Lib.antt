@@ -1,3 +1,4 @@
 pub mod Markings
 pub mod Programs
 pub mod Texts
+pub mod Traces
