@@ -17,8 +17,6 @@ use Rattle.std.specs.contracts.sync.atomic.AtomicBool as flag
 use Rattle.std.specs.contracts.vec.Vec as vec
 use Rattle.ti_base.specs.contracts.action.CollKind as collective
 use Rattle.ti_base.specs.contracts.entry.Entry as entry
-use Rattle.ti_base.specs.contracts.entry.Next as next
-use Rattle.ti_base.specs.contracts.fault.FaultKind as fault
 use Rattle.ti_base.specs.contracts.place.Place as place
 use Rattle.ti_base.specs.contracts.value.Value as value
 use Rattle.ti_base.specs.contracts.value.Zero as zero
@@ -31,7 +29,7 @@ use Rattle.ti_code.specs.contracts.instr.Member as member
 use Rattle.ti_code.specs.contracts.instr.OneOperand as one_operand
 use Rattle.ti_code.specs.contracts.instr.Operation as operation
 use Rattle.ti_machine.proofs.Lemmas.{process_send}
-use Rattle.ti_store.proofs.Lemmas.{action_send, place_send, store_send}
+use Rattle.ti_store.proofs.Lemmas.{store_send}
 use Rattle.ti_store.specs.contracts.store.Store as store
 use Rattle.ti_store.specs.declared.store.Store.{Store}
 use Rattle.ti_store.specs.declared.terms.Terms as terms
@@ -82,14 +80,8 @@ code_sync = as_row_sync code.the_field code_kept
 
 -- ---- seats
 
-fault_send : IsSend fault.the_field.row
-fault_send = search sendable depth 60 fits 40000
-
-next_send : IsSend next.the_field.row
-next_send = search (sendable, place_send, action_send, fault_send) depth 60 fits 40000
-
 seat_send : IsSend seat.the_field.row
-seat_send = search (sendable, crosses, process_send, next_send) depth 14
+seat_send = search (sendable, crosses, process_send) depth 14
 
 pub flag_sync : IsSync flag.the_row
 flag_sync = search (sendable, crosses) depth 14

@@ -8,8 +8,8 @@ use Rattle.ti_machine.specs.Standing.{CodeStanding, GoesOn}
 use Rattle.ti_turnstile.specs.declared.turnstile.Pass.{Pass}
 use Rattle.ti_turnstile.specs.Turnstiles.{turnstile_of, number_of, seen_by, AreNew}
 use Rattle.ti_runtime.specs.declared.seat.Seat.{Seat}
-use Rattle.ti_runtime.specs.Mirrors.Team.{StandsAt, Seated, MayRun}
-use Rattle.ti_runtime.proofs.Following.{OneNext, begins_on, begins_seated}
+use Rattle.ti_runtime.specs.Mirrors.Team.{Seated, MayRun}
+use Rattle.ti_runtime.proofs.Following.{begins_on, begins_seated}
 
 -- of new passes the last, and those before it
 pub last_pass : {V I : Type 0} {g : _} (turnstile : TableId) (all xs : List (Pass V I g)) (p : Pass V I g) → all ≡ xs ++ p ∷ []
@@ -31,6 +31,7 @@ begins_here code here s procs fuel i may is p f l =
     subst (λ (x : Code × (ℕ × ℕ)). GoesOn (unbegun_at x.0 x.1.0 x.1.1 i)) (λ j. (sym is j, (sym p j, sym f j))) (begins_on code s may.follows may.within i l)
 
 pub seated_here : (code here : Code) (s : Setting) (procs fuel i : ℕ) → MayRun code s → here ≡ code → procs ≡ s.procs → fuel ≡ s.fuel
-    → i < s.procs → OneNext → (seat : Seat) → StandsAt (unbegun_at here procs fuel i) seat → seat.ended ≡ false → Seated code s [] i seat
-seated_here code here s procs fuel i may is p f l one seat y e =
-    begins_seated code s may.follows may.within i l one seat (subst (λ (x : Code × (ℕ × ℕ)). StandsAt (unbegun_at x.0 x.1.0 x.1.1 i) seat) (λ j. (is j, (p j, f j))) y) e
+    → i < s.procs → (seat : Seat) → seat ≡ record { process = unbegun_at here procs fuel i; ended = false } → Seated code s [] i seat
+seated_here code here s procs fuel i may is p f l seat y =
+    begins_seated code s may.follows may.within i l seat
+    (subst (λ (x : Code × (ℕ × ℕ)). seat ≡ record { process = unbegun_at x.0 x.1.0 x.1.1 i; ended = false }) (λ j. (is j, (p j, f j))) y)

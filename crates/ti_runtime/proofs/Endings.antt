@@ -11,7 +11,7 @@ use Rattle.ti_lang.specs.Meaning.Runs.{IsRun, IsSolo, AllEnded}
 use Rattle.ti_lang.specs.Meaning.Runs as run
 use Rattle.ti_align.specs.Alignment.{NoneStuck}
 use Rattle.ti_code.specs.Programs.{Code}
-use Rattle.ti_machine.specs.Standing.{CodeStanding, HasFinished}
+use Rattle.ti_machine.specs.Standing.{HasFinished}
 use Rattle.ti_runtime.specs.declared.cursor.Cursor.{Cursor}
 use Rattle.ti_runtime.specs.declared.seat.Seat.{Seat}
 use Rattle.ti_runtime.specs.declared.seat.Stop.TheVariants as stop
@@ -19,7 +19,7 @@ use Rattle.ti_runtime.specs.declared.runner.How.TheVariants as how
 use Rattle.ti_runtime.specs.declared.runner.RunEnd.{RunEnd}
 use Rattle.ti_runtime.specs.Ran.{standing_of, IsDone, Ran}
 use Rattle.ti_runtime.specs.Mirrors.Waiting.{Waits, Rests}
-use Rattle.ti_runtime.specs.Mirrors.Team.{Seated, AllSeated, IsTold, AllTold, Stands, Stopped, CameTo}
+use Rattle.ti_runtime.specs.Mirrors.Team.{Seated, AllSeated, Stands, Stopped, CameTo}
 use Rattle.ti_runtime.proofs.Waiting.{rest_takes_none}
 
 true_false : true ≡ false → ⊥
@@ -66,13 +66,6 @@ begins code s seats count seated = starts code s [] seats run.none refl count se
 
 -- ---- the end
 
--- a process that stands at what it has next was told all answers
-pub told_seated : (code : Code) (s : Setting) (es : List Entry) (i : ℕ) (seat : Seat) → Seated code s es i seat → IsTold code s es i seat
-told_seated code s es i seat y = ap (λ (t : CodeStanding). record t { asks = false }) y.process
-
-all_told : (code : Code) (s : Setting) (es : List Entry) (seats : List Seat) → AllSeated code s es seats → AllTold code s es seats
-all_told code s es seats seated d i l = told_seated code s es i (get_or seats i d) (seated d i l)
-
 pub faults : (code : Code) (s : Setting) (before es : List Entry) (seats : List Seat) → Stopped code s before es seats stop.Faulted → CameTo code s before es seats how.Faulted
 faults code s before es seats x = record {
   run = x.run;
@@ -80,17 +73,17 @@ faults code s before es seats x = record {
   ended = (λ e. cc, λ ended. absurd (x.unended ended));
   faulted = (λ e. x.fault.0 refl, λ h. refl);
   count = x.count;
-  told = λ e. all_told code s es seats (x.seated (λ z. cc));
+  seated = x.seated;
 }
 
-pub wants : (code : Code) (s : Setting) (before es : List Entry) (seats : List Seat) → Stopped code s before es seats stop.Memory → CameTo code s before es seats how.Memory
-wants code s before es seats x = record {
+pub out_of_memory : (code : Code) (s : Setting) (before es : List Entry) (seats : List Seat) → Stopped code s before es seats stop.Memory → CameTo code s before es seats how.Memory
+out_of_memory code s before es seats x = record {
   run = x.run;
   solo = x.solo;
   ended = (λ e. cc, λ ended. absurd (x.unended ended));
   faulted = (λ e. cc, λ h. let none : stop.Memory ≡ stop.Faulted = x.fault.1 h in cc);
   count = x.count;
-  told = λ e. absurd (e refl);
+  seated = x.seated;
 }
 
 -- nobody is left to be tried, so nobody can go on, and all have their end
@@ -104,15 +97,15 @@ ends code s before es seats c solo x past unstuck =
       ended = (λ e. all, λ ended. refl);
       faulted = (λ e. cc, λ h. absurd (true_false (sym h ∙ x.goes_on)));
       count = x.count;
-      told = λ e. all_told code s es seats x.seated;
+      seated = x.seated;
     }
   where
     tried : (i p n m : ℕ) → i < p → n ≡ p → n ≤ m → i < m
     tried i p n m h e k = omega arith
 
--- ---- what came of a run
+-- ---- how a run ended
 
--- want of memory before the first entry
+-- out of memory before the first entry
 pub unbegun : (code : Code) (s : Setting) (workers : ℕ) (end : RunEnd) → 1 ≤ s.procs → end.how ≡ how.Memory → end.history.items ≡ [] → Ran code s workers end
 unbegun code s workers end l m e = record {
   run = subst (IsRun s) (sym e) run.none;
@@ -146,15 +139,15 @@ some_seat [] i l = absurd (omega arith)
 some_seat (x ∷ xs) i l = x
 
 -- the numbers that the seats tell are those of the answers of the run
-done_is : (code : Code) (s : Setting) (es : List Entry) (seats : List Seat) (done : List ℕ) → length seats ≡ s.procs → AllTold code s es seats → length done ≡ length seats
+done_is : (code : Code) (s : Setting) (es : List Entry) (seats : List Seat) (done : List ℕ) → length seats ≡ s.procs → AllSeated code s es seats → length done ≡ length seats
     → ((d : Seat) (i : ℕ) → i < length seats → HasFinished (get_or seats i d).process (get_or done i 0)) → IsDone code s es done
-done_is code s es seats done count told even each = record { count = even ∙ count; each = one }
+done_is code s es seats done count seated even each = record { count = even ∙ count; each = one }
   where
     one : (i n : ℕ) → slice_get done i ≡ Some n → HasFinished (standing_of code s es i) n
     one i n z =
         let inside : i < length seats = omega (arith, slice_get_within done i n z, even) in
         let d = some_seat seats i inside in
-        subst (λ t. HasFinished t n) (told d i inside) (subst (λ k. HasFinished (get_or seats i d).process k) (get_or_from_slice_get done i n 0 z) (each d i inside))
+        subst (λ t. HasFinished t n) (seated d i inside).told (subst (λ k. HasFinished (get_or seats i d).process k) (get_or_from_slice_get done i n 0 z) (each d i inside))
 
 pub ran : (code : Code) (s : Setting) (workers : ℕ) (end : RunEnd) (before es : List Entry) (seats : List Seat) → end.history.items ≡ es
     → CameTo code s before es seats end.how → (workers ≡ 1 → before ≡ []) → length end.done.items ≡ length seats
@@ -166,5 +159,5 @@ ran code s workers end before es seats is x first even each =
       solo = λ alone. y.solo (subst (IsSolo s) (sym (first alone)) run.none);
       ended = y.ended;
       faulted = y.faulted;
-      done = λ z. done_is code s end.history.items seats end.done.items y.count (y.told z) even each;
+      done = λ z. done_is code s end.history.items seats end.done.items y.count y.seated even each;
     }

@@ -1,4 +1,4 @@
--- How a run ends behind what its workers did.
+-- How a run ends after what its workers did.
 use Rattle.std.proofs.Common.{◌≡◌, ℕ, zero, suc, ◌-◌, ◌<◌, Bool, true, false, ◌||◌, ◌&&◌, List, [], ◌∷◌, ◌++◌, length, get_or, Option, Some, None, refl, sym, ap, ◌∙◌, subst, arith, length-append}
 use Rattle.std.specs.Prelude.{slice_get}
 use Rattle.std.specs.List.{list_all}
@@ -15,10 +15,8 @@ use Rattle.ti_code.specs.Programs.{Code}
 use Rattle.ti_runtime.specs.declared.cursor.Cursor.{Cursor}
 use Rattle.ti_runtime.specs.declared.seat.Seat.{Seat}
 use Rattle.ti_runtime.specs.declared.runner.How.TheVariants as how
-use Rattle.ti_runtime.specs.Mirrors.Team.{Seated, AllTold, Stands, CameTo}
-use Rattle.ti_runtime.specs.Mirrors.Settled.{AreSeated}
+use Rattle.ti_runtime.specs.Mirrors.Team.{AllSeated, Stands, CameTo}
 use Rattle.ti_runtime.proofs.Endings.{some_seat, starts}
-use Rattle.ti_runtime.proofs.Mates.{stays_well}
 
 true_false : true ≡ false → ⊥
 true_false e = cc
@@ -72,9 +70,6 @@ fault_unended s es (more {es = before} {i = i} {e = e} run can after) h ended =
 
 -- ---- the ends of all processes
 
-both : (a b : Bool) → a ≡ true → b ≡ true → (a && b) ≡ true
-both a b x y = rw (x, y) refl
-
 first_of : (a b : Bool) → (a && b) ≡ true → a ≡ true
 first_of true b h = refl
 first_of false b h = h
@@ -86,10 +81,6 @@ second_of false b h = absurd (true_false (sym h))
 abbrev pub has_ended : Seat → Bool
 has_ended seat = seat.ended
 
-each_ended : (seats : List Seat) → ((d : Seat) (i : ℕ) → i < length seats → (get_or seats i d).ended ≡ true) → list_all has_ended seats ≡ true
-each_ended [] h = refl
-each_ended (x ∷ xs) h = both x.ended (list_all has_ended xs) (h x 0 (omega arith)) (each_ended xs (λ d i l. h d (suc i) (omega (arith, l))))
-
 one_ended : (seats : List Seat) → list_all has_ended seats ≡ true → (d : Seat) (i : ℕ) → i < length seats → (get_or seats i d).ended ≡ true
 one_ended [] h d i l = absurd (omega (arith, l))
 one_ended (x ∷ xs) h d zero l = first_of x.ended (list_all has_ended xs) h
@@ -98,27 +89,18 @@ one_ended (x ∷ xs) h d (suc i) l = one_ended xs (second_of x.ended (list_all h
 -- ---- one worker
 
 -- seats before the first entry
-pub begun_seated : (code : Code) (s : Setting) (es : List Entry) (seats : List Seat) (c : Cursor) → es ≡ [] → Stands code s [] seats c → AreSeated code s es seats false
-begun_seated code s es seats c is x d k l = stays_well code s es k (get_or seats k d) (subst (λ xs. Seated code s xs k (get_or seats k d)) (sym is) (x.seated d k l))
+pub begun_seated : (code : Code) (s : Setting) (es : List Entry) (seats : List Seat) (c : Cursor) → es ≡ [] → Stands code s [] seats c → AllSeated code s es seats
+begun_seated code s es seats c is x = subst (λ xs. AllSeated code s xs seats) (sym is) x.seated
 
 -- ---- what workers did
 
-module _ (code : Code) (s : Setting) (es : List Entry) (seats : List Seat) (wants : Bool) (run : IsRun s es) (count : length seats ≡ s.procs) (seated : AreSeated code s es seats wants) where
-  told : AllTold code s es seats
-  told d i l = (seated d i l).told
-
+module _ (code : Code) (s : Setting) (es : List Entry) (seats : List Seat) (run : IsRun s es) (count : length seats ≡ s.procs) (seated : AllSeated code s es seats) where
   inside : (i : ℕ) → i < s.procs → i < length seats
   inside i l = subst (λ n. i < n) (sym count) l
 
   -- the seats tell whether all processes have their end
   all_have : list_all has_ended seats ≡ true → AllEnded s es
   all_have h i l = let d = some_seat seats i (inside i l) in (seated d i (inside i l)).ended ∙ one_ended seats h d i (inside i l)
-
-  all_tell : AllEnded s es → list_all has_ended seats ≡ true
-  all_tell ended = each_ended seats (λ d i l. sym (seated d i l).ended ∙ ended i (subst (λ n. i < n) count l))
-
-  some_left : list_all has_ended seats ≡ false → AllEnded s es → ⊥
-  some_left h ended = true_false (sym (all_tell ended) ∙ h)
 
   faultless : has_fault es ≡ false → has_fault es ≡ true → ⊥
   faultless f h = true_false (sym h ∙ f)
@@ -130,7 +112,7 @@ module _ (code : Code) (s : Setting) (es : List Entry) (seats : List Seat) (want
     ended = (λ e. cc, λ ended. absurd (fault_unended s es run h ended));
     faulted = (λ e. h, λ f. refl);
     count = count;
-    told = λ e. told;
+    seated = seated;
   }
 
   pub came_ended : has_fault es ≡ false → list_all has_ended seats ≡ true → CameTo code s es es seats how.Ended
@@ -140,19 +122,9 @@ module _ (code : Code) (s : Setting) (es : List Entry) (seats : List Seat) (want
     ended = (λ e. all_have h, λ ended. refl);
     faulted = (λ e. cc, λ g. absurd (faultless f g));
     count = count;
-    told = λ e. told;
+    seated = seated;
   }
 
-  pub came_wanting : has_fault es ≡ false → list_all has_ended seats ≡ false → CameTo code s es es seats how.Memory
-  came_wanting f h = record {
-    run = run;
-    solo = λ solo. solo;
-    ended = (λ e. cc, λ ended. absurd (some_left h ended));
-    faulted = (λ e. cc, λ g. absurd (faultless f g));
-    count = count;
-    told = λ e. absurd (e refl);
-  }
-
-  -- unless memory was wanting, they can be taken up where they stand
-  pub taken_up : has_fault es ≡ false → wants ≡ false → Stands code s es seats (record { at = 0; waiting = 0 })
-  taken_up f w = starts code s es seats run f count (λ d i l. (seated d i l).seated w)
+  -- they can be taken up where they stand
+  pub taken_up : has_fault es ≡ false → Stands code s es seats (record { at = 0; waiting = 0 })
+  taken_up f = starts code s es seats run f count seated

@@ -1,5 +1,5 @@
 -- That the code stands where the program stands.
-use Rattle.std.proofs.Common.{◌≡◌, ℕ, ◌<◌, false, List, [], sym, subst}
+use Rattle.std.proofs.Common.{◌≡◌, ℕ, ◌<◌, false, List, [], sym, ap, subst}
 use Rattle.ti_base.specs.declared.entry.Entry.{Entry}
 use Rattle.ti_base.specs.declared.entry.Next.{Next}
 use Rattle.ti_lang.specs.Meaning.Processes.{Setting, Process, begin}
@@ -15,7 +15,7 @@ use Rattle.ti_store.specs.Conditions.{IsWithin}
 use Rattle.ti_store.proofs.Lemmas.{fitting, fits_none}
 use Rattle.ti_runtime.specs.declared.seat.Seat.{Seat}
 use Rattle.ti_runtime.specs.Ran.{standing_of}
-use Rattle.ti_runtime.specs.Mirrors.Team.{StandsAt, Seated}
+use Rattle.ti_runtime.specs.Mirrors.Team.{Seated}
 
 -- ---- the code stands there too
 
@@ -30,17 +30,18 @@ module _ (code : Code) (s : Setting) (f : Follows code s.program) (w : IsWithin 
   pub code_goes_on : GoesOn (standing_of code s es i)
   code_goes_on = let n = next_some q in (n.0, code_next n.0 n.1)
 
-  -- what the code has next is what the program has
-  pub seated : OneNext → (seat : Seat) → StandsAt (standing_of code s es i) seat → has_end i es ≡ seat.ended → Seated code s es i seat
-  seated one seat y e =
+  -- a seat whose process was told the answers of these entries
+  pub seated : (seat : Seat) → record seat.process { asks = false } ≡ standing_of code s es i → has_end i es ≡ seat.ended → Seated code s es i seat
+  seated seat told ended =
       let n = next_some q in
-      let same : n.0 ≡ seat.next = one (standing_of code s es i) n.0 seat.next (code_next n.0 n.1) y.next in
       record {
-        process = y.process;
+        told = told;
         there = q;
         world = x;
-        is_next = subst (IsNext q) same n.1;
-        ended = e;
+        next = n.0;
+        has_next = subst (λ t. HasNext t n.0) (sym told) (code_next n.0 n.1);
+        is_next = n.1;
+        ended = ended;
       }
 
 -- before the first entry
@@ -48,5 +49,6 @@ module _ (code : Code) (s : Setting) (f : Follows code s.program) (w : IsWithin 
   pub begins_on : GoesOn (standing_of code s [] i)
   begins_on = code_goes_on code s f w [] (fits_none s) i l (begin s i) none
 
-  pub begins_seated : OneNext → (seat : Seat) → StandsAt (standing_of code s [] i) seat → seat.ended ≡ false → Seated code s [] i seat
-  begins_seated one seat y e = seated code s f w [] (fits_none s) i l (begin s i) none one seat y (sym e)
+  pub begins_seated : (seat : Seat) → seat ≡ record { process = standing_of code s [] i; ended = false } → Seated code s [] i seat
+  begins_seated seat is =
+      seated code s f w [] (fits_none s) i l (begin s i) none seat (ap (λ (x : Seat). record x.process { asks = false }) is) (sym (ap (λ (x : Seat). x.ended) is))

@@ -6,6 +6,7 @@ use Rattle.ti_base.specs.declared.place.Place.{Place}
 use Rattle.ti_base.specs.declared.action.Action.{Action}
 use Rattle.ti_base.specs.declared.entry.Answer.{Answer}
 use Rattle.ti_base.specs.declared.entry.Entry.{Entry}
+use Rattle.ti_base.specs.declared.entry.Next.{Next}
 use Rattle.ti_lang.specs.Meaning.Processes.{Setting}
 use Rattle.ti_lang.specs.Meaning.Histories.{is_end, is_answered, entries_of, has_end, has_fault}
 use Rattle.ti_lang.specs.Meaning.Runs.{IsRun}
@@ -15,15 +16,13 @@ use Rattle.ti_store.specs.declared.act_err.ActErr.TheVariants as err
 use Rattle.ti_store.specs.Stores.{StoreState, setting_of, log_of, fault_entry, IsDone, IsRefused}
 use Rattle.ti_store.proofs.Lemmas.{end_more, answers_still}
 use Rattle.ti_code.specs.Programs.{Code}
-use Rattle.ti_machine.specs.Standing.{CodeStanding, GoesOn, is_act}
+use Rattle.ti_machine.specs.Standing.{HasNext}
 use Rattle.ti_runtime.specs.declared.cursor.Turn.{Turn}
 use Rattle.ti_runtime.specs.declared.seat.Seat.{Seat}
-use Rattle.ti_runtime.specs.Mirrors.Team.{place_of, action_of, told_more, IsTold, Seated, Moves, MayRun, IsOpen}
-use Rattle.ti_runtime.specs.Ran.{standing_of}
-use Rattle.ti_runtime.specs.Mirrors.Stays.{entries_in, Stays}
-use Rattle.ti_runtime.proofs.Endings.{told_seated}
+use Rattle.ti_runtime.specs.Mirrors.Mates.{entries_in}
+use Rattle.ti_runtime.specs.Mirrors.Team.{place_of, action_of, asking, Seated, Hears, MayRun, IsOpen}
 use Rattle.ti_runtime.proofs.Following.{OneNext}
-use Rattle.ti_runtime.proofs.Seats.{answered_act, seated_with, goes, told_behind, went_with}
+use Rattle.ti_runtime.proofs.Seats.{seated_with, seated_asking, went_with}
 use Rattle.ti_runtime.proofs.Turns.{seated_still}
 
 -- ---- logs of entries
@@ -85,85 +84,48 @@ or_second : (a b : Bool) → (a || b) ≡ false → b ≡ false
 or_second true b h = cc
 or_second false b h = h
 
-or_neither : (a b : Bool) → a ≡ false → b ≡ false → (a || b) ≡ false
-or_neither a b x y = rw (x, y) refl
-
-module _ (code : Code) (s : Setting) (st : StoreState) (i : ℕ) (old : Seat) (may : MayRun code s) (same : setting_of st ≡ s) (run : IsRun (setting_of st) st.entries) (l : i < s.procs) (u : old.ended ≡ false) (y : Seated code s st.entries i old) where
-  here : Seated code (setting_of st) st.entries i old
-  here = subst (λ v. Seated code v st.entries i old) (sym same) y
-
-  inside : i < st.procs
-  inside = subst (λ (v : Setting). i < v.procs) (sym same) l
-
-  module _ (new : StoreState) (answer : Answer) (d : IsDone st i (place_of old) (action_of old) answer new) where
-    opened : IsOpen code st
-    opened = record {
+-- it did what it had next, and heard the answer
+pub seated_gone : (code : Code) (s : Setting) (st new : StoreState) (i : ℕ) (old : Seat) → MayRun code s → setting_of st ≡ s → IsRun (setting_of st) st.entries → i < s.procs
+    → old.ended ≡ false → Seated code s st.entries i old → OneNext → (n : Next) → HasNext old.process n → (answer : Answer)
+    → IsDone st i (place_of n) (action_of n) answer new → (asks : Bool) (seat : Seat) (t : Turn) → Hears (asking asks old) n answer seat t
+    → Seated code s new.entries i seat
+seated_gone code s st new i old may same run l u y one n has answer d asks seat t m =
+    let opened : IsOpen code st = record {
       goes_on = or_second st.halted (has_fault st.entries) d.becomes.goes_on;
       may = subst (MayRun code) (sym same) may;
-    }
+    } in
+    let here = subst (λ v. Seated code v st.entries i old) (sym same) y in
+    let inside = subst (λ (v : Setting). i < v.procs) (sym same) l in
+    subst (λ v. Seated code v new.entries i seat) same (went_with code st opened run i inside old here u one n has asks answer new d seat t m _ refl).seated
 
-    -- it can hear the answer
-    pub goes_gone : is_act old.next ≡ true → GoesOn (told_more old.process answer)
-    goes_gone e = goes code st opened run i inside old here u answer new d e
-
-    -- it did what it had next, and heard the answer
-    pub seated_gone : OneNext → (seat : Seat) (t : Turn) → Moves old answer seat t → Seated code s new.entries i seat
-    seated_gone one seat t m = subst (λ v. Seated code v new.entries i seat) same (went_with code st opened run i inside old here u answer new d one seat t m _ refl).seated
-
-    -- it did it, and memory was wanting
-    pub wants_gone : (seat : Seat) → is_act old.next ≡ true → seat.ended ≡ old.ended → seat.process ≡ told_more old.process answer → Stays code s new.entries i seat true
-    wants_gone seat e kept heard = record {
-      ended =
-          ap (has_end i) (ap (λ (x : StoreState). x.entries) d.after)
-          ∙ end_more i st.entries (record { proc = i; place = place_of old; act = action_of old; answer = answer }) refl
-          ∙ or_neither (has_end i st.entries) (is_end (action_of old)) (y.ended ∙ u) (answered_act y.there old.next y.is_next e).0
-          ∙ sym (kept ∙ u);
-      told = ap (λ (t : CodeStanding). record t { asks = false }) heard
-          ∙ subst (λ v. told_more old.process answer ≡ standing_of code v new.entries i) same
-          (told_behind code st opened run i inside old here u answer new d e);
-      seated = λ w. cc;
-    }
-
--- it stands where it stood
-pub seated_refused : (code : Code) (s : Setting) (st new : StoreState) (i : ℕ) (seat : Seat) (why : ActErr)
-    → IsRefused st i (place_of seat) (action_of seat) why new → Seated code s st.entries i seat → Seated code s new.entries i seat
-seated_refused code s st new i seat (err.Faulted kind) r y =
-    let e = fault_entry i (place_of seat) kind in
+-- it is where it was
+pub seated_refused : (code : Code) (s : Setting) (st new : StoreState) (i : ℕ) (seat : Seat) (n : Next) (why : ActErr)
+    → IsRefused st i (place_of n) (action_of n) why new → Seated code s st.entries i seat → Seated code s new.entries i seat
+seated_refused code s st new i seat n (err.Faulted kind) r y =
+    let e = fault_entry i (place_of n) kind in
     subst (λ es. Seated code s es i seat) (sym (ap (λ (x : StoreState). x.entries) r.1))
     (seated_with code s st.entries (st.entries ++ e ∷ []) i seat seat.ended (answers_still i st.entries e refl refl) (end_more i st.entries e refl ∙ or_false (has_end i st.entries) ∙ y.ended) y)
   where
     or_false : (a : Bool) → (a || false) ≡ a
     or_false true = refl
     or_false false = refl
-seated_refused code s st new i seat err.NotYet r y = subst (λ es. Seated code s es i seat) (sym (ap (λ (x : StoreState). x.entries) r.2)) y
-seated_refused code s st new i seat err.Halted r y = subst (λ es. Seated code s es i seat) (sym (ap (λ (x : StoreState). x.entries) r.1)) y
-seated_refused code s st new i seat err.Memory r y = subst (λ es. Seated code s es i seat) (sym (ap (λ (x : StoreState). x.entries) r.2)) y
+seated_refused code s st new i seat n err.NotYet r y = subst (λ es. Seated code s es i seat) (sym (ap (λ (x : StoreState). x.entries) r.2)) y
+seated_refused code s st new i seat n err.Halted r y = subst (λ es. Seated code s es i seat) (sym (ap (λ (x : StoreState). x.entries) r.1)) y
+seated_refused code s st new i seat n err.Memory r y = subst (λ es. Seated code s es i seat) (sym (ap (λ (x : StoreState). x.entries) r.2)) y
+
+-- and has computed what is next
+pub seated_advanced : (code : Code) (s : Setting) (es : List Entry) (i : ℕ) (old seat : Seat) (asks : Bool) → seat ≡ asking asks old → Seated code s es i old → Seated code s es i seat
+seated_advanced code s es i old seat asks is y = subst (Seated code s es i) (sym is) (seated_asking code s es i old y asks)
 
 -- ---- what a pass tells
 
--- the process stands in the store's entries where it stands in those that its pass has seen
+-- the process is in the store's entries where it is in those that its pass has seen
 pub seated_inside : (code : Code) (s : Setting) (es : List Entry) (k i : ℕ) (seen : List (ℕ × Entry)) (seat : Seat) → k ≡ i
     → IsLegal (log_of es) k seen → Seated code s (entries_in seen) i seat → Seated code s es i seat
 seated_inside code s es k i seen seat same legal y =
     let own : entries_of i es ≡ entries_of i (entries_in seen) = subst (λ k. entries_of k es ≡ entries_of k (entries_in seen)) same (own_known es k seen legal) in
     seated_still code s (entries_in seen) es i seat own y
 
-pub ended_inside : (es : List Entry) (k i : ℕ) (seen : List (ℕ × Entry)) (b : Bool) → k ≡ i → IsLegal (log_of es) k seen → has_end i (entries_in seen) ≡ b → has_end i es ≡ b
-ended_inside es k i seen b same legal h = ap (λ own. list_any (λ (e : Entry). is_end e.act) own) (subst (λ k. entries_of k es ≡ entries_of k (entries_in seen)) same (own_known es k seen legal)) ∙ h
-
-pub told_inside : (code : Code) (s : Setting) (es : List Entry) (k i : ℕ) (seen : List (ℕ × Entry)) (seat : Seat) → k ≡ i
-    → IsLegal (log_of es) k seen → IsTold code s (entries_in seen) i seat → IsTold code s es i seat
-told_inside code s es k i seen seat same legal h =
-    let own : entries_of i es ≡ entries_of i (entries_in seen) = subst (λ k. entries_of k es ≡ entries_of k (entries_in seen)) same (own_known es k seen legal) in
-    h ∙ ap (λ own. record (standing_of code s es i) { told = map (λ (e : Entry). e.answer) (filter is_answered own) }) (sym own)
-
 -- and the other way round, once the pass has seen them all
-pub stays_seen : (code : Code) (s : Setting) (es : List Entry) (i : ℕ) (seen : List (ℕ × Entry)) (seat : Seat) (wants : Bool) → seen
-    ≡ log_of es → Stays code s es i seat wants → Stays code s (entries_in seen) i seat wants
-stays_seen code s es i seen seat wants h y = subst (λ xs. Stays code s xs i seat wants) (sym (ap entries_in h ∙ logged_back es)) y
-
-pub stays_well : (code : Code) (s : Setting) (es : List Entry) (i : ℕ) (seat : Seat) → Seated code s es i seat → Stays code s es i seat false
-stays_well code s es i seat y = record { ended = y.ended; told = told_seated code s es i seat y; seated = λ w. y }
-
-pub stays_wanting : (code : Code) (s : Setting) (es : List Entry) (i : ℕ) (seat : Seat) → has_end i es ≡ seat.ended → IsTold code s es i seat → Stays code s es i seat true
-stays_wanting code s es i seat h t = record { ended = h; told = t; seated = λ w. cc }
+pub seated_seen : (code : Code) (s : Setting) (es : List Entry) (i : ℕ) (seen : List (ℕ × Entry)) (seat : Seat) → seen ≡ log_of es → Seated code s es i seat → Seated code s (entries_in seen) i seat
+seated_seen code s es i seen seat h y = subst (λ xs. Seated code s xs i seat) (sym (ap entries_in h ∙ logged_back es)) y

@@ -1,5 +1,5 @@
 -- What the turn of a process makes of its seat.
-use Rattle.std.proofs.Common.{◌≡◌, ℕ, ◌+◌, ◌-◌, ◌<◌, ◌≤◌, Bool, true, false, not, ◌||◌, if◌then◌else◌, length, inr, Some, Ok, List, [], ◌∷◌, ◌++◌, refl, sym, ap, ◌∙◌, subst, arith, length-append}
+use Rattle.std.proofs.Common.{◌≡◌, ℕ, ◌+◌, ◌-◌, ◌<◌, ◌≤◌, Bool, true, false, not, ◌||◌, if◌then◌else◌, length, Some, Ok, Err, List, [], ◌∷◌, ◌++◌, refl, sym, ap, ◌∙◌, subst, arith, length-append}
 use Rattle.ti_base.specs.declared.place.Place.{Place}
 use Rattle.ti_base.specs.declared.fault.FaultKind.{FaultKind}
 use Rattle.ti_base.specs.declared.action.Action.{Action}
@@ -23,15 +23,14 @@ use Rattle.ti_store.specs.declared.act_err.ActErr.TheVariants as err
 use Rattle.ti_store.proofs.Lemmas.{next_acts, end_more, answers_more, answers_still, world_more}
 use Rattle.ti_code.specs.Programs.{Code}
 use Rattle.ti_machine.specs.Standing.{CodeStanding, HasNext, is_act}
-use Rattle.ti_machine.specs.Standing as machine
 use Rattle.ti_runtime.specs.declared.cursor.Turn.{Turn}
 use Rattle.ti_runtime.specs.declared.cursor.Turn.TheVariants as turn
 use Rattle.ti_runtime.specs.declared.seat.Seat.{Seat}
 use Rattle.ti_runtime.specs.declared.seat.Stop.TheVariants as stop
 use Rattle.ti_runtime.specs.Ran.{standing_of}
 use Rattle.ti_runtime.specs.Mirrors.Waiting.{Waits}
-use Rattle.ti_runtime.specs.Mirrors.Team.{doing_of, place_of, action_of, told_more, StandsAt, Seated, Hears, Moves, IsOpen, steps_left, GoesOn, StopsAt, TurnLeaves}
-use Rattle.ti_runtime.proofs.Following.{OneNext, code_goes_on, seated}
+use Rattle.ti_runtime.specs.Mirrors.Team.{doing_of, place_of, action_of, asking, told_more, Seated, Hears, IsOpen, steps_left, GoesOn, Keeps, TurnLeaves}
+use Rattle.ti_runtime.proofs.Following.{OneNext, seated}
 
 true_false : true ≡ false → ⊥
 true_false e = cc
@@ -82,50 +81,54 @@ answers_few s i rs p x = within_ticks (length rs) p.spent s.fuel (after_pays (be
 pub seated_with : (code : Code) (s : Setting) (es all : List Entry) (i : ℕ) (seat : Seat) (ended : Bool) → answers_of i all ≡ answers_of i es → has_end i all ≡ ended → Seated code s es i seat
     → Seated code s all i (record seat { ended = ended })
 seated_with code s es all i seat ended same e y = record {
-  process = y.process ∙ ap (λ rs. record (standing_of code s es i) { told = rs; asks = is_act seat.next }) (sym same);
+  told = y.told ∙ ap (λ rs. record (standing_of code s es i) { told = rs }) (sym same);
   there = y.there;
   world = subst (λ rs. After (begin s i) rs y.there) (sym same) y.world;
+  next = y.next;
+  has_next = y.has_next;
   is_next = y.is_next;
   ended = e;
 }
 
 module _ (code : Code) (s : Setting) (es : List Entry) (i : ℕ) (seat : Seat) (y : Seated code s es i seat) where
+  -- also where it has computed what is next
+  pub seated_asking : (asks : Bool) → Seated code s es i (asking asks seat)
+  seated_asking asks = record {
+    told = y.told;
+    there = y.there;
+    world = y.world;
+    next = y.next;
+    has_next = y.has_next;
+    is_next = y.is_next;
+    ended = y.ended;
+  }
+
   few : length seat.process.told ≤ s.fuel
-  few = subst (λ xs. length xs ≤ s.fuel) (sym (ap (λ (x : CodeStanding). x.told) y.process)) (answers_few s i (answers_of i es) y.there y.world)
+  few = subst (λ xs. length xs ≤ s.fuel) (sym (ap (λ (x : CodeStanding). x.told) y.told)) (answers_few s i (answers_of i es) y.there y.world)
 
-  next_taken : IsNext y.there (next_of (place_of seat) (action_of seat))
-  next_taken = subst (IsNext y.there) (sym (next_back y.there seat.next y.is_next)) y.is_next
+  module _ (one : OneNext) (n : Next) (has : HasNext seat.process n) where
+    -- what the code has next the program has next
+    next_here : IsNext y.there n
+    next_here = subst (IsNext y.there) (one seat.process y.next n y.has_next has) y.is_next
 
--- the store takes what the process has next
-pub acting : (code : Code) (st : StoreState) (i : ℕ) (seat : Seat) → Seated code (setting_of st) st.entries i seat → seat.ended ≡ false
-    → store.HasNext (setting_of st) i (entries_of i st.entries) (next_of (place_of seat) (action_of seat))
-acting code st i seat y u = record { unended = y.ended ∙ u; process = y.there; world = y.world; is_next = next_taken code (setting_of st) st.entries i seat y }
+    next_taken : IsNext y.there (next_of (place_of n) (action_of n))
+    next_taken = subst (IsNext y.there) (sym (next_back y.there n next_here)) next_here
+
+    -- the store takes it
+    pub acting : seat.ended ≡ false → store.HasNext s i (entries_of i es) (next_of (place_of n) (action_of n))
+    acting u = record { unended = y.ended ∙ u; process = y.there; world = y.world; is_next = next_taken }
 
 -- ---- an entry
 
-taken : (code : Code) (st : StoreState) (i : ℕ) (seat : Seat) (e : Entry) → i < st.procs → has_fault st.entries ≡ false → seat.ended ≡ false → Seated code (setting_of st) st.entries i seat
-    → Becomes st i (place_of seat) (action_of seat) e → CanTake (setting_of st) st.entries i e
-taken code st i seat e l f u y b = record {
-  within = l;
-  goes_on = f;
-  unended = y.ended ∙ u;
-  process = y.there;
-  world = y.world;
-  next = next_of (place_of seat) (action_of seat);
-  is_next = next_taken code (setting_of st) st.entries i seat y;
-  ready = b.ready;
-  entry = b.entry;
-}
-
 -- the entry of what a process does, with its answer
-abbrev entry_with : ℕ → Seat → Answer → Entry
-entry_with i seat answer = record { proc = i; place = place_of seat; act = action_of seat; answer = answer }
+abbrev entry_with : ℕ → Next → Answer → Entry
+entry_with i n answer = record { proc = i; place = place_of n; act = action_of n; answer = answer }
 
 or_none : (a b : Bool) → b ≡ false → (a || b) ≡ a
 or_none true b h = refl
 or_none false b h = h
 
--- ---- the seat behind an answer
+-- ---- the seat after a turn
 
 module _ (code : Code) (st : StoreState) (o : IsOpen code st) (run : IsRun (setting_of st) st.entries) (i : ℕ) (l : i < st.procs) (old : Seat) (y : Seated code (setting_of st) st.entries i old) (u : old.ended ≡ false) where
   abbrev s : Setting
@@ -134,131 +137,149 @@ module _ (code : Code) (st : StoreState) (o : IsOpen code st) (run : IsRun (sett
   abbrev es : List Entry
   es = st.entries
 
-  module _ (answer : Answer) (new : StoreState) (d : IsDone st i (place_of old) (action_of old) answer new) where
-    abbrev here : Entry
-    here = entry_with i old answer
+  -- out of memory, or refused, it is where it was
+  kept : (all : List Entry) (asks : Bool) (seat : Seat) → all ≡ es → seat ≡ asking asks old → Keeps code s es i old all seat
+  kept all asks seat same is = record {
+    entries = same;
+    seated = subst (Seated code s es i) (sym is) (seated_asking code s es i old y asks);
+    as_many = ap (steps_left s) is;
+  }
 
-    abbrev all : List Entry
-    all = es ++ here ∷ []
+  pub stays : (all : List Entry) (asks : Bool) (seat : Seat) → all ≡ es → seat ≡ asking asks old → TurnLeaves code s es i old all seat (Err stop.Memory)
+  stays all asks seat same is = ((same, y.ended ∙ u), subst (λ xs. Seated code s xs i seat) (sym same) (kept all asks seat same is).seated)
 
-    after : new.entries ≡ all
-    after = ap (λ (x : StoreState). x.entries) d.after
+  module _ (one : OneNext) (n : Next) (has : HasNext old.process n) (asks : Bool) where
+    is_next : IsNext y.there n
+    is_next = next_here code s es i old y one n has
 
-    can : CanTake s es i here
-    can = taken code st i old here l o.goes_on u y d.becomes
-
-    fit : AnswersFit s all
-    fit = o.may.fit st.procs st.fuel all o.may.within.some o.may.within.few o.may.within.fueled o.may.within.limited (more run can refl)
-
-    -- behind its end a process stands where it stood
-    seated_end : is_act old.next ≡ false → Seated code s all i (record old { ended = true })
-    seated_end e =
-        let end = end_left old.next e d.no_fault in
-        let still : answers_of i all ≡ answers_of i es = answers_still i es here refl (ap (λ b. not (b || is_fault (action_of old))) end) in
-        seated_with code s es all i old true still (end_more i es here refl ∙ or_right (has_end i es) (is_end (action_of old)) end) y
-
-    answered : is_act old.next ≡ true → is_answered here ≡ true
-    answered e = rw ((answered_act y.there old.next y.is_next e).0, d.no_fault) refl
-
-    world_on : is_act old.next ≡ true → (q : Process) × World s all i q
-    world_on e = by old.next refl
-      where
-        by : (n : Next) → old.next ≡ n → (q : Process) × World s all i q
-        by (next.Act at a) z = world_more s es here y.there at a y.world (subst (IsNext y.there) z y.is_next) (answered e)
-        by (next.End at) z = absurd (true_false (sym e ∙ ap is_act z))
-        by (next.Fault kind at) z = absurd (true_false (sym e ∙ ap is_act z))
-
-    told : is_act old.next ≡ true → told_more old.process answer ≡ standing_of code s all i
-    told e =
-        ap (λ t. told_more t answer) y.process ∙ ap (λ rs. record (standing_of code s es i) { told = rs }) (sym (answers_more i es here refl (answered e)))
-
-    pub told_behind : is_act old.next ≡ true → told_more old.process answer ≡ standing_of code s new.entries i
-    told_behind e = told e ∙ ap (λ xs. standing_of code s xs i) (sym after)
-
-    pub goes : is_act old.next ≡ true → machine.GoesOn (told_more old.process answer)
-    goes e =
-        let q = world_on e in
-        subst machine.GoesOn (sym (told e)) (code_goes_on code s o.may.follows o.may.within all fit i l q.0 q.1)
-
-    seated_heard : OneNext → (seat : Seat) → is_act old.next ≡ true → Hears old answer seat → Seated code s all i seat
-    seated_heard one seat e h =
-        let q = world_on e in
-        let unended : has_end i all ≡ has_end i es = end_more i es here refl ∙ or_none (has_end i es) (is_end (action_of old)) (answered_act y.there old.next y.is_next e).0 in
-        seated code s o.may.follows o.may.within all fit i l q.0 q.1 one seat (subst (λ t. StandsAt t seat) (told e) h.stands) (unended ∙ y.ended ∙ sym h.ended)
-
-    -- fewer steps are left
-    lighter_end : steps_left s (record old { ended = true }) < steps_left s old
-    lighter_end = rw u (omega arith)
-
-    lighter_heard : OneNext → (seat : Seat) → is_act old.next ≡ true → Hears old answer seat → steps_left s seat < steps_left s old
-    lighter_heard one seat e h =
-        let limit : length seat.process.told ≤ s.fuel = few code s all i seat (seated_heard one seat e h) in
-        let more : length seat.process.told ≡ length old.process.told + 1 = ap (λ (x : CodeStanding). length x.told) h.stands.process ∙ length-append old.process.told (answer ∷ []) in
-        rw (h.ended, u) (one_fewer s.fuel (length old.process.told) (length seat.process.told) more limit)
-      where
-        one_fewer : (fuel m n : ℕ) → n ≡ m + 1 → n ≤ fuel → (fuel - n) + 1 < (fuel - m) + 1
-        one_fewer fuel m n k l = omega arith
-
-    -- the process went on, and was answered
-    pub went_with : OneNext → (seat : Seat) (t : Turn) → Moves old answer seat t → (b : Bool) → is_arrival (action_of old) ≡ b → GoesOn code s es i old new.entries seat b
-    went_with one seat t m b a = record {
-      takes = record { entry = here; can = can; after = after };
-      arrives_is = a;
-      no_fault = d.no_fault;
-      seated = subst (λ xs. Seated code s xs i seat) (sym after) (seated_on (is_act old.next) refl);
-      lighter = lighter (is_act old.next) refl;
+    taken : (e : Entry) → Becomes st i (place_of n) (action_of n) e → CanTake s es i e
+    taken e b = record {
+      within = l;
+      goes_on = o.goes_on;
+      unended = y.ended ∙ u;
+      process = y.there;
+      world = y.world;
+      next = next_of (place_of n) (action_of n);
+      is_next = next_taken code s es i old y one n has;
+      ready = b.ready;
+      entry = b.entry;
     }
-      where
-        seated_on : (b : Bool) → is_act old.next ≡ b → Seated code s all i seat
-        seated_on false e = subst (Seated code s all i) (sym (m.ends e)) (seated_end e)
-        seated_on true e = seated_heard one seat e (m.hears e)
 
-        lighter : (b : Bool) → is_act old.next ≡ b → steps_left s seat < steps_left s old
-        lighter false e = subst (λ x. steps_left s x < steps_left s old) (sym (m.ends e)) lighter_end
-        lighter true e = lighter_heard one seat e (m.hears e)
+    module _ (answer : Answer) (new : StoreState) (d : IsDone st i (place_of n) (action_of n) answer new) where
+      abbrev here : Entry
+      here = entry_with i n answer
 
-    pub went : OneNext → (seat : Seat) (t : Turn) → Moves old answer seat t → TurnLeaves code s es i old new.entries seat (Ok t)
-    went one seat t m = by (is_arrival (action_of old)) refl m.turn
-      where
-        by : (b : Bool) → is_arrival (action_of old) ≡ b → t ≡ (if b then turn.Arrived else turn.Went) → TurnLeaves code s es i old new.entries seat (Ok t)
-        by true a e = subst (λ x. TurnLeaves code s es i old new.entries seat (Ok x)) (sym e) (went_with one seat t m true a)
-        by false a e = subst (λ x. TurnLeaves code s es i old new.entries seat (Ok x)) (sym e) (went_with one seat t m false a)
+      abbrev all : List Entry
+      all = es ++ here ∷ []
 
-    -- memory was wanting behind the answer
-    pub wants_behind : (seat : Seat) → is_act old.next ≡ true → StopsAt code s es i new.entries seat stop.Memory
-    wants_behind seat e = inr (record { entry = here; can = can; after = after }, d.no_fault, (answered_act y.there old.next y.is_next e).0)
+      after : new.entries ≡ all
+      after = ap (λ (x : StoreState). x.entries) d.after
 
-  -- ---- other turns
+      can : CanTake s es i here
+      can = taken here d.becomes
 
-  waits_here : (IsReady s es i (next_of (place_of old) (action_of old)) → ⊥) → Waits s es i
-  waits_here h =
-      let departs : action_of old ≡ act.Depart = is_departing (place_of old) (action_of old) h in
-      record {
-        unended = y.ended ∙ u;
-        process = y.there;
-        world = y.world;
-        place = place_of old;
-        is_next = subst (λ a. IsNext y.there (next_of (place_of old) a)) departs (next_taken code s es i old y);
-        early = subst (λ a. IsReady s es i (next_of (place_of old) a) → ⊥) departs h;
+      fit : AnswersFit s all
+      fit = o.may.fit st.procs st.fuel all o.may.within.some o.may.within.few o.may.within.fueled o.may.within.limited (more run can refl)
+
+      -- after its end a process is where it was
+      seated_end : is_act n ≡ false → Seated code s all i (record (asking asks old) { ended = true })
+      seated_end e =
+          let end = end_left n e d.no_fault in
+          let still : answers_of i all ≡ answers_of i es = answers_still i es here refl (ap (λ b. not (b || is_fault (action_of n))) end) in
+          seated_with code s es all i (asking asks old) true still (end_more i es here refl ∙ or_right (has_end i es) (is_end (action_of n)) end) (seated_asking code s es i old y asks)
+
+      answered : is_act n ≡ true → is_answered here ≡ true
+      answered e = rw ((answered_act y.there n is_next e).0, d.no_fault) refl
+
+      world_on : is_act n ≡ true → (q : Process) × World s all i q
+      world_on e = by n refl
+        where
+          by : (m : Next) → n ≡ m → (q : Process) × World s all i q
+          by (next.Act at a) z = world_more s es here y.there at a y.world (subst (IsNext y.there) z is_next) (answered e)
+          by (next.End at) z = absurd (true_false (sym e ∙ ap is_act z))
+          by (next.Fault kind at) z = absurd (true_false (sym e ∙ ap is_act z))
+
+      told : is_act n ≡ true → told_more old.process answer ≡ standing_of code s all i
+      told e =
+          ap (λ t. told_more t answer) y.told ∙ ap (λ rs. record (standing_of code s es i) { told = rs }) (sym (answers_more i es here refl (answered e)))
+
+      seated_heard : (seat : Seat) → is_act n ≡ true → seat ≡ record old { process = told_more old.process answer } → Seated code s all i seat
+      seated_heard seat e h =
+          let q = world_on e in
+          let unended : has_end i all ≡ has_end i es = end_more i es here refl ∙ or_none (has_end i es) (is_end (action_of n)) (answered_act y.there n is_next e).0 in
+          seated code s o.may.follows o.may.within all fit i l q.0 q.1 seat (ap (λ (x : Seat). record x.process { asks = false }) h ∙ told e) (unended ∙ y.ended ∙ sym (ap (λ (x : Seat). x.ended) h))
+
+      -- fewer steps are left
+      lighter_end : steps_left s (record old { ended = true }) < steps_left s old
+      lighter_end = rw u (omega arith)
+
+      lighter_heard : (seat : Seat) → is_act n ≡ true → seat ≡ record old { process = told_more old.process answer } → steps_left s seat < steps_left s old
+      lighter_heard seat e h =
+          let limit : length seat.process.told ≤ s.fuel = few code s all i seat (seated_heard seat e h) in
+          let more : length seat.process.told ≡ length old.process.told + 1 = ap (λ (x : Seat). length x.process.told) h ∙ length-append old.process.told (answer ∷ []) in
+          let same : seat.ended ≡ old.ended = ap (λ (x : Seat). x.ended) h in
+          rw (same, u) (one_fewer s.fuel (length old.process.told) (length seat.process.told) more limit)
+        where
+          one_fewer : (fuel m n : ℕ) → n ≡ m + 1 → n ≤ fuel → (fuel - n) + 1 < (fuel - m) + 1
+          one_fewer fuel m n k l = omega arith
+
+      -- the process went on, and was answered
+      pub went_with : (seat : Seat) (t : Turn) → Hears (asking asks old) n answer seat t → (b : Bool) → is_arrival (action_of n) ≡ b → GoesOn code s es i old new.entries seat b
+      went_with seat t m b a = record {
+        takes = record { entry = here; can = can; after = after };
+        arrives_is = a;
+        no_fault = d.no_fault;
+        seated = subst (λ xs. Seated code s xs i seat) (sym after) (seated_on (is_act n) refl);
+        lighter = lighter (is_act n) refl;
       }
-    where
-      -- what has to wait is a departure
-      is_departing : (at : Place) (a : Action) → (IsReady s es i (next_of at a) → ⊥) → a ≡ act.Depart
-      is_departing at act.Depart h = refl
-      is_departing at act.End h = absurd (h tt)
-      is_departing at (act.Fault kind) h = absurd (h tt)
-      is_departing at _ h = absurd (h tt)
+        where
+          seated_on : (b : Bool) → is_act n ≡ b → Seated code s all i seat
+          seated_on false e = subst (Seated code s all i) (sym (m.ends e)) (seated_end e)
+          seated_on true e = seated_heard seat e (m.hears e)
 
-  pub waited : (new : StoreState) → IsRefused st i (place_of old) (action_of old) err.NotYet new → TurnLeaves code s es i old new.entries old (Ok turn.Waits)
-  waited new r = (ap (λ (x : StoreState). x.entries) r.2, refl, waits_here r.1)
+          lighter : (b : Bool) → is_act n ≡ b → steps_left s seat < steps_left s old
+          lighter false e = subst (λ x. steps_left s x < steps_left s old) (sym (m.ends e)) lighter_end
+          lighter true e = lighter_heard seat e (m.hears e)
 
-  -- behind a fault it stands where it stood
-  pub faulted : (new : StoreState) (kind : FaultKind) → IsRefused st i (place_of old) (action_of old) (err.Faulted kind) new → StopsAt code s es i new.entries old stop.Faulted
-  faulted new kind r =
-      let e = fault_entry i (place_of old) kind in
-      let after : new.entries ≡ es ++ e ∷ [] = ap (λ (x : StoreState). x.entries) r.1 in
-      let unended : has_end i (es ++ e ∷ []) ≡ old.ended = end_more i es e refl ∙ or_none (has_end i es) false refl ∙ y.ended in (
-        record { entry = e; can = taken code st i old e l o.goes_on u y r.0; after = after },
-        refl,
-        subst (λ xs. Seated code s xs i old) (sym after) (seated_with code s es (es ++ e ∷ []) i old old.ended (answers_still i es e refl refl) unended y),
-      )
+      pub went : (seat : Seat) (t : Turn) → Hears (asking asks old) n answer seat t → TurnLeaves code s es i old new.entries seat (Ok t)
+      went seat t m = by (is_arrival (action_of n)) refl m.turn
+        where
+          by : (b : Bool) → is_arrival (action_of n) ≡ b → t ≡ (if b then turn.Arrived else turn.Went) → TurnLeaves code s es i old new.entries seat (Ok t)
+          by true a e = subst (λ x. TurnLeaves code s es i old new.entries seat (Ok x)) (sym e) (went_with seat t m true a)
+          by false a e = subst (λ x. TurnLeaves code s es i old new.entries seat (Ok x)) (sym e) (went_with seat t m false a)
+
+    -- ---- other turns
+
+    waits_here : (IsReady s es i (next_of (place_of n) (action_of n)) → ⊥) → Waits s es i
+    waits_here h =
+        let departs : action_of n ≡ act.Depart = is_departing (place_of n) (action_of n) h in
+        record {
+          unended = y.ended ∙ u;
+          process = y.there;
+          world = y.world;
+          place = place_of n;
+          is_next = subst (λ a. IsNext y.there (next_of (place_of n) a)) departs (next_taken code s es i old y one n has);
+          early = subst (λ a. IsReady s es i (next_of (place_of n) a) → ⊥) departs h;
+        }
+      where
+        -- what has to wait is a departure
+        is_departing : (at : Place) (a : Action) → (IsReady s es i (next_of at a) → ⊥) → a ≡ act.Depart
+        is_departing at act.Depart h = refl
+        is_departing at act.End h = absurd (h tt)
+        is_departing at (act.Fault kind) h = absurd (h tt)
+        is_departing at _ h = absurd (h tt)
+
+    pub waited : (new : StoreState) (seat : Seat) → seat ≡ asking asks old → IsRefused st i (place_of n) (action_of n) err.NotYet new → TurnLeaves code s es i old new.entries seat (Ok turn.Waits)
+    waited new seat is r = (kept new.entries asks seat (ap (λ (x : StoreState). x.entries) r.2) is, waits_here r.1)
+
+    -- after a fault it is where it was
+    pub faulted : (new : StoreState) (kind : FaultKind) (seat : Seat) → seat ≡ asking asks old → IsRefused st i (place_of n) (action_of n) (err.Faulted kind) new
+        → TurnLeaves code s es i old new.entries seat (Err stop.Faulted)
+    faulted new kind seat is r =
+        let e = fault_entry i (place_of n) kind in
+        let after : new.entries ≡ es ++ e ∷ [] = ap (λ (x : StoreState). x.entries) r.1 in
+        let unended : has_end i (es ++ e ∷ []) ≡ old.ended = end_more i es e refl ∙ or_none (has_end i es) false refl ∙ y.ended in (
+          (record { entry = e; can = taken e r.0; after = after }, refl),
+          subst (λ (x : List Entry × Seat). Seated code s x.0 i x.1) (λ j. (sym after j, sym is j))
+              (seated_with code s es (es ++ e ∷ []) i (asking asks old) old.ended (answers_still i es e refl refl) unended (seated_asking code s es i old y asks)),
+        )

@@ -1,5 +1,5 @@
 -- Processes that come back from the workers, and stand in the order of their numbers.
-use Rattle.std.proofs.Common.{◌≡◌, ◌≢◌, ℕ, zero, suc, ◌<◌, ◌+◌, ◌-◌, inl, inr, Bool, true, false, ◌||◌, List, [], ◌∷◌, ◌++◌, map, length, length-append, slice_set, get_or, refl, sym, ap, ◌∙◌, subst, arith, get_or-set_same, get_or-set_other}
+use Rattle.std.proofs.Common.{◌≡◌, ◌≢◌, ℕ, zero, suc, ◌<◌, ◌+◌, ◌-◌, inl, inr, List, [], ◌∷◌, ◌++◌, map, length, length-append, slice_set, get_or, refl, sym, ap, ◌∙◌, subst, arith, get_or-set_same, get_or-set_other}
 use Rattle.std.specs.Prelude.{Option, Some, None}
 use Rattle.std.proofs.lemmas.List.{get_or_append_left, get_or_push}
 use native.Mathlib.Decide.{ℕ_discrete}
@@ -13,9 +13,10 @@ use Rattle.ti_turnstile.specs.Parts.{HasNumber}
 use Rattle.ti_turnstile.specs.Turnstiles.{turnstile_of, number_of, seen_by, part_of, AreOf, AreLegal}
 use Rattle.ti_store.specs.Stores.{log_of}
 use Rattle.ti_runtime.specs.declared.seat.Seat.{Seat}
-use Rattle.ti_runtime.specs.Mirrors.Stays.{entries_in, Stays}
-use Rattle.ti_runtime.specs.Mirrors.Settled.{at_place, NoneStands, IsKnown, ArePlaced, IsBack, AreSeated}
-use Rattle.ti_runtime.proofs.Mates.{seated_inside, ended_inside, told_inside}
+use Rattle.ti_runtime.specs.Mirrors.Mates.{entries_in}
+use Rattle.ti_runtime.specs.Mirrors.Team.{Seated, AllSeated}
+use Rattle.ti_runtime.specs.Mirrors.Settled.{at_place, NoneStands, IsKnown, ArePlaced, IsBack}
+use Rattle.ti_runtime.proofs.Mates.{seated_inside}
 
 -- one place more, where nobody stands
 pub none_more : (xs : List (Option Seat)) → NoneStands xs → NoneStands (xs ++ None ∷ [])
@@ -32,18 +33,6 @@ one_back {V = V} {g = g} turnstile all ps p is h same = rw is (added ps h)
     added : (ps : List (Pass V Entry g)) → AreOf turnstile ps → AreOf turnstile (ps ++ p ∷ [])
     added [] h = (same, tt)
     added (x ∷ xs) h = (h.0, added xs h.1)
-
-either_first : (a b c : Bool) → c ≡ (a || b) → c ≡ false → a ≡ false
-either_first true b c e f = sym e ∙ f
-either_first false b c e f = refl
-
-either_second : (a b c : Bool) → c ≡ (a || b) → c ≡ false → b ≡ false
-either_second true b c e f = cc
-either_second false b c e f = sym e ∙ f
-
-module _ (code : Code) (s : Setting) where
-  pub stays_weaker : (es : List Entry) (k : ℕ) (seat : Seat) (a b : Bool) → (b ≡ false → a ≡ false) → Stays code s es k seat a → Stays code s es k seat b
-  stays_weaker es k seat a b f y = record { ended = y.ended; told = y.told; seated = λ e. y.seated (f e) }
 
 module _ (s : Setting) (places : List (Option Seat)) (count : length places ≡ s.procs) (number : ℕ) (inside : number < s.procs) (seat : Seat) where
   abbrev after : List (Option Seat)
@@ -68,49 +57,43 @@ module _ {V : Type 0} {g : Ghosts V Entry} (s : Setting) (places : List (Option 
   placed_on (x ∷ xs) p e h = (h.0, has_its_place s places count number inside seat (number_of x) h.0 h.1, placed_on xs p e h.2)
 
 module _ {V : Type 0} {g : Ghosts V Entry} (code : Code) (s : Setting) where
-  known_left : (k : ℕ) (seat : Seat) (a b : Bool) (ps : List (Pass V Entry g)) (p : Pass V Entry g) → (b ≡ false → a ≡ false) → IsKnown code s k seat a ps → IsKnown code s k seat b (ps ++ p ∷ [])
-  known_left k seat a b [] p f h = absurd h
-  known_left k seat a b (x ∷ xs) p f (inl h) = inl (h.0, stays_weaker code s (entries_in (seen_by x)) k seat a b f h.1)
-  known_left k seat a b (x ∷ xs) p f (inr h) = inr (known_left k seat a b xs p f h)
+  known_left : (k : ℕ) (seat : Seat) (ps : List (Pass V Entry g)) (p : Pass V Entry g) → IsKnown code s k seat ps → IsKnown code s k seat (ps ++ p ∷ [])
+  known_left k seat [] p h = absurd h
+  known_left k seat (x ∷ xs) p (inl h) = inl h
+  known_left k seat (x ∷ xs) p (inr h) = inr (known_left k seat xs p h)
 
-  known_right : (k : ℕ) (seat : Seat) (b : Bool) (ps : List (Pass V Entry g)) (p : Pass V Entry g) → number_of p ≡ k
-      → Stays code s (entries_in (seen_by p)) k seat b → IsKnown code s k seat b (ps ++ p ∷ [])
-  known_right k seat b [] p e y = inl (e, y)
-  known_right k seat b (x ∷ xs) p e y = inr (known_right k seat b xs p e y)
+  known_right : (k : ℕ) (seat : Seat) (ps : List (Pass V Entry g)) (p : Pass V Entry g) → number_of p ≡ k
+      → Seated code s (entries_in (seen_by p)) k seat → IsKnown code s k seat (ps ++ p ∷ [])
+  known_right k seat [] p e y = inl (e, y)
+  known_right k seat (x ∷ xs) p e y = inr (known_right k seat xs p e y)
 
   -- one more came back
   pub back_on : (places : List (Option Seat)) (count : length places ≡ s.procs) (number : ℕ) (inside : number < s.procs) (seat : Seat)
-      (ps : List (Pass V Entry g)) (p : Pass V Entry g) (a b : Bool) → (b ≡ false → a ≡ false) → number_of p ≡ number
-      → Stays code s (entries_in (seen_by p)) number seat b → IsBack code s places ps a → IsBack code s (after s places count number inside seat) (ps ++ p ∷ []) b
-  back_on places count number inside seat ps p a b f e y back k x l is = elim (ℕ_discrete k number) as (λ _. IsKnown code s k x b (ps ++ p ∷ [])) [
+      (ps : List (Pass V Entry g)) (p : Pass V Entry g) → number_of p ≡ number
+      → Seated code s (entries_in (seen_by p)) number seat → IsBack code s places ps → IsBack code s (after s places count number inside seat) (ps ++ p ∷ [])
+  back_on places count number inside seat ps p e y back k x l is = elim (ℕ_discrete k number) as (λ _. IsKnown code s k x (ps ++ p ∷ [])) [
     | yes same ↦
         let one : Some seat ≡ Some x = sym (here s places count number inside seat) ∙ sym (ap (at_place s.procs (after s places count number inside seat)) same) ∙ is in
         let it : seat ≡ x = cc one in
-        known_right k x b ps p (e ∙ sym same) (subst (λ z. Stays code s (entries_in (seen_by p)) k z b) it (subst (λ j. Stays code s (entries_in (seen_by p)) j seat b) (sym same) y))
-    | no ne ↦ known_left k x a b ps p f (back k x l (sym (elsewhere s places count number inside seat k l ne) ∙ is))
+        known_right k x ps p (e ∙ sym same) (subst (Seated code s (entries_in (seen_by p)) k) it (subst (λ j. Seated code s (entries_in (seen_by p)) j seat) (sym same) y))
+    | no ne ↦ known_left k x ps p (back k x l (sym (elsewhere s places count number inside seat k l ne) ∙ is))
   ]
 
-  -- so it is behind one turn of the loop
+  -- so it is after one turn of the loop
   pub all_back : (places : List (Option Seat)) (count : length places ≡ s.procs) (number : ℕ) (inside : number < s.procs) (seat : Seat)
-      (ps pushed : List (Pass V Entry g)) (p : Pass V Entry g) (a b c : Bool) (last : ℕ) → last ≡ s.procs → pushed ≡ ps ++ p ∷ []
-      → c ≡ (a || b) → number_of p ≡ number → Stays code s (entries_in (seen_by p)) number seat b → ArePlaced s.procs places ps → IsBack code s places ps a
-      → ArePlaced s.procs (slice_set places (last - 1 - number) (Some seat)) pushed × IsBack code s (slice_set places (last - 1 - number) (Some seat)) pushed c
-  all_back places count number inside seat ps pushed p a b c last last_is pushed_is either same stays placed back =
+      (ps pushed : List (Pass V Entry g)) (p : Pass V Entry g) (last : ℕ) → last ≡ s.procs → pushed ≡ ps ++ p ∷ []
+      → number_of p ≡ number → Seated code s (entries_in (seen_by p)) number seat → ArePlaced s.procs places ps → IsBack code s places ps
+      → ArePlaced s.procs (slice_set places (last - 1 - number) (Some seat)) pushed × IsBack code s (slice_set places (last - 1 - number) (Some seat)) pushed
+  all_back places count number inside seat ps pushed p last last_is pushed_is same seated placed back =
       subst (λ (x : ℕ × List (Pass V Entry g)). ArePlaced s.procs (slice_set places (x.0 - 1 - number) (Some seat)) x.1
-      × IsBack code s (slice_set places (x.0 - 1 - number) (Some seat)) x.1 c) (λ i. (sym last_is i, sym pushed_is i)) (
-        placed_on s places count number inside seat ps p same placed,
-        back_on places count number inside seat ps p a c (either_first a b c either) same (stays_weaker code s (entries_in (seen_by p)) number seat b c (either_second a b c either) stays) back,
-      )
+      × IsBack code s (slice_set places (x.0 - 1 - number) (Some seat)) x.1) (λ i. (sym last_is i, sym pushed_is i))
+      (placed_on s places count number inside seat ps p same placed, back_on places count number inside seat ps p same seated back)
 
-  -- behind close a process stands in all entries where it stands in those of its pass
-  known_whole : (es : List Entry) (k : ℕ) (seat : Seat) (b : Bool) (ps : List (Pass V Entry g)) → AreLegal (log_of es) ps → IsKnown code s k seat b ps → Stays code s es k seat b
-  known_whole es k seat b [] legal h = absurd h
-  known_whole es k seat b (p ∷ ps) legal (inl h) = record {
-    ended = ended_inside es (number_of p) k (seen_by p) seat.ended h.0 legal.0 h.1.ended;
-    told = told_inside code s es (number_of p) k (seen_by p) seat h.0 legal.0 h.1.told;
-    seated = λ e. seated_inside code s es (number_of p) k (seen_by p) seat h.0 legal.0 (h.1.seated e);
-  }
-  known_whole es k seat b (p ∷ ps) legal (inr h) = known_whole es k seat b ps legal.1 h
+  -- once the turnstile is closed, a process is in all entries where it is in those of its pass
+  known_whole : (es : List Entry) (k : ℕ) (seat : Seat) (ps : List (Pass V Entry g)) → AreLegal (log_of es) ps → IsKnown code s k seat ps → Seated code s es k seat
+  known_whole es k seat [] legal h = absurd h
+  known_whole es k seat (p ∷ ps) legal (inl h) = seated_inside code s es (number_of p) k (seen_by p) seat h.0 legal.0 h.1
+  known_whole es k seat (p ∷ ps) legal (inr h) = known_whole es k seat ps legal.1 h
 
   has_place : (places : List (Option Seat)) (k : ℕ) (ps : List (Pass V Entry g)) → ArePlaced s.procs places ps → HasNumber k (map part_of ps) → (seat : Seat) × (at_place s.procs places k ≡ Some seat)
   has_place places k [] placed h = absurd h
@@ -127,11 +110,11 @@ module _ {V : Type 0} {g : Ghosts V Entry} (code : Code) (s : Setting) where
         let one : get_or places i None ≡ Some it.0 = ap (λ j. get_or places j None) (sym same) ∙ it.1 in
         cc (one, e)
 
-    pub all_seated : (es : List Entry) (b : Bool) (seats : List Seat) → AreLegal (log_of es) ps → IsBack code s places ps b → length seats ≡ length places
-        → ((d : Seat) (k : ℕ) → k < length seats → get_or places (length places - 1 - k) None ≡ Some (get_or seats k d)) → AreSeated code s es seats b
-    all_seated es b seats legal back even each d k l =
+    pub all_seated : (es : List Entry) (seats : List Seat) → AreLegal (log_of es) ps → IsBack code s places ps → length seats ≡ length places
+        → ((d : Seat) (k : ℕ) → k < length seats → get_or places (length places - 1 - k) None ≡ Some (get_or seats k d)) → AllSeated code s es seats
+    all_seated es seats legal back even each d k l =
         let below : k < s.procs = omega (arith, count, even, l) in
-        known_whole es k (get_or seats k d) b ps legal (back k (get_or seats k d) below (subst (λ n. get_or places (n - 1 - k) None ≡ Some (get_or seats k d)) count (each d k l)))
+        known_whole es k (get_or seats k d) ps legal (back k (get_or seats k d) below (subst (λ n. get_or places (n - 1 - k) None ≡ Some (get_or seats k d)) count (each d k l)))
 
 -- ---- in order
 

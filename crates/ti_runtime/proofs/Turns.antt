@@ -1,5 +1,5 @@
 -- What the turn of a process makes of its team.
-use Rattle.std.proofs.Common.{◌≡◌, ℕ, zero, suc, ◌+◌, ◌-◌, ◌*◌, ◌<◌, ◌≤◌, max, nat_lt, ◌==◌, Bool, true, false, ◌||◌, map, filter, inl, inr, Ok, List, [], ◌∷◌, length, get_or, slice_set, refl, sym, ap, ◌∙◌, subst, arith, eqb-true, ltb-true, length-set, get_or-set_same, get_or-set_other}
+use Rattle.std.proofs.Common.{◌≡◌, ℕ, ◌+◌, ◌-◌, ◌*◌, ◌<◌, ◌≤◌, max, nat_lt, ◌==◌, Bool, true, false, ◌||◌, map, filter, inl, inr, Ok, List, [], length, get_or, slice_set, refl, sym, ap, ◌∙◌, subst, arith, eqb-true, ltb-true, length-set, get_or-set_same, get_or-set_other}
 use Rattle.std.specs.List.{list_any}
 use Rattle.std.proofs.lemmas.Bool.{eqb-false, ltb-false}
 use Rattle.std.proofs.lemmas.List.Sums.{sum_by-set}
@@ -24,7 +24,7 @@ use Rattle.ti_runtime.specs.declared.seat.Seat.{Seat}
 use Rattle.ti_runtime.specs.declared.seat.Stop.{Stop}
 use Rattle.ti_runtime.specs.declared.seat.Stop.TheVariants as stop
 use Rattle.ti_runtime.specs.Mirrors.Waiting.{Waits, Rests}
-use Rattle.ti_runtime.specs.Mirrors.Team.{IsOpen, Seated, AllSeated, Takes, steps_left, all_steps_left, GoesOn, StopsAt, TurnLeaves, cursor_after, Points, Stands, StandsOn, Stopped}
+use Rattle.ti_runtime.specs.Mirrors.Team.{IsOpen, Seated, AllSeated, Takes, steps_left, all_steps_left, GoesOn, Keeps, StopsAt, TurnLeaves, cursor_after, Points, Stands, StandsOn, Stopped}
 use Rattle.ti_runtime.proofs.Seats.{seated_with}
 use Rattle.ti_runtime.proofs.Waiting.{rest_takes_none, rests_still, wait_together}
 use Rattle.ti_runtime.proofs.Endings.{none_below}
@@ -83,17 +83,24 @@ pub seated_still : (code : Code) (s : Setting) (es all : List Entry) (i : ℕ) (
 seated_still code s es all i seat same y =
     seated_with code s es all i seat seat.ended (ap (λ own. map (λ (e : Entry). e.answer) (filter is_answered own)) same) (ap (list_any (λ (e : Entry). is_end e.act)) same ∙ y.ended) y
 
-module _ (code : Code) (s : Setting) (es all : List Entry) (seats : List Seat) (i : ℕ) (new : Seat) (t : Takes s es i all) (y : Seated code s all i new) (inside : i < length seats) where
-  pub seated_on : AllSeated code s es seats → AllSeated code s all (slice_set seats i new)
-  seated_on seated d j l = by (i == j) refl
+module _ (code : Code) (s : Setting) (es all : List Entry) (seats : List Seat) (i : ℕ) (new : Seat) (y : Seated code s all i new) (inside : i < length seats) where
+  -- where one seat is replaced, and the others tell the same of more entries
+  seated_set : ((d : Seat) (j : ℕ) → j < length seats → (i == j) ≡ false → Seated code s all j (get_or seats j d)) → AllSeated code s all (slice_set seats i new)
+  seated_set others d j l = by (i == j) refl
     where
       by : (b : Bool) → (i == j) ≡ b → Seated code s all j (get_or (slice_set seats i new) j d)
       by true h =
           let same : i ≡ j = eqb-true i j h in
           subst (λ k. Seated code s all k (get_or (slice_set seats i new) k d)) same (subst (Seated code s all i) (sym (get_or-set_same seats i new d inside)) y)
       by false h =
-          subst (Seated code s all j) (sym (get_or-set_other seats i j new d (λ e. eqb-false i j h (sym e))))
-          (seated_still code s es all j (get_or seats j d) (other_on s es all i t j h) (seated d j (subst (λ n. j < n) (length-set seats i new) l)))
+          subst (Seated code s all j) (sym (get_or-set_other seats i j new d (λ e. eqb-false i j h (sym e)))) (others d j (subst (λ n. j < n) (length-set seats i new) l) h)
+
+  pub seated_on : Takes s es i all → AllSeated code s es seats → AllSeated code s all (slice_set seats i new)
+  seated_on t seated = seated_set (λ d j l h. seated_still code s es all j (get_or seats j d) (other_on s es all i t j h) (seated d j l))
+
+  -- by no entry
+  pub seated_kept : all ≡ es → AllSeated code s es seats → AllSeated code s all (slice_set seats i new)
+  seated_kept same seated = seated_set (λ d j l h. subst (λ xs. Seated code s xs j (get_or seats j d)) (sym same) (seated d j l))
 
 pub lighter_on : (s : Setting) (seats : List Seat) (i : ℕ) (old new : Seat) → i < length seats → old ≡ get_or seats i old → steps_left s new < steps_left s old
     → all_steps_left s (slice_set seats i new) < all_steps_left s seats
@@ -104,6 +111,16 @@ lighter_on s seats i old new inside is lighter =
   where
     fewer : (a b c d e : ℕ) → a + b ≡ c + d → b ≡ e → d < e → a < c
     fewer a b c d e h k l = omega arith
+
+as_many_on : (s : Setting) (seats : List Seat) (i : ℕ) (old new : Seat) → i < length seats → old ≡ get_or seats i old → steps_left s new ≡ steps_left s old
+    → all_steps_left s (slice_set seats i new) ≡ all_steps_left s seats
+as_many_on s seats i old new inside is as_many =
+    let sums = sum_by-set (steps_left s) seats i new old inside in
+    let same : steps_left s (get_or seats i old) ≡ steps_left s old = ap (steps_left s) (sym is) in
+    equal (all_steps_left s (slice_set seats i new)) (steps_left s (get_or seats i old)) (all_steps_left s seats) (steps_left s new) (steps_left s old) sums same as_many
+  where
+    equal : (a b c d e : ℕ) → a + b ≡ c + d → b ≡ e → d ≡ e → a ≡ c
+    equal a b c d e h k l = omega arith
 
 -- ---- the cursor
 
@@ -214,11 +231,6 @@ further m n = omega arith
 one_further : (m : ℕ) → m < m + 1
 one_further m = omega arith
 
-set_same : (xs : List Seat) (k : ℕ) (d : Seat) → slice_set xs k (get_or xs k d) ≡ xs
-set_same [] k d = refl
-set_same (y ∷ ys) zero d = refl
-set_same (y ∷ ys) (suc k) d = ap (λ zs. y ∷ zs) (set_same ys k d)
-
 module _ (code : Code) (s : Setting) (es : List Entry) (seats : List Seat) (c : Cursor) (x : Stands code s es seats c) (inside : c.at < s.procs) (old : Seat) (is : old ≡ get_or seats c.at old) where
   within : c.at < length seats
   within = subst (λ n. c.at < n) (sym x.count) inside
@@ -231,59 +243,53 @@ module _ (code : Code) (s : Setting) (es : List Entry) (seats : List Seat) (c : 
       run = run_on s es all c.at g.takes x.run;
       goes_on = no_fault_on s es all c.at g.takes g.no_fault;
       count = length-set seats c.at new ∙ x.count;
-      seated = seated_on code s es all seats c.at new g.takes g.seated within x.seated;
+      seated = seated_on code s es all seats c.at new g.seated within g.takes x.seated;
       points = p;
     };
     lighter = falls (all_steps_left s (slice_set seats c.at new)) (all_steps_left s seats) s.procs d.at c.at (lighter_on s seats c.at old new within is g.lighter);
   }
 
   -- by none
-  still : (d : Cursor) → Points s es d → c.at < d.at → StandsOn code s es seats c es seats d
-  still d p l = record {
+  rested : (all : List Entry) (new : Seat) (d : Cursor) → Keeps code s es c.at old all new → Points s es d → c.at < d.at → StandsOn code s es seats c all (slice_set seats c.at new) d
+  rested all new d k p l = subst (λ xs. StandsOn code s es seats c xs (slice_set seats c.at new) d) (sym k.entries) (record {
     solo = λ solo. solo;
-    stands = record { run = x.run; goes_on = x.goes_on; count = x.count; seated = x.seated; points = p };
-    lighter = falls_same (all_steps_left s seats * (s.procs + 1)) s.procs d.at c.at l inside;
-  }
-
-  rested : (all : List Entry) (new : Seat) (d : Cursor) → all ≡ es → new ≡ old → Points s es d → c.at < d.at → StandsOn code s es seats c all (slice_set seats c.at new) d
-  rested all new d e same p l =
-      subst (λ xs. StandsOn code s es seats c xs (slice_set seats c.at new) d) (sym e)
-      (subst (λ xs. StandsOn code s es seats c es xs d) (sym (ap (slice_set seats c.at) (same ∙ is) ∙ set_same seats c.at old)) (still d p l))
+    stands = record {
+      run = x.run;
+      goes_on = x.goes_on;
+      count = length-set seats c.at new ∙ x.count;
+      seated = seated_kept code s es es seats c.at new k.seated within refl x.seated;
+      points = p;
+    };
+    lighter = subst (λ n. n * (s.procs + 1) + (s.procs - d.at) < all_steps_left s seats * (s.procs + 1) + (s.procs - c.at))
+        (sym (as_many_on s seats c.at old new within is k.as_many)) (falls_same (all_steps_left s seats * (s.procs + 1)) s.procs d.at c.at l inside);
+  })
 
   pub turned : RoundsBalance s es → (all : List Entry) (new : Seat) (t : Turn) → TurnLeaves code s es c.at old all new (Ok t)
       → StandsOn code s es seats c all (slice_set seats c.at new) (cursor_after c t)
   turned balance all new turn.Arrived g = onward all new true (cursor_after c turn.Arrived) g (points_arrived s es c x.points inside x.run balance all g.takes g.arrives_is)
   turned balance all new turn.Went g = onward all new false (cursor_after c turn.Went) g (points_went s es c x.points inside all g.takes g.arrives_is)
-  turned balance all new turn.Ended g = rested all new (cursor_after c turn.Ended) g.0 g.1 (points_ended s es c x.points inside g.2) (one_further c.at)
-  turned balance all new turn.Waits g = rested all new (cursor_after c turn.Waits) g.0 g.1 (points_waits s es c x.points inside g.2) (further c.at c.waiting)
+  turned balance all new turn.Ended g = rested all new (cursor_after c turn.Ended) g.0 (points_ended s es c x.points inside g.1) (one_further c.at)
+  turned balance all new turn.Waits g = rested all new (cursor_after c turn.Waits) g.0 (points_waits s es c x.points inside g.1) (further c.at c.waiting)
 
   -- a run that stops at this turn
-  pub stopped : (all : List Entry) (new : Seat) (why : Stop) → StopsAt code s es c.at all new why → Stopped code s es all (slice_set seats c.at new) why
-  stopped all new stop.Faulted t = record {
+  pub stopped : (all : List Entry) (new : Seat) (why : Stop) → StopsAt s es c.at all why → Seated code s all c.at new → Stopped code s es all (slice_set seats c.at new) why
+  stopped all new stop.Faulted t y = record {
     run = run_on s es all c.at t.0 x.run;
     solo = λ solo. solo_on s es all c.at t.0 solo x.points.before;
     fault = (λ e. fault_on s es all c.at t.0 t.1, λ h. refl);
     unended = λ ended. true_false (sym (ended c.at inside) ∙ unended_on s es all c.at t.0 (fault_no_end t.0.entry.act t.1));
     count = length-set seats c.at new ∙ x.count;
-    seated = λ e. seated_on code s es all seats c.at new t.0 t.2 within x.seated;
+    seated = seated_on code s es all seats c.at new y within t.0 x.seated;
   }
     where
       fault_no_end : (a : Action) → is_fault a ≡ true → is_end a ≡ false
       fault_no_end (act.Fault kind) f = refl
       fault_no_end _ f = absurd (true_false (sym f))
-  stopped all new stop.Memory (inl t) = record {
+  stopped all new stop.Memory t y = record {
     run = subst (IsRun s) (sym t.0) x.run;
     solo = λ solo. subst (IsSolo s) (sym t.0) solo;
     fault = (λ e. cc, λ h. absurd (true_false (sym h ∙ ap has_fault t.0 ∙ x.goes_on)));
     unended = λ ended. true_false (sym (ended c.at inside) ∙ ap (has_end c.at) t.0 ∙ t.1);
     count = length-set seats c.at new ∙ x.count;
-    seated = λ e. absurd (e refl);
-  }
-  stopped all new stop.Memory (inr t) = record {
-    run = run_on s es all c.at t.0 x.run;
-    solo = λ solo. solo_on s es all c.at t.0 solo x.points.before;
-    fault = (λ e. cc, λ h. absurd (true_false (sym h ∙ no_fault_on s es all c.at t.0 t.1)));
-    unended = λ ended. true_false (sym (ended c.at inside) ∙ unended_on s es all c.at t.0 t.2);
-    count = length-set seats c.at new ∙ x.count;
-    seated = λ e. absurd (e refl);
+    seated = seated_kept code s es all seats c.at new y within t.0 x.seated;
   }

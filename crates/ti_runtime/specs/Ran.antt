@@ -1,4 +1,4 @@
--- What a run came to.
+-- How a run ended.
 use Rattle.std.specs.Prelude.{◌≡◌, ◌≢◌, ◌↔◌, ℕ, true, false, List, length, Some, slice_get}
 use Rattle.ti_base.specs.declared.entry.Entry.{Entry}
 use Rattle.ti_lang.specs.Meaning.Processes.{Setting}
@@ -19,8 +19,8 @@ pub record IsDone (code : Code) (s : Setting) (es : List Entry) (done : List ℕ
   pub each : (i n : ℕ) → slice_get done i ≡ Some n → HasFinished (standing_of code s es i) n
 
 -- The history is a run, and with one worker, as far as it goes, the one in which each entry is that of the lowest-numbered process that can
--- take one. It ended exactly where all processes have their end, and with a fault exactly where it has one; else memory was wanting. Unless
--- it was, it is told how many instructions are done.
+-- take one. It ended exactly where all processes have their end, and with a fault exactly where it has one; otherwise it ran out of memory.
+-- Unless it did, the numbers of finished instructions are told.
 pub record Ran (code : Code) (s : Setting) (workers : ℕ) (end : RunEnd) : Type 0 where
   pub run : IsRun s end.history.items
   pub solo : workers ≡ 1 → IsSolo s end.history.items

@@ -10,7 +10,6 @@ use crate::seat::Seat;
 use std::alloc::Global;
 use ti_base::Memory;
 use ti_code::Code;
-use ti_machine::has_one_next;
 use ti_store::{Store, Terms};
 use ti_turnstile::{Pass, Turnstile};
 
@@ -32,7 +31,7 @@ fn put<J: Terms + ByCode>(
     Ok(())
 }
 
-/// A process for each pass, in the group of its worker.
+/// A process for each pass, in the group of its worker. None of them has begun.
 pub fn deal_out<J: Terms + ByCode>(
     alloc: Global,
     code: &Code,
@@ -53,7 +52,6 @@ pub fn deal_out<J: Terms + ByCode>(
     ensures length { IfOk result (λ gs. length gs.items ≡ workers) }
     ensures count { IfOk result (λ gs. sum_by (λ v. length v.items) gs.items ≡ procs) }
 {
-    has_one_next();
     let mut groups = Vec::with_capacity(alloc, workers as usize)?;
     for _w in 0..workers {
         groups.push(Vec::new(alloc))?;

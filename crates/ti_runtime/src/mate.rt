@@ -1,19 +1,21 @@
 // A process on a worker: with its pass, by which it knows its own entries.
-ghost use Rattle.std.specs.Prelude.{◌≡◌, ◌<◌, [], false, IfOk, IfErr};
+ghost use Rattle.std.specs.Prelude.{◌≡◌, ◌<◌, [], IfOk, IfErr};
+ghost use Rattle.ti_lang.specs.Meaning.Histories.{entries_of};
 ghost use Rattle.ti_lang.specs.Meaning.Runs.{IsRun};
 ghost use Rattle.ti_eval.specs.Forms.{IsFormedAnswer};
-ghost use Rattle.ti_store.specs.Stores.{setting_of, log_of, IsDone, IsRefused};
+ghost use Rattle.ti_store.specs.Conditions.{HasNext};
+ghost use Rattle.ti_store.specs.Stores.{setting_of, log_of, next_of, IsDone, IsRefused};
 ghost use Rattle.ti_turnstile.specs.Passes.{GrownBy};
 ghost use Rattle.ti_turnstile.specs.Turnstiles.{identity_of, turnstile_of, number_of, seen_by};
 ghost use Rattle.ti_runtime.specs.Mirrors.Team.{place_of, action_of, Seated, MayRun};
-ghost use Rattle.ti_runtime.specs.Mirrors.Stays.{entries_in, Stays};
+ghost use Rattle.ti_runtime.specs.Mirrors.Mates.{entries_in};
 
 use crate::by_code::ByCode;
 use crate::seat::{Seat, doing};
 use std::alloc::Global;
 use std::marker::Model;
 use std::sync::Wait;
-use ti_base::{Answer, Entry, Memory};
+use ti_base::{Answer, Entry, Memory, Next};
 use ti_code::Code;
 use ti_io::Gate;
 use ti_machine::has_one_next;
@@ -29,13 +31,14 @@ pub enum Tried {
     Ended,
     /// It waits at a collective for others.
     Waits,
-    /// Nobody goes on: there is a fault, or memory was wanting.
+    /// Nobody goes on: there is a fault, or it is out of memory.
     Stops,
 }
 
-/// A process with its pass. It had the answers of the pass's items, unless memory was wanting behind the last of them.
+/// A process with its pass. It has heard the answers of the pass's items. It may not have begun: what it computes before its first action,
+/// it computes on the worker that tries it first.
 ///
-/// Contracts see the turnstile of its pass, its number, and whether memory was wanting.
+/// Contracts see the turnstile of its pass and its number.
 #[derive(Drop)]
 pub struct Mate<J: Terms + ByCode>
 where
@@ -43,7 +46,6 @@ where
 {
     number: u32,
     seat: Seat,
-    wants: bool,
     pass: Pass<Store<J>>,
 }
 
@@ -59,33 +61,33 @@ where
 
     ghost use Rattle.std.specs.Prelude.{◌≡◌, ◌<◌};
     ghost use Rattle.ti_turnstile.specs.Turnstiles.{turnstile_of, number_of, seen_by};
-    ghost use Rattle.ti_runtime.specs.Mirrors.Stays.{entries_in, Stays};
+    ghost use Rattle.ti_runtime.specs.Mirrors.Team.{Seated};
+    ghost use Rattle.ti_runtime.specs.Mirrors.Mates.{entries_in};
 
-    ghost view = { λ m. record { turnstile = turnstile_of m.pass; number = m.number; wants = m.wants } };
+    ghost view = { λ m. record { turnstile = turnstile_of m.pass; number = m.number } };
 
-    ghost invariant = { λ m. (m.number < J.setting.procs) × (number_of m.pass ≡ m.number) × Stays J.code J.setting (entries_in (seen_by m.pass)) m.number m.seat m.wants };
+    ghost invariant = { λ m. (m.number < J.setting.procs) × (number_of m.pass ≡ m.number) × Seated J.code J.setting (entries_in (seen_by m.pass)) m.number m.seat };
 }
 
 // Does what a process has next.
 fn act<J: Terms + ByCode>(
     alloc: Global,
-    seat: &Seat,
+    next: Next,
     number: u32,
     store: &mut Store<J>,
 ) -> Result<Answer, ActErr>
     requires number { number < J.setting.procs }
-    requires seated { Seated J.code J.setting store.old.entries number seat.now }
-    requires unended { seat.now.ended ≡ false }
+    requires next { HasNext J.setting number (entries_of number store.old.entries) (next_of (place_of next) (action_of next)) }
     ensures terms { setting_of store.old ≡ J.setting }
     ensures run { IsRun (setting_of store.old) store.old.entries }
-    ensures done { IfOk result (λ answer. IsDone store.old number (place_of seat.now) (action_of seat.now) answer store.new) }
-    ensures refused { IfErr result (λ why. IsRefused store.old number (place_of seat.now) (action_of seat.now) why store.new) }
+    ensures done { IfOk result (λ answer. IsDone store.old number (place_of next) (action_of next) answer store.new) }
+    ensures refused { IfErr result (λ why. IsRefused store.old number (place_of next) (action_of next) why store.new) }
     ensures form { IfOk result IsFormedAnswer }
     ensures grown { GrownBy number (log_of store.old.entries) (log_of store.new.entries) }
 {
     store.knows_terms();
     let _run = store.history();
-    let (place, action) = doing(seat.next);
+    let (place, action) = doing(next);
     store.act(alloc, number, place, action)
 }
 
@@ -96,29 +98,19 @@ impl<J: Terms + ByCode> Mate<J> {
         requires same { number_of pass ≡ number }
         requires seen { seen_by pass ≡ [] }
         requires seated { Seated J.code J.setting [] number seat }
-        ensures { result ≡ record { turnstile = turnstile_of pass; number = number; wants = false } }
+        ensures { result ≡ record { turnstile = turnstile_of pass; number = number } }
     {
-        Mate {
-            number,
-            seat,
-            wants: false,
-            pass,
-        }
+        Mate { number, seat, pass }
     }
 
-    /// Its number, where it stands, whether memory was wanting, and its pass.
-    pub fn into_parts(self) -> (u32, Seat, bool, Pass<Store<J>>)
-        ensures number { (result.0 ≡ self.number) × (result.0 < J.setting.procs) × (number_of result.3 ≡ result.0) }
-        ensures turnstile { turnstile_of result.3 ≡ self.turnstile }
-        ensures stays { Stays J.code J.setting (entries_in (seen_by result.3)) result.0 result.1 result.2 }
+    /// Its number, where it stands, and its pass.
+    pub fn into_parts(self) -> (u32, Seat, Pass<Store<J>>)
+        ensures number { (result.0 ≡ self.number) × (result.0 < J.setting.procs) × (number_of result.2 ≡ result.0) }
+        ensures turnstile { turnstile_of result.2 ≡ self.turnstile }
+        ensures seated { Seated J.code J.setting (entries_in (seen_by result.2)) result.0 result.1 }
     {
-        let Mate {
-            number,
-            seat,
-            wants,
-            pass,
-        } = self;
-        (number, seat, wants, pass)
+        let Mate { number, seat, pass } = self;
+        (number, seat, pass)
     }
 
     // Nobody does anything more.
@@ -126,24 +118,14 @@ impl<J: Terms + ByCode> Mate<J> {
         requires turnstile { self.turnstile ≡ identity_of turnstile.now }
         ensures { result.turnstile ≡ identity_of turnstile.now }
     {
-        let Mate {
-            number,
-            seat,
-            wants: _,
-            pass,
-        } = self;
+        let Mate { number, seat, pass } = self;
         let mut inside = turnstile.enter(rt, pass);
         inside.value().halt_for_memory();
         let pass = turnstile.leave(inside);
-        Mate {
-            number,
-            seat,
-            wants: true,
-            pass,
-        }
+        Mate { number, seat, pass }
     }
 
-    /// One try.
+    /// One try: it computes what it has next, and does it.
     pub fn try_turn<R: Wait, G: Gate>(
         self,
         rt: &R,
@@ -160,50 +142,26 @@ impl<J: Terms + ByCode> Mate<J> {
         if self.seat.ended {
             return (self, Tried::Ended);
         }
-        if self.wants {
-            return (self, Tried::Stops);
-        }
         has_one_next();
-        gate.pass(self.number);
         let Mate {
             number,
             mut seat,
-            wants: _,
             pass,
         } = self;
+        let Ok(next) = seat.advance(alloc, code) else {
+            let mate = Mate { number, seat, pass };
+            return (mate.halt(rt, turnstile), Tried::Stops);
+        };
+        gate.pass(number);
         let mut inside = turnstile.enter(rt, pass);
-        let acted = act(alloc, &seat, number, inside.value());
+        let acted = act(alloc, next, number, inside.value());
         let pass = turnstile.leave(inside);
         match acted {
-            Ok(answer) => match seat.go_on(alloc, code, answer) {
-                Ok(_) => {
-                    let mate = Mate {
-                        number,
-                        seat,
-                        wants: false,
-                        pass,
-                    };
-                    (mate, Tried::Went)
-                }
-                Err(Memory) => {
-                    let mate = Mate {
-                        number,
-                        seat,
-                        wants: true,
-                        pass,
-                    };
-                    (mate.halt(rt, turnstile), Tried::Stops)
-                }
-            },
-            Err(why) => {
-                let mate = Mate {
-                    number,
-                    seat,
-                    wants: false,
-                    pass,
-                };
-                mate.refused(rt, turnstile, why)
+            Ok(answer) => {
+                let _turn = seat.hear(next, answer);
+                (Mate { number, seat, pass }, Tried::Went)
             }
+            Err(why) => Mate { number, seat, pass }.refused(rt, turnstile, why),
         }
     }
 

@@ -12,8 +12,7 @@ ghost use Rattle.ti_store.specs.Conditions.{IsWithin};
 ghost use Rattle.ti_store.specs.Stores.{setting_of};
 ghost use Rattle.ti_runtime.specs.declared.seat.Seat.{Seat as OneSeat};
 ghost use Rattle.ti_runtime.specs.Ran.{Ran};
-ghost use Rattle.ti_runtime.specs.Mirrors.Settled.{AreSeated};
-ghost use Rattle.ti_runtime.specs.Mirrors.Team.{MayRun, IsOpen, Stands, CameTo};
+ghost use Rattle.ti_runtime.specs.Mirrors.Team.{MayRun, IsOpen, AllSeated, Stands, CameTo};
 
 use crate::by_code::ByCode;
 use crate::cursor::Cursor;
@@ -46,8 +45,8 @@ pub enum How {
     Memory,
 }
 
-/// How a run ended, its entries in order, and how many instructions each process has finished for the answers that it got. Where memory
-/// was wanting, these numbers tell nothing, and there may be none.
+/// How a run ended, its entries in order, and how many instructions each process has finished for the answers that it got. Where it is out
+/// of memory, these numbers tell nothing, and there may be none.
 #[derive(Drop)]
 pub struct RunEnd {
     pub how: How,
@@ -112,20 +111,20 @@ fn have_ended(seats: &[Seat]) -> bool
     seats.iter().all(|seat| seat.ended)
 }
 
-// Goes on with all processes on one thread behind what workers did, unless the run is over.
+// Goes on with all processes on one thread after what workers did, unless the run is over. Where they ran out of memory, the store refuses
+// the first act.
 fn go_on<J: Terms + ByCode, G: Gate>(
     alloc: Global,
     code: &Code,
     gate: &G,
     team: &mut Team,
-    wants: bool,
     store: &mut Store<J>,
 ) -> How
     requires code { code.now ≡ J.code }
     requires may { MayRun J.code J.setting }
     requires count { length team.old.seats.items ≡ J.setting.procs }
     requires cursor { team.old.cursor ≡ record { at = 0; waiting = 0 } }
-    requires seated { AreSeated J.code J.setting store.old.entries team.old.seats.items wants }
+    requires seated { AllSeated J.code J.setting store.old.entries team.old.seats.items }
     ensures { CameTo J.code J.setting store.old.entries store.new.entries team.new.seats.items result }
 {
     store.knows_terms();
@@ -135,13 +134,10 @@ fn go_on<J: Terms + ByCode, G: Gate>(
     if have_ended(&team.seats) {
         return How::Ended;
     }
-    if wants {
-        return How::Memory;
-    }
     play(alloc, code, gate, team, store)
 }
 
-// What the run came to, behind what workers did.
+// How the run ends, after what workers did.
 fn finish<J: Terms + ByCode, G: Gate>(
     alloc: Global,
     code: &Code,
@@ -152,20 +148,16 @@ fn finish<J: Terms + ByCode, G: Gate>(
     requires code { code.now ≡ J.code }
     requires may { MayRun J.code J.setting }
     requires count { length settled.seats.items ≡ J.setting.procs }
-    requires seated { AreSeated J.code J.setting settled.store.entries settled.seats.items settled.wants }
+    requires seated { AllSeated J.code J.setting settled.store.entries settled.seats.items }
     requires done { length done.items ≡ J.setting.procs }
     ensures { (workers : ℕ) → (workers ≡ 1 → settled.store.entries ≡ []) → Ran J.code J.setting workers result }
 {
-    let Settled {
-        mut store,
-        seats,
-        wants,
-    } = settled;
+    let Settled { mut store, seats } = settled;
     let mut team = Team {
         seats,
         cursor: Cursor { at: 0, waiting: 0 },
     };
-    let how = go_on(alloc, code, gate, &mut team, wants, &mut store);
+    let how = go_on(alloc, code, gate, &mut team, &mut store);
     RunEnd {
         how,
         history: store.into_history(),
@@ -202,7 +194,7 @@ fn together<J: Terms + ByCode + Send + Sync, R: Threads + Wait + Sync, G: Gate +
     requires fuel { fuel ≡ J.setting.fuel }
     requires empty { store.entries ≡ [] }
     ensures count { IfOk result (λ r. length r.seats.items ≡ J.setting.procs) }
-    ensures seated { IfOk result (λ r. AreSeated J.code J.setting r.store.entries r.seats.items r.wants) }
+    ensures seated { IfOk result (λ r. AllSeated J.code J.setting r.store.entries r.seats.items) }
 {
     let room = room_for(alloc, procs)?;
     let flags = clear_flags(alloc, workers)?;
@@ -228,7 +220,7 @@ fn begin<J: Terms + ByCode + Send + Sync, R: Threads + Wait + Sync, G: Gate + Sy
     requires may { MayRun J.code J.setting }
     requires terms { record { program = program_of c.now.program.parts; procs = procs; fuel = fuel } ≡ J.setting }
     ensures count { IfOk result (λ r. length r.seats.items ≡ J.setting.procs) }
-    ensures seated { IfOk result (λ r. AreSeated J.code J.setting r.store.entries r.seats.items r.wants) }
+    ensures seated { IfOk result (λ r. AllSeated J.code J.setting r.store.entries r.seats.items) }
     ensures alone { workers ≡ 1 → IfOk result (λ r. r.store.entries ≡ []) }
 {
     let store = Store::<J>::new(alloc, c, procs, fuel)?;
@@ -236,11 +228,7 @@ fn begin<J: Terms + ByCode + Send + Sync, R: Threads + Wait + Sync, G: Gate + Sy
         return together(rt, alloc, code, procs, workers, fuel, gate, store);
     }
     let Team { seats, cursor: _ } = Team::begin(alloc, code, procs, fuel)?;
-    Ok(Settled {
-        store,
-        seats,
-        wants: false,
-    })
+    Ok(Settled { store, seats })
 }
 
 // The run by terms that somebody has picked.
@@ -273,11 +261,10 @@ fn run_by<J: Terms + ByCode + Send + Sync, R: Threads + Wait + Sync, G: Gate + S
     }
 }
 
-/// Runs a checked program by its code, as so many processes, each with so many ticks of fuel, by so many workers on threads.
+/// Runs a checked program by its code, as `procs` processes, each with `fuel` ticks, by `workers` workers on threads.
 ///
-/// The history is a run, whatever the schedule. It goes on to a fault or until all processes have their end, unless memory is wanting.
-/// With one worker it is the solo run: each entry is that of the lowest-numbered process that can take one. Each act comes
-/// after one pass of the gate.
+/// The history is a run, whatever the schedule. It goes on to a fault or until all processes have their end, unless it runs out of memory.
+/// With one worker it is the solo run: each entry is that of the lowest-numbered process that can take one.
 pub fn run<R: Threads + Wait + Sync, G: Gate + Sync>(
     rt: &R,
     alloc: Global,

@@ -3,9 +3,9 @@ ghost use Rattle.std.specs.Prelude.{◌≡◌, ◌<◌, ◌^◌, [], true, false
 ghost use Rattle.ti_lang.specs.Meaning.Histories.{is_arrival};
 ghost use Rattle.ti_lang.specs.Meaning.Runs.{IsRun};
 ghost use Rattle.ti_eval.specs.Forms.{IsFormedAnswer};
-ghost use Rattle.ti_machine.specs.Standing.{GoesOn, is_act};
+ghost use Rattle.ti_machine.specs.Standing.{GoesOn, HasNext, is_act};
 ghost use Rattle.ti_store.specs.Stores.{setting_of};
-ghost use Rattle.ti_runtime.specs.Mirrors.Team.{doing_of, told_more, StandsAt, Seated, Moves, IsOpen, TurnLeaves};
+ghost use Rattle.ti_runtime.specs.Mirrors.Team.{doing_of, asking, Seated, Hears, IsOpen, TurnLeaves};
 
 use crate::cursor::Turn;
 use std::alloc::Global;
@@ -24,11 +24,10 @@ pub enum Stop {
     Memory,
 }
 
-/// A process of a run with what it has next, and whether it had its end.
+/// A process of a run, and whether it had its end.
 #[derive(Drop)]
 pub struct Seat {
     pub process: Proc,
-    pub next: Next,
     pub ended: bool,
 }
 
@@ -43,7 +42,7 @@ pub fn doing(next: Next) -> (Place, Action)
     }
 }
 
-// How a process goes on that was answered.
+// How a process goes on after it was answered.
 fn turn_of(action: Action) -> Turn
     ensures { result ≡ (if is_arrival action then Turn.Arrived else Turn.Went) }
 {
@@ -55,7 +54,7 @@ fn turn_of(action: Action) -> Turn
 }
 
 impl Seat {
-    /// The process of a number before its first entry.
+    /// The process of a number before its first instruction.
     pub fn take(
         alloc: Global,
         code: &Code,
@@ -66,43 +65,41 @@ impl Seat {
         requires number { number < 2 ^ 31 }
         requires procs { procs < 2 ^ 31 }
         requires goes { GoesOn (record { code = code.now; procs = procs; fuel = fuel; number = number; told = []; asks = false }) }
-        ensures stands { IfOk result (λ seat. StandsAt (record {
-          code = code.now;
-          procs = procs;
-          fuel = fuel;
-          number = number;
-          told = [];
-          asks = false;
-        }) seat) }
-        ensures unended { IfOk result (λ seat. seat.ended ≡ false) }
+        ensures { IfOk result (λ seat. seat ≡ record {
+          process = record { code = code.now; procs = procs; fuel = fuel; number = number; told = []; asks = false };
+          ended = false;
+        }) }
     {
-        let mut process = Proc::start(alloc, code, number, procs, fuel)?;
-        let next = process.advance(alloc, code)?;
+        let process = Proc::start(alloc, code, number, procs, fuel)?;
         Ok(Seat {
             process,
-            next,
             ended: false,
         })
     }
 
-    /// Goes on behind what it has next, which got this answer.
-    pub fn go_on(&mut self, alloc: Global, code: &Code, answer: Answer) -> Result<Turn, Memory>
+    /// What the process has next. It computes until then, unless it has come so far already.
+    pub fn advance(&mut self, alloc: Global, code: &Code) -> Result<Next, Memory>
         requires code { code.now ≡ self.old.process.code }
-        requires asks { is_act self.old.next ≡ true → self.old.process.asks ≡ true }
-        requires form { IsFormedAnswer answer }
-        requires goes { is_act self.old.next ≡ true → GoesOn (told_more self.old.process answer) }
-        ensures moves { IfOk result (λ turn. Moves self.old answer self.new turn) }
-        ensures memory { IfErr result (λ _. is_act self.old.next ≡ true) }
-        ensures kept { IfErr result (λ _. self.new.ended ≡ self.old.ended) }
-        ensures told { IfErr result (λ _. self.new.process ≡ told_more self.old.process answer) }
+        requires goes { GoesOn self.old.process }
+        ensures next { IfOk result (λ n. HasNext self.old.process n) }
+        ensures asks { IfOk result (λ n. self.new ≡ asking (is_act n) self.old) }
+        ensures memory { IfErr result (λ _. self.new ≡ asking false self.old) }
     {
-        let Next::Act(_, action) = self.next else {
+        self.process.advance(alloc, code)
+    }
+
+    /// The process is answered what it has next.
+    pub fn hear(&mut self, next: Next, answer: Answer) -> Turn
+        requires asks { is_act next ≡ true → self.old.process.asks ≡ true }
+        requires form { IsFormedAnswer answer }
+        ensures { Hears self.old next answer self.new result }
+    {
+        let Next::Act(_, action) = next else {
             self.ended = true;
-            return Ok(Turn::Went);
+            return Turn::Went;
         };
         self.process.answer(answer);
-        self.next = self.process.advance(alloc, code)?;
-        Ok(turn_of(action))
+        turn_of(action)
     }
 
     /// The process takes its turn: it passes the gate, and does what it has next, if it needn't wait.
@@ -125,16 +122,17 @@ impl Seat {
         if self.ended {
             return Ok(Turn::Ended);
         }
+        let Ok(next) = self.advance(alloc, code) else {
+            return Err(Stop::Memory);
+        };
         gate.pass(number);
-        let (place, action) = doing(self.next);
+        let (place, action) = doing(next);
         match store.act(alloc, number, place, action) {
-            Ok(answer) => match self.go_on(alloc, code, answer) {
-                Ok(turn) => Ok(turn),
-                Err(Memory) => Err(Stop::Memory),
-            },
+            Ok(answer) => Ok(self.hear(next, answer)),
             Err(ActErr::NotYet) => Ok(Turn::Waits),
             Err(ActErr::Faulted(_)) => Err(Stop::Faulted),
-            Err(ActErr::Halted | ActErr::Memory) => Err(Stop::Memory),
+            Err(ActErr::Halted) => Err(Stop::Memory),
+            Err(ActErr::Memory) => Err(Stop::Memory),
         }
     }
 }

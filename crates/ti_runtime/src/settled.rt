@@ -1,9 +1,10 @@
 // What all workers gave back.
-ghost use Rattle.std.specs.Prelude.{◌≡◌, ◌≢◌, ◌<◌, ◌≤◌, ◌-◌, ◌||◌, ℕ, [], length, All, IfOk, Some, None, slice_index_or, vec_len, vec_capacity};
+ghost use Rattle.std.specs.Prelude.{◌≡◌, ◌≢◌, ◌<◌, ◌≤◌, ◌-◌, ℕ, [], length, All, IfOk, Some, None, slice_index_or, vec_len, vec_capacity};
 ghost use Rattle.ti_turnstile.specs.Turnstiles.{identity_of, passes_of, AreOf};
 ghost use Rattle.ti_runtime.specs.declared.seat.Seat.{Seat as OneSeat};
 ghost use Rattle.ti_runtime.specs.Mirrors.Mates.{AllOf};
-ghost use Rattle.ti_runtime.specs.Mirrors.Settled.{NoneStands, IsBack, ArePlaced, AreSeated};
+ghost use Rattle.ti_runtime.specs.Mirrors.Settled.{NoneStands, IsBack, ArePlaced};
+ghost use Rattle.ti_runtime.specs.Mirrors.Team.{AllSeated};
 
 use crate::by_code::ByCode;
 use crate::mate::Mate;
@@ -24,25 +25,23 @@ where
     pub seats: Vec<Seat>,
 }
 
-/// The store with all entries, all processes by their numbers, and whether memory was wanting.
+/// The store with all entries, and all processes by their numbers.
 #[derive(Drop)]
 pub struct Settled<J: Terms> {
     pub store: Store<J>,
     pub seats: Vec<Seat>,
-    pub wants: bool,
 }
 
-// All passes, the processes from the last on, and whether memory was wanting.
+// All passes, and the processes from the last on.
 struct Back<J: Terms>
 where
     Store<J>: Kept<Item = Entry>,
 {
     passes: Vec<Pass<Store<J>>>,
     places: Vec<Option<Seat>>,
-    wants: bool,
 }
 
-// Places for so many processes, where nobody stands.
+// A place for each process, where nobody stands.
 fn free_places(alloc: Global, procs: u32) -> Result<Vec<Option<Seat>>, Memory>
     ensures count { IfOk result (λ v. length v.items ≡ procs) }
     ensures free { IfOk result (λ v. NoneStands v.items) }
@@ -54,7 +53,7 @@ fn free_places(alloc: Global, procs: u32) -> Result<Vec<Option<Seat>>, Memory>
     Ok(places)
 }
 
-/// Room for so many processes.
+/// Room for `procs` processes.
 pub fn room_for<J: Terms>(alloc: Global, procs: u32) -> Result<Room<J>, Memory>
     ensures passes { IfOk result (λ r. (r.passes.items ≡ []) × (procs ≤ vec_capacity r.passes)) }
     ensures places { IfOk result (λ r. (length r.places.items ≡ procs) × NoneStands r.places.items) }
@@ -68,13 +67,6 @@ pub fn room_for<J: Terms>(alloc: Global, procs: u32) -> Result<Room<J>, Memory>
         places,
         seats,
     })
-}
-
-// Whether one of the two is so.
-fn either(one: bool, other: bool) -> bool
-    ensures { result ≡ (one || other) }
-{
-    one || other
 }
 
 // Takes the processes apart, and puts each at its place.
@@ -93,21 +85,15 @@ fn place_all<J: Terms + ByCode>(
     ensures turnstile { AreOf (identity_of turnstile.now) result.passes.items }
     ensures places { length result.places.items ≡ J.setting.procs }
     ensures placed { ArePlaced J.setting.procs result.places.items result.passes.items }
-    ensures back { IsBack J.code J.setting result.places.items result.passes.items result.wants }
+    ensures back { IsBack J.code J.setting result.places.items result.passes.items }
 {
     let last = places.len();
-    let mut wants = false;
     while let Some(mate) = mates.pop() {
-        let (number, seat, is_wanting, pass) = mate.into_parts();
-        wants = either(wants, is_wanting);
+        let (number, seat, pass) = mate.into_parts();
         passes.push_reserved(pass);
         places[last - 1 - number as usize] = Some(seat);
     }
-    Back {
-        passes,
-        places,
-        wants,
-    }
+    Back { passes, places }
 }
 
 // The processes from the first on.
@@ -141,23 +127,15 @@ pub fn settle<J: Terms + ByCode>(
     requires places { (length room.places.items ≡ J.setting.procs) × NoneStands room.places.items }
     requires seats { (room.seats.items ≡ []) × (J.setting.procs ≤ vec_capacity room.seats) }
     ensures count { length result.seats.items ≡ J.setting.procs }
-    ensures seated { AreSeated J.code J.setting result.store.entries result.seats.items result.wants }
+    ensures seated { AllSeated J.code J.setting result.store.entries result.seats.items }
 {
     let Room {
         passes,
         places,
         seats,
     } = room;
-    let Back {
-        passes,
-        places,
-        wants,
-    } = place_all(&turnstile, mates, passes, places);
+    let Back { passes, places } = place_all(&turnstile, mates, passes, places);
     let store = turnstile.close(passes);
     let seats = in_order(places, seats);
-    Settled {
-        store,
-        seats,
-        wants,
-    }
+    Settled { store, seats }
 }

@@ -14,7 +14,6 @@ use std::alloc::Global;
 use ti_base::Memory;
 use ti_code::Code;
 use ti_io::Gate;
-use ti_machine::has_one_next;
 use ti_store::{Store, Terms};
 
 /// The processes of a run by their numbers, and which is tried next.
@@ -25,14 +24,13 @@ pub struct Team {
 }
 
 impl Team {
-    /// So many processes, each with so much fuel, before their first entries.
+    /// `procs` processes, each with `fuel` ticks, before their first instructions.
     pub fn begin(alloc: Global, code: &Code, procs: u32, fuel: u32) -> Result<Team, Memory>
         requires within { IsWithin procs fuel }
         requires follows { (program : NumberedProgram) × Follows code.now program }
         ensures { IfOk result (λ team. (program : NumberedProgram) → Follows code.now program
             → Stands code.now (record { program = program; procs = procs; fuel = fuel }) [] team.seats.items team.cursor) }
     {
-        has_one_next();
         let mut seats = Vec::with_capacity(alloc, procs as usize)?;
         for number in 0..procs {
             let seat = Seat::take(alloc, code, number, procs, fuel)?;

@@ -1,6 +1,6 @@
 -- Nobody has to believe what stands here: it mirrors the code, and only contracts of private functions speak of it.
 -- Where the processes of a run stand after its entries, and what the turn of one makes of them.
-use Rattle.std.specs.Prelude.{◌≡◌, ◌≢◌, ◌↔◌, ◌⊎◌, ℕ, ◌+◌, ◌-◌, ◌*◌, ◌<◌, ◌≤◌, max, Bool, true, false, if◌then◌else◌, List, [], ◌∷◌, ◌++◌, length, sum_by, slice_index_or, Result, Ok, Err}
+use Rattle.std.specs.Prelude.{◌≡◌, ◌↔◌, ℕ, ◌+◌, ◌-◌, ◌*◌, ◌<◌, ◌≤◌, max, Bool, true, false, if◌then◌else◌, List, [], ◌∷◌, ◌++◌, length, sum_by, slice_index_or, Result, Ok, Err}
 use Rattle.ti_base.specs.declared.place.Place.{Place}
 use Rattle.ti_base.specs.declared.action.Action.{Action}
 use Rattle.ti_base.specs.declared.action.Action.TheVariants as act
@@ -40,44 +40,36 @@ doing_of (next.Act at a) = (at, a)
 doing_of (next.End at) = (at, act.End)
 doing_of (next.Fault kind at) = (at, act.Fault kind)
 
--- where and what a process does next
-abbrev pub place_of : Seat → Place
-place_of seat = (doing_of seat.next).0
+-- where and what it is
+abbrev pub place_of : Next → Place
+place_of n = (doing_of n).0
 
-abbrev pub action_of : Seat → Action
-action_of seat = (doing_of seat.next).1
+abbrev pub action_of : Next → Action
+action_of n = (doing_of n).1
 
--- the process of the seat stands there, at what it has next
-pub record StandsAt (t : CodeStanding) (seat : Seat) : Type 0 where
-  pub process : seat.process ≡ record t { asks = is_act seat.next }
-  pub next : HasNext t seat.next
+-- the process stands at an action, or not
+abbrev pub asking : Bool → Seat → Seat
+asking asks seat = record seat { process = record seat.process { asks = asks } }
 
--- the seat tells where process i stands after these entries: what the program has next, with the code there
+-- the seat tells where process i is after these entries: it was told their answers, and the code has next what the program has
 pub record Seated (code : Code) (s : Setting) (es : List Entry) (i : ℕ) (seat : Seat) : Type 0 where
-  pub process : seat.process ≡ record (standing_of code s es i) { asks = is_act seat.next }
+  pub told : record seat.process { asks = false } ≡ standing_of code s es i
   pub there : Process
   pub world : World s es i there
-  pub is_next : IsNext there seat.next
+  pub next : Next
+  pub has_next : HasNext seat.process next
+  pub is_next : IsNext there next
   pub ended : has_end i es ≡ seat.ended
-
--- the process of the seat was told the answers of its entries, also where memory was wanting behind the last of them
-abbrev pub IsTold : Code → Setting → List Entry → ℕ → Seat → Type 0
-IsTold code s es i seat = record seat.process { asks = false } ≡ standing_of code s es i
 
 -- with one answer more
 abbrev pub told_more : CodeStanding → Answer → CodeStanding
 told_more t answer = record t { told = t.told ++ answer ∷ []; asks = false }
 
--- the process heard an answer, and stands at what it has next then
-pub record Hears (old : Seat) (answer : Answer) (new : Seat) : Type 0 where
-  pub stands : StandsAt (told_more old.process answer) new
-  pub ended : new.ended ≡ old.ended
-
--- what an answer makes of a seat: after its end a process hears nothing
-pub record Moves (old : Seat) (answer : Answer) (new : Seat) (t : Turn) : Type 0 where
-  pub turn : t ≡ (if is_arrival (action_of old) then turn.Arrived else turn.Went)
-  pub ends : is_act old.next ≡ false → new ≡ record old { ended = true }
-  pub hears : is_act old.next ≡ true → Hears old answer new
+-- what an answer to what was next makes of a seat: after its end a process hears nothing
+pub record Hears (old : Seat) (n : Next) (answer : Answer) (new : Seat) (t : Turn) : Type 0 where
+  pub turn : t ≡ (if is_arrival (action_of n) then turn.Arrived else turn.Went)
+  pub ends : is_act n ≡ false → new ≡ record old { ended = true }
+  pub hears : is_act n ≡ true → new ≡ record old { process = told_more old.process answer }
 
 -- ---- turns
 
@@ -103,19 +95,24 @@ pub record GoesOn (code : Code) (s : Setting) (es : List Entry) (i : ℕ) (old :
   pub seated : Seated code s all i new
   pub lighter : steps_left s new < steps_left s old
 
--- the run stops at process i: with its fault, behind which it stands where it stood, or for want of memory before its entry or behind it
-abbrev pub StopsAt : Code → Setting → List Entry → ℕ → List Entry → Seat → Stop → Type 0
-StopsAt code s es i all new stop.Faulted = (t : Takes s es i all) × (is_fault t.entry.act ≡ true) × Seated code s all i new
-StopsAt code s es i all new stop.Memory =
-    ((all ≡ es) × (has_end i es ≡ false)) ⊎ ((t : Takes s es i all) × (is_fault t.entry.act ≡ false) × (is_end t.entry.act ≡ false))
+-- process i did nothing
+pub record Keeps (code : Code) (s : Setting) (es : List Entry) (i : ℕ) (old : Seat) (all : List Entry) (new : Seat) : Type 0 where
+  pub entries : all ≡ es
+  pub seated : Seated code s es i new
+  pub as_many : steps_left s new ≡ steps_left s old
+
+-- the run stops at process i: with its fault, or out of memory before its entry
+abbrev pub StopsAt : Setting → List Entry → ℕ → List Entry → Stop → Type 0
+StopsAt s es i all stop.Faulted = (t : Takes s es i all) × (is_fault t.entry.act ≡ true)
+StopsAt s es i all stop.Memory = (all ≡ es) × (has_end i es ≡ false)
 
 -- what the turn of process i makes of the entries and of its seat
 abbrev pub TurnLeaves : Code → Setting → List Entry → ℕ → Seat → List Entry → Seat → Result Turn Stop → Type 0
 TurnLeaves code s es i old all new (Ok turn.Arrived) = GoesOn code s es i old all new true
 TurnLeaves code s es i old all new (Ok turn.Went) = GoesOn code s es i old all new false
-TurnLeaves code s es i old all new (Ok turn.Ended) = (all ≡ es) × (new ≡ old) × (has_end i es ≡ true)
-TurnLeaves code s es i old all new (Ok turn.Waits) = (all ≡ es) × (new ≡ old) × Waits s es i
-TurnLeaves code s es i old all new (Err why) = StopsAt code s es i all new why
+TurnLeaves code s es i old all new (Ok turn.Ended) = Keeps code s es i old all new × (has_end i es ≡ true)
+TurnLeaves code s es i old all new (Ok turn.Waits) = Keeps code s es i old all new × Waits s es i
+TurnLeaves code s es i old all new (Err why) = StopsAt s es i all why × Seated code s all i new
 
 -- the limits are kept and the code follows the program; with what holds of every run
 pub record MayRun (code : Code) (s : Setting) : Type 0 where
@@ -150,10 +147,6 @@ pub record Points (s : Setting) (es : List Entry) (c : Cursor) : Type 0 where
 abbrev pub AllSeated : Code → Setting → List Entry → List Seat → Type 0
 AllSeated code s es seats = (d : Seat) (i : ℕ) → i < length seats → Seated code s es i (slice_index_or seats i d)
 
--- all processes were told the answers of their entries
-abbrev pub AllTold : Code → Setting → List Entry → List Seat → Type 0
-AllTold code s es seats = (d : Seat) (i : ℕ) → i < length seats → IsTold code s es i (slice_index_or seats i d)
-
 -- the seats tell where all processes stand after the entries of a run so far, and the cursor tells which is next
 pub record Stands (code : Code) (s : Setting) (es : List Entry) (seats : List Seat) (c : Cursor) : Type 0 where
   pub run : IsRun s es
@@ -180,7 +173,7 @@ pub record Stopped (code : Code) (s : Setting) (before es : List Entry) (seats :
   pub fault : (why ≡ stop.Faulted) ↔ (has_fault es ≡ true)
   pub unended : AllEnded s es → ⊥
   pub count : length seats ≡ s.procs
-  pub seated : why ≢ stop.Memory → AllSeated code s es seats
+  pub seated : AllSeated code s es seats
 
 -- what a step of a team makes of it and of the entries
 abbrev pub StepLeaves : {U : Type 0} → Code → Setting → List Entry → Team → List Entry → Team → Result U Stop → Type 0
@@ -189,11 +182,11 @@ StepLeaves code s before old all new (Err why) = Stopped code s before all new.s
 
 -- ---- runs
 
--- what a run came to that went on behind the entries before
+-- how a run ended that went on after the entries before
 pub record CameTo (code : Code) (s : Setting) (before es : List Entry) (seats : List Seat) (end : How) : Type 0 where
   pub run : IsRun s es
   pub solo : IsSolo s before → IsSolo s es
   pub ended : (end ≡ how.Ended) ↔ AllEnded s es
   pub faulted : (end ≡ how.Faulted) ↔ (has_fault es ≡ true)
   pub count : length seats ≡ s.procs
-  pub told : end ≢ how.Memory → AllTold code s es seats
+  pub seated : AllSeated code s es seats

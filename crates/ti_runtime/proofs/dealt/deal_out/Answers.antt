@@ -47,8 +47,7 @@ new-mate-requires-clause-seated g c =
       c.requires.procs,
     ) in
     seated_here g.J.ByCode.code c.args.code.now g.J.Terms.setting c.args.procs c.args.fuel c.len-number.result c.requires.may
-    c.requires.code c.requires.procs c.requires.fuel inside c.has_one_next.ensures c.in_ok-seat.seat c.in_ok-seat.ensures.stands
-    c.in_ok-seat.ensures.unended
+    c.requires.code c.requires.procs c.requires.fuel inside c.in_ok-seat.seat c.in_ok-seat.ensures
 
 pub put-requires-clause-mate : goal.put-requires-clause-mate
 put-requires-clause-mate g c = ap (λ r. r.turnstile) c.new-mate.ensures

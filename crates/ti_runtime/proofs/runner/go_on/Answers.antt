@@ -2,7 +2,7 @@ use Rattle.std.proofs.Common.{◌∙◌, sym, ap, subst}
 use Rattle.std.specs.List.{list_all}
 use Rattle.ti_lang.specs.Meaning.Runs.{IsRun}
 use Rattle.ti_store.specs.Stores.{setting_of}
-use Rattle.ti_runtime.proofs.Finishing.{has_ended, fault_told, came_faulted, came_ended, came_wanting}
+use Rattle.ti_runtime.proofs.Finishing.{has_ended, fault_told, came_faulted, came_ended}
 use Rattle.ti_runtime.proofs.runner.go_on.Goals as goal
 
 pub returns-then-ends_with_fault : goal.returns-then-ends_with_fault
@@ -11,7 +11,7 @@ returns-then-ends_with_fault g c =
     let run = subst (λ s. IsRun s es) c.knows_terms.ensures c.history.ensures.run in
     let fault = fault_told (setting_of c.args.store.now) es c.history.result.now c.ends_with_fault.result c.history.ensures.entries
     c.history.ensures.run c.ends_with_fault.ensures ∙ c.if-ends_with_fault.true in
-    came_faulted g.J.ByCode.code g.J.Terms.setting es c.args.team.now.seats.items c.args.wants run c.requires.count c.requires.seated fault
+    came_faulted g.J.ByCode.code g.J.Terms.setting es c.args.team.now.seats.items run c.requires.count c.requires.seated fault
 
 pub returns-then-have_ended : goal.returns-then-have_ended
 returns-then-have_ended g c =
@@ -20,13 +20,4 @@ returns-then-have_ended g c =
     let fault = fault_told (setting_of c.args.store.now) es c.history.result.now c.ends_with_fault.result c.history.ensures.entries
     c.history.ensures.run c.ends_with_fault.ensures ∙ c.if-ends_with_fault.false in
     let ended = sym (ap (list_all has_ended) c.deref.ensures.value) ∙ sym c.have_ended.ensures ∙ c.if-have_ended.true in
-    came_ended g.J.ByCode.code g.J.Terms.setting es c.args.team.now.seats.items c.args.wants run c.requires.count c.requires.seated fault ended
-
-pub returns-then-wants : goal.returns-then-wants
-returns-then-wants g c =
-    let es = c.args.store.now.entries in
-    let run = subst (λ s. IsRun s es) c.knows_terms.ensures c.history.ensures.run in
-    let fault = fault_told (setting_of c.args.store.now) es c.history.result.now c.ends_with_fault.result c.history.ensures.entries
-    c.history.ensures.run c.ends_with_fault.ensures ∙ c.if-ends_with_fault.false in
-    let ended = sym (ap (list_all has_ended) c.deref.ensures.value) ∙ sym c.have_ended.ensures ∙ c.if-have_ended.false in
-    came_wanting g.J.ByCode.code g.J.Terms.setting es c.args.team.now.seats.items c.args.wants run c.requires.count c.requires.seated fault ended
+    came_ended g.J.ByCode.code g.J.Terms.setting es c.args.team.now.seats.items run c.requires.count c.requires.seated fault ended

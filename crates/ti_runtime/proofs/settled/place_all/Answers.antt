@@ -18,13 +18,12 @@ loop-mate-preserved-in-Some g c =
     let mate = c.in-Some.mate in
     let out = c.in-Some.ensures.items in
     let parts = c.into_parts-number in
-    let pass = parts.result.3 in
+    let pass = parts.result.2 in
     let passes = c.loop-mate.passes.items in
     let pushed = c.push_reserved.ensures.items in
     let places = c.loop-mate.places.items in
     let both = all_back code s places inv.places parts.result.0 parts.ensures.number.1 parts.result.1 passes c.push_reserved.new.self.items
-    pass c.loop-mate.wants parts.result.2 c.either-wants.result c.len-last.result
-    (c.len-last.ensures ∙ c.args.places.ok.0 ∙ c.requires.places) pushed c.either-wants.ensures parts.ensures.number.2 parts.ensures.stays inv.placed inv.back in
+    pass c.len-last.result (c.len-last.ensures ∙ c.args.places.ok.0 ∙ c.requires.places) pushed parts.ensures.number.2 parts.ensures.seated inv.placed inv.back in
     record {
       mates = all_before (AllOf id) old left mate out inv.mates;
       count = omega (arith, one_longer old left mate out, one_longer c.push_reserved.new.self.items passes pass pushed, inv.count);
@@ -46,13 +45,12 @@ loop-mate-preserved g c =
     let mate = c.in-Some.mate in
     let out = c.in-Some.ensures.items in
     let parts = c.into_parts-number in
-    let pass = parts.result.3 in
+    let pass = parts.result.2 in
     let passes = c.loop-mate.passes.items in
     let pushed = c.push_reserved.ensures.items in
     let places = c.loop-mate.places.items in
     let both = all_back code s places inv.places parts.result.0 parts.ensures.number.1 parts.result.1 passes c.push_reserved.new.self.items
-    pass c.loop-mate.wants parts.result.2 c.either-wants.result c.len-last.result
-    (c.len-last.ensures ∙ c.args.places.ok.0 ∙ c.requires.places) pushed c.either-wants.ensures parts.ensures.number.2 parts.ensures.stays inv.placed inv.back in
+    pass c.len-last.result (c.len-last.ensures ∙ c.args.places.ok.0 ∙ c.requires.places) pushed parts.ensures.number.2 parts.ensures.seated inv.placed inv.back in
     record {
       mates = all_before (AllOf id) old left mate out inv.mates;
       count = omega (arith, one_longer old left mate out, one_longer c.push_reserved.new.self.items passes pass pushed, inv.count);

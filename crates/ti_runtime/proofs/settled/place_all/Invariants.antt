@@ -14,7 +14,7 @@ invariant-loop-mate g l = record {
   turnstile : AreOf (identity_of l.turnstile) l.passes.items;
   places : length l.places.items ≡ g.J.Terms.setting.procs;
   placed : ArePlaced g.J.Terms.setting.procs l.places.items l.passes.items;
-  back : IsBack g.J.ByCode.code g.J.Terms.setting l.places.items l.passes.items l.wants;
+  back : IsBack g.J.ByCode.code g.J.Terms.setting l.places.items l.passes.items;
 }
 
 abbrev pub decreases-loop-mate : goal.decreases-loop-mate

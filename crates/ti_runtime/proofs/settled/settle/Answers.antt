@@ -14,5 +14,5 @@ pub returns-clause-seated : goal.returns-clause-seated
 returns-clause-seated g c =
     let back = c.place_all-passes in
     all_seated g.J.ByCode.code g.J.Terms.setting back.result.places.items back.ensures.places back.result.passes.items
-    c.close-store.result.entries back.result.wants c.in_order-seats.result.items c.close-store.ensures.legal back.ensures.back
+    c.close-store.result.entries c.in_order-seats.result.items c.close-store.ensures.legal back.ensures.back
     c.in_order-seats.ensures.count c.in_order-seats.ensures.each

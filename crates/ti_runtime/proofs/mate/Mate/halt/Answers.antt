@@ -1,7 +1,7 @@
-use Rattle.std.proofs.Common.{◌∙◌, ap, sym, true}
+use Rattle.std.proofs.Common.{◌∙◌, ap, sym}
 use Rattle.ti_store.specs.Stores.{StoreState, log_of}
 use Rattle.ti_turnstile.specs.Turnstiles.{seen_by}
-use Rattle.ti_runtime.proofs.Mates.{grown_by_none, ended_inside, told_inside, stays_seen, stays_wanting}
+use Rattle.ti_runtime.proofs.Mates.{grown_by_none, seated_inside, seated_seen}
 use Rattle.ti_runtime.proofs.mate.Mate.halt.Goals as goal
 
 pub leave-pass-requires-clause-grown : goal.leave-pass-requires-clause-grown
@@ -20,7 +20,6 @@ invariant_of-result g c =
     let same = ap (λ (x : StoreState). x.entries) c.halt_for_memory.ensures ∙ ap (λ (x : StoreState). x.entries) c.value.ensures.value in (
       inv.0,
       c.leave-pass.ensures.number ∙ c.enter-inside.ensures.number ∙ inv.1,
-      stays_seen code s found me.number (seen_by c.leave-pass.result) me.seat true (c.leave-pass.ensures.seen ∙ ap log_of same)
-          (stays_wanting code s found me.number me.seat (ended_inside found _ me.number (seen_by me.pass) me.seat.ended inv.1 c.enter-inside.ensures.legal inv.2.ended)
-          (told_inside code s found _ me.number (seen_by me.pass) me.seat inv.1 c.enter-inside.ensures.legal inv.2.told)),
+      seated_seen code s found me.number (seen_by c.leave-pass.result) me.seat (c.leave-pass.ensures.seen ∙ ap log_of same)
+          (seated_inside code s found _ me.number (seen_by me.pass) me.seat inv.1 c.enter-inside.ensures.legal inv.2),
     )

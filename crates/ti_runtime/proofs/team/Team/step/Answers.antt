@@ -21,4 +21,4 @@ returns-in-Err-clause-leaves g c =
     let store = c.args.store.now in
     let team = c.args.self.now in
     stopped c.args.code.now (setting_of store) store.entries team.seats.items team.cursor c.requires.stands c.requires.some_left c.index_mut.result.now c.index_mut.ensures.value
-    c.take_turn.new.store.entries c.take_turn.new.self c.in-Err.stop c.in-Err.ensures.leaves
+    c.take_turn.new.store.entries c.take_turn.new.self c.in-Err.stop c.in-Err.ensures.leaves.0 c.in-Err.ensures.leaves.1
