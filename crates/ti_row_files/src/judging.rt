@@ -37,7 +37,7 @@ fn holds(alloc: Global, found: &[u8], expected: &str) -> Result<bool, RowErr> {
 }
 
 /// What was found, as a row spells it, where something else is expected.
-fn differing(alloc: Global, found: &[u8], expected: &str) -> Result<Option<String>, RowErr> {
+pub fn differing(alloc: Global, found: &[u8], expected: &str) -> Result<Option<String>, RowErr> {
     if holds(alloc, found, expected)? {
         Ok(None)
     } else {

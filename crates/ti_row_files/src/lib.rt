@@ -12,4 +12,6 @@ mod texts;
 pub use error::RowErr;
 pub use files::judge_files;
 pub use judge::{Judge, Row};
-pub use texts::bytes_of;
+pub use judging::differing;
+pub use lines::{Line, parted, read_line};
+pub use texts::{bytes_of, text_of};

@@ -1,13 +1,14 @@
 // Lines of files of rows.
 
 /// A line below a heading: a row such as `: a b => 1:1=Name(a) 1:3=Name(b) 1:4=End`, an empty line or a comment, or none of these.
-pub(crate) enum Line<'a> {
+pub enum Line<'a> {
     Row(&'a str, &'a str),
     Comment,
     Other,
 }
 
-pub(crate) fn read_line(line: &str) -> Line {
+/// What a line below a heading is.
+pub fn read_line(line: &str) -> Line {
     match line.strip_prefix(": ") {
         Some(row) => match row.split_once(" => ") {
             Some((text, expected)) => Line::Row(text, expected),
@@ -19,7 +20,7 @@ pub(crate) fn read_line(line: &str) -> Line {
 }
 
 /// What a row has before `<-`, and its text.
-pub(crate) fn parted(row: &str) -> (Option<&str>, &str) {
+pub fn parted(row: &str) -> (Option<&str>, &str) {
     if let Some(text) = row.strip_prefix("<- ") {
         return (Some(""), text);
     }

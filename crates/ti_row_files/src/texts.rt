@@ -209,7 +209,7 @@ fn between(alloc: Global, ends: Ends, spelled: &str) -> Result<Vec<u8>, RowErr> 
 }
 
 /// A text in its frame; in the frame `file` what the file holds that the row names.
-pub(crate) fn text_of<R: Files + AllocGlobal>(
+pub fn text_of<R: Files + AllocGlobal>(
     rt: &R,
     frame: &str,
     spelled: &str,

@@ -5,30 +5,21 @@ use crate::commands::command;
 use crate::traces::{changed, traced};
 use std::sync::Wait;
 use std::thread::Threads;
-use ti_row_files::{Judge, Row, RowErr};
+use ti_row_files::{Row, RowErr};
 
-/// Runs commands over the texts.
-#[derive(Drop)]
-pub(crate) struct Commands<'a, R: AllocGlobal + Threads + Wait + Sync> {
-    rt: &'a R,
-}
-
-impl<'a, R: AllocGlobal + Threads + Wait + Sync> Commands<'a, R> {
-    pub(crate) fn new(rt: &'a R) -> Commands<'a, R> {
-        Commands { rt }
-    }
-}
-
-impl<R: AllocGlobal + Threads + Wait + Sync> Judge for Commands<'_, R> {
-    fn answer(&self, asked: &str, row: Row) -> Result<Vec<u8>, RowErr> {
-        let Some(given) = row.given else {
-            return Err(RowErr::Row);
-        };
-        match asked {
-            "collectives" => collectives(self.rt, given, row.text),
-            "traced" => traced(self.rt, given, row.text),
-            "changed" => changed(self.rt, given, row.text),
-            _ => command(self.rt, asked, given, row.text),
-        }
+/// What comes of the text of a row whose heading asks this, such as `command`.
+pub(crate) fn answer<R: AllocGlobal + Threads + Wait + Sync>(
+    rt: &R,
+    asked: &str,
+    row: Row,
+) -> Result<Vec<u8>, RowErr> {
+    let Some(given) = row.given else {
+        return Err(RowErr::Row);
+    };
+    match asked {
+        "collectives" => collectives(rt, given, row.text),
+        "traced" => traced(rt, given, row.text),
+        "changed" => changed(rt, given, row.text),
+        _ => command(rt, asked, given, row.text),
     }
 }

@@ -97,6 +97,12 @@ impl<'a> Texts<'a> {
     pub(crate) fn of(text: &'a [u8]) -> Texts<'a> {
         Texts { text, trace: None }
     }
+
+    /// A text with a trace.
+    pub(crate) fn with_trace(text: &'a [u8], trace: &'a [u8]) -> Texts<'a> {
+        let trace = Some(trace);
+        Texts { text, trace }
+    }
 }
 
 /// The numbers of the calls that fail.
@@ -330,10 +336,7 @@ fn left_over<R: AllocGlobal + Threads + Wait + Sync>(
         return Ok(left_by(rt, line, stage, Texts::of(text))?);
     };
     let trace = bytes_of(rt.alloc(), spelled)?;
-    let texts = Texts {
-        text,
-        trace: Some(&trace),
-    };
+    let texts = Texts::with_trace(text, &trace);
     Ok(left_by(rt, line, stage, texts)?)
 }
 

@@ -7,15 +7,15 @@ mod checked;
 mod collectives;
 mod commands;
 mod failing;
+mod files;
 mod fronts;
 mod stages;
 mod traces;
 mod watchers;
 
-use asked::Commands;
+use files::judge_files;
 use std::io;
-use ti_row_files::judge_files;
 
 fn main(rt: HostRuntime) -> io::Result<()> {
-    judge_files(&rt, &Commands::new(&rt))
+    judge_files(&rt)
 }

@@ -53,10 +53,7 @@ fn held<R: AllocGlobal + Threads + Wait + Sync>(
     trace: &[u8],
 ) -> Result<Vec<u8>, Memory> {
     let line = ["--mode verify --against t.tr ", run.line].concat(rt.alloc())?;
-    let texts = Texts {
-        text: run.text,
-        trace: Some(trace),
-    };
+    let texts = Texts::with_trace(run.text, trace);
     let left = left_by(rt, line.as_str(), run.stage, texts)?;
     shown_ending(rt.alloc(), left.outcome.status, &left.sinks)
 }

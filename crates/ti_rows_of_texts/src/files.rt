@@ -1,0 +1,119 @@
+// Files of rows, and what is printed of them: the loops of ti_row_files over a function of this program. They stand here for the prover alone:
+// a call that starts threads isn't proved behind a trait's method, since the bounds of a method are known on one thread.
+
+use crate::asked::answer;
+use std::env::Env;
+use std::rt::Files;
+use std::sync::Wait;
+use std::thread::Threads;
+use std::{env, fs, io};
+use ti_row_files::{Line, Row, RowErr, differing, parted, read_line, text_of};
+
+/// What comes of a row below a heading such as `command whole`.
+fn found<R: Files + AllocGlobal + Threads + Wait + Sync>(
+    rt: &R,
+    heading: &str,
+    row: &str,
+) -> Result<Vec<u8>, RowErr> {
+    let Some((asked, frame)) = heading.split_once(' ') else {
+        return Err(RowErr::Heading);
+    };
+    let (given, spelled) = parted(row);
+    let text = text_of(rt, frame, spelled)?;
+    answer(
+        rt,
+        asked,
+        Row {
+            given,
+            spelled,
+            text: &text,
+        },
+    )
+}
+
+/// What comes of a row, as a row spells it, where the row expects something else.
+fn judged<R: Files + AllocGlobal + Threads + Wait + Sync>(
+    rt: &R,
+    heading: &str,
+    row: &str,
+    expected: &str,
+) -> Result<Option<String>, RowErr> {
+    let found = found(rt, heading, row)?;
+    differing(rt.alloc(), &found, expected)
+}
+
+/// Judges a row, prints it with what was found where it doesn't hold, and returns whether it holds.
+fn row_holds<R: Files + Print + AllocGlobal + Threads + Wait + Sync>(
+    rt: &R,
+    heading: &str,
+    row: &str,
+    expected: &str,
+) -> io::Result<bool> {
+    match judged(rt, heading, row, expected) {
+        Ok(None) => return Ok(true),
+        Ok(Some(found)) => {
+            println!(rt; "{row}\n  expected {expected}\n  found    {found}")?;
+        }
+        Err(error) => println!(rt; "{row}\n  expected {expected}\n  {error}")?,
+    }
+    Ok(false)
+}
+
+/// Judges the rows of a section, whose first line is a heading, and returns how many hold.
+fn judge_section<R: Files + Print + AllocGlobal + Threads + Wait + Sync>(
+    rt: &R,
+    file: &str,
+    section: &str,
+) -> io::Result<u64> {
+    let (heading, rows) = section.split_once('\n').unwrap_or((section, ""));
+    let mut holding = 0u64;
+    for line in rows.lines() {
+        match read_line(line) {
+            Line::Row(row, expected) => {
+                if row_holds(rt, heading, row, expected)? {
+                    holding = holding.wrapping_add(1);
+                }
+            }
+            Line::Comment => {}
+            Line::Other => println!(rt; "{file}: no row: {line}")?,
+        }
+    }
+    Ok(holding)
+}
+
+/// Judges the rows of a text that begins with an empty line.
+fn judge_text<R: Files + Print + AllocGlobal + Threads + Wait + Sync>(
+    rt: &R,
+    file: &str,
+    text: &str,
+) -> io::Result<()> {
+    let mut holding = 0u64;
+    for section in text.split("\nask ") {
+        holding = holding.wrapping_add(judge_section(rt, file, section)?);
+    }
+    println!(rt; "{file}: {holding} rows hold")
+}
+
+/// Judges the rows of a file.
+fn judge_file<R: Files + Print + AllocGlobal + Threads + Wait + Sync>(
+    rt: &R,
+    file: &str,
+) -> io::Result<()> {
+    match fs::read_to_string(rt, file) {
+        Ok(text) => {
+            let text = ["\n", text.as_str()].concat(rt.alloc())?;
+            judge_text(rt, file, text.as_str())
+        }
+        Err(_) => println!(rt; "{file}: can't be read"),
+    }
+}
+
+/// Judges the rows of the files that the program's arguments name.
+pub(crate) fn judge_files<R: Files + Print + Env + AllocGlobal + Threads + Wait + Sync>(
+    rt: &R,
+) -> io::Result<()> {
+    for file in env::args(rt)?.skip(1) {
+        judge_file(rt, file.as_str())?;
+    }
+    Ok(())
+}
