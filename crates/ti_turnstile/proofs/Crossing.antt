@@ -7,6 +7,7 @@ use denote.Param.SendFields.{as_row_send}
 use Rattle.std.proofs.Crossing.{crosses, frees, send}
 use Rattle.std.specs.contracts.alloc.Global as heap
 use Rattle.std.specs.contracts.option.Option as option
+use Rattle.std.specs.contracts.sync.atomic.AtomicUsize as count
 use Rattle.std.specs.contracts.impls.GlobalAllocator.TheImpl.{ghosts}
 use Rattle.atomic_table.specs.declared.shared.TableRule.{Ghosts as Rules}
 use Rattle.atomic_table.specs.contracts.owned.Table as table
@@ -34,6 +35,9 @@ lease_sync T = of_leases.the_sync T heap.the_row ghosts send frees
 table_sync : (S V K P : RattleType) (g : Rules P.Denot S.Denot V.Denot K.Denot) → IsSend S → IsSync (table.the_field S V K P heap.the_row g ghosts).row
 table_sync S V K P g s = struct_sync (shape (table.the_type S V K P heap.the_row g ghosts)) (search (of_tables.the_sync, lease_sync, crosses, sendable) depth 20)
 
--- a turnstile holds a table
+count_sync : IsSync count.the_field.row
+count_sync = search (sendable, crosses) depth 14
+
+-- a turnstile holds a table, and a count of those who sleep
 pub turnstile_sync : (V I : RattleType) (g : Ghosts V.Denot I.Denot) → IsSend V → IsSync (turnstile.the_field V I g).row
-turnstile_sync V I g s = struct_sync (shape (turnstile.the_type V I g)) (table_sync (option.the_row V) (view.the_row I) u32 (law.the_row V) (rule.ghosts V I g rule.no_dict) (option_send V s), tt)
+turnstile_sync V I g s = struct_sync (shape (turnstile.the_type V I g)) (table_sync (option.the_row V) (view.the_row I) u32 (law.the_row V) (rule.ghosts V I g rule.no_dict) (option_send V s), (count_sync, tt))

@@ -12,13 +12,14 @@ use atomic_table::{Seat, Table};
 use crossbeam_utils::Backoff;
 use std::alloc::Global;
 use std::sync::Wait;
+use std::sync::atomic::{AtomicUsize, Ordering};
 use std::time::Duration;
 use ti_base::Memory;
 
 // How often a pass tries to go in before it sleeps, with a longer pause after each try.
-const TRIES: u32 = 5;
+const TRIES: u32 = 6;
 
-// How long a sleep is, in microseconds. Nobody ends it sooner.
+// The longest sleep, in microseconds: who misses a wake goes on after it.
 const NAP: u64 = 50;
 
 /// Keeps one value, with which one pass at a time is inside.
@@ -27,6 +28,8 @@ const NAP: u64 = 50;
 #[derive(Drop)]
 pub struct Turnstile<V: Kept> {
     table: Table<Option<V>, View<V::Item>, u32, Law<V>, Global>,
+    // How many threads sleep, or are about to. It decides only whether threads are woken.
+    asleep: AtomicUsize,
     ghost shape: { (table.shared.table_id.words ≡ 2) × (table.shared.table_id.slots ≡ 1) × (0 < table.shared.key) },
 }
 
@@ -87,7 +90,10 @@ impl<V: Kept> Turnstile<V> {
         let Ok((table, mut dealer)) = Table::new(alloc, &[0, 0], slots, &n) else {
             return Err(Memory);
         };
-        let turnstile = Turnstile { table };
+        let turnstile = Turnstile {
+            table,
+            asleep: AtomicUsize::new(0),
+        };
         let passes = turnstile.cut_passes(alloc, &mut dealer, n)?;
         Ok((turnstile, passes))
     }
@@ -160,8 +166,9 @@ impl<V: Kept> Turnstile<V> {
     /// The value's log begins with all that the pass had seen, and what it holds of the pass's number are the
     /// items that this pass added.
     ///
-    /// Where it finds others inside for a while, it sleeps for a moment and tries again: so one thread goes in and
-    /// out many times in a row, rather than all in turn, with the value going from processor to processor.
+    /// Where it finds others inside for a while, it sleeps for a moment and tries again, and a plain `leave` doesn't wake
+    /// it: so one thread goes in and out many times in a row, rather than all in turn, with the value going from processor
+    /// to processor.
     pub fn enter<R: Wait>(&self, rt: &R, pass: Pass<V>) -> Inside<V>
         requires turnstile { turnstile_of pass ≡ identity_of self.now }
         ensures turnstile { turnstile_around result ≡ turnstile_of pass }
@@ -234,7 +241,21 @@ impl<V: Kept> Turnstile<V> {
         self.table.shared.store::<Leave<V>>(seat, 0, 0);
     }
 
-    /// Goes out. The value's log has grown by items of the pass's number alone, and the pass has seen it whole.
+    // Goes out, and leaves a hint behind.
+    fn leave_hint(&self, inside: Inside<V>, hint: u64) -> Pass<V>
+        requires turnstile { turnstile_around inside ≡ identity_of self.now }
+        requires grown { GrownBy (number_inside inside) (found_inside inside) (V.log (value_inside inside)) }
+        ensures turnstile { turnstile_of result ≡ turnstile_around inside }
+        ensures number { number_of result ≡ number_inside inside }
+        ensures seen { seen_by result ≡ V.log (value_inside inside) }
+    {
+        let mut seat = self.put_value(inside);
+        self.see(&mut seat, hint);
+        self.go_out(&mut seat);
+        Pass { seat }
+    }
+
+    /// Goes out. The value's log has grown by items of the pass's number alone, and the pass has seen it whole. The hint stays.
     pub fn leave(&self, inside: Inside<V>) -> Pass<V>
         requires turnstile { turnstile_around inside ≡ identity_of self.now }
         requires grown { GrownBy (number_inside inside) (found_inside inside) (V.log (value_inside inside)) }
@@ -242,11 +263,24 @@ impl<V: Kept> Turnstile<V> {
         ensures number { number_of result ≡ number_inside inside }
         ensures seen { seen_by result ≡ V.log (value_inside inside) }
     {
-        let hint = inside.value.len() as u64;
-        let mut seat = self.put_value(inside);
-        self.see(&mut seat, hint);
-        self.go_out(&mut seat);
-        Pass { seat }
+        self.leave_hint(inside, self.hint())
+    }
+
+    /// Goes out like `leave`, after something that others may wait for: the hint changes, and all threads that sleep at this
+    /// turnstile are woken. Where none sleeps, nothing is asked of the system.
+    pub fn leave_and_wake(&self, inside: Inside<V>) -> Pass<V>
+        requires turnstile { turnstile_around inside ≡ identity_of self.now }
+        requires grown { GrownBy (number_inside inside) (found_inside inside) (V.log (value_inside inside)) }
+        ensures turnstile { turnstile_of result ≡ turnstile_around inside }
+        ensures number { number_of result ≡ number_inside inside }
+        ensures seen { seen_by result ≡ V.log (value_inside inside) }
+    {
+        let pass = self.leave_hint(inside, self.hint().wrapping_add(1));
+        if self.asleep.load(Ordering::SeqCst) > 0 {
+            self.table.shared.wake_one(0);
+            self.table.shared.wake_all(1);
+        }
+        pass
     }
 
     /// The value, once all passes are back. Its log is legal with each of them.
@@ -265,7 +299,7 @@ impl<V: Kept> Turnstile<V> {
         while let Some(pass) = passes.pop() {
             seat = self.joined(pass, seat);
         }
-        let Turnstile { table } = self;
+        let Turnstile { table, asleep: _ } = self;
         let mut closed = table.close_with(seat);
         let value = closed.take(0);
         closed.free();
@@ -291,21 +325,23 @@ impl<V: Kept> Turnstile<V> {
         seat
     }
 
-    /// A number that changes where the log has grown. It decides nothing.
+    /// A number that `leave_and_wake` changes. It decides nothing.
     pub fn hint(&self) -> u64 {
         self.table.shared.peek(1)
     }
 
-    /// Sleeps for a moment, unless the hint is another number by now.
+    /// Sleeps until it is woken, for a moment at most, unless the hint is another number by now.
     pub fn nap<R: Wait>(&self, rt: &R, hint: u64) {
         self.sleep(rt, 1, (hint & 0xffff_ffff) as u32);
     }
 
-    // Sleeps for a moment, unless the word has another number by now.
+    // Sleeps until it is woken, for a moment at most, unless the word has another number by now.
     fn sleep<R: Wait>(&self, rt: &R, word: usize, number: u32)
         requires { word < 2 }
     {
         let moment = Duration::from_micros(NAP);
+        self.asleep.fetch_add(1, Ordering::SeqCst);
         self.table.shared.park_timeout(rt, word, number, moment);
+        self.asleep.fetch_sub(1, Ordering::SeqCst);
     }
 }
