@@ -6,7 +6,7 @@ ghost use Rattle.ti_eval.specs.Forms.{IsFormedAnswer};
 ghost use Rattle.ti_store.specs.Conditions.{HasNext};
 ghost use Rattle.ti_store.specs.Stores.{setting_of, log_of, next_of, IsDone, IsRefused};
 ghost use Rattle.ti_turnstile.specs.Passes.{GrownBy};
-ghost use Rattle.ti_turnstile.specs.Turnstiles.{identity_of, turnstile_of, number_of, seen_by};
+ghost use Rattle.ti_turnstile.specs.Turnstiles.{identity_of, turnstile_of, number_of, seen_by, turnstile_around, number_inside, found_inside, value_inside};
 ghost use Rattle.ti_runtime.specs.Mirrors.Team.{place_of, action_of, Seated, MayRun};
 ghost use Rattle.ti_runtime.specs.Mirrors.Mates.{entries_in};
 
@@ -15,12 +15,12 @@ use crate::seat::{Seat, doing};
 use std::alloc::Global;
 use std::marker::Model;
 use std::sync::Wait;
-use ti_base::{Answer, Entry, Memory, Next};
+use ti_base::{Action, Answer, Entry, Memory, Next};
 use ti_code::Code;
 use ti_io::Gate;
 use ti_machine::has_one_next;
 use ti_store::{ActErr, Store, Terms};
-use ti_turnstile::{Kept, Pass, Turnstile};
+use ti_turnstile::{Inside, Kept, Pass, Turnstile};
 
 /// What came of a try of a process.
 #[derive(Clone, Copy, PartialEq, Eq)]
@@ -91,6 +91,33 @@ fn act<J: Terms + ByCode>(
     store.act(alloc, number, place, action)
 }
 
+// Whether others that wait may go on, or stop, for what was done: an arrival, or a fault. It decides nothing.
+fn lets_others_go_on(next: Next, acted: &Result<Answer, ActErr>) -> bool {
+    match acted {
+        Ok(_) => matches!(next, Next::Act(_, Action::Arrive { .. })),
+        Err(why) => matches!(why, ActErr::Faulted(_)),
+    }
+}
+
+// Goes out of the turnstile, and wakes those who sleep where others may go on.
+fn leave_after<J: Terms + ByCode>(
+    turnstile: &Turnstile<Store<J>>,
+    inside: Inside<Store<J>>,
+    wakes: bool,
+) -> Pass<Store<J>>
+    requires turnstile { turnstile_around inside ≡ identity_of turnstile.now }
+    requires grown { GrownBy (number_inside inside) (found_inside inside) (log_of (value_inside inside).entries) }
+    ensures turnstile { turnstile_of result ≡ turnstile_around inside }
+    ensures number { number_of result ≡ number_inside inside }
+    ensures seen { seen_by result ≡ log_of (value_inside inside).entries }
+{
+    if wakes {
+        turnstile.leave_and_wake(inside)
+    } else {
+        turnstile.leave(inside)
+    }
+}
+
 impl<J: Terms + ByCode> Mate<J> {
     /// A process that has done nothing yet, with a pass that has seen nothing.
     pub fn new(number: u32, seat: Seat, pass: Pass<Store<J>>) -> Mate<J>
@@ -121,7 +148,7 @@ impl<J: Terms + ByCode> Mate<J> {
         let Mate { number, seat, pass } = self;
         let mut inside = turnstile.enter(rt, pass);
         inside.value().halt_for_memory();
-        let pass = turnstile.leave(inside);
+        let pass = turnstile.leave_and_wake(inside);
         Mate { number, seat, pass }
     }
 
@@ -155,7 +182,7 @@ impl<J: Terms + ByCode> Mate<J> {
         gate.pass(number);
         let mut inside = turnstile.enter(rt, pass);
         let acted = act(alloc, next, number, inside.value());
-        let pass = turnstile.leave(inside);
+        let pass = leave_after(turnstile, inside, lets_others_go_on(next, &acted));
         match acted {
             Ok(answer) => {
                 let _turn = seat.hear(next, answer);
