@@ -36,9 +36,9 @@ use Rattle.ti_store.specs.declared.terms.Terms as terms
 use Rattle.ti_turnstile.proofs.Lemmas as of_turnstile
 use Rattle.ti_turnstile.specs.contracts.turnstile.Turnstile as turnstile
 use Rattle.ti_turnstile.specs.declared.kept.Kept as kept
-use Rattle.ti_runtime.specs.contracts.mate.Mate as mate
-use Rattle.ti_runtime.specs.contracts.seat.Seat as seat
-use Rattle.ti_runtime.specs.declared.by_code.ByCode as by_code
+use Rattle.ti_runtime.specs.contracts.task.Task as task
+use Rattle.ti_runtime.specs.contracts.pending.PendingProc as pending
+use Rattle.ti_runtime.specs.declared.code_of.CodeOf as code_of
 
 -- ---- code
 
@@ -78,10 +78,10 @@ code_kept = search (sendable, crosses, method_sync) depth 20
 pub code_sync : IsSync code.the_row
 code_sync = as_row_sync code.the_field code_kept
 
--- ---- seats
+-- ---- processes
 
-seat_send : IsSend seat.the_field.row
-seat_send = search (sendable, crosses, process_send) depth 14
+pending_send : IsSend pending.the_field.row
+pending_send = search (sendable, crosses, process_send) depth 14
 
 pub flag_sync : IsSync flag.the_row
 flag_sync = search (sendable, crosses) depth 14
@@ -89,21 +89,21 @@ flag_sync = search (sendable, crosses) depth 14
 ref_send : (ℓ : Lifetime) (κ : Lft) (R : RattleType) → IsSync R → IsSend (as_row (row_field (ShrRef ℓ κ R)))
 ref_send ℓ κ R s = as_row_send (row_field (ShrRef ℓ κ R)) (shr_send ℓ κ R s)
 
-module _ (J : RattleType) (g : terms.Ghosts J.Denot) (b : by_code.Ghosts J.Denot) (k : kept.Ghosts (Store J.Denot) Entry) where
-  pub mate_send : IsSend (mate.the_row J k g b)
-  mate_send = search (sendable, crosses, seat_send, of_turnstile.pass_send, store_send) depth 14 fits 20000
+module _ (J : RattleType) (g : terms.Ghosts J.Denot) (b : code_of.Ghosts J.Denot) (k : kept.Ghosts (Store J.Denot) Entry) where
+  pub task_send : IsSend (task.the_row J k g b)
+  task_send = search (sendable, crosses, pending_send, of_turnstile.pass_send, store_send) depth 14 fits 20000
 
   pub turnstile_sync : IsSync (turnstile.the_row (store.the_row J g) entry.the_row k)
   turnstile_sync = as_row_sync (turnstile.the_field (store.the_row J g) entry.the_row k) (of_turnstile.turnstile_sync (store.the_row J g) entry.the_row k (store_send J g))
 
-  pub mates_send : IsSend (vec.the_row (mate.the_row J k g b) heap.the_row heap_impl.ghosts)
-  mates_send = search (crosses, mate_send) depth 6
+  pub tasks_send : IsSend (vec.the_row (task.the_row J k g b) heap.the_row heap_impl.ghosts)
+  tasks_send = search (crosses, task_send) depth 6
 
   module _ (R G : RattleType) (ℓ₁ ℓ₂ ℓ₃ ℓ₄ ℓ₅ : Lifetime) (κ₁ κ₂ κ₃ κ₄ κ₅ : Lft) where
     abbrev pub captures : List RattleType
     captures = ShrRef ℓ₁ κ₁ (param 2 R) ∷ heap.the_row ∷ ShrRef ℓ₂ κ₂ code.the_row ∷ ShrRef ℓ₃ κ₃ (param 3 G) ∷ ShrRef ℓ₄ κ₄
         (turnstile.the_row (store.the_row J g) entry.the_row k) ∷ ShrRef ℓ₅ κ₅ flag.the_row ∷ vec.the_row
-        (mate.the_row J k g b) heap.the_row heap_impl.ghosts ∷ []
+        (task.the_row J k g b) heap.the_row heap_impl.ghosts ∷ []
 
     pub job_send : (ν : Sym) → IsSync (param 2 R) → IsSync (param 3 G) → IsSend (TupleAt ν captures)
     job_send ν r q =
@@ -119,7 +119,7 @@ module _ (J : RattleType) (g : terms.Ghosts J.Denot) (b : by_code.Ghosts J.Denot
                   ref_send ℓ₄ κ₄ (turnstile.the_row (store.the_row J g) entry.the_row k) turnstile_sync,
                   (
                     ref_send ℓ₅ κ₅ flag.the_row flag_sync,
-                    (as_row_send (row_field (vec.the_row (mate.the_row J k g b) heap.the_row heap_impl.ghosts)) mates_send, tt),
+                    (as_row_send (row_field (vec.the_row (task.the_row J k g b) heap.the_row heap_impl.ghosts)) tasks_send, tt),
                   ),
                 ),
               ),

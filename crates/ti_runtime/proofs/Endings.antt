@@ -12,14 +12,14 @@ use Rattle.ti_lang.specs.Meaning.Runs as run
 use Rattle.ti_align.specs.Alignment.{NoneStuck}
 use Rattle.ti_code.specs.Programs.{Code}
 use Rattle.ti_machine.specs.Standing.{HasFinished}
-use Rattle.ti_runtime.specs.declared.cursor.Cursor.{Cursor}
-use Rattle.ti_runtime.specs.declared.seat.Seat.{Seat}
-use Rattle.ti_runtime.specs.declared.seat.Stop.TheVariants as stop
+use Rattle.ti_runtime.specs.declared.cursor.SoloCursor.{SoloCursor}
+use Rattle.ti_runtime.specs.declared.pending.PendingProc.{PendingProc}
+use Rattle.ti_runtime.specs.declared.pending.RunStop.TheVariants as stop
 use Rattle.ti_runtime.specs.declared.runner.How.TheVariants as how
 use Rattle.ti_runtime.specs.declared.runner.RunEnd.{RunEnd}
 use Rattle.ti_runtime.specs.Ran.{standing_of, IsDone, Ran}
 use Rattle.ti_runtime.specs.Mirrors.Waiting.{Waits, Rests}
-use Rattle.ti_runtime.specs.Mirrors.Team.{Seated, AllSeated, Stands, Stopped, CameTo}
+use Rattle.ti_runtime.specs.Mirrors.Processes.{Seated, AllSeated, Stands, Stopped, SoloOutcome}
 use Rattle.ti_runtime.proofs.Waiting.{rest_takes_none}
 
 true_false : true ≡ false → ⊥
@@ -27,8 +27,8 @@ true_false e = cc
 
 -- ---- the beginning
 
--- one seat more
-pub seated_more : (code : Code) (s : Setting) (xs : List Seat) (x : Seat) → Seated code s [] (length xs) x → AllSeated code s [] xs → AllSeated code s [] (xs ++ x ∷ [])
+-- one process more
+pub seated_more : (code : Code) (s : Setting) (xs : List PendingProc) (x : PendingProc) → Seated code s [] (length xs) x → AllSeated code s [] xs → AllSeated code s [] (xs ++ x ∷ [])
 seated_more code s xs x y seated d i l = by (nat_lt i (length xs)) refl
   where
     by : (b : Bool) → nat_lt i (length xs) ≡ b → Seated code s [] i (get_or (xs ++ x ∷ []) i d)
@@ -46,9 +46,9 @@ no_more : (n : ℕ) → 0 ≤ n
 no_more n = omega arith
 
 -- a run that can go on is taken up with process 0
-pub starts : (code : Code) (s : Setting) (es : List Entry) (seats : List Seat) → IsRun s es → has_fault es ≡ false → length seats ≡ s.procs
-    → AllSeated code s es seats → Stands code s es seats (record { at = 0; waiting = 0 })
-starts code s es seats so_far goes_on count seated = record {
+pub starts : (code : Code) (s : Setting) (es : List Entry) (processes : List PendingProc) → IsRun s es → has_fault es ≡ false → length processes ≡ s.procs
+    → AllSeated code s es processes → Stands code s es processes (record { at = 0; waiting = 0 })
+starts code s es processes so_far goes_on count seated = record {
   run = so_far;
   goes_on = goes_on;
   count = count;
@@ -57,17 +57,17 @@ starts code s es seats so_far goes_on count seated = record {
     most = no_more s.procs;
     few = no_more s.procs;
     before = λ i l. none_below (Rests s es) i l;
-    together = λ i l. none_below (λ k. Waits s es k → (j : ℕ) → j < 0 → Rests s es j) i l;
+    run_threaded = λ i l. none_below (λ k. Waits s es k → (j : ℕ) → j < 0 → Rests s es j) i l;
   };
 }
 
-pub begins : (code : Code) (s : Setting) (seats : List Seat) → length seats ≡ s.procs → AllSeated code s [] seats → Stands code s [] seats (record { at = 0; waiting = 0 })
-begins code s seats count seated = starts code s [] seats run.none refl count seated
+pub begins : (code : Code) (s : Setting) (processes : List PendingProc) → length processes ≡ s.procs → AllSeated code s [] processes → Stands code s [] processes (record { at = 0; waiting = 0 })
+begins code s processes count seated = starts code s [] processes run.none refl count seated
 
 -- ---- the end
 
-pub faults : (code : Code) (s : Setting) (before es : List Entry) (seats : List Seat) → Stopped code s before es seats stop.Faulted → CameTo code s before es seats how.Faulted
-faults code s before es seats x = record {
+pub faults : (code : Code) (s : Setting) (before es : List Entry) (processes : List PendingProc) → Stopped code s before es processes stop.Faulted → SoloOutcome code s before es processes how.Faulted
+faults code s before es processes x = record {
   run = x.run;
   solo = x.solo;
   ended = (λ e. cc, λ ended. absurd (x.unended ended));
@@ -76,8 +76,8 @@ faults code s before es seats x = record {
   seated = x.seated;
 }
 
-pub out_of_memory : (code : Code) (s : Setting) (before es : List Entry) (seats : List Seat) → Stopped code s before es seats stop.Memory → CameTo code s before es seats how.Memory
-out_of_memory code s before es seats x = record {
+pub out_of_memory : (code : Code) (s : Setting) (before es : List Entry) (processes : List PendingProc) → Stopped code s before es processes stop.Memory → SoloOutcome code s before es processes how.Memory
+out_of_memory code s before es processes x = record {
   run = x.run;
   solo = x.solo;
   ended = (λ e. cc, λ ended. absurd (x.unended ended));
@@ -87,10 +87,10 @@ out_of_memory code s before es seats x = record {
 }
 
 -- nobody is left to be tried, so nobody can go on, and all have their end
-pub ends : (code : Code) (s : Setting) (before es : List Entry) (seats : List Seat) (c : Cursor) → (IsSolo s before → IsSolo s es)
-    → Stands code s es seats c → length seats ≤ c.at → NoneStuck s es → CameTo code s before es seats how.Ended
-ends code s before es seats c solo x past unstuck =
-    let all : AllEnded s es = unstuck x.goes_on (λ i e t. rest_takes_none s es i e (x.points.before i (tried i s.procs (length seats) c.at t.within x.count past)) t) in
+pub ends : (code : Code) (s : Setting) (before es : List Entry) (processes : List PendingProc) (c : SoloCursor) → (IsSolo s before → IsSolo s es)
+    → Stands code s es processes c → length processes ≤ c.at → NoneStuck s es → SoloOutcome code s before es processes how.Ended
+ends code s before es processes c solo x past unstuck =
+    let all : AllEnded s es = unstuck x.goes_on (λ i e t. rest_takes_none s es i e (x.points.before i (tried i s.procs (length processes) c.at t.within x.count past)) t) in
     record {
       run = x.run;
       solo = solo;
@@ -119,45 +119,45 @@ unbegun code s workers end l m e = record {
     some n l = omega arith
 
 -- one number more
-pub finished_on : (seats : List Seat) (done : List ℕ) (n k : ℕ) (seat : Seat) → n < length seats → length done ≡ length seats → seat ≡ get_or seats n seat → HasFinished seat.process k
-    → ((d : Seat) (i : ℕ) → i < n → HasFinished (get_or seats i d).process (get_or done i 0)) → (d : Seat) (i : ℕ) → i < n + 1
-    → HasFinished (get_or seats i d).process (get_or (slice_set done n k) i 0)
-finished_on seats done n k seat inside even is one before d i l = by (n == i) refl
+pub finished_on : (processes : List PendingProc) (done : List ℕ) (n k : ℕ) (pending : PendingProc) → n < length processes → length done ≡ length processes → pending ≡ get_or processes n pending → HasFinished pending.process k
+    → ((d : PendingProc) (i : ℕ) → i < n → HasFinished (get_or processes i d).process (get_or done i 0)) → (d : PendingProc) (i : ℕ) → i < n + 1
+    → HasFinished (get_or processes i d).process (get_or (slice_set done n k) i 0)
+finished_on processes done n k pending inside even is one before d i l = by (n == i) refl
   where
-    by : (b : Bool) → (n == i) ≡ b → HasFinished (get_or seats i d).process (get_or (slice_set done n k) i 0)
+    by : (b : Bool) → (n == i) ≡ b → HasFinished (get_or processes i d).process (get_or (slice_set done n k) i 0)
     by true h =
-        let here : get_or seats n d ≡ seat = get_or_default seats n d seat inside ∙ sym is in
-        let there = subst (λ j. HasFinished seat.process j) (sym (get_or-set_same done n k 0 (omega arith))) one in
-        subst (λ j. HasFinished (get_or seats j d).process (get_or (slice_set done n k) j 0)) (eqb-true n i h)
-        (subst (λ (x : Seat). HasFinished x.process (get_or (slice_set done n k) n 0)) (sym here) there)
+        let here : get_or processes n d ≡ pending = get_or_default processes n d pending inside ∙ sym is in
+        let there = subst (λ j. HasFinished pending.process j) (sym (get_or-set_same done n k 0 (omega arith))) one in
+        subst (λ j. HasFinished (get_or processes j d).process (get_or (slice_set done n k) j 0)) (eqb-true n i h)
+        (subst (λ (x : PendingProc). HasFinished x.process (get_or (slice_set done n k) n 0)) (sym here) there)
     by false h =
         let apart = eqb-false n i h in
-        subst (λ j. HasFinished (get_or seats i d).process j) (sym (get_or-set_other done n i k 0 (λ e. apart (sym e)))) (before d i (omega (arith, apart)))
+        subst (λ j. HasFinished (get_or processes i d).process j) (sym (get_or-set_other done n i k 0 (λ e. apart (sym e)))) (before d i (omega (arith, apart)))
 
-pub some_seat : (seats : List Seat) (i : ℕ) → i < length seats → Seat
-some_seat [] i l = absurd (omega arith)
-some_seat (x ∷ xs) i l = x
+pub some_pending : (processes : List PendingProc) (i : ℕ) → i < length processes → PendingProc
+some_pending [] i l = absurd (omega arith)
+some_pending (x ∷ xs) i l = x
 
--- the numbers that the seats tell are those of the answers of the run
-done_is : (code : Code) (s : Setting) (es : List Entry) (seats : List Seat) (done : List ℕ) → length seats ≡ s.procs → AllSeated code s es seats → length done ≡ length seats
-    → ((d : Seat) (i : ℕ) → i < length seats → HasFinished (get_or seats i d).process (get_or done i 0)) → IsDone code s es done
-done_is code s es seats done count seated even each = record { count = even ∙ count; each = one }
+-- the numbers that the processes tell are those of the answers of the run
+done_is : (code : Code) (s : Setting) (es : List Entry) (processes : List PendingProc) (done : List ℕ) → length processes ≡ s.procs → AllSeated code s es processes → length done ≡ length processes
+    → ((d : PendingProc) (i : ℕ) → i < length processes → HasFinished (get_or processes i d).process (get_or done i 0)) → IsDone code s es done
+done_is code s es processes done count seated even each = record { count = even ∙ count; each = one }
   where
     one : (i n : ℕ) → slice_get done i ≡ Some n → HasFinished (standing_of code s es i) n
     one i n z =
-        let inside : i < length seats = omega (arith, slice_get_within done i n z, even) in
-        let d = some_seat seats i inside in
-        subst (λ t. HasFinished t n) (seated d i inside).told (subst (λ k. HasFinished (get_or seats i d).process k) (get_or_from_slice_get done i n 0 z) (each d i inside))
+        let inside : i < length processes = omega (arith, slice_get_within done i n z, even) in
+        let d = some_pending processes i inside in
+        subst (λ t. HasFinished t n) (seated d i inside).told (subst (λ k. HasFinished (get_or processes i d).process k) (get_or_from_slice_get done i n 0 z) (each d i inside))
 
-pub ran : (code : Code) (s : Setting) (workers : ℕ) (end : RunEnd) (before es : List Entry) (seats : List Seat) → end.history.items ≡ es
-    → CameTo code s before es seats end.how → (workers ≡ 1 → before ≡ []) → length end.done.items ≡ length seats
-    → ((d : Seat) (i : ℕ) → i < length seats → HasFinished (get_or seats i d).process (get_or end.done.items i 0)) → Ran code s workers end
-ran code s workers end before es seats is x first even each =
-    let y = subst (λ xs. CameTo code s before xs seats end.how) (sym is) x in
+pub ran : (code : Code) (s : Setting) (workers : ℕ) (end : RunEnd) (before es : List Entry) (processes : List PendingProc) → end.history.items ≡ es
+    → SoloOutcome code s before es processes end.how → (workers ≡ 1 → before ≡ []) → length end.done.items ≡ length processes
+    → ((d : PendingProc) (i : ℕ) → i < length processes → HasFinished (get_or processes i d).process (get_or end.done.items i 0)) → Ran code s workers end
+ran code s workers end before es processes is x first even each =
+    let y = subst (λ xs. SoloOutcome code s before xs processes end.how) (sym is) x in
     record {
       run = y.run;
       solo = λ alone. y.solo (subst (IsSolo s) (sym (first alone)) run.none);
       ended = y.ended;
       faulted = y.faulted;
-      done = λ z. done_is code s end.history.items seats end.done.items y.count y.seated even each;
+      done = λ z. done_is code s end.history.items processes end.done.items y.count y.seated even each;
     }

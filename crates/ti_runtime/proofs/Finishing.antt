@@ -12,11 +12,11 @@ use Rattle.ti_lang.specs.Meaning.Runs.{IsRun, none, more, AllEnded}
 use Rattle.ti_lang.proofs.Lemmas.{taker}
 use Rattle.ti_store.proofs.Lemmas.{fault_more, end_more}
 use Rattle.ti_code.specs.Programs.{Code}
-use Rattle.ti_runtime.specs.declared.cursor.Cursor.{Cursor}
-use Rattle.ti_runtime.specs.declared.seat.Seat.{Seat}
+use Rattle.ti_runtime.specs.declared.cursor.SoloCursor.{SoloCursor}
+use Rattle.ti_runtime.specs.declared.pending.PendingProc.{PendingProc}
 use Rattle.ti_runtime.specs.declared.runner.How.TheVariants as how
-use Rattle.ti_runtime.specs.Mirrors.Team.{AllSeated, Stands, CameTo}
-use Rattle.ti_runtime.proofs.Endings.{some_seat, starts}
+use Rattle.ti_runtime.specs.Mirrors.Processes.{AllSeated, Stands, SoloOutcome}
+use Rattle.ti_runtime.proofs.Endings.{some_pending, starts}
 
 true_false : true ≡ false → ⊥
 true_false e = cc
@@ -78,34 +78,34 @@ second_of : (a b : Bool) → (a && b) ≡ true → b ≡ true
 second_of true b h = h
 second_of false b h = absurd (true_false (sym h))
 
-abbrev pub has_ended : Seat → Bool
-has_ended seat = seat.ended
+abbrev pub has_ended : PendingProc → Bool
+has_ended pending = pending.ended
 
-one_ended : (seats : List Seat) → list_all has_ended seats ≡ true → (d : Seat) (i : ℕ) → i < length seats → (get_or seats i d).ended ≡ true
+one_ended : (processes : List PendingProc) → list_all has_ended processes ≡ true → (d : PendingProc) (i : ℕ) → i < length processes → (get_or processes i d).ended ≡ true
 one_ended [] h d i l = absurd (omega (arith, l))
 one_ended (x ∷ xs) h d zero l = first_of x.ended (list_all has_ended xs) h
 one_ended (x ∷ xs) h d (suc i) l = one_ended xs (second_of x.ended (list_all has_ended xs) h) d i (omega (arith, l))
 
 -- ---- one worker
 
--- seats before the first entry
-pub begun_seated : (code : Code) (s : Setting) (es : List Entry) (seats : List Seat) (c : Cursor) → es ≡ [] → Stands code s [] seats c → AllSeated code s es seats
-begun_seated code s es seats c is x = subst (λ xs. AllSeated code s xs seats) (sym is) x.seated
+-- processes before the first entry
+pub begun_seated : (code : Code) (s : Setting) (es : List Entry) (processes : List PendingProc) (c : SoloCursor) → es ≡ [] → Stands code s [] processes c → AllSeated code s es processes
+begun_seated code s es processes c is x = subst (λ xs. AllSeated code s xs processes) (sym is) x.seated
 
 -- ---- what workers did
 
-module _ (code : Code) (s : Setting) (es : List Entry) (seats : List Seat) (run : IsRun s es) (count : length seats ≡ s.procs) (seated : AllSeated code s es seats) where
-  inside : (i : ℕ) → i < s.procs → i < length seats
+module _ (code : Code) (s : Setting) (es : List Entry) (processes : List PendingProc) (run : IsRun s es) (count : length processes ≡ s.procs) (seated : AllSeated code s es processes) where
+  inside : (i : ℕ) → i < s.procs → i < length processes
   inside i l = subst (λ n. i < n) (sym count) l
 
-  -- the seats tell whether all processes have their end
-  all_have : list_all has_ended seats ≡ true → AllEnded s es
-  all_have h i l = let d = some_seat seats i (inside i l) in (seated d i (inside i l)).ended ∙ one_ended seats h d i (inside i l)
+  -- the processes tell whether all processes have their end
+  all_have : list_all has_ended processes ≡ true → AllEnded s es
+  all_have h i l = let d = some_pending processes i (inside i l) in (seated d i (inside i l)).ended ∙ one_ended processes h d i (inside i l)
 
   faultless : has_fault es ≡ false → has_fault es ≡ true → ⊥
   faultless f h = true_false (sym h ∙ f)
 
-  pub came_faulted : has_fault es ≡ true → CameTo code s es es seats how.Faulted
+  pub came_faulted : has_fault es ≡ true → SoloOutcome code s es es processes how.Faulted
   came_faulted h = record {
     run = run;
     solo = λ solo. solo;
@@ -115,7 +115,7 @@ module _ (code : Code) (s : Setting) (es : List Entry) (seats : List Seat) (run 
     seated = seated;
   }
 
-  pub came_ended : has_fault es ≡ false → list_all has_ended seats ≡ true → CameTo code s es es seats how.Ended
+  pub came_ended : has_fault es ≡ false → list_all has_ended processes ≡ true → SoloOutcome code s es es processes how.Ended
   came_ended f h = record {
     run = run;
     solo = λ solo. solo;
@@ -126,5 +126,5 @@ module _ (code : Code) (s : Setting) (es : List Entry) (seats : List Seat) (run 
   }
 
   -- they can be taken up where they stand
-  pub taken_up : has_fault es ≡ false → Stands code s es seats (record { at = 0; waiting = 0 })
-  taken_up f = starts code s es seats run f count seated
+  pub taken_up : has_fault es ≡ false → Stands code s es processes (record { at = 0; waiting = 0 })
+  taken_up f = starts code s es processes run f count seated

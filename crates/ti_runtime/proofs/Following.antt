@@ -1,4 +1,4 @@
--- That the code stands where the program stands.
+-- The code has next what the program has next.
 use Rattle.std.proofs.Common.{◌≡◌, ℕ, ◌<◌, false, List, [], sym, ap, subst}
 use Rattle.ti_base.specs.declared.entry.Entry.{Entry}
 use Rattle.ti_base.specs.declared.entry.Next.{Next}
@@ -13,9 +13,9 @@ use Rattle.ti_code.specs.Follows.{Follows}
 use Rattle.ti_machine.specs.Standing.{CodeStanding, HasNext, GoesOn}
 use Rattle.ti_store.specs.Conditions.{IsWithin}
 use Rattle.ti_store.proofs.Lemmas.{fitting, fits_none}
-use Rattle.ti_runtime.specs.declared.seat.Seat.{Seat}
+use Rattle.ti_runtime.specs.declared.pending.PendingProc.{PendingProc}
 use Rattle.ti_runtime.specs.Ran.{standing_of}
-use Rattle.ti_runtime.specs.Mirrors.Team.{Seated}
+use Rattle.ti_runtime.specs.Mirrors.Processes.{Seated}
 
 -- ---- the code stands there too
 
@@ -30,9 +30,9 @@ module _ (code : Code) (s : Setting) (f : Follows code s.program) (w : IsWithin 
   pub code_goes_on : GoesOn (standing_of code s es i)
   code_goes_on = let n = next_some q in (n.0, code_next n.0 n.1)
 
-  -- a seat whose process was told the answers of these entries
-  pub seated : (seat : Seat) → record seat.process { asks = false } ≡ standing_of code s es i → has_end i es ≡ seat.ended → Seated code s es i seat
-  seated seat told ended =
+  -- a pending whose process was told the answers of these entries
+  pub seated : (pending : PendingProc) → record pending.process { asks = false } ≡ standing_of code s es i → has_end i es ≡ pending.ended → Seated code s es i pending
+  seated pending told ended =
       let n = next_some q in
       record {
         told = told;
@@ -49,6 +49,6 @@ module _ (code : Code) (s : Setting) (f : Follows code s.program) (w : IsWithin 
   pub begins_on : GoesOn (standing_of code s [] i)
   begins_on = code_goes_on code s f w [] (fits_none s) i l (begin s i) none
 
-  pub begins_seated : (seat : Seat) → seat ≡ record { process = standing_of code s [] i; ended = false } → Seated code s [] i seat
-  begins_seated seat is =
-      seated code s f w [] (fits_none s) i l (begin s i) none seat (ap (λ (x : Seat). record x.process { asks = false }) is) (sym (ap (λ (x : Seat). x.ended) is))
+  pub begins_seated : (pending : PendingProc) → pending ≡ record { process = standing_of code s [] i; ended = false } → Seated code s [] i pending
+  begins_seated pending is =
+      seated code s f w [] (fits_none s) i l (begin s i) none pending (ap (λ (x : PendingProc). record x.process { asks = false }) is) (sym (ap (λ (x : PendingProc). x.ended) is))

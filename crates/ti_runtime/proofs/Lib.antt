@@ -5,7 +5,7 @@ mod Seats
 mod Turns
 mod Waiting
 pub mod Crossing
-pub mod Dealing
+pub mod Assigning
 pub mod Fit
-pub mod Mates
-pub mod Settling
+pub mod Tasks
+pub mod Joining

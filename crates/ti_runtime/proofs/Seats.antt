@@ -1,4 +1,4 @@
--- What the turn of a process makes of its seat.
+-- What one step does to a process.
 use Rattle.std.proofs.Common.{◌≡◌, ℕ, ◌+◌, ◌-◌, ◌<◌, ◌≤◌, Bool, true, false, not, ◌||◌, if◌then◌else◌, length, Some, Ok, Err, List, [], ◌∷◌, ◌++◌, refl, sym, ap, ◌∙◌, subst, arith, length-append}
 use Rattle.ti_base.specs.declared.place.Place.{Place}
 use Rattle.ti_base.specs.declared.fault.FaultKind.{FaultKind}
@@ -23,13 +23,13 @@ use Rattle.ti_store.specs.declared.act_err.ActErr.TheVariants as err
 use Rattle.ti_store.proofs.Lemmas.{next_acts, end_more, answers_more, answers_still, world_more}
 use Rattle.ti_code.specs.Programs.{Code}
 use Rattle.ti_machine.specs.Standing.{CodeStanding, HasNext, is_act}
-use Rattle.ti_runtime.specs.declared.cursor.Turn.{Turn}
-use Rattle.ti_runtime.specs.declared.cursor.Turn.TheVariants as turn
-use Rattle.ti_runtime.specs.declared.seat.Seat.{Seat}
-use Rattle.ti_runtime.specs.declared.seat.Stop.TheVariants as stop
+use Rattle.ti_runtime.specs.declared.cursor.TurnOutcome.{TurnOutcome}
+use Rattle.ti_runtime.specs.declared.cursor.TurnOutcome.TheVariants as turn
+use Rattle.ti_runtime.specs.declared.pending.PendingProc.{PendingProc}
+use Rattle.ti_runtime.specs.declared.pending.RunStop.TheVariants as stop
 use Rattle.ti_runtime.specs.Ran.{standing_of}
 use Rattle.ti_runtime.specs.Mirrors.Waiting.{Waits}
-use Rattle.ti_runtime.specs.Mirrors.Team.{doing_of, place_of, action_of, asking, told_more, Seated, Hears, IsOpen, steps_left, GoesOn, Keeps, TurnLeaves}
+use Rattle.ti_runtime.specs.Mirrors.Processes.{action_for, place_of, action_of, asking, told_more, Seated, Hears, IsOpen, steps_left, GoesOn, Keeps, TurnLeaves}
 use Rattle.ti_runtime.proofs.Following.{OneNext, seated}
 
 true_false : true ≡ false → ⊥
@@ -51,24 +51,24 @@ acts (Ends place) q at a e h = cc
 acts (Faults kind place) q at a e h = cc
 
 -- what the store takes comes back as what is next
-next_back : (p : Process) (n : Next) → IsNext p n → next_of (doing_of n).0 (doing_of n).1 ≡ n
+next_back : (p : Process) (n : Next) → IsNext p n → next_of (action_for n).0 (action_for n).1 ≡ n
 next_back p (next.Act at a) x = let none = acts (step x.0) x.0 at a refl x.1.stands in next_acts at a none.0 none.1
 next_back p (next.End at) x = refl
 next_back p (next.Fault kind at) x = refl
 
 -- an action is answered
-pub answered_act : (p : Process) (n : Next) → IsNext p n → is_act n ≡ true → (is_end (doing_of n).1 ≡ false) × (is_fault (doing_of n).1 ≡ false)
+pub answered_act : (p : Process) (n : Next) → IsNext p n → is_act n ≡ true → (is_end (action_for n).1 ≡ false) × (is_fault (action_for n).1 ≡ false)
 answered_act p (next.Act at a) x e = acts (step x.0) x.0 at a refl x.1.stands
 answered_act p (next.End at) x e = absurd (true_false (sym e))
 answered_act p (next.Fault kind at) x e = absurd (true_false (sym e))
 
 -- what is neither an action nor a fault is the end
-end_left : (n : Next) → is_act n ≡ false → is_fault (doing_of n).1 ≡ false → is_end (doing_of n).1 ≡ true
+end_left : (n : Next) → is_act n ≡ false → is_fault (action_for n).1 ≡ false → is_end (action_for n).1 ≡ true
 end_left (next.Act at a) e f = absurd (true_false e)
 end_left (next.End at) e f = refl
 end_left (next.Fault kind at) e f = absurd (true_false f)
 
--- ---- what a seat tells
+-- ---- being up to date
 
 within_ticks : (n s f : ℕ) → 0 + n ≤ s → s ≤ f → n ≤ f
 within_ticks n s f h k = omega arith
@@ -77,10 +77,10 @@ within_ticks n s f h k = omega arith
 answers_few : (s : Setting) (i : ℕ) (rs : List Answer) (p : Process) → After (begin s i) rs p → length rs ≤ s.fuel
 answers_few s i rs p x = within_ticks (length rs) p.spent s.fuel (after_pays (begin s i) p rs x) (within s i rs p x).0
 
--- the seat tells the same where the process got no answer since
-pub seated_with : (code : Code) (s : Setting) (es all : List Entry) (i : ℕ) (seat : Seat) (ended : Bool) → answers_of i all ≡ answers_of i es → has_end i all ≡ ended → Seated code s es i seat
-    → Seated code s all i (record seat { ended = ended })
-seated_with code s es all i seat ended same e y = record {
+-- a process that got no answer since is still up to date
+pub seated_with : (code : Code) (s : Setting) (es all : List Entry) (i : ℕ) (pending : PendingProc) (ended : Bool) → answers_of i all ≡ answers_of i es → has_end i all ≡ ended → Seated code s es i pending
+    → Seated code s all i (record pending { ended = ended })
+seated_with code s es all i pending ended same e y = record {
   told = y.told ∙ ap (λ rs. record (standing_of code s es i) { told = rs }) (sym same);
   there = y.there;
   world = subst (λ rs. After (begin s i) rs y.there) (sym same) y.world;
@@ -90,9 +90,9 @@ seated_with code s es all i seat ended same e y = record {
   ended = e;
 }
 
-module _ (code : Code) (s : Setting) (es : List Entry) (i : ℕ) (seat : Seat) (y : Seated code s es i seat) where
+module _ (code : Code) (s : Setting) (es : List Entry) (i : ℕ) (pending : PendingProc) (y : Seated code s es i pending) where
   -- also where it has computed what is next
-  pub seated_asking : (asks : Bool) → Seated code s es i (asking asks seat)
+  pub seated_asking : (asks : Bool) → Seated code s es i (asking asks pending)
   seated_asking asks = record {
     told = y.told;
     there = y.there;
@@ -103,19 +103,19 @@ module _ (code : Code) (s : Setting) (es : List Entry) (i : ℕ) (seat : Seat) (
     ended = y.ended;
   }
 
-  few : length seat.process.told ≤ s.fuel
+  few : length pending.process.told ≤ s.fuel
   few = subst (λ xs. length xs ≤ s.fuel) (sym (ap (λ (x : CodeStanding). x.told) y.told)) (answers_few s i (answers_of i es) y.there y.world)
 
-  module _ (one : OneNext) (n : Next) (has : HasNext seat.process n) where
+  module _ (one : OneNext) (n : Next) (has : HasNext pending.process n) where
     -- what the code has next the program has next
     next_here : IsNext y.there n
-    next_here = subst (IsNext y.there) (one seat.process y.next n y.has_next has) y.is_next
+    next_here = subst (IsNext y.there) (one pending.process y.next n y.has_next has) y.is_next
 
     next_taken : IsNext y.there (next_of (place_of n) (action_of n))
     next_taken = subst (IsNext y.there) (sym (next_back y.there n next_here)) next_here
 
     -- the store takes it
-    pub acting : seat.ended ≡ false → store.HasNext s i (entries_of i es) (next_of (place_of n) (action_of n))
+    pub acting : pending.ended ≡ false → store.HasNext s i (entries_of i es) (next_of (place_of n) (action_of n))
     acting u = record { unended = y.ended ∙ u; process = y.there; world = y.world; is_next = next_taken }
 
 -- ---- an entry
@@ -128,9 +128,9 @@ or_none : (a b : Bool) → b ≡ false → (a || b) ≡ a
 or_none true b h = refl
 or_none false b h = h
 
--- ---- the seat after a turn
+-- ---- after a step
 
-module _ (code : Code) (st : StoreState) (o : IsOpen code st) (run : IsRun (setting_of st) st.entries) (i : ℕ) (l : i < st.procs) (old : Seat) (y : Seated code (setting_of st) st.entries i old) (u : old.ended ≡ false) where
+module _ (code : Code) (st : StoreState) (o : IsOpen code st) (run : IsRun (setting_of st) st.entries) (i : ℕ) (l : i < st.procs) (old : PendingProc) (y : Seated code (setting_of st) st.entries i old) (u : old.ended ≡ false) where
   abbrev s : Setting
   s = setting_of st
 
@@ -138,15 +138,15 @@ module _ (code : Code) (st : StoreState) (o : IsOpen code st) (run : IsRun (sett
   es = st.entries
 
   -- out of memory, or refused, it is where it was
-  kept : (all : List Entry) (asks : Bool) (seat : Seat) → all ≡ es → seat ≡ asking asks old → Keeps code s es i old all seat
-  kept all asks seat same is = record {
+  kept : (all : List Entry) (asks : Bool) (pending : PendingProc) → all ≡ es → pending ≡ asking asks old → Keeps code s es i old all pending
+  kept all asks pending same is = record {
     entries = same;
     seated = subst (Seated code s es i) (sym is) (seated_asking code s es i old y asks);
     as_many = ap (steps_left s) is;
   }
 
-  pub stays : (all : List Entry) (asks : Bool) (seat : Seat) → all ≡ es → seat ≡ asking asks old → TurnLeaves code s es i old all seat (Err stop.Memory)
-  stays all asks seat same is = ((same, y.ended ∙ u), subst (λ xs. Seated code s xs i seat) (sym same) (kept all asks seat same is).seated)
+  pub stays : (all : List Entry) (asks : Bool) (pending : PendingProc) → all ≡ es → pending ≡ asking asks old → TurnLeaves code s es i old all pending (Err stop.Memory)
+  stays all asks pending same is = ((same, y.ended ∙ u), subst (λ xs. Seated code s xs i pending) (sym same) (kept all asks pending same is).seated)
 
   module _ (one : OneNext) (n : Next) (has : HasNext old.process n) (asks : Bool) where
     is_next : IsNext y.there n
@@ -203,50 +203,50 @@ module _ (code : Code) (st : StoreState) (o : IsOpen code st) (run : IsRun (sett
       told e =
           ap (λ t. told_more t answer) y.told ∙ ap (λ rs. record (standing_of code s es i) { told = rs }) (sym (answers_more i es here refl (answered e)))
 
-      seated_heard : (seat : Seat) → is_act n ≡ true → seat ≡ record old { process = told_more old.process answer } → Seated code s all i seat
-      seated_heard seat e h =
+      seated_heard : (pending : PendingProc) → is_act n ≡ true → pending ≡ record old { process = told_more old.process answer } → Seated code s all i pending
+      seated_heard pending e h =
           let q = world_on e in
           let unended : has_end i all ≡ has_end i es = end_more i es here refl ∙ or_none (has_end i es) (is_end (action_of n)) (answered_act y.there n is_next e).0 in
-          seated code s o.may.follows o.may.within all fit i l q.0 q.1 seat (ap (λ (x : Seat). record x.process { asks = false }) h ∙ told e) (unended ∙ y.ended ∙ sym (ap (λ (x : Seat). x.ended) h))
+          seated code s o.may.follows o.may.within all fit i l q.0 q.1 pending (ap (λ (x : PendingProc). record x.process { asks = false }) h ∙ told e) (unended ∙ y.ended ∙ sym (ap (λ (x : PendingProc). x.ended) h))
 
       -- fewer steps are left
       lighter_end : steps_left s (record old { ended = true }) < steps_left s old
       lighter_end = rw u (omega arith)
 
-      lighter_heard : (seat : Seat) → is_act n ≡ true → seat ≡ record old { process = told_more old.process answer } → steps_left s seat < steps_left s old
-      lighter_heard seat e h =
-          let limit : length seat.process.told ≤ s.fuel = few code s all i seat (seated_heard seat e h) in
-          let more : length seat.process.told ≡ length old.process.told + 1 = ap (λ (x : Seat). length x.process.told) h ∙ length-append old.process.told (answer ∷ []) in
-          let same : seat.ended ≡ old.ended = ap (λ (x : Seat). x.ended) h in
-          rw (same, u) (one_fewer s.fuel (length old.process.told) (length seat.process.told) more limit)
+      lighter_heard : (pending : PendingProc) → is_act n ≡ true → pending ≡ record old { process = told_more old.process answer } → steps_left s pending < steps_left s old
+      lighter_heard pending e h =
+          let limit : length pending.process.told ≤ s.fuel = few code s all i pending (seated_heard pending e h) in
+          let more : length pending.process.told ≡ length old.process.told + 1 = ap (λ (x : PendingProc). length x.process.told) h ∙ length-append old.process.told (answer ∷ []) in
+          let same : pending.ended ≡ old.ended = ap (λ (x : PendingProc). x.ended) h in
+          rw (same, u) (one_fewer s.fuel (length old.process.told) (length pending.process.told) more limit)
         where
           one_fewer : (fuel m n : ℕ) → n ≡ m + 1 → n ≤ fuel → (fuel - n) + 1 < (fuel - m) + 1
           one_fewer fuel m n k l = omega arith
 
       -- the process went on, and was answered
-      pub went_with : (seat : Seat) (t : Turn) → Hears (asking asks old) n answer seat t → (b : Bool) → is_arrival (action_of n) ≡ b → GoesOn code s es i old new.entries seat b
-      went_with seat t m b a = record {
+      pub went_with : (pending : PendingProc) (t : TurnOutcome) → Hears (asking asks old) n answer pending t → (b : Bool) → is_arrival (action_of n) ≡ b → GoesOn code s es i old new.entries pending b
+      went_with pending t m b a = record {
         takes = record { entry = here; can = can; after = after };
         arrives_is = a;
         no_fault = d.no_fault;
-        seated = subst (λ xs. Seated code s xs i seat) (sym after) (seated_on (is_act n) refl);
+        seated = subst (λ xs. Seated code s xs i pending) (sym after) (seated_on (is_act n) refl);
         lighter = lighter (is_act n) refl;
       }
         where
-          seated_on : (b : Bool) → is_act n ≡ b → Seated code s all i seat
+          seated_on : (b : Bool) → is_act n ≡ b → Seated code s all i pending
           seated_on false e = subst (Seated code s all i) (sym (m.ends e)) (seated_end e)
-          seated_on true e = seated_heard seat e (m.hears e)
+          seated_on true e = seated_heard pending e (m.hears e)
 
-          lighter : (b : Bool) → is_act n ≡ b → steps_left s seat < steps_left s old
+          lighter : (b : Bool) → is_act n ≡ b → steps_left s pending < steps_left s old
           lighter false e = subst (λ x. steps_left s x < steps_left s old) (sym (m.ends e)) lighter_end
-          lighter true e = lighter_heard seat e (m.hears e)
+          lighter true e = lighter_heard pending e (m.hears e)
 
-      pub went : (seat : Seat) (t : Turn) → Hears (asking asks old) n answer seat t → TurnLeaves code s es i old new.entries seat (Ok t)
-      went seat t m = by (is_arrival (action_of n)) refl m.turn
+      pub went : (pending : PendingProc) (t : TurnOutcome) → Hears (asking asks old) n answer pending t → TurnLeaves code s es i old new.entries pending (Ok t)
+      went pending t m = by (is_arrival (action_of n)) refl m.turn
         where
-          by : (b : Bool) → is_arrival (action_of n) ≡ b → t ≡ (if b then turn.Arrived else turn.Went) → TurnLeaves code s es i old new.entries seat (Ok t)
-          by true a e = subst (λ x. TurnLeaves code s es i old new.entries seat (Ok x)) (sym e) (went_with seat t m true a)
-          by false a e = subst (λ x. TurnLeaves code s es i old new.entries seat (Ok x)) (sym e) (went_with seat t m false a)
+          by : (b : Bool) → is_arrival (action_of n) ≡ b → t ≡ (if b then turn.Arrived else turn.Went) → TurnLeaves code s es i old new.entries pending (Ok t)
+          by true a e = subst (λ x. TurnLeaves code s es i old new.entries pending (Ok x)) (sym e) (went_with pending t m true a)
+          by false a e = subst (λ x. TurnLeaves code s es i old new.entries pending (Ok x)) (sym e) (went_with pending t m false a)
 
     -- ---- other turns
 
@@ -269,17 +269,17 @@ module _ (code : Code) (st : StoreState) (o : IsOpen code st) (run : IsRun (sett
         is_departing at (act.Fault kind) h = absurd (h tt)
         is_departing at _ h = absurd (h tt)
 
-    pub waited : (new : StoreState) (seat : Seat) → seat ≡ asking asks old → IsRefused st i (place_of n) (action_of n) err.NotYet new → TurnLeaves code s es i old new.entries seat (Ok turn.Waits)
-    waited new seat is r = (kept new.entries asks seat (ap (λ (x : StoreState). x.entries) r.2) is, waits_here r.1)
+    pub waited : (new : StoreState) (pending : PendingProc) → pending ≡ asking asks old → IsRefused st i (place_of n) (action_of n) err.NotYet new → TurnLeaves code s es i old new.entries pending (Ok turn.Waits)
+    waited new pending is r = (kept new.entries asks pending (ap (λ (x : StoreState). x.entries) r.2) is, waits_here r.1)
 
     -- after a fault it is where it was
-    pub faulted : (new : StoreState) (kind : FaultKind) (seat : Seat) → seat ≡ asking asks old → IsRefused st i (place_of n) (action_of n) (err.Faulted kind) new
-        → TurnLeaves code s es i old new.entries seat (Err stop.Faulted)
-    faulted new kind seat is r =
+    pub faulted : (new : StoreState) (kind : FaultKind) (pending : PendingProc) → pending ≡ asking asks old → IsRefused st i (place_of n) (action_of n) (err.Faulted kind) new
+        → TurnLeaves code s es i old new.entries pending (Err stop.Faulted)
+    faulted new kind pending is r =
         let e = fault_entry i (place_of n) kind in
         let after : new.entries ≡ es ++ e ∷ [] = ap (λ (x : StoreState). x.entries) r.1 in
         let unended : has_end i (es ++ e ∷ []) ≡ old.ended = end_more i es e refl ∙ or_none (has_end i es) false refl ∙ y.ended in (
           (record { entry = e; can = taken e r.0; after = after }, refl),
-          subst (λ (x : List Entry × Seat). Seated code s x.0 i x.1) (λ j. (sym after j, sym is j))
+          subst (λ (x : List Entry × PendingProc). Seated code s x.0 i x.1) (λ j. (sym after j, sym is j))
               (seated_with code s es (es ++ e ∷ []) i (asking asks old) old.ended (answers_still i es e refl refl) unended (seated_asking code s es i old y asks)),
         )

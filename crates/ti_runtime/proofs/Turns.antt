@@ -1,4 +1,4 @@
--- What the turn of a process makes of its team.
+-- What one step does to the scheduler.
 use Rattle.std.proofs.Common.{◌≡◌, ℕ, ◌+◌, ◌-◌, ◌*◌, ◌<◌, ◌≤◌, max, nat_lt, ◌==◌, Bool, true, false, ◌||◌, map, filter, inl, inr, Ok, List, [], length, get_or, slice_set, refl, sym, ap, ◌∙◌, subst, arith, eqb-true, ltb-true, length-set, get_or-set_same, get_or-set_other}
 use Rattle.std.specs.List.{list_any}
 use Rattle.std.proofs.lemmas.Bool.{eqb-false, ltb-false}
@@ -17,14 +17,14 @@ use Rattle.ti_store.specs.Conditions.{IsWithin}
 use Rattle.ti_store.specs.Stores.{StoreState, setting_of}
 use Rattle.ti_store.proofs.Lemmas.{fault_more, end_more, other_more}
 use Rattle.ti_code.specs.Programs.{Code}
-use Rattle.ti_runtime.specs.declared.cursor.Cursor.{Cursor}
-use Rattle.ti_runtime.specs.declared.cursor.Turn.{Turn}
-use Rattle.ti_runtime.specs.declared.cursor.Turn.TheVariants as turn
-use Rattle.ti_runtime.specs.declared.seat.Seat.{Seat}
-use Rattle.ti_runtime.specs.declared.seat.Stop.{Stop}
-use Rattle.ti_runtime.specs.declared.seat.Stop.TheVariants as stop
+use Rattle.ti_runtime.specs.declared.cursor.SoloCursor.{SoloCursor}
+use Rattle.ti_runtime.specs.declared.cursor.TurnOutcome.{TurnOutcome}
+use Rattle.ti_runtime.specs.declared.cursor.TurnOutcome.TheVariants as turn
+use Rattle.ti_runtime.specs.declared.pending.PendingProc.{PendingProc}
+use Rattle.ti_runtime.specs.declared.pending.RunStop.{RunStop}
+use Rattle.ti_runtime.specs.declared.pending.RunStop.TheVariants as stop
 use Rattle.ti_runtime.specs.Mirrors.Waiting.{Waits, Rests}
-use Rattle.ti_runtime.specs.Mirrors.Team.{IsOpen, Seated, AllSeated, Takes, steps_left, all_steps_left, GoesOn, Keeps, StopsAt, TurnLeaves, cursor_after, Points, Stands, StandsOn, Stopped}
+use Rattle.ti_runtime.specs.Mirrors.Processes.{IsOpen, Seated, AllSeated, Takes, steps_left, all_steps_left, GoesOn, Keeps, StopsAt, TurnLeaves, cursor_after, Points, Stands, StandsOn, Stopped}
 use Rattle.ti_runtime.proofs.Seats.{seated_with}
 use Rattle.ti_runtime.proofs.Waiting.{rest_takes_none, rests_still, wait_together}
 use Rattle.ti_runtime.proofs.Endings.{none_below}
@@ -76,48 +76,48 @@ module _ (s : Setting) (es all : List Entry) (i : ℕ) (t : Takes s es i all) wh
   pub rests_on : (j : ℕ) → (i == j) ≡ false → is_arrival t.entry.act ≡ false → Rests s es j → Rests s all j
   rests_on j h a r = rests_still s es all j t.entry t.after (ap (λ k. k == j) (taker s es i t.entry t.can) ∙ h) a r
 
--- ---- seats
+-- ---- processes
 
--- the seat of a process tells where it stands still, where the run went on elsewhere
-pub seated_still : (code : Code) (s : Setting) (es all : List Entry) (i : ℕ) (seat : Seat) → entries_of i all ≡ entries_of i es → Seated code s es i seat → Seated code s all i seat
-seated_still code s es all i seat same y =
-    seated_with code s es all i seat seat.ended (ap (λ own. map (λ (e : Entry). e.answer) (filter is_answered own)) same) (ap (list_any (λ (e : Entry). is_end e.act)) same ∙ y.ended) y
+-- a process that took no entry is still up to date after entries of others
+pub seated_still : (code : Code) (s : Setting) (es all : List Entry) (i : ℕ) (pending : PendingProc) → entries_of i all ≡ entries_of i es → Seated code s es i pending → Seated code s all i pending
+seated_still code s es all i pending same y =
+    seated_with code s es all i pending pending.ended (ap (λ own. map (λ (e : Entry). e.answer) (filter is_answered own)) same) (ap (list_any (λ (e : Entry). is_end e.act)) same ∙ y.ended) y
 
-module _ (code : Code) (s : Setting) (es all : List Entry) (seats : List Seat) (i : ℕ) (new : Seat) (y : Seated code s all i new) (inside : i < length seats) where
-  -- where one seat is replaced, and the others tell the same of more entries
-  seated_set : ((d : Seat) (j : ℕ) → j < length seats → (i == j) ≡ false → Seated code s all j (get_or seats j d)) → AllSeated code s all (slice_set seats i new)
+module _ (code : Code) (s : Setting) (es all : List Entry) (processes : List PendingProc) (i : ℕ) (new : PendingProc) (y : Seated code s all i new) (inside : i < length processes) where
+  -- one process is replaced, and the others are up to date with more entries
+  seated_set : ((d : PendingProc) (j : ℕ) → j < length processes → (i == j) ≡ false → Seated code s all j (get_or processes j d)) → AllSeated code s all (slice_set processes i new)
   seated_set others d j l = by (i == j) refl
     where
-      by : (b : Bool) → (i == j) ≡ b → Seated code s all j (get_or (slice_set seats i new) j d)
+      by : (b : Bool) → (i == j) ≡ b → Seated code s all j (get_or (slice_set processes i new) j d)
       by true h =
           let same : i ≡ j = eqb-true i j h in
-          subst (λ k. Seated code s all k (get_or (slice_set seats i new) k d)) same (subst (Seated code s all i) (sym (get_or-set_same seats i new d inside)) y)
+          subst (λ k. Seated code s all k (get_or (slice_set processes i new) k d)) same (subst (Seated code s all i) (sym (get_or-set_same processes i new d inside)) y)
       by false h =
-          subst (Seated code s all j) (sym (get_or-set_other seats i j new d (λ e. eqb-false i j h (sym e)))) (others d j (subst (λ n. j < n) (length-set seats i new) l) h)
+          subst (Seated code s all j) (sym (get_or-set_other processes i j new d (λ e. eqb-false i j h (sym e)))) (others d j (subst (λ n. j < n) (length-set processes i new) l) h)
 
-  pub seated_on : Takes s es i all → AllSeated code s es seats → AllSeated code s all (slice_set seats i new)
-  seated_on t seated = seated_set (λ d j l h. seated_still code s es all j (get_or seats j d) (other_on s es all i t j h) (seated d j l))
+  pub seated_on : Takes s es i all → AllSeated code s es processes → AllSeated code s all (slice_set processes i new)
+  seated_on t seated = seated_set (λ d j l h. seated_still code s es all j (get_or processes j d) (other_on s es all i t j h) (seated d j l))
 
   -- by no entry
-  pub seated_kept : all ≡ es → AllSeated code s es seats → AllSeated code s all (slice_set seats i new)
-  seated_kept same seated = seated_set (λ d j l h. subst (λ xs. Seated code s xs j (get_or seats j d)) (sym same) (seated d j l))
+  pub seated_kept : all ≡ es → AllSeated code s es processes → AllSeated code s all (slice_set processes i new)
+  seated_kept same seated = seated_set (λ d j l h. subst (λ xs. Seated code s xs j (get_or processes j d)) (sym same) (seated d j l))
 
-pub lighter_on : (s : Setting) (seats : List Seat) (i : ℕ) (old new : Seat) → i < length seats → old ≡ get_or seats i old → steps_left s new < steps_left s old
-    → all_steps_left s (slice_set seats i new) < all_steps_left s seats
-lighter_on s seats i old new inside is lighter =
-    let sums = sum_by-set (steps_left s) seats i new old inside in
-    let same : steps_left s (get_or seats i old) ≡ steps_left s old = ap (steps_left s) (sym is) in
-    fewer (all_steps_left s (slice_set seats i new)) (steps_left s (get_or seats i old)) (all_steps_left s seats) (steps_left s new) (steps_left s old) sums same lighter
+pub lighter_on : (s : Setting) (processes : List PendingProc) (i : ℕ) (old new : PendingProc) → i < length processes → old ≡ get_or processes i old → steps_left s new < steps_left s old
+    → all_steps_left s (slice_set processes i new) < all_steps_left s processes
+lighter_on s processes i old new inside is lighter =
+    let sums = sum_by-set (steps_left s) processes i new old inside in
+    let same : steps_left s (get_or processes i old) ≡ steps_left s old = ap (steps_left s) (sym is) in
+    fewer (all_steps_left s (slice_set processes i new)) (steps_left s (get_or processes i old)) (all_steps_left s processes) (steps_left s new) (steps_left s old) sums same lighter
   where
     fewer : (a b c d e : ℕ) → a + b ≡ c + d → b ≡ e → d < e → a < c
     fewer a b c d e h k l = omega arith
 
-as_many_on : (s : Setting) (seats : List Seat) (i : ℕ) (old new : Seat) → i < length seats → old ≡ get_or seats i old → steps_left s new ≡ steps_left s old
-    → all_steps_left s (slice_set seats i new) ≡ all_steps_left s seats
-as_many_on s seats i old new inside is as_many =
-    let sums = sum_by-set (steps_left s) seats i new old inside in
-    let same : steps_left s (get_or seats i old) ≡ steps_left s old = ap (steps_left s) (sym is) in
-    equal (all_steps_left s (slice_set seats i new)) (steps_left s (get_or seats i old)) (all_steps_left s seats) (steps_left s new) (steps_left s old) sums same as_many
+as_many_on : (s : Setting) (processes : List PendingProc) (i : ℕ) (old new : PendingProc) → i < length processes → old ≡ get_or processes i old → steps_left s new ≡ steps_left s old
+    → all_steps_left s (slice_set processes i new) ≡ all_steps_left s processes
+as_many_on s processes i old new inside is as_many =
+    let sums = sum_by-set (steps_left s) processes i new old inside in
+    let same : steps_left s (get_or processes i old) ≡ steps_left s old = ap (steps_left s) (sym is) in
+    equal (all_steps_left s (slice_set processes i new)) (steps_left s (get_or processes i old)) (all_steps_left s processes) (steps_left s new) (steps_left s old) sums same as_many
   where
     equal : (a b c d e : ℕ) → a + b ≡ c + d → b ≡ e → d ≡ e → a ≡ c
     equal a b c d e h k l = omega arith
@@ -163,14 +163,14 @@ up_to m p h = omega arith
 less : (m p : ℕ) → m < p → m ≤ p
 less m p h = omega arith
 
-module _ (s : Setting) (es : List Entry) (c : Cursor) (p : Points s es c) (inside : c.at < s.procs) where
+module _ (s : Setting) (es : List Entry) (c : SoloCursor) (p : Points s es c) (inside : c.at < s.procs) where
   -- behind one that had its end
   pub points_ended : has_end c.at es ≡ true → Points s es (cursor_after c turn.Ended)
   points_ended e = record {
     most = up_to c.at s.procs inside;
     few = p.few;
     before = at_or_before (Rests s es) c.at p.before (inl e);
-    together = p.together;
+    run_threaded = p.run_threaded;
   }
 
   -- behind one that waits
@@ -179,14 +179,14 @@ module _ (s : Setting) (es : List Entry) (c : Cursor) (p : Points s es c) (insid
     most = at_most c.at c.waiting s.procs inside p.few;
     few = p.few;
     before = by (nat_lt c.at c.waiting) refl;
-    together = p.together;
+    run_threaded = p.run_threaded;
   }
     where
       passed : (i : ℕ) → i < c.at + 1 → Rests s es i
       passed = at_or_before (Rests s es) c.at p.before (inr w)
 
       by : (b : Bool) → nat_lt c.at c.waiting ≡ b → (i : ℕ) → i < max (c.at + 1) c.waiting → Rests s es i
-      by true h = either_before (Rests s es) (c.at + 1) c.waiting passed (p.together c.at (ltb-true c.at c.waiting h) w)
+      by true h = either_before (Rests s es) (c.at + 1) c.waiting passed (p.run_threaded c.at (ltb-true c.at c.waiting h) w)
       by false h = λ i l. passed i (first i c.at c.waiting l (ltb-false c.at c.waiting h))
         where
           first : (i m n : ℕ) → i < max (m + 1) n → n ≤ m → i < m + 1
@@ -198,7 +198,7 @@ module _ (s : Setting) (es : List Entry) (c : Cursor) (p : Points s es c) (insid
     most = p.most;
     few = no_more s.procs;
     before = λ i l. rests_on s es all c.at t i (below c.at i l) a (p.before i l);
-    together = λ i l. none_below (λ i. Waits s all i → (j : ℕ) → j < 0 → Rests s all j) i l;
+    run_threaded = λ i l. none_below (λ i. Waits s all i → (j : ℕ) → j < 0 → Rests s all j) i l;
   }
 
   -- behind one that arrived
@@ -207,7 +207,7 @@ module _ (s : Setting) (es : List Entry) (c : Cursor) (p : Points s es c) (insid
     most = no_more s.procs;
     few = less c.at s.procs inside;
     before = λ i l. none_below (Rests s all) i l;
-    together = λ i l w j k. wait_together s es all c.at t.entry run balance t.can t.after a p.before i l w j k;
+    run_threaded = λ i l w j k. wait_together s es all c.at t.entry run balance t.can t.after a p.before i l w j k;
   }
 
 -- ---- turns
@@ -231,55 +231,55 @@ further m n = omega arith
 one_further : (m : ℕ) → m < m + 1
 one_further m = omega arith
 
-module _ (code : Code) (s : Setting) (es : List Entry) (seats : List Seat) (c : Cursor) (x : Stands code s es seats c) (inside : c.at < s.procs) (old : Seat) (is : old ≡ get_or seats c.at old) where
-  within : c.at < length seats
+module _ (code : Code) (s : Setting) (es : List Entry) (processes : List PendingProc) (c : SoloCursor) (x : Stands code s es processes c) (inside : c.at < s.procs) (old : PendingProc) (is : old ≡ get_or processes c.at old) where
+  within : c.at < length processes
   within = subst (λ n. c.at < n) (sym x.count) inside
 
   -- by an entry
-  onward : (all : List Entry) (new : Seat) (arrives : Bool) (d : Cursor) → GoesOn code s es c.at old all new arrives → Points s all d → StandsOn code s es seats c all (slice_set seats c.at new) d
+  onward : (all : List Entry) (new : PendingProc) (arrives : Bool) (d : SoloCursor) → GoesOn code s es c.at old all new arrives → Points s all d → StandsOn code s es processes c all (slice_set processes c.at new) d
   onward all new arrives d g p = record {
     solo = λ solo. solo_on s es all c.at g.takes solo x.points.before;
     stands = record {
       run = run_on s es all c.at g.takes x.run;
       goes_on = no_fault_on s es all c.at g.takes g.no_fault;
-      count = length-set seats c.at new ∙ x.count;
-      seated = seated_on code s es all seats c.at new g.seated within g.takes x.seated;
+      count = length-set processes c.at new ∙ x.count;
+      seated = seated_on code s es all processes c.at new g.seated within g.takes x.seated;
       points = p;
     };
-    lighter = falls (all_steps_left s (slice_set seats c.at new)) (all_steps_left s seats) s.procs d.at c.at (lighter_on s seats c.at old new within is g.lighter);
+    lighter = falls (all_steps_left s (slice_set processes c.at new)) (all_steps_left s processes) s.procs d.at c.at (lighter_on s processes c.at old new within is g.lighter);
   }
 
   -- by none
-  rested : (all : List Entry) (new : Seat) (d : Cursor) → Keeps code s es c.at old all new → Points s es d → c.at < d.at → StandsOn code s es seats c all (slice_set seats c.at new) d
-  rested all new d k p l = subst (λ xs. StandsOn code s es seats c xs (slice_set seats c.at new) d) (sym k.entries) (record {
+  rested : (all : List Entry) (new : PendingProc) (d : SoloCursor) → Keeps code s es c.at old all new → Points s es d → c.at < d.at → StandsOn code s es processes c all (slice_set processes c.at new) d
+  rested all new d k p l = subst (λ xs. StandsOn code s es processes c xs (slice_set processes c.at new) d) (sym k.entries) (record {
     solo = λ solo. solo;
     stands = record {
       run = x.run;
       goes_on = x.goes_on;
-      count = length-set seats c.at new ∙ x.count;
-      seated = seated_kept code s es es seats c.at new k.seated within refl x.seated;
+      count = length-set processes c.at new ∙ x.count;
+      seated = seated_kept code s es es processes c.at new k.seated within refl x.seated;
       points = p;
     };
-    lighter = subst (λ n. n * (s.procs + 1) + (s.procs - d.at) < all_steps_left s seats * (s.procs + 1) + (s.procs - c.at))
-        (sym (as_many_on s seats c.at old new within is k.as_many)) (falls_same (all_steps_left s seats * (s.procs + 1)) s.procs d.at c.at l inside);
+    lighter = subst (λ n. n * (s.procs + 1) + (s.procs - d.at) < all_steps_left s processes * (s.procs + 1) + (s.procs - c.at))
+        (sym (as_many_on s processes c.at old new within is k.as_many)) (falls_same (all_steps_left s processes * (s.procs + 1)) s.procs d.at c.at l inside);
   })
 
-  pub turned : RoundsBalance s es → (all : List Entry) (new : Seat) (t : Turn) → TurnLeaves code s es c.at old all new (Ok t)
-      → StandsOn code s es seats c all (slice_set seats c.at new) (cursor_after c t)
+  pub turned : RoundsBalance s es → (all : List Entry) (new : PendingProc) (t : TurnOutcome) → TurnLeaves code s es c.at old all new (Ok t)
+      → StandsOn code s es processes c all (slice_set processes c.at new) (cursor_after c t)
   turned balance all new turn.Arrived g = onward all new true (cursor_after c turn.Arrived) g (points_arrived s es c x.points inside x.run balance all g.takes g.arrives_is)
   turned balance all new turn.Went g = onward all new false (cursor_after c turn.Went) g (points_went s es c x.points inside all g.takes g.arrives_is)
   turned balance all new turn.Ended g = rested all new (cursor_after c turn.Ended) g.0 (points_ended s es c x.points inside g.1) (one_further c.at)
   turned balance all new turn.Waits g = rested all new (cursor_after c turn.Waits) g.0 (points_waits s es c x.points inside g.1) (further c.at c.waiting)
 
   -- a run that stops at this turn
-  pub stopped : (all : List Entry) (new : Seat) (why : Stop) → StopsAt s es c.at all why → Seated code s all c.at new → Stopped code s es all (slice_set seats c.at new) why
+  pub stopped : (all : List Entry) (new : PendingProc) (why : RunStop) → StopsAt s es c.at all why → Seated code s all c.at new → Stopped code s es all (slice_set processes c.at new) why
   stopped all new stop.Faulted t y = record {
     run = run_on s es all c.at t.0 x.run;
     solo = λ solo. solo_on s es all c.at t.0 solo x.points.before;
     fault = (λ e. fault_on s es all c.at t.0 t.1, λ h. refl);
     unended = λ ended. true_false (sym (ended c.at inside) ∙ unended_on s es all c.at t.0 (fault_no_end t.0.entry.act t.1));
-    count = length-set seats c.at new ∙ x.count;
-    seated = seated_on code s es all seats c.at new y within t.0 x.seated;
+    count = length-set processes c.at new ∙ x.count;
+    seated = seated_on code s es all processes c.at new y within t.0 x.seated;
   }
     where
       fault_no_end : (a : Action) → is_fault a ≡ true → is_end a ≡ false
@@ -290,6 +290,6 @@ module _ (code : Code) (s : Setting) (es : List Entry) (seats : List Seat) (c : 
     solo = λ solo. subst (IsSolo s) (sym t.0) solo;
     fault = (λ e. cc, λ h. absurd (true_false (sym h ∙ ap has_fault t.0 ∙ x.goes_on)));
     unended = λ ended. true_false (sym (ended c.at inside) ∙ ap (has_end c.at) t.0 ∙ t.1);
-    count = length-set seats c.at new ∙ x.count;
-    seated = seated_kept code s es all seats c.at new y within t.0 x.seated;
+    count = length-set processes c.at new ∙ x.count;
+    seated = seated_kept code s es all processes c.at new y within t.0 x.seated;
   }

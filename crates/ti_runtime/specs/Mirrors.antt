@@ -1,5 +1,5 @@
 -- Definitions that mirror code, as its private contracts speak of it: nobody has to believe them.
-pub mod Mates
-pub mod Settled
-pub mod Team
+pub mod Tasks
+pub mod Joined
+pub mod Processes
 pub mod Waiting

@@ -1,16 +1,20 @@
-//! Runs of checked programs.
+//! Runs a checked program by its code, on one thread or on several workers that share one store.
+//!
+//! One worker schedules all processes itself (`scheduler`). Several workers get the processes dealt out (`assigned`), run them on threads
+//! (`scope`, `threads`, `worker`, `task`), and hand them back (`joined`); whatever is left to do then runs on the caller's thread, by the
+//! scheduler of one worker, so that a thread that can't be started costs nothing but speed.
 #![tactic(auto)]
 
-mod by_code;
-mod crew;
+mod assigned;
+mod code_of;
 mod cursor;
-mod dealt;
-mod mate;
+mod joined;
+mod pending;
 mod runner;
+mod scheduler;
 mod scope;
-mod seat;
-mod settled;
-mod team;
+mod task;
 mod threads;
+mod worker;
 
 pub use runner::{How, RunEnd, run};

@@ -1,4 +1,4 @@
-// Runs.
+// The public call: picks the type-level terms of a run, runs the workers, and finishes on the caller's thread.
 
 ghost use Rattle.std.specs.Prelude.{◌≡◌, ℕ, ◌≤◌, [], length, IfOk};
 ghost use Rattle.std.specs.List.{list_all};
@@ -10,17 +10,17 @@ ghost use Rattle.ti_code.specs.Programs.{Code as Methods};
 ghost use Rattle.ti_code.specs.Follows.{Follows};
 ghost use Rattle.ti_store.specs.Conditions.{IsWithin};
 ghost use Rattle.ti_store.specs.Stores.{setting_of};
-ghost use Rattle.ti_runtime.specs.declared.seat.Seat.{Seat as OneSeat};
+ghost use Rattle.ti_runtime.specs.declared.pending.PendingProc.{PendingProc as OneProc};
 ghost use Rattle.ti_runtime.specs.Ran.{Ran};
-ghost use Rattle.ti_runtime.specs.Mirrors.Team.{MayRun, IsOpen, AllSeated, Stands, CameTo};
+ghost use Rattle.ti_runtime.specs.Mirrors.Processes.{RunPremises, IsOpen, AllSeated, Stands, SoloOutcome};
 
-use crate::by_code::ByCode;
-use crate::cursor::Cursor;
-use crate::dealt::deal_out;
+use crate::assigned::assign_to_workers;
+use crate::code_of::CodeOf;
+use crate::cursor::SoloCursor;
+use crate::joined::{Joined, join_workers, room_for};
+use crate::pending::{PendingProc, RunStop};
+use crate::scheduler::SoloScheduler;
 use crate::scope::run_groups;
-use crate::seat::{Seat, Stop};
-use crate::settled::{Settled, room_for, settle};
-use crate::team::Team;
 use std::alloc::Global;
 use std::marker::Brand;
 use std::sync::Wait;
@@ -37,16 +37,16 @@ use ti_turnstile::Turnstile;
 /// How a run ended.
 #[derive(Clone, Copy, Debug, PartialEq, Eq)]
 pub enum How {
-    /// All processes have their end.
+    /// All processes have ended.
     Ended,
-    /// With a fault, which is the last entry.
+    /// By a fault, which is the last entry.
     Faulted,
-    /// Out of memory, before it was complete.
+    /// Out of memory, before the run was complete.
     Memory,
 }
 
-/// How a run ended, its entries in order, and how many instructions each process has finished for the answers that it got. Where it is out
-/// of memory, these numbers tell nothing, and there may be none.
+/// The result of a run: how it ended, its entries in order, and for each process how many instructions it has finished, given the answers to
+/// its entries. Out of memory, these counts mean nothing, and there may be none.
 #[derive(Drop)]
 pub struct RunEnd {
     pub how: How,
@@ -54,7 +54,7 @@ pub struct RunEnd {
     pub done: Vec<u64>,
 }
 
-// Out of memory, before the first entry.
+// The result of a run that was out of memory before its first entry.
 fn unbegun(alloc: Global) -> RunEnd
     ensures { (code : Methods) (s : Setting) (workers : ℕ) → 1 ≤ s.procs → Ran code s workers result }
 {
@@ -65,23 +65,23 @@ fn unbegun(alloc: Global) -> RunEnd
     }
 }
 
-// The processes take their turns, until all have their end or the run stops.
-fn play<J: Terms, G: Gate>(
+// Runs all processes on this thread, until all have ended or the run stops.
+fn run_solo<J: Terms, G: Gate>(
     alloc: Global,
     code: &Code,
     gate: &G,
-    team: &mut Team,
+    scheduler: &mut SoloScheduler,
     store: &mut Store<J>,
 ) -> How
     requires open { IsOpen code.now store.old }
-    requires stands { Stands code.now (setting_of store.old) store.old.entries team.old.seats.items team.old.cursor }
-    ensures { CameTo code.now (setting_of store.old) store.old.entries store.new.entries team.new.seats.items result }
+    requires stands { Stands code.now (setting_of store.old) store.old.entries scheduler.old.processes.items scheduler.old.cursor }
+    ensures { SoloOutcome code.now (setting_of store.old) store.old.entries store.new.entries scheduler.new.processes.items result }
 {
-    'turns: while (team.cursor.at as usize) < team.seats.len() {
-        match team.step(alloc, code, gate, store) {
+    'turns: while (scheduler.cursor.at as usize) < scheduler.processes.len() {
+        match scheduler.step(alloc, code, gate, store) {
             Ok(()) => {}
-            Err(Stop::Faulted) => return How::Faulted,
-            Err(Stop::Memory) => return How::Memory,
+            Err(RunStop::Faulted) => return How::Faulted,
+            Err(RunStop::Memory) => return How::Memory,
         }
     }
     How::Ended
@@ -104,68 +104,71 @@ fn ends_with_fault(entries: &[Entry]) -> bool
     }
 }
 
-// Whether all processes have their end.
-fn have_ended(seats: &[Seat]) -> bool
-    ensures { result ≡ list_all (λ (seat : OneSeat). seat.ended) seats.now }
+// Whether all processes have ended.
+fn have_ended(processes: &[PendingProc]) -> bool
+    ensures { result ≡ list_all (λ (pending : OneProc). pending.ended) processes.now }
 {
-    seats.iter().all(|seat| seat.ended)
+    processes.iter().all(|pending| pending.ended)
 }
 
-// Goes on with all processes on one thread after what workers did, unless the run is over. Where they ran out of memory, the store refuses
-// the first act.
-fn go_on<J: Terms + ByCode, G: Gate>(
+// Continues all processes on this thread after the workers, unless the run is over. If the workers ran out of memory, the store is halted and
+// refuses the first action.
+fn go_on<J: Terms + CodeOf, G: Gate>(
     alloc: Global,
     code: &Code,
     gate: &G,
-    team: &mut Team,
+    scheduler: &mut SoloScheduler,
     store: &mut Store<J>,
 ) -> How
     requires code { code.now ≡ J.code }
-    requires may { MayRun J.code J.setting }
-    requires count { length team.old.seats.items ≡ J.setting.procs }
-    requires cursor { team.old.cursor ≡ record { at = 0; waiting = 0 } }
-    requires seated { AllSeated J.code J.setting store.old.entries team.old.seats.items }
-    ensures { CameTo J.code J.setting store.old.entries store.new.entries team.new.seats.items result }
+    requires may { RunPremises J.code J.setting }
+    requires count { length scheduler.old.processes.items ≡ J.setting.procs }
+    requires cursor { scheduler.old.cursor ≡ record { at = 0; waiting = 0 } }
+    requires seated { AllSeated J.code J.setting store.old.entries scheduler.old.processes.items }
+    ensures { SoloOutcome J.code J.setting store.old.entries store.new.entries scheduler.new.processes.items result }
 {
     store.knows_terms();
     if ends_with_fault(store.history()) {
         return How::Faulted;
     }
-    if have_ended(&team.seats) {
+    if have_ended(&scheduler.processes) {
         return How::Ended;
     }
-    play(alloc, code, gate, team, store)
+    run_solo(alloc, code, gate, scheduler, store)
 }
 
-// How the run ends, after what workers did.
-fn finish<J: Terms + ByCode, G: Gate>(
+// The result of the run, once the workers have handed back the store and the processes.
+fn finish<J: Terms + CodeOf, G: Gate>(
     alloc: Global,
     code: &Code,
     gate: &G,
-    settled: Settled<J>,
+    joined: Joined<J>,
     done: Vec<u64>,
 ) -> RunEnd
     requires code { code.now ≡ J.code }
-    requires may { MayRun J.code J.setting }
-    requires count { length settled.seats.items ≡ J.setting.procs }
-    requires seated { AllSeated J.code J.setting settled.store.entries settled.seats.items }
+    requires may { RunPremises J.code J.setting }
+    requires count { length joined.processes.items ≡ J.setting.procs }
+    requires seated { AllSeated J.code J.setting joined.store.entries joined.processes.items }
     requires done { length done.items ≡ J.setting.procs }
-    ensures { (workers : ℕ) → (workers ≡ 1 → settled.store.entries ≡ []) → Ran J.code J.setting workers result }
+    ensures { (workers : ℕ) → (workers ≡ 1 → joined.store.entries ≡ []) → Ran J.code J.setting workers result }
 {
-    let Settled { mut store, seats } = settled;
-    let mut team = Team {
-        seats,
-        cursor: Cursor { at: 0, waiting: 0 },
+    let Joined {
+        mut store,
+        processes,
+    } = joined;
+    let mut scheduler = SoloScheduler {
+        processes,
+        cursor: SoloCursor { at: 0, waiting: 0 },
     };
-    let how = go_on(alloc, code, gate, &mut team, &mut store);
+    let how = go_on(alloc, code, gate, &mut scheduler, &mut store);
     RunEnd {
         how,
         history: store.into_history(),
-        done: team.finished(done),
+        done: scheduler.finished(done),
     }
 }
 
-// A flag for each worker.
+// A flag for each worker, all clear.
 fn clear_flags(alloc: Global, count: u32) -> Result<Vec<AtomicBool>, Memory>
     ensures { IfOk result (λ v. length v.items ≡ count) }
 {
@@ -176,8 +179,8 @@ fn clear_flags(alloc: Global, count: u32) -> Result<Vec<AtomicBool>, Memory>
     Ok(flags)
 }
 
-// What several workers on threads of their own did.
-fn together<J: Terms + ByCode + Send + Sync, R: Threads + Wait + Sync, G: Gate + Sync>(
+// Runs several workers on threads, and returns the store and the processes as they left them.
+fn run_threaded<J: Terms + CodeOf + Send + Sync, R: Threads + Wait + Sync, G: Gate + Sync>(
     rt: &R,
     alloc: Global,
     code: &Code,
@@ -186,26 +189,26 @@ fn together<J: Terms + ByCode + Send + Sync, R: Threads + Wait + Sync, G: Gate +
     fuel: u32,
     gate: &G,
     store: Store<J>,
-) -> Result<Settled<J>, Memory>
+) -> Result<Joined<J>, Memory>
     requires workers { 1 ≤ workers }
     requires code { code.now ≡ J.code }
-    requires may { MayRun J.code J.setting }
+    requires may { RunPremises J.code J.setting }
     requires procs { procs ≡ J.setting.procs }
     requires fuel { fuel ≡ J.setting.fuel }
     requires empty { store.entries ≡ [] }
-    ensures count { IfOk result (λ r. length r.seats.items ≡ J.setting.procs) }
-    ensures seated { IfOk result (λ r. AllSeated J.code J.setting r.store.entries r.seats.items) }
+    ensures count { IfOk result (λ r. length r.processes.items ≡ J.setting.procs) }
+    ensures seated { IfOk result (λ r. AllSeated J.code J.setting r.store.entries r.processes.items) }
 {
     let room = room_for(alloc, procs)?;
     let flags = clear_flags(alloc, workers)?;
     let (turnstile, passes) = Turnstile::new(alloc, procs, store)?;
-    let groups = deal_out(alloc, code, &turnstile, passes, procs, workers, fuel)?;
-    let mates = run_groups(rt, alloc, code, gate, &turnstile, &flags, groups, procs)?;
-    Ok(settle(turnstile, mates, room))
+    let groups = assign_to_workers(alloc, code, &turnstile, passes, procs, workers, fuel)?;
+    let tasks = run_groups(rt, alloc, code, gate, &turnstile, &flags, groups, procs)?;
+    Ok(join_workers(turnstile, tasks, room))
 }
 
-// What the workers of a run did before the caller goes on alone: with one worker nothing.
-fn begin<J: Terms + ByCode + Send + Sync, R: Threads + Wait + Sync, G: Gate + Sync>(
+// The store and the processes as the workers leave them. With one worker nothing has been run yet.
+fn begin<J: Terms + CodeOf + Send + Sync, R: Threads + Wait + Sync, G: Gate + Sync>(
     rt: &R,
     alloc: Global,
     c: &Checked,
@@ -214,25 +217,28 @@ fn begin<J: Terms + ByCode + Send + Sync, R: Threads + Wait + Sync, G: Gate + Sy
     workers: u32,
     fuel: u32,
     gate: &G,
-) -> Result<Settled<J>, Memory>
+) -> Result<Joined<J>, Memory>
     requires workers { 1 ≤ workers }
     requires code { code.now ≡ J.code }
-    requires may { MayRun J.code J.setting }
+    requires may { RunPremises J.code J.setting }
     requires terms { record { program = program_of c.now.program.parts; procs = procs; fuel = fuel } ≡ J.setting }
-    ensures count { IfOk result (λ r. length r.seats.items ≡ J.setting.procs) }
-    ensures seated { IfOk result (λ r. AllSeated J.code J.setting r.store.entries r.seats.items) }
+    ensures count { IfOk result (λ r. length r.processes.items ≡ J.setting.procs) }
+    ensures seated { IfOk result (λ r. AllSeated J.code J.setting r.store.entries r.processes.items) }
     ensures alone { workers ≡ 1 → IfOk result (λ r. r.store.entries ≡ []) }
 {
     let store = Store::<J>::new(alloc, c, procs, fuel)?;
     if workers != 1 {
-        return together(rt, alloc, code, procs, workers, fuel, gate, store);
+        return run_threaded(rt, alloc, code, procs, workers, fuel, gate, store);
     }
-    let Team { seats, cursor: _ } = Team::begin(alloc, code, procs, fuel)?;
-    Ok(Settled { store, seats })
+    let SoloScheduler {
+        processes,
+        cursor: _,
+    } = SoloScheduler::begin(alloc, code, procs, fuel)?;
+    Ok(Joined { store, processes })
 }
 
-// The run by terms that somebody has picked.
-fn run_by<J: Terms + ByCode + Send + Sync, R: Threads + Wait + Sync, G: Gate + Sync>(
+// The run under type-level terms that the caller has picked.
+fn run_by<J: Terms + CodeOf + Send + Sync, R: Threads + Wait + Sync, G: Gate + Sync>(
     rt: &R,
     alloc: Global,
     c: &Checked,
@@ -256,15 +262,15 @@ fn run_by<J: Terms + ByCode + Send + Sync, R: Threads + Wait + Sync, G: Gate + S
         return unbegun(alloc);
     };
     match begin::<J, R, G>(rt, alloc, c, code, procs, workers, fuel, gate) {
-        Ok(settled) => finish(alloc, code, gate, settled, done),
+        Ok(joined) => finish(alloc, code, gate, joined, done),
         Err(Memory) => unbegun(alloc),
     }
 }
 
-/// Runs a checked program by its code, as `procs` processes, each with `fuel` ticks, by `workers` workers on threads.
+/// Runs a checked program by its code, as `procs` processes with `fuel` ticks each, on `workers` workers.
 ///
-/// The history is a run, whatever the schedule. It goes on to a fault or until all processes have their end, unless it runs out of memory.
-/// With one worker it is the solo run: each entry is that of the lowest-numbered process that can take one.
+/// The history is a run of the program, whatever the schedule. It ends with a fault, or when all processes have ended, or out of memory.
+/// With one worker it is the solo run: each entry is that of the lowest-numbered process that can take one. It may wait, since workers do.
 pub fn run<R: Threads + Wait + Sync, G: Gate + Sync>(
     rt: &R,
     alloc: Global,

@@ -1,13 +1,13 @@
 // All workers of a run, from the first start to the last join.
 ghost use Rattle.std.specs.Prelude.{◌≡◌, ◌≤◌, ◌<◌, length, All, sum_by, IfOk};
 ghost use Rattle.ti_turnstile.specs.Turnstiles.{identity_of};
-ghost use Rattle.ti_runtime.specs.Mirrors.Team.{MayRun};
-ghost use Rattle.ti_runtime.specs.Mirrors.Mates.{AllOf};
+ghost use Rattle.ti_runtime.specs.Mirrors.Processes.{RunPremises};
+ghost use Rattle.ti_runtime.specs.Mirrors.Tasks.{BelongsTo};
 
-use crate::by_code::ByCode;
-use crate::crew::work;
-use crate::mate::Mate;
-use crate::threads::{Back, collect, start_one};
+use crate::code_of::CodeOf;
+use crate::task::Task;
+use crate::threads::{WorkerPromise, collect, start_one};
+use crate::worker::run_worker;
 use std::alloc::Global;
 use std::sync::Wait;
 use std::sync::atomic::AtomicBool;
@@ -19,8 +19,8 @@ use ti_io::Gate;
 use ti_store::{Store, Terms};
 use ti_turnstile::Turnstile;
 
-// Starts a worker for each group, works on the caller's processes, and joins.
-fn in_scope<'s, E, J: Terms + ByCode + Send + Sync, R: Threads + Wait + Sync, G: Gate + Sync>(
+// Starts a worker for each group but the last, runs the last group on the caller's thread, and joins the workers.
+fn in_scope<'s, E, J: Terms + CodeOf + Send + Sync, R: Threads + Wait + Sync, G: Gate + Sync>(
     scope: &'s Scope<'s, E>,
     rt: &'s R,
     alloc: Global,
@@ -28,21 +28,21 @@ fn in_scope<'s, E, J: Terms + ByCode + Send + Sync, R: Threads + Wait + Sync, G:
     gate: &'s G,
     turnstile: &'s Turnstile<Store<J>>,
     flags: &'s [AtomicBool],
-    mut groups: Vec<Vec<Mate<J>>>,
+    mut groups: Vec<Vec<Task<J>>>,
     procs: u32,
-) -> Result<Vec<Mate<J>>, Memory>
+) -> Result<Vec<Task<J>>, Memory>
     requires code { code.now ≡ J.code }
-    requires may { MayRun J.code J.setting }
-    requires groups { All (λ v. All (AllOf (identity_of turnstile.now)) v.items) groups.items }
+    requires may { RunPremises J.code J.setting }
+    requires groups { All (λ v. All (BelongsTo (identity_of turnstile.now)) v.items) groups.items }
     requires all { sum_by (λ v. length v.items) groups.items ≡ procs }
     requires flags { length groups.items ≤ length flags.now }
-    ensures mates { IfOk result (λ ms. All (AllOf (identity_of turnstile.now)) ms.items) }
+    ensures tasks { IfOk result (λ ms. All (BelongsTo (identity_of turnstile.now)) ms.items) }
     ensures count { IfOk result (λ ms. length ms.items ≡ procs) }
 {
     let Some(mut mine) = groups.pop() else {
         return Ok(Vec::new(alloc));
     };
-    let mut handles: Vec<PromisedHandle<Vec<Mate<J>>, Back<'s, J>>> = Vec::with_capacity(
+    let mut handles: Vec<PromisedHandle<Vec<Task<J>>, WorkerPromise<'s, J>>> = Vec::with_capacity(
         alloc,
         groups.len(),
     )?;
@@ -62,37 +62,37 @@ fn in_scope<'s, E, J: Terms + ByCode + Send + Sync, R: Threads + Wait + Sync, G:
             &mut handles,
         );
     }
-    let mine = work(rt, alloc, code, gate, turnstile, mine);
+    let mine = run_worker(rt, alloc, code, gate, turnstile, mine);
     Ok(collect(rt, turnstile, handles, mine))
 }
 
-/// Lets all groups go on, each in a thread of its own but the caller's.
-pub fn run_groups<J: Terms + ByCode + Send + Sync, R: Threads + Wait + Sync, G: Gate + Sync>(
+/// Runs all groups, each on a thread of its own, but the last, which runs on the caller's thread. All processes come back.
+pub fn run_groups<J: Terms + CodeOf + Send + Sync, R: Threads + Wait + Sync, G: Gate + Sync>(
     rt: &R,
     alloc: Global,
     code: &Code,
     gate: &G,
     turnstile: &Turnstile<Store<J>>,
     flags: &[AtomicBool],
-    groups: Vec<Vec<Mate<J>>>,
+    groups: Vec<Vec<Task<J>>>,
     procs: u32,
-) -> Result<Vec<Mate<J>>, Memory>
+) -> Result<Vec<Task<J>>, Memory>
     requires code { code.now ≡ J.code }
-    requires may { MayRun J.code J.setting }
-    requires groups { All (λ v. All (AllOf (identity_of turnstile.now)) v.items) groups.items }
+    requires may { RunPremises J.code J.setting }
+    requires groups { All (λ v. All (BelongsTo (identity_of turnstile.now)) v.items) groups.items }
     requires all { sum_by (λ v. length v.items) groups.items ≡ procs }
     requires flags { length groups.items ≤ length flags.now }
-    ensures mates { IfOk result (λ ms. All (AllOf (identity_of turnstile.now)) ms.items) }
+    ensures tasks { IfOk result (λ ms. All (BelongsTo (identity_of turnstile.now)) ms.items) }
     ensures count { IfOk result (λ ms. length ms.items ≡ procs) }
 {
     thread::scope(
         thread::scope_env(),
         rt,
-        |scope| -> Result<Vec<Mate<J>>, Memory>
-            requires { (code.now ≡ J.code) × MayRun J.code J.setting × All
-                (λ v. All (AllOf (identity_of turnstile.now)) v.items) groups.items × (sum_by (λ v. length v.items) groups.items ≡ procs)
+        |scope| -> Result<Vec<Task<J>>, Memory>
+            requires { (code.now ≡ J.code) × RunPremises J.code J.setting × All
+                (λ v. All (BelongsTo (identity_of turnstile.now)) v.items) groups.items × (sum_by (λ v. length v.items) groups.items ≡ procs)
                 × (length groups.items ≤ length flags.now) }
-            ensures { IfOk result (λ ms. All (AllOf (identity_of turnstile.entry.now)) ms.items × (length ms.items ≡ procs)) }
+            ensures { IfOk result (λ ms. All (BelongsTo (identity_of turnstile.entry.now)) ms.items × (length ms.items ≡ procs)) }
         {
             in_scope(
                 scope, rt, alloc, code, gate, turnstile, flags, groups, procs,

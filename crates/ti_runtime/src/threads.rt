@@ -1,12 +1,15 @@
-// Workers on threads of their own.
+// Starting workers on threads, and joining them.
+//
+// A worker promises to hand back its processes with passes of the same turnstile. If a thread can't be started, its closure comes back and is
+// called on the caller's thread with the worker's flag set: it hands its processes back at once, and the caller runs them.
 ghost use Rattle.std.specs.Prelude.{◌≡◌, ◌<◌, ◌≤◌, ◌+◌, length, All, sum_by, IfOk, IfErr, vec_len, vec_capacity};
 ghost use Rattle.ti_turnstile.specs.Turnstiles.{identity_of};
-ghost use Rattle.ti_runtime.specs.Mirrors.Team.{MayRun};
-ghost use Rattle.ti_runtime.specs.Mirrors.Mates.{AllOf};
+ghost use Rattle.ti_runtime.specs.Mirrors.Processes.{RunPremises};
+ghost use Rattle.ti_runtime.specs.Mirrors.Tasks.{BelongsTo};
 
-use crate::by_code::ByCode;
-use crate::crew::work;
-use crate::mate::Mate;
+use crate::code_of::CodeOf;
+use crate::task::Task;
+use crate::worker::run_worker;
 use std::alloc::Global;
 use std::sync::Wait;
 use std::sync::atomic::{AtomicBool, Ordering};
@@ -17,9 +20,9 @@ use ti_io::Gate;
 use ti_store::{Store, Terms};
 use ti_turnstile::{Kept, Turnstile};
 
-/// What a worker promises: it gives back all its processes, each with its pass of the turnstile.
+/// What a worker promises: it hands back all its processes, each with its pass of the turnstile.
 #[derive(Clone, Copy)]
-pub struct Back<'a, J: Terms + ByCode>
+pub struct WorkerPromise<'a, J: Terms + CodeOf>
 where
     Store<J>: Kept<Item = Entry>,
 {
@@ -27,38 +30,38 @@ where
     count: usize,
 }
 
-impl<'a, J: Terms + ByCode> Promise<Vec<Mate<J>>> for Back<'a, J> {
+impl<'a, J: Terms + CodeOf> Promise<Vec<Task<J>>> for WorkerPromise<'a, J> {
     ghost use Rattle.std.specs.Prelude.{◌≡◌, length, All};
     ghost use Rattle.ti_turnstile.specs.Turnstiles.{identity_of};
-    ghost use Rattle.ti_runtime.specs.Mirrors.Mates.{AllOf};
+    ghost use Rattle.ti_runtime.specs.Mirrors.Tasks.{BelongsTo};
 
-    ghost kept_by = { λ p r. All (AllOf (identity_of p.turnstile.now)) r.items × (length r.items ≡ p.count) };
+    ghost kept_by = { λ p r. All (BelongsTo (identity_of p.turnstile.now)) r.items × (length r.items ≡ p.count) };
 }
 
-// Lets the processes go on, unless the flag is set.
-fn work_unless<J: Terms + ByCode, R: Wait, G: Gate>(
+// Runs the processes, unless the flag is set.
+fn run_worker_unless<J: Terms + CodeOf, R: Wait, G: Gate>(
     rt: &R,
     alloc: Global,
     code: &Code,
     gate: &G,
     turnstile: &Turnstile<Store<J>>,
     flag: &AtomicBool,
-    mates: Vec<Mate<J>>,
-) -> Vec<Mate<J>>
+    tasks: Vec<Task<J>>,
+) -> Vec<Task<J>>
     requires code { code.now ≡ J.code }
-    requires may { MayRun J.code J.setting }
-    requires mates { All (AllOf (identity_of turnstile.now)) mates.items }
-    ensures mates { All (AllOf (identity_of turnstile.now)) result.items }
-    ensures count { length result.items ≡ length mates.items }
+    requires may { RunPremises J.code J.setting }
+    requires tasks { All (BelongsTo (identity_of turnstile.now)) tasks.items }
+    ensures tasks { All (BelongsTo (identity_of turnstile.now)) result.items }
+    ensures count { length result.items ≡ length tasks.items }
 {
     if flag.load(Ordering::SeqCst) {
-        return mates;
+        return tasks;
     }
-    work(rt, alloc, code, gate, turnstile, mates)
+    run_worker(rt, alloc, code, gate, turnstile, tasks)
 }
 
-// Starts a worker. Where no thread can be made, its processes come back.
-fn start<'s, E, J: Terms + ByCode + Send + Sync, R: Threads + Wait + Sync, G: Gate + Sync>(
+// Starts a worker on a thread. If none can be started, its processes come back.
+fn start<'s, E, J: Terms + CodeOf + Send + Sync, R: Threads + Wait + Sync, G: Gate + Sync>(
     scope: &'s Scope<'s, E>,
     rt: &'s R,
     alloc: Global,
@@ -66,21 +69,21 @@ fn start<'s, E, J: Terms + ByCode + Send + Sync, R: Threads + Wait + Sync, G: Ga
     gate: &'s G,
     turnstile: &'s Turnstile<Store<J>>,
     flag: &'s AtomicBool,
-    group: Vec<Mate<J>>,
-) -> Result<PromisedHandle<Vec<Mate<J>>, Back<'s, J>>, Vec<Mate<J>>>
+    group: Vec<Task<J>>,
+) -> Result<PromisedHandle<Vec<Task<J>>, WorkerPromise<'s, J>>, Vec<Task<J>>>
     requires code { code.now ≡ J.code }
-    requires may { MayRun J.code J.setting }
-    requires group { All (AllOf (identity_of turnstile.now)) group.items }
+    requires may { RunPremises J.code J.setting }
+    requires group { All (BelongsTo (identity_of turnstile.now)) group.items }
     ensures ok { IfOk result (λ h. (identity_of h.promise.turnstile.now ≡ identity_of turnstile.now)
         × (h.promise.count ≡ length group.items)) }
-    ensures err { IfErr result (λ ms. All (AllOf (identity_of turnstile.now)) ms.items × (length ms.items ≡ length group.items)) }
+    ensures err { IfErr result (λ ms. All (BelongsTo (identity_of turnstile.now)) ms.items × (length ms.items ≡ length group.items)) }
 {
     let count = group.len();
-    let job = move || -> Vec<Mate<J>>
-        requires { All (AllOf (identity_of turnstile.now)) group.items × (code.now ≡ J.code) × MayRun J.code J.setting }
-        ensures { All (AllOf (identity_of turnstile.entry.now)) result.items × (length result.items ≡ length group.items) }
-    { work_unless(rt, alloc, code, gate, turnstile, flag, group) };
-    match scope.spawn_with(Back { turnstile, count }, job) {
+    let job = move || -> Vec<Task<J>>
+        requires { All (BelongsTo (identity_of turnstile.now)) group.items × (code.now ≡ J.code) × RunPremises J.code J.setting }
+        ensures { All (BelongsTo (identity_of turnstile.entry.now)) result.items × (length result.items ≡ length group.items) }
+    { run_worker_unless(rt, alloc, code, gate, turnstile, flag, group) };
+    match scope.spawn_with(WorkerPromise { turnstile, count }, job) {
         Ok(handle) => Ok(handle),
         Err(refused) => {
             flag.store(true, Ordering::SeqCst);
@@ -89,16 +92,16 @@ fn start<'s, E, J: Terms + ByCode + Send + Sync, R: Threads + Wait + Sync, G: Ga
     }
 }
 
-// Adds what came back to the processes of a worker with room for them.
-fn give<J: Terms + ByCode>(
+// Moves processes that came back to those of a worker that has room for them.
+fn give<J: Terms + CodeOf>(
     turnstile: &Turnstile<Store<J>>,
-    mine: &mut Vec<Mate<J>>,
-    mut back: Vec<Mate<J>>,
+    mine: &mut Vec<Task<J>>,
+    mut back: Vec<Task<J>>,
 )
-    requires mine { All (AllOf (identity_of turnstile.now)) mine.old.items }
-    requires back { All (AllOf (identity_of turnstile.now)) back.items }
+    requires mine { All (BelongsTo (identity_of turnstile.now)) mine.old.items }
+    requires back { All (BelongsTo (identity_of turnstile.now)) back.items }
     requires room { vec_len mine.old + vec_len back ≤ vec_capacity mine.old }
-    ensures mates { All (AllOf (identity_of turnstile.now)) mine.new.items }
+    ensures tasks { All (BelongsTo (identity_of turnstile.now)) mine.new.items }
     ensures count { length mine.new.items ≡ length mine.old.items + length back.items }
     ensures room { vec_capacity mine.old ≤ vec_capacity mine.new }
 {
@@ -108,8 +111,8 @@ fn give<J: Terms + ByCode>(
     }
 }
 
-/// Starts a worker for a group, or keeps its processes.
-pub fn start_one<'s, E, J: Terms + ByCode + Send + Sync, R: Threads + Wait + Sync, G: Gate + Sync>(
+/// Starts a worker for a group, or adds the group to the caller's own processes.
+pub fn start_one<'s, E, J: Terms + CodeOf + Send + Sync, R: Threads + Wait + Sync, G: Gate + Sync>(
     scope: &'s Scope<'s, E>,
     rt: &'s R,
     alloc: Global,
@@ -117,18 +120,18 @@ pub fn start_one<'s, E, J: Terms + ByCode + Send + Sync, R: Threads + Wait + Syn
     gate: &'s G,
     turnstile: &'s Turnstile<Store<J>>,
     flag: &'s AtomicBool,
-    group: Vec<Mate<J>>,
-    mine: &mut Vec<Mate<J>>,
-    handles: &mut Vec<PromisedHandle<Vec<Mate<J>>, Back<'s, J>>>,
+    group: Vec<Task<J>>,
+    mine: &mut Vec<Task<J>>,
+    handles: &mut Vec<PromisedHandle<Vec<Task<J>>, WorkerPromise<'s, J>>>,
 )
     requires code { code.now ≡ J.code }
-    requires may { MayRun J.code J.setting }
-    requires group { All (AllOf (identity_of turnstile.now)) group.items }
-    requires mine { All (AllOf (identity_of turnstile.now)) mine.old.items }
+    requires may { RunPremises J.code J.setting }
+    requires group { All (BelongsTo (identity_of turnstile.now)) group.items }
+    requires mine { All (BelongsTo (identity_of turnstile.now)) mine.old.items }
     requires handles { All (λ h. identity_of h.promise.turnstile.now ≡ identity_of turnstile.now) handles.old.items }
     requires room { vec_len mine.old + vec_len group ≤ vec_capacity mine.old }
     requires place { vec_len handles.old < vec_capacity handles.old }
-    ensures mine { All (AllOf (identity_of turnstile.now)) mine.new.items }
+    ensures mine { All (BelongsTo (identity_of turnstile.now)) mine.new.items }
     ensures handles { All (λ h. identity_of h.promise.turnstile.now ≡ identity_of turnstile.now) handles.new.items }
     ensures count { length mine.new.items + sum_by (λ h. h.promise.count) handles.new.items
         ≡ length mine.old.items + sum_by (λ h. h.promise.count) handles.old.items + length group.items }
@@ -142,17 +145,17 @@ pub fn start_one<'s, E, J: Terms + ByCode + Send + Sync, R: Threads + Wait + Syn
     }
 }
 
-/// Joins each worker, and adds its processes to those that the caller has.
-pub fn collect<'s, J: Terms + ByCode, R: Threads>(
+/// Joins each worker, and adds its processes to the caller's.
+pub fn collect<'s, J: Terms + CodeOf, R: Threads>(
     rt: &R,
     turnstile: &Turnstile<Store<J>>,
-    mut handles: Vec<PromisedHandle<Vec<Mate<J>>, Back<'s, J>>>,
-    mut all: Vec<Mate<J>>,
-) -> Vec<Mate<J>>
-    requires all { All (AllOf (identity_of turnstile.now)) all.items }
+    mut handles: Vec<PromisedHandle<Vec<Task<J>>, WorkerPromise<'s, J>>>,
+    mut all: Vec<Task<J>>,
+) -> Vec<Task<J>>
+    requires all { All (BelongsTo (identity_of turnstile.now)) all.items }
     requires handles { All (λ h. identity_of h.promise.turnstile.now ≡ identity_of turnstile.now) handles.items }
     requires room { vec_len all + sum_by (λ h. h.promise.count) handles.items ≤ vec_capacity all }
-    ensures mates { All (AllOf (identity_of turnstile.now)) result.items }
+    ensures tasks { All (BelongsTo (identity_of turnstile.now)) result.items }
     ensures count { length result.items ≡ length all.items + sum_by (λ h. h.promise.count) handles.entry.items }
 {
     while let Some(handle) = handles.pop() {

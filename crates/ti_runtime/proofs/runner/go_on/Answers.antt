@@ -11,7 +11,7 @@ returns-then-ends_with_fault g c =
     let run = subst (λ s. IsRun s es) c.knows_terms.ensures c.history.ensures.run in
     let fault = fault_told (setting_of c.args.store.now) es c.history.result.now c.ends_with_fault.result c.history.ensures.entries
     c.history.ensures.run c.ends_with_fault.ensures ∙ c.if-ends_with_fault.true in
-    came_faulted g.J.ByCode.code g.J.Terms.setting es c.args.team.now.seats.items run c.requires.count c.requires.seated fault
+    came_faulted g.J.CodeOf.code g.J.Terms.setting es c.args.scheduler.now.processes.items run c.requires.count c.requires.seated fault
 
 pub returns-then-have_ended : goal.returns-then-have_ended
 returns-then-have_ended g c =
@@ -20,4 +20,4 @@ returns-then-have_ended g c =
     let fault = fault_told (setting_of c.args.store.now) es c.history.result.now c.ends_with_fault.result c.history.ensures.entries
     c.history.ensures.run c.ends_with_fault.ensures ∙ c.if-ends_with_fault.false in
     let ended = sym (ap (list_all has_ended) c.deref.ensures.value) ∙ sym c.have_ended.ensures ∙ c.if-have_ended.true in
-    came_ended g.J.ByCode.code g.J.Terms.setting es c.args.team.now.seats.items run c.requires.count c.requires.seated fault ended
+    came_ended g.J.CodeOf.code g.J.Terms.setting es c.args.scheduler.now.processes.items run c.requires.count c.requires.seated fault ended

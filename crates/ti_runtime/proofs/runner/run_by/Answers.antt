@@ -2,34 +2,34 @@ use Rattle.std.proofs.Common.{◌≡◌, [], IfOk, sym, subst}
 use Rattle.ti_lang.specs.Program.Views.{program_of}
 use Rattle.ti_lang.specs.Meaning.Processes.{Setting}
 use Rattle.ti_runtime.specs.Ran.{Ran}
-use Rattle.ti_runtime.specs.Mirrors.Team.{MayRun}
+use Rattle.ti_runtime.specs.Mirrors.Processes.{RunPremises}
 use Rattle.ti_runtime.proofs.runner.run_by.Goals as goal
 
 pub begin-requires-clause-may : goal.begin-requires-clause-may
 begin-requires-clause-may g c = λ _ _.
     let code = c.args.code.now in
     let s : Setting = record { program = program_of c.args.c.now.program.parts; procs = c.args.procs; fuel = c.args.fuel } in
-    let may : MayRun code s = record {
+    let may : RunPremises code s = record {
       within = c.requires.within;
       follows = c.requires.follows;
       aligned = c.aligned.ensures.aligned;
       balance = c.rounds_balance.ensures;
       fit = c.answers_fit.ensures;
     } in
-    subst (λ code. MayRun code g.J.Terms.setting) c.requires.code (subst (MayRun code) c.requires.terms may)
+    subst (λ code. RunPremises code g.J.Terms.setting) c.requires.code (subst (RunPremises code) c.requires.terms may)
 
 pub finish-requires-clause-may : goal.finish-requires-clause-may
 finish-requires-clause-may g c =
     let code = c.args.code.now in
     let s : Setting = record { program = program_of c.args.c.now.program.parts; procs = c.args.procs; fuel = c.args.fuel } in
-    let may : MayRun code s = record {
+    let may : RunPremises code s = record {
       within = c.requires.within;
       follows = c.requires.follows;
       aligned = c.aligned.ensures.aligned;
       balance = c.rounds_balance.ensures;
       fit = c.answers_fit.ensures;
     } in
-    subst (λ code. MayRun code g.J.Terms.setting) c.requires.code (subst (MayRun code) c.requires.terms may)
+    subst (λ code. RunPremises code g.J.Terms.setting) c.requires.code (subst (RunPremises code) c.requires.terms may)
 
 pub returns-in-Ok-begin : goal.returns-in-Ok-begin
 returns-in-Ok-begin g c =
@@ -37,4 +37,4 @@ returns-in-Ok-begin g c =
     let workers = c.args.workers in
     let end = c.finish.result in
     let first = λ (one : workers ≡ 1). subst (λ r. IfOk r (λ r. r.store.entries ≡ [])) c.in-Ok-begin.is (c.begin.ensures.alone one) in
-    subst (λ code. Ran code s workers end) (sym c.requires.code) (subst (λ s. Ran g.J.ByCode.code s workers end) (sym c.requires.terms) (c.finish.ensures workers first))
+    subst (λ code. Ran code s workers end) (sym c.requires.code) (subst (λ s. Ran g.J.CodeOf.code s workers end) (sym c.requires.terms) (c.finish.ensures workers first))

@@ -3,7 +3,7 @@ use Rattle.std.specs.List.{All, sum_by}
 use Rattle.std.proofs.lemmas.List.Sums.{sum_by-append}
 use Rattle.std.proofs.lemmas.List.Elements.{All-nil, All-same}
 use Rattle.ti_turnstile.specs.Turnstiles.{identity_of}
-use Rattle.ti_runtime.specs.Mirrors.Mates.{AllOf}
+use Rattle.ti_runtime.specs.Mirrors.Tasks.{BelongsTo}
 use Rattle.ti_runtime.proofs.Fit.{all_before, all_last}
 use Rattle.ti_runtime.proofs.scope.in_scope.Goals as goal
 
@@ -16,8 +16,8 @@ loop-group-init g c =
     let sum = ap (λ l. sum_by (λ v. length v.items) l) items ∙ sum_by-append (λ v. length v.items) old (mine ∷ []) in
     let none = c.in_ok-handles.ensures.items in
     record {
-      mine = All-same (AllOf table) c.reserve.new.self.items mine.items (search rules) (all_last (λ v. All (AllOf table) v.items) c.args.groups.items old mine items c.requires.groups);
-      groups = all_before (λ v. All (AllOf table) v.items) c.args.groups.items old mine items c.requires.groups;
+      mine = All-same (BelongsTo table) c.reserve.new.self.items mine.items (search rules) (all_last (λ v. All (BelongsTo table) v.items) c.args.groups.items old mine items c.requires.groups);
+      groups = all_before (λ v. All (BelongsTo table) v.items) c.args.groups.items old mine items c.requires.groups;
       flags = search (rules, items);
       handles = subst (λ l. All (λ h. identity_of h.promise.turnstile.now ≡ table) l) (sym none) (All-nil (λ h. identity_of h.promise.turnstile.now ≡ table));
       count = search (rules, arith, sum, none, c.requires.all);
@@ -28,7 +28,7 @@ loop-group-init g c =
 pub start_one-requires-clause-group : goal.start_one-requires-clause-group
 start_one-requires-clause-group g c κs within =
     let table = identity_of c.args.turnstile.now in
-    all_last (λ v. All (AllOf table) v.items) c.loop-group.groups.items c.pop-in-loop-group.new.self.items c.in-Some-pop.group c.in-Some-pop.ensures.items c.loop-group.invariant.groups
+    all_last (λ v. All (BelongsTo table) v.items) c.loop-group.groups.items c.pop-in-loop-group.new.self.items c.in-Some-pop.group c.in-Some-pop.ensures.items c.loop-group.invariant.groups
 
 pub start_one-requires-clause-room : goal.start_one-requires-clause-room
 start_one-requires-clause-room g c κs within =
@@ -50,7 +50,7 @@ loop-group-preserved g c =
     let one = ap length items in
     record {
       mine = c.start_one.ensures.mine;
-      groups = all_before (λ v. All (AllOf table) v.items) c.loop-group.groups.items old group items inv.groups;
+      groups = all_before (λ v. All (BelongsTo table) v.items) c.loop-group.groups.items old group items inv.groups;
       flags = search (rules, items);
       handles = c.start_one.ensures.handles;
       count = omega (arith, sum, inv.count, c.start_one.ensures.count);

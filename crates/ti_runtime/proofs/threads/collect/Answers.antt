@@ -16,7 +16,7 @@ loop-handle-preserved g c =
     let sum = ap (λ l. sum_by (λ h. h.promise.count) l) items ∙ sum_by-append (λ h. h.promise.count) left (handle ∷ []) in
     let kept = c.join-back.ensures in
     record {
-      all = c.give.ensures.mates;
+      all = c.give.ensures.tasks;
       handles = all_before (λ h. identity_of h.promise.turnstile.now ≡ table) old left handle items inv.handles;
       count = omega (arith, sum, inv.count, c.give.ensures.count, kept.1);
       room = omega (arith, sum, inv.room, c.give.ensures.count, c.give.ensures.room, kept.1, c.give.new.mine.ok.0, c.loop-handle.all.ok.0);

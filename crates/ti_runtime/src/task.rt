@@ -1,0 +1,246 @@
+// A process that runs on a worker, with its pass of the turnstile.
+//
+// The pass is how a process knows, without looking, what the history holds of its own entries: on entry the log begins with what the pass has
+// seen, and has nothing more of its number. So the process's next action is the one that the program has next, and the store accepts it.
+ghost use Rattle.std.specs.Prelude.{◌≡◌, ◌<◌, [], IfOk, IfErr};
+ghost use Rattle.ti_lang.specs.Meaning.Histories.{entries_of};
+ghost use Rattle.ti_lang.specs.Meaning.Runs.{IsRun};
+ghost use Rattle.ti_eval.specs.Forms.{IsFormedAnswer};
+ghost use Rattle.ti_store.specs.Conditions.{HasNext};
+ghost use Rattle.ti_store.specs.Stores.{setting_of, log_of, next_of, IsDone, IsRefused};
+ghost use Rattle.ti_turnstile.specs.Passes.{GrownBy};
+ghost use Rattle.ti_turnstile.specs.Turnstiles.{identity_of, turnstile_of, number_of, seen_by, turnstile_around, number_inside, found_inside, value_inside};
+ghost use Rattle.ti_runtime.specs.Mirrors.Processes.{place_of, action_of, Seated, RunPremises};
+ghost use Rattle.ti_runtime.specs.Mirrors.Tasks.{entries_in};
+
+use crate::code_of::CodeOf;
+use crate::pending::{PendingProc, as_action};
+use std::alloc::Global;
+use std::marker::Model;
+use std::sync::Wait;
+use ti_base::{Action, Answer, Entry, Memory, Next};
+use ti_code::Code;
+use ti_io::Gate;
+use ti_machine::has_one_next;
+use ti_store::{ActErr, Store, Terms};
+use ti_turnstile::{Inside, Kept, Pass, Turnstile};
+
+/// The outcome of one attempt to let a process perform its next action.
+#[derive(Clone, Copy, PartialEq, Eq)]
+pub enum TryOutcome {
+    /// It performed its next action, or reached its end.
+    Went,
+    /// It had reached its end before.
+    Ended,
+    /// It waits at a collective for other processes.
+    Waits,
+    /// The run has stopped, by a fault or out of memory.
+    Stops,
+}
+
+/// A process with its pass, up to date with the answers to all entries that the pass has seen. What it computes before its first action is
+/// computed by the worker that tries it first.
+///
+/// Contracts see which turnstile its pass belongs to, and its number.
+#[derive(Drop)]
+pub struct Task<J: Terms + CodeOf>
+where
+    Store<J>: Kept<Item = Entry>,
+{
+    number: u32,
+    pending: PendingProc,
+    pass: Pass<Store<J>>,
+}
+
+impl<J: Terms + CodeOf> Model for Task<J>
+where
+    Store<J>: Kept<Item = Entry>,
+{
+    ghost use Rattle.ti_runtime.specs.Mirrors.Tasks.{TaskView, task_code};
+
+    ghost Value = { TaskView };
+
+    ghost coded = { task_code };
+
+    ghost use Rattle.std.specs.Prelude.{◌≡◌, ◌<◌};
+    ghost use Rattle.ti_turnstile.specs.Turnstiles.{turnstile_of, number_of, seen_by};
+    ghost use Rattle.ti_runtime.specs.Mirrors.Processes.{Seated};
+    ghost use Rattle.ti_runtime.specs.Mirrors.Tasks.{entries_in};
+
+    ghost view = { λ m. record { turnstile = turnstile_of m.pass; number = m.number } };
+
+    ghost invariant = { λ m. (m.number < J.setting.procs) × (number_of m.pass ≡ m.number) × Seated J.code J.setting (entries_in (seen_by m.pass)) m.number m.pending };
+}
+
+// Performs the next action of a process in the store.
+fn act<J: Terms + CodeOf>(
+    alloc: Global,
+    next: Next,
+    number: u32,
+    store: &mut Store<J>,
+) -> Result<Answer, ActErr>
+    requires number { number < J.setting.procs }
+    requires next { HasNext J.setting number (entries_of number store.old.entries) (next_of (place_of next) (action_of next)) }
+    ensures terms { setting_of store.old ≡ J.setting }
+    ensures run { IsRun (setting_of store.old) store.old.entries }
+    ensures done { IfOk result (λ answer. IsDone store.old number (place_of next) (action_of next) answer store.new) }
+    ensures refused { IfErr result (λ why. IsRefused store.old number (place_of next) (action_of next) why store.new) }
+    ensures form { IfOk result IsFormedAnswer }
+    ensures grown { GrownBy number (log_of store.old.entries) (log_of store.new.entries) }
+{
+    store.knows_terms();
+    let _run = store.history();
+    let (place, action) = as_action(next);
+    store.act(alloc, number, place, action)
+}
+
+// Whether this outcome may let waiting processes continue, or make them stop: an arrival or a fault. Only speed depends on it.
+fn lets_others_go_on(next: Next, acted: &Result<Answer, ActErr>) -> bool {
+    match acted {
+        Ok(_) => matches!(next, Next::Act(_, Action::Arrive { .. })),
+        Err(why) => matches!(why, ActErr::Faulted(_)),
+    }
+}
+
+// Leaves the turnstile, and with `wakes` wakes the threads that sleep there.
+fn leave_after<J: Terms + CodeOf>(
+    turnstile: &Turnstile<Store<J>>,
+    inside: Inside<Store<J>>,
+    wakes: bool,
+) -> Pass<Store<J>>
+    requires turnstile { turnstile_around inside ≡ identity_of turnstile.now }
+    requires grown { GrownBy (number_inside inside) (found_inside inside) (log_of (value_inside inside).entries) }
+    ensures turnstile { turnstile_of result ≡ turnstile_around inside }
+    ensures number { number_of result ≡ number_inside inside }
+    ensures seen { seen_by result ≡ log_of (value_inside inside).entries }
+{
+    if wakes {
+        turnstile.leave_and_wake(inside)
+    } else {
+        turnstile.leave(inside)
+    }
+}
+
+impl<J: Terms + CodeOf> Task<J> {
+    /// A process that has performed nothing yet, with a pass that has seen nothing.
+    pub fn new(number: u32, pending: PendingProc, pass: Pass<Store<J>>) -> Task<J>
+        requires number { number < J.setting.procs }
+        requires same { number_of pass ≡ number }
+        requires seen { seen_by pass ≡ [] }
+        requires seated { Seated J.code J.setting [] number pending }
+        ensures { result ≡ record { turnstile = turnstile_of pass; number = number } }
+    {
+        Task {
+            number,
+            pending,
+            pass,
+        }
+    }
+
+    /// Its number, its state, and its pass.
+    pub fn into_parts(self) -> (u32, PendingProc, Pass<Store<J>>)
+        ensures number { (result.0 ≡ self.number) × (result.0 < J.setting.procs) × (number_of result.2 ≡ result.0) }
+        ensures turnstile { turnstile_of result.2 ≡ self.turnstile }
+        ensures seated { Seated J.code J.setting (entries_in (seen_by result.2)) result.0 result.1 }
+    {
+        let Task {
+            number,
+            pending,
+            pass,
+        } = self;
+        (number, pending, pass)
+    }
+
+    // Halts the store, so that no process performs anything more, and wakes the threads that sleep.
+    fn halt<R: Wait>(self, rt: &R, turnstile: &Turnstile<Store<J>>) -> Task<J>
+        requires turnstile { self.turnstile ≡ identity_of turnstile.now }
+        ensures { result.turnstile ≡ identity_of turnstile.now }
+    {
+        let Task {
+            number,
+            pending,
+            pass,
+        } = self;
+        let mut inside = turnstile.enter(rt, pass);
+        inside.value().halt_for_memory();
+        let pass = turnstile.leave_and_wake(inside);
+        Task {
+            number,
+            pending,
+            pass,
+        }
+    }
+
+    /// Runs the process to its next action, passes the gate, and performs that action unless it has to wait.
+    pub fn try_turn<R: Wait, G: Gate>(
+        self,
+        rt: &R,
+        alloc: Global,
+        code: &Code,
+        gate: &G,
+        turnstile: &Turnstile<Store<J>>,
+    ) -> (Task<J>, TryOutcome)
+        requires code { code.now ≡ J.code }
+        requires may { RunPremises J.code J.setting }
+        requires turnstile { self.turnstile ≡ identity_of turnstile.now }
+        ensures { result.0.turnstile ≡ identity_of turnstile.now }
+    {
+        if self.pending.ended {
+            return (self, TryOutcome::Ended);
+        }
+        has_one_next();
+        let Task {
+            number,
+            mut pending,
+            pass,
+        } = self;
+        let Ok(next) = pending.advance(alloc, code) else {
+            let task = Task {
+                number,
+                pending,
+                pass,
+            };
+            return (task.halt(rt, turnstile), TryOutcome::Stops);
+        };
+        gate.pass(number);
+        let mut inside = turnstile.enter(rt, pass);
+        let acted = act(alloc, next, number, inside.value());
+        let pass = leave_after(turnstile, inside, lets_others_go_on(next, &acted));
+        match acted {
+            Ok(answer) => {
+                let _turn = pending.hear(next, answer);
+                (
+                    Task {
+                        number,
+                        pending,
+                        pass,
+                    },
+                    TryOutcome::Went,
+                )
+            }
+            Err(why) => Task {
+                number,
+                pending,
+                pass,
+            }
+            .refused(rt, turnstile, why),
+        }
+    }
+
+    // The outcome of an action that the store didn't perform.
+    fn refused<R: Wait>(
+        self,
+        rt: &R,
+        turnstile: &Turnstile<Store<J>>,
+        why: ActErr,
+    ) -> (Task<J>, TryOutcome)
+        requires turnstile { self.turnstile ≡ identity_of turnstile.now }
+        ensures { result.0.turnstile ≡ identity_of turnstile.now }
+    {
+        match why {
+            ActErr::NotYet => (self, TryOutcome::Waits),
+            ActErr::Faulted(_) | ActErr::Halted => (self, TryOutcome::Stops),
+            ActErr::Memory => (self.halt(rt, turnstile), TryOutcome::Stops),
+        }
+    }
+}
