@@ -13,7 +13,7 @@ use Rattle.ti_code.specs.Follows.{Follows}
 use Rattle.ti_machine.specs.Standing.{CodeStanding, HasNext, GoesOn}
 use Rattle.ti_store.specs.Conditions.{IsWithin}
 use Rattle.ti_store.proofs.Lemmas.{fitting, fits_none}
-use Rattle.ti_trace_check.specs.declared.seat.Seat.{Seat}
+use Rattle.ti_trace_check.specs.declared.replayed.ReplayedProc.{ReplayedProc}
 use Rattle.ti_trace_check.specs.Mirrors.Seats.{standing_of, StandsAt, Seated}
 
 -- ---- the code stands there too
@@ -30,10 +30,10 @@ module _ (code : Code) (s : Setting) (f : Follows code s.program) (w : IsWithin 
   code_goes_on = let n = next_some q in (n.0, code_next n.0 n.1)
 
   -- what the code has next is what the program has
-  pub seated : OneNext → (seat : Seat) → StandsAt (standing_of code s es i) seat → has_end i es ≡ seat.ended → Seated code s es i seat
-  seated one seat y e =
+  pub seated : OneNext → (replayed : ReplayedProc) → StandsAt (standing_of code s es i) replayed → has_end i es ≡ replayed.ended → Seated code s es i replayed
+  seated one replayed y e =
       let n = next_some q in
-      let same : n.0 ≡ seat.next = one (standing_of code s es i) n.0 seat.next (code_next n.0 n.1) y.next in
+      let same : n.0 ≡ replayed.next = one (standing_of code s es i) n.0 replayed.next (code_next n.0 n.1) y.next in
       record {
         process = y.process;
         there = q;
@@ -47,5 +47,5 @@ module _ (code : Code) (s : Setting) (f : Follows code s.program) (w : IsWithin 
   pub begins_on : GoesOn (standing_of code s [] i)
   begins_on = code_goes_on code s f w [] (fits_none s) i l (begin s i) none
 
-  pub begins_seated : OneNext → (seat : Seat) → StandsAt (standing_of code s [] i) seat → seat.ended ≡ false → Seated code s [] i seat
-  begins_seated one seat y e = seated code s f w [] (fits_none s) i l (begin s i) none one seat y (sym e)
+  pub begins_seated : OneNext → (replayed : ReplayedProc) → StandsAt (standing_of code s [] i) replayed → replayed.ended ≡ false → Seated code s [] i replayed
+  begins_seated one replayed y e = seated code s f w [] (fits_none s) i l (begin s i) none one replayed y (sym e)

@@ -1,4 +1,4 @@
--- What the seats tell of a whole run, and the verdict behind the lines.
+-- What the processes tell of a whole run, and the verdict behind the lines.
 use Rattle.std.proofs.Common.{◌≡◌, inl, inr, ℕ, zero, suc, ◌+◌, ◌<◌, ◌≤◌, Bool, true, false, ◌&&◌, ◌||◌, List, [], ◌∷◌, ◌++◌, length, take, get_or, refl, ap, sym, ◌∙◌, subst, arith, append-nil}
 use Rattle.std.specs.List.{list_all}
 use Rattle.std.proofs.lemmas.List.{take_all, length-take-le}
@@ -13,11 +13,11 @@ use Rattle.ti_code.specs.Follows.{Follows}
 use Rattle.ti_store.specs.Conditions.{IsWithin}
 use Rattle.ti_store.specs.Stores.{StoreState, setting_of}
 use Rattle.ti_watch.specs.Reports.{trace_text}
-use Rattle.ti_trace_check.specs.declared.seat.Seat.{Seat}
-use Rattle.ti_trace_check.specs.declared.following.Followed.{Followed}
+use Rattle.ti_trace_check.specs.declared.replayed.ReplayedProc.{ReplayedProc}
+use Rattle.ti_trace_check.specs.declared.replay.ReplayEnd.{ReplayEnd}
 use Rattle.ti_trace_check.specs.declared.verdict.Verdict.{Verdict}
 use Rattle.ti_trace_check.specs.declared.verdict.Verdict.TheVariants.{Run, NoRun}
-use Rattle.ti_trace_check.specs.Mirrors.Seats.{IsOpen, Stands, CameTo, LeavesText, Gives}
+use Rattle.ti_trace_check.specs.Mirrors.Seats.{IsOpen, Stands, ReplayOutcome, LeavesText, Gives}
 use Rattle.ti_trace_check.specs.Verdicts.{IsWrong, Judges, Keeps}
 
 true_false : true ≡ false → ⊥
@@ -35,18 +35,18 @@ opens code store s same unhalted within follows fit = record {
   fit = subst (λ (t : Setting). OfEveryRun AnswersFit t.program) (sym same) fit;
 }
 
--- the seats stand there
-pub stands_first : (code : Code) (s t : Setting) (es : List Entry) (seats : List Seat) → t ≡ s → es ≡ [] → Stands code s [] seats → Stands code t es seats
-stands_first code s t es seats same none x = subst (λ es. Stands code t es seats) (sym none) (subst (λ t. Stands code t [] seats) (sym same) x)
+-- the processes stand there
+pub stands_first : (code : Code) (s t : Setting) (es : List Entry) (processes : List ReplayedProc) → t ≡ s → es ≡ [] → Stands code s [] processes → Stands code t es processes
+stands_first code s t es processes same none x = subst (λ es. Stands code t es processes) (sym none) (subst (λ t. Stands code t [] processes) (sym same) x)
 
 -- ---- whether all had their end
 
-abbrev pub all_have : List Seat → Bool
-all_have seats = list_all (λ (seat : Seat). seat.ended) seats
+abbrev pub all_have : List ReplayedProc → Bool
+all_have processes = list_all (λ (replayed : ReplayedProc). replayed.ended) processes
 
--- the seats tell of the processes from number k on
-abbrev Tells : List Entry → ℕ → List Seat → Type 0
-Tells es k seats = (d : Seat) (i : ℕ) → i < length seats → has_end (k + i) es ≡ (get_or seats i d).ended
+-- the processes tell of the processes from number k on
+abbrev Tells : List Entry → ℕ → List ReplayedProc → Type 0
+Tells es k processes = (d : ReplayedProc) (i : ℕ) → i < length processes → has_end (k + i) es ≡ (get_or processes i d).ended
 
 shift : (k i : ℕ) → k + 1 + i ≡ k + suc i
 shift k i = omega arith
@@ -57,7 +57,7 @@ one_more i n l = omega arith
 one_less : (i n : ℕ) → suc i < suc n → i < n
 one_less i n l = omega arith
 
-tells_rest : (es : List Entry) (k : ℕ) (x : Seat) (xs : List Seat) → Tells es k (x ∷ xs) → Tells es (k + 1) xs
+tells_rest : (es : List Entry) (k : ℕ) (x : ReplayedProc) (xs : List ReplayedProc) → Tells es k (x ∷ xs) → Tells es (k + 1) xs
 tells_rest es k x xs t d i l = subst (λ n. has_end n es ≡ (get_or xs i d).ended) (sym (shift k i)) (t d (suc i) (one_more i (length xs) l))
 
 first_of : (a b : Bool) → (a && b) ≡ true → a ≡ true
@@ -68,7 +68,7 @@ rest_of : (a b : Bool) → (a && b) ≡ true → b ≡ true
 rest_of true b h = h
 rest_of false b h = cc
 
-all_ended : (es : List Entry) (k : ℕ) (seats : List Seat) → Tells es k seats → all_have seats ≡ true → (i : ℕ) → i < length seats → has_end (k + i) es ≡ true
+all_ended : (es : List Entry) (k : ℕ) (processes : List ReplayedProc) → Tells es k processes → all_have processes ≡ true → (i : ℕ) → i < length processes → has_end (k + i) es ≡ true
 all_ended es k [] t h i l = absurd (none i l)
   where
     none : (i : ℕ) → i < 0 → ⊥
@@ -77,7 +77,7 @@ all_ended es k (x ∷ xs) t h zero l = t x 0 l ∙ first_of x.ended (all_have xs
 all_ended es k (x ∷ xs) t h (suc i) l =
     subst (λ n. has_end n es ≡ true) (shift k i) (all_ended es (k + 1) xs (tells_rest es k x xs t) (rest_of x.ended (all_have xs) h) i (one_less i (length xs) l))
 
-not_all : (es : List Entry) (k : ℕ) (seats : List Seat) → Tells es k seats → all_have seats ≡ false → ((i : ℕ) → i < length seats → has_end (k + i) es ≡ true) → ⊥
+not_all : (es : List Entry) (k : ℕ) (processes : List ReplayedProc) → Tells es k processes → all_have processes ≡ false → ((i : ℕ) → i < length processes → has_end (k + i) es ≡ true) → ⊥
 not_all es k [] t h all = true_false h
 not_all es k (x ∷ xs) t h all =
     not_all es (k + 1) xs (tells_rest es k x xs t) (by x.ended (sym (t x 0 (some (length xs))) ∙ all 0 (some (length xs))) h)
@@ -90,37 +90,37 @@ not_all es k (x ∷ xs) t h all =
     by true e h = h
     by false e h = cc
 
-module _ (code : Code) (s : Setting) (es : List Entry) (seats : List Seat) (x : Stands code s es seats) where
-  tells : Tells es 0 seats
-  tells d i l = subst (λ n. has_end n es ≡ (get_or seats i d).ended) (plain i) (x.seated d i l).ended
+module _ (code : Code) (s : Setting) (es : List Entry) (processes : List ReplayedProc) (x : Stands code s es processes) where
+  tells : Tells es 0 processes
+  tells d i l = subst (λ n. has_end n es ≡ (get_or processes i d).ended) (plain i) (x.seated d i l).ended
     where
       plain : (i : ℕ) → i ≡ 0 + i
       plain i = omega arith
 
-  ended : all_have seats ≡ true → AllEnded s es
-  ended h i l = subst (λ n. has_end n es ≡ true) (plain i) (all_ended es 0 seats tells h i (subst (λ n. i < n) (sym x.count) l))
+  ended : all_have processes ≡ true → AllEnded s es
+  ended h i l = subst (λ n. has_end n es ≡ true) (plain i) (all_ended es 0 processes tells h i (subst (λ n. i < n) (sym x.count) l))
     where
       plain : (i : ℕ) → 0 + i ≡ i
       plain i = omega arith
 
-  unended : all_have seats ≡ false → AllEnded s es → ⊥
-  unended h all = not_all es 0 seats tells h (λ i l. subst (λ n. has_end n es ≡ true) (plain i) (all i (subst (λ n. i < n) x.count l)))
+  unended : all_have processes ≡ false → AllEnded s es → ⊥
+  unended h all = not_all es 0 processes tells h (λ i l. subst (λ n. has_end n es ≡ true) (plain i) (all i (subst (λ n. i < n) x.count l)))
     where
       plain : (i : ℕ) → i ≡ 0 + i
       plain i = omega arith
 
-  pub complete : (a b : Bool) → a ≡ all_have seats → b ≡ has_fault es → (a || b) ≡ true → IsComplete s es
+  pub complete : (a b : Bool) → a ≡ all_have processes → b ≡ has_fault es → (a || b) ≡ true → IsComplete s es
   complete true b e f h = inr (ended (sym e))
   complete false b e f h = inl (sym f ∙ h)
 
-  pub not_complete : (a b : Bool) → a ≡ all_have seats → b ≡ has_fault es → (a || b) ≡ false → IsComplete s es → ⊥
+  pub not_complete : (a b : Bool) → a ≡ all_have processes → b ≡ has_fault es → (a || b) ≡ false → IsComplete s es → ⊥
   not_complete true b e f h done = true_false h
   not_complete false b e f h (inl fault) = true_false (sym fault ∙ sym f ∙ h)
   not_complete false b e f h (inr all) = unended (sym e) all
 
 -- ---- verdicts
 
-module _ (code : Code) (s : Setting) (all : List Entry) (seats : List Seat) (end : Followed) (came : CameTo code s all seats end) (b : Bool) (yes : end.is_end ≡ true → b ≡ true → IsComplete s all) (no : end.is_end ≡ true → b ≡ false → IsComplete s all → ⊥) where
+module _ (code : Code) (s : Setting) (all : List Entry) (processes : List ReplayedProc) (end : ReplayEnd) (came : ReplayOutcome code s all processes end) (b : Bool) (yes : end.is_end ≡ true → b ≡ true → IsComplete s all) (no : end.is_end ≡ true → b ≡ false → IsComplete s all → ⊥) where
   whole : end.is_end ≡ true → take end.taken all ≡ all
   whole e = take_all end.taken all (least (length all) end.taken (came.whole e).0)
     where

@@ -8,9 +8,9 @@ use Rattle.ti_code.specs.Programs.{Code}
 use Rattle.ti_store.specs.Stores.{StoreState}
 use Rattle.ti_watch.specs.Lines.{line_room}
 use Rattle.ti_watch.specs.Reports.{entry_text, trace_text}
-use Rattle.ti_trace_check.specs.declared.seat.Seat.{Seat}
-use Rattle.ti_trace_check.specs.Mirrors.Pieces.{TakesLine}
-use Rattle.ti_trace_check.specs.Mirrors.Seats.{IsOpen, Stands, GoesOn, IsOff, CameTo, LeavesText}
+use Rattle.ti_trace_check.specs.declared.replayed.ReplayedProc.{ReplayedProc}
+use Rattle.ti_trace_check.specs.Mirrors.LineReader.{TakesLine}
+use Rattle.ti_trace_check.specs.Mirrors.Seats.{IsOpen, Stands, GoesOn, IsOff, ReplayOutcome, LeavesText}
 use Rattle.ti_trace_check.specs.Lines.{first_line}
 use Rattle.ti_trace_check.specs.Verdicts.{IsTrace}
 use Rattle.ti_trace_check.proofs.FirstLines.{none_more, some_line}
@@ -42,7 +42,7 @@ pub begins : (text line rest : List ℕ) (es : List Entry) → es ≡ [] → Tak
 begins text line rest es none t = record { left = text; begins = ap (λ xs. trace_text xs ++ text) (sym none); takes = t }
 
 -- behind a line
-pub goes : (code : Code) (s : Setting) (text : List ℕ) (es : List Entry) (old new : List Seat) (all : List Entry)
+pub goes : (code : Code) (s : Setting) (text : List ℕ) (es : List Entry) (old new : List ReplayedProc) (all : List Entry)
     (line rest next later : List ℕ) → GoesOn code s es old all new line → Goes text es line rest → TakesLine rest next later
     → Goes text all next later
 goes code s text es old new all line rest next later g x t = record {
@@ -55,9 +55,9 @@ goes code s text es old new all line rest next later g x t = record {
 }
 
 -- at the end of the text
-pub came_whole : (code : Code) (s : Setting) (es : List Entry) (seats : List Seat) (taken : ℕ) → Stands code s es seats → taken ≡ length es
-    → CameTo code s es seats (record { taken = taken; is_end = true })
-came_whole code s es seats taken x e = record {
+pub came_whole : (code : Code) (s : Setting) (es : List Entry) (processes : List ReplayedProc) (taken : ℕ) → Stands code s es processes → taken ≡ length es
+    → ReplayOutcome code s es processes (record { taken = taken; is_end = true })
+came_whole code s es processes taken x e = record {
   within = same taken (length es) e;
   run = subst (IsRun s) (sym (take_all taken es (same (length es) taken (sym e)))) x.run;
   whole = λ _. (e, x);
@@ -82,9 +82,9 @@ left_whole s text line rest es taken e none x = record {
     true_false e = cc
 
 -- at a line that is off
-pub came_off : (code : Code) (s : Setting) (es all : List Entry) (seats : List Seat) (line : List ℕ) (taken : ℕ) → taken ≡ length es
-    → IsRun s es → IsOff s es all line → CameTo code s all seats (record { taken = taken; is_end = false })
-came_off code s es all seats line taken e ran off = record {
+pub came_off : (code : Code) (s : Setting) (es all : List Entry) (processes : List ReplayedProc) (line : List ℕ) (taken : ℕ) → taken ≡ length es
+    → IsRun s es → IsOff s es all line → ReplayOutcome code s all processes (record { taken = taken; is_end = false })
+came_off code s es all processes line taken e ran off = record {
   within = subst (λ n. n ≤ length all) (sym e) off.within;
   run = subst (IsRun s) (sym (ap (λ n. take n all) e ∙ off.kept)) ran;
   whole = λ f. absurd (false_true f);
@@ -129,6 +129,6 @@ not_empty_line held line b same is other none = by b is other (ap length (same �
         false_true e = cc
 
 -- the same of a line and a setting that are the same
-pub goes_of : (code : Code) (s t : Setting) (es : List Entry) (old : List Seat) (all : List Entry) (new : List Seat) (line same : List ℕ)
+pub goes_of : (code : Code) (s t : Setting) (es : List Entry) (old : List ReplayedProc) (all : List Entry) (new : List ReplayedProc) (line same : List ℕ)
     → s ≡ t → line ≡ same → GoesOn code s es old all new line → GoesOn code t es old all new same
 goes_of code s t es old all new line same e f x = subst (λ l. GoesOn code t es old all new l) f (subst (λ z. GoesOn code z es old all new line) e x)

@@ -1,4 +1,4 @@
--- What the turn of a process makes of its seat.
+-- What the turn of a process makes of its replayed.
 use Rattle.std.proofs.Common.{◌≡◌, ℕ, ◌+◌, ◌-◌, ◌<◌, ◌≤◌, Bool, true, false, not, ◌||◌, length, Some, List, [], ◌∷◌, ◌++◌, refl, sym, ap, ◌∙◌, subst, arith, length-append}
 use Rattle.ti_base.specs.declared.place.Place.{Place}
 use Rattle.ti_base.specs.declared.fault.FaultKind.{FaultKind}
@@ -23,8 +23,8 @@ use Rattle.ti_store.specs.Conditions as store
 use Rattle.ti_store.specs.Stores.{StoreState, setting_of, next_of, Becomes, fault_entry, IsDone, IsRefused}
 use Rattle.ti_store.specs.declared.act_err.ActErr.TheVariants as err
 use Rattle.ti_store.proofs.Lemmas.{next_acts, fault_more, end_more, answers_more, answers_still, world_more}
-use Rattle.ti_trace_check.specs.declared.seat.Seat.{Seat}
-use Rattle.ti_trace_check.specs.Mirrors.Seats.{doing_of, place_of, action_of, standing_of, StandsAt, Seated, told_more, Hears, Moves, steps_left, faults_left, IsOpen, TurnLeaves}
+use Rattle.ti_trace_check.specs.declared.replayed.ReplayedProc.{ReplayedProc}
+use Rattle.ti_trace_check.specs.Mirrors.Seats.{action_for, place_of, action_of, standing_of, StandsAt, Seated, told_more, Hears, Moves, steps_left, faults_left, IsOpen, TurnLeaves}
 use Rattle.ti_trace_check.proofs.ByCode.{OneNext, code_goes_on, seated}
 
 true_false : true ≡ false → ⊥
@@ -46,24 +46,24 @@ acts (Ends place) q at a e h = cc
 acts (Faults kind place) q at a e h = cc
 
 -- what the store takes comes back as what is next
-next_back : (p : Process) (n : Next) → IsNext p n → next_of (doing_of n).0 (doing_of n).1 ≡ n
+next_back : (p : Process) (n : Next) → IsNext p n → next_of (action_for n).0 (action_for n).1 ≡ n
 next_back p (next.Act at a) x = let none = acts (step x.0) x.0 at a refl x.1.stands in next_acts at a none.0 none.1
 next_back p (next.End at) x = refl
 next_back p (next.Fault kind at) x = refl
 
 -- an action is answered
-answered_act : (p : Process) (n : Next) → IsNext p n → is_act n ≡ true → (is_end (doing_of n).1 ≡ false) × (is_fault (doing_of n).1 ≡ false)
+answered_act : (p : Process) (n : Next) → IsNext p n → is_act n ≡ true → (is_end (action_for n).1 ≡ false) × (is_fault (action_for n).1 ≡ false)
 answered_act p (next.Act at a) x e = acts (step x.0) x.0 at a refl x.1.stands
 answered_act p (next.End at) x e = absurd (true_false (sym e))
 answered_act p (next.Fault kind at) x e = absurd (true_false (sym e))
 
 -- what is neither an action nor a fault is the end
-end_left : (n : Next) → is_act n ≡ false → is_fault (doing_of n).1 ≡ false → is_end (doing_of n).1 ≡ true
+end_left : (n : Next) → is_act n ≡ false → is_fault (action_for n).1 ≡ false → is_end (action_for n).1 ≡ true
 end_left (next.Act at a) e f = absurd (true_false e)
 end_left (next.End at) e f = refl
 end_left (next.Fault kind at) e f = absurd (true_false f)
 
--- ---- what a seat tells
+-- ---- what a replayed tells
 
 within_ticks : (n s f : ℕ) → 0 + n ≤ s → s ≤ f → n ≤ f
 within_ticks n s f h k = omega arith
@@ -72,34 +72,34 @@ within_ticks n s f h k = omega arith
 answers_few : (s : Setting) (i : ℕ) (rs : List Answer) (p : Process) → After (begin s i) rs p → length rs ≤ s.fuel
 answers_few s i rs p x = within_ticks (length rs) p.spent s.fuel (after_pays (begin s i) p rs x) (within s i rs p x).0
 
--- the seat tells the same where the process got no answer since
-seated_with : (code : Code) (s : Setting) (es all : List Entry) (i : ℕ) (seat : Seat) (ended : Bool) → answers_of i all ≡ answers_of i es → has_end i all ≡ ended → Seated code s es i seat
-    → Seated code s all i (record seat { ended = ended })
-seated_with code s es all i seat ended same e y = record {
-  process = y.process ∙ ap (λ rs. record (standing_of code s es i) { told = rs; asks = is_act seat.next }) (sym same);
+-- the replayed tells the same where the process got no answer since
+seated_with : (code : Code) (s : Setting) (es all : List Entry) (i : ℕ) (replayed : ReplayedProc) (ended : Bool) → answers_of i all ≡ answers_of i es → has_end i all ≡ ended → Seated code s es i replayed
+    → Seated code s all i (record replayed { ended = ended })
+seated_with code s es all i replayed ended same e y = record {
+  process = y.process ∙ ap (λ rs. record (standing_of code s es i) { told = rs; asks = is_act replayed.next }) (sym same);
   there = y.there;
   world = subst (λ rs. After (begin s i) rs y.there) (sym same) y.world;
   is_next = y.is_next;
   ended = e;
 }
 
-module _ (code : Code) (s : Setting) (es : List Entry) (i : ℕ) (seat : Seat) (y : Seated code s es i seat) where
-  few : length seat.process.told ≤ s.fuel
+module _ (code : Code) (s : Setting) (es : List Entry) (i : ℕ) (replayed : ReplayedProc) (y : Seated code s es i replayed) where
+  few : length replayed.process.told ≤ s.fuel
   few = subst (λ xs. length xs ≤ s.fuel) (sym (ap (λ (x : CodeStanding). x.told) y.process)) (answers_few s i (answers_of i es) y.there y.world)
 
-  next_taken : IsNext y.there (next_of (place_of seat) (action_of seat))
-  next_taken = subst (IsNext y.there) (sym (next_back y.there seat.next y.is_next)) y.is_next
+  next_taken : IsNext y.there (next_of (place_of replayed) (action_of replayed))
+  next_taken = subst (IsNext y.there) (sym (next_back y.there replayed.next y.is_next)) y.is_next
 
-  -- an entry that the process can take is that of what the seat has next
-  only_next : (e : Entry) (t : CanTake s es i e) → t.next ≡ next_of (place_of seat) (action_of seat)
+  -- an entry that the process can take is that of what the replayed has next
+  only_next : (e : Entry) (t : CanTake s es i e) → t.next ≡ next_of (place_of replayed) (action_of replayed)
   only_next e t =
       let same : t.process ≡ y.there = after_same _ _ _ _ t.world y.world in
       next_same y.there _ _ (subst (λ p. IsNext p t.next) same t.is_next) next_taken
 
 -- the store takes what the process has next
-pub acting : (code : Code) (st : StoreState) (i : ℕ) (seat : Seat) → Seated code (setting_of st) st.entries i seat → seat.ended ≡ false
-    → store.HasNext (setting_of st) i (entries_of i st.entries) (next_of (place_of seat) (action_of seat))
-acting code st i seat y u = record { unended = y.ended ∙ u; process = y.there; world = y.world; is_next = next_taken code (setting_of st) st.entries i seat y }
+pub acting : (code : Code) (st : StoreState) (i : ℕ) (replayed : ReplayedProc) → Seated code (setting_of st) st.entries i replayed → replayed.ended ≡ false
+    → store.HasNext (setting_of st) i (entries_of i st.entries) (next_of (place_of replayed) (action_of replayed))
+acting code st i replayed y u = record { unended = y.ended ∙ u; process = y.there; world = y.world; is_next = next_taken code (setting_of st) st.entries i replayed y }
 
 or_none : (a b : Bool) → b ≡ false → (a || b) ≡ a
 or_none true b h = refl
@@ -109,12 +109,12 @@ or_false : (a b : Bool) → a ≡ false → b ≡ false → (a || b) ≡ false
 or_false a b x y = rw (x, y) refl
 
 -- the entry of what a process does, with its answer
-abbrev entry_with : ℕ → Seat → Answer → Entry
-entry_with i seat answer = record { proc = i; place = place_of seat; act = action_of seat; answer = answer }
+abbrev entry_with : ℕ → ReplayedProc → Answer → Entry
+entry_with i replayed answer = record { proc = i; place = place_of replayed; act = action_of replayed; answer = answer }
 
 -- ---- turns
 
-module _ (code : Code) (st : StoreState) (o : IsOpen code st) (run : IsRun (setting_of st) st.entries) (i : ℕ) (l : i < st.procs) (old : Seat) (y : Seated code (setting_of st) st.entries i old) (u : old.ended ≡ false) where
+module _ (code : Code) (st : StoreState) (o : IsOpen code st) (run : IsRun (setting_of st) st.entries) (i : ℕ) (l : i < st.procs) (old : ReplayedProc) (y : Seated code (setting_of st) st.entries i old) (u : old.ended ≡ false) where
   abbrev s : Setting
   s = setting_of st
 
@@ -181,21 +181,21 @@ module _ (code : Code) (st : StoreState) (o : IsOpen code st) (run : IsRun (sett
         let q = world_on e in
         subst machine.GoesOn (sym (told e)) (code_goes_on code s o.follows o.within all fit i l q.0 q.1)
 
-    seated_heard : OneNext → (seat : Seat) → is_act old.next ≡ true → Hears old answer seat → Seated code s all i seat
-    seated_heard one seat e h =
+    seated_heard : OneNext → (replayed : ReplayedProc) → is_act old.next ≡ true → Hears old answer replayed → Seated code s all i replayed
+    seated_heard one replayed e h =
         let q = world_on e in
         let unended : has_end i all ≡ has_end i es = end_more i es here refl ∙ or_none (has_end i es) (is_end (action_of old)) (answered_act y.there old.next y.is_next e).0 in
-        seated code s o.follows o.within all fit i l q.0 q.1 one seat (subst (λ t. StandsAt t seat) (told e) h.stands) (unended ∙ y.ended ∙ sym h.ended)
+        seated code s o.follows o.within all fit i l q.0 q.1 one replayed (subst (λ t. StandsAt t replayed) (told e) h.stands) (unended ∙ y.ended ∙ sym h.ended)
 
     -- fewer steps are left
     lighter_end : steps_left s (record old { ended = true }) < steps_left s old
     lighter_end = rw u (omega arith)
 
-    lighter_heard : OneNext → (seat : Seat) → is_act old.next ≡ true → Hears old answer seat → steps_left s seat < steps_left s old
-    lighter_heard one seat e h =
-        let limit : length seat.process.told ≤ s.fuel = few code s all i seat (seated_heard one seat e h) in
-        let more : length seat.process.told ≡ length old.process.told + 1 = ap (λ (x : CodeStanding). length x.told) h.stands.process ∙ length-append old.process.told (answer ∷ []) in
-        rw (h.ended, u) (one_fewer s.fuel (length old.process.told) (length seat.process.told) more limit)
+    lighter_heard : OneNext → (replayed : ReplayedProc) → is_act old.next ≡ true → Hears old answer replayed → steps_left s replayed < steps_left s old
+    lighter_heard one replayed e h =
+        let limit : length replayed.process.told ≤ s.fuel = few code s all i replayed (seated_heard one replayed e h) in
+        let more : length replayed.process.told ≡ length old.process.told + 1 = ap (λ (x : CodeStanding). length x.told) h.stands.process ∙ length-append old.process.told (answer ∷ []) in
+        rw (h.ended, u) (one_fewer s.fuel (length old.process.told) (length replayed.process.told) more limit)
       where
         one_fewer : (fuel m n : ℕ) → n ≡ m + 1 → n ≤ fuel → (fuel - n) + 1 < (fuel - m) + 1
         one_fewer fuel m n k l = omega arith
@@ -206,26 +206,26 @@ module _ (code : Code) (st : StoreState) (o : IsOpen code st) (run : IsRun (sett
         rw (none, going) refl
 
     -- the process went on, and was answered
-    pub went : OneNext → (seat : Seat) → Moves old answer seat → TurnLeaves code s es i old new.entries seat true
-    went one seat m = record {
+    pub went : OneNext → (replayed : ReplayedProc) → Moves old answer replayed → TurnLeaves code s es i old new.entries replayed true
+    went one replayed m = record {
       entry = here;
       can = can_take here going d.becomes;
       after = after;
-      seated = subst (λ xs. Seated code s xs i seat) (sym after) (seated_on (is_act old.next) refl);
-      lighter = subst (λ k. steps_left s seat + k < steps_left s old + faults_left es) (sym no_fault_here)
-          (more (steps_left s seat) (steps_left s old) (faults_left es) (lighter_on (is_act old.next) refl));
+      seated = subst (λ xs. Seated code s xs i replayed) (sym after) (seated_on (is_act old.next) refl);
+      lighter = subst (λ k. steps_left s replayed + k < steps_left s old + faults_left es) (sym no_fault_here)
+          (more (steps_left s replayed) (steps_left s old) (faults_left es) (lighter_on (is_act old.next) refl));
     }
       where
         more : (a b c : ℕ) → a < b → a + c < b + c
         more a b c h = omega arith
 
-        seated_on : (b : Bool) → is_act old.next ≡ b → Seated code s all i seat
+        seated_on : (b : Bool) → is_act old.next ≡ b → Seated code s all i replayed
         seated_on false e = subst (Seated code s all i) (sym (m.ends e)) (seated_end e)
-        seated_on true e = seated_heard one seat e (m.hears e)
+        seated_on true e = seated_heard one replayed e (m.hears e)
 
-        lighter_on : (b : Bool) → is_act old.next ≡ b → steps_left s seat < steps_left s old
+        lighter_on : (b : Bool) → is_act old.next ≡ b → steps_left s replayed < steps_left s old
         lighter_on false e = subst (λ x. steps_left s x < steps_left s old) (sym (m.ends e)) lighter_end
-        lighter_on true e = lighter_heard one seat e (m.hears e)
+        lighter_on true e = lighter_heard one replayed e (m.hears e)
 
   -- behind a fault it stands where it stood
   pub faulted : (new : StoreState) (kind : FaultKind) → IsRefused st i (place_of old) (action_of old) (err.Faulted kind) new → TurnLeaves code s es i old new.entries old true
@@ -251,12 +251,12 @@ module _ (code : Code) (st : StoreState) (o : IsOpen code st) (run : IsRun (sett
   waits new r = (ap (λ (x : StoreState). x.entries) r.2, λ e t. r.1 (subst (IsReady s es i) (only_next code s es i old y e t) t.ready))
 
   pub stopped : (new : StoreState) → IsRefused st i (place_of old) (action_of old) err.Halted new → TurnLeaves code s es i old new.entries old false
-  stopped new r = (ap (λ (x : StoreState). x.entries) r.1, λ e t. absurd (either st.halted (has_fault es) o.unhalted t.goes_on r.0))
+  stopped new r = (ap (λ (x : StoreState). x.entries) r.1, λ e t. absurd (one_of_two st.halted (has_fault es) o.unhalted t.goes_on r.0))
     where
-      either : (a b : Bool) → a ≡ false → b ≡ false → (a || b) ≡ true → ⊥
-      either true b x z h = cc
-      either false b x z h = cc
+      one_of_two : (a b : Bool) → a ≡ false → b ≡ false → (a || b) ≡ true → ⊥
+      one_of_two true b x z h = cc
+      one_of_two false b x z h = cc
 
 -- neither can one that has its end
-pub at_end : (code : Code) (s : Setting) (es : List Entry) (i : ℕ) (old : Seat) → Seated code s es i old → old.ended ≡ true → TurnLeaves code s es i old es old false
+pub at_end : (code : Code) (s : Setting) (es : List Entry) (i : ℕ) (old : ReplayedProc) → Seated code s es i old → old.ended ≡ true → TurnLeaves code s es i old es old false
 at_end code s es i old y ended = (refl, λ e t. true_false (sym ended ∙ sym y.ended ∙ t.unended))

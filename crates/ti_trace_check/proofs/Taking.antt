@@ -3,9 +3,9 @@ use Rattle.std.proofs.Common.{◌≡◌, ◌∙◌, inl, inr, ℕ, zero, suc, �
 use Rattle.std.specs.List.{slice_range}
 use Rattle.std.proofs.lemmas.List.{take-append-drop, take-take, take_at, drop-drop, length-take}
 use Rattle.ti_watch.specs.Lines.{line_room}
-use Rattle.ti_trace_check.specs.declared.pieces.Pieces.{Pieces}
+use Rattle.ti_trace_check.specs.declared.line_reader.LineReader.{LineReader}
 use Rattle.ti_trace_check.specs.Lines.{has_no_end, first_line}
-use Rattle.ti_trace_check.specs.Mirrors.Pieces.{held, Fills, TakesLine}
+use Rattle.ti_trace_check.specs.Mirrors.LineReader.{held, Fills, TakesLine}
 use Rattle.ti_trace_check.proofs.FirstLines.{past, no_end, plus_none, some_line, line_whole, line_front, none_more}
 
 -- ---- what is held
@@ -107,7 +107,7 @@ front_short held front most is = fits (length front) (length (first_line (take m
     fits a b c d e h k l = omega arith
 
 -- what is held behind the first line of its first bytes
-pub held_on : (p : Pieces) (front : List ℕ) (most : ℕ) → front ≡ first_line (take most (held p)) → p.at + length front ≤ p.end → held p ≡ front ++ held (record p { at = p.at + length front })
+pub held_on : (p : LineReader) (front : List ℕ) (most : ℕ) → front ≡ first_line (take most (held p)) → p.at + length front ≤ p.end → held p ≡ front ++ held (record p { at = p.at + length front })
 held_on p front most is l =
     let n = length front in
     let m = p.end - (p.at + n) in

@@ -1,4 +1,4 @@
-// The check of a trace.
+// The public call: starts the processes, replays the trace, and gives the verdict.
 ghost use Rattle.std.specs.Prelude.{◌≡◌, ◌<◌, ◌≤◌, ◌||◌, [], true, length, IfOk, IfErr};
 ghost use Rattle.std.specs.List.{list_all};
 ghost use Rattle.ti_code.specs.Follows.{Follows};
@@ -13,8 +13,8 @@ ghost use Rattle.ti_trace_check.specs.Mirrors.Seats.{Stands, Gives};
 ghost use Rattle.ti_trace_check.specs.Verdicts.{Keeps, Judges};
 
 use crate::error::TraceErr;
-use crate::following::{Followed, follow};
-use crate::seat::Seat;
+use crate::replay::{ReplayEnd, replay_lines};
+use crate::replayed::ReplayedProc;
 use crate::verdict::Verdict;
 use std::alloc::Global;
 use std::marker::Brand;
@@ -27,23 +27,28 @@ use ti_machine::has_one_next;
 use ti_rules::Checked;
 use ti_store::{Store, Terms};
 
-// The processes of a run before the first entry, by code that follows the program.
-fn seats_of(alloc: Global, code: &Code, procs: u32, fuel: u32) -> Result<Vec<Seat>, Memory>
+// The processes of a run before the first entry.
+fn start_processes(
+    alloc: Global,
+    code: &Code,
+    procs: u32,
+    fuel: u32,
+) -> Result<Vec<ReplayedProc>, Memory>
     requires within { IsWithin procs fuel }
     requires follows { (program : NumberedProgram) × Follows code.now program }
-    ensures { IfOk result (λ seats. (program : NumberedProgram) → Follows code.now program
-        → Stands code.now (record { program = program; procs = procs; fuel = fuel }) [] seats.items) }
+    ensures { IfOk result (λ processes. (program : NumberedProgram) → Follows code.now program
+        → Stands code.now (record { program = program; procs = procs; fuel = fuel }) [] processes.items) }
 {
     has_one_next();
-    let mut seats = Vec::with_capacity(alloc, procs as usize)?;
+    let mut processes = Vec::with_capacity(alloc, procs as usize)?;
     for number in 0..procs {
-        let seat = Seat::take(alloc, code, number, procs, fuel)?;
-        seats.push(seat)?;
+        let replayed = ReplayedProc::take(alloc, code, number, procs, fuel)?;
+        processes.push(replayed)?;
     }
-    Ok(seats)
+    Ok(processes)
 }
 
-// Whether some entry is a fault.
+// Whether any entry is a fault.
 fn has_fault(entries: &[Entry]) -> bool
     ensures { result ≡ fault_in entries.now }
 {
@@ -52,22 +57,22 @@ fn has_fault(entries: &[Entry]) -> bool
         .any(|e| matches!(e.act, Action::Fault { .. }))
 }
 
-// Whether all processes had their end.
-fn have_ended(seats: &[Seat]) -> bool
-    ensures { result ≡ list_all (λ seat. seat.ended) seats.now }
+// Whether all processes have ended.
+fn have_ended(processes: &[ReplayedProc]) -> bool
+    ensures { result ≡ list_all (λ replayed. replayed.ended) processes.now }
 {
-    seats.iter().all(|seat| seat.ended)
+    processes.iter().all(|replayed| replayed.ended)
 }
 
-// Whether one of the two holds.
-fn either(one: bool, other: bool) -> bool
+// Whether at least one of the two holds. A function of its own for the prover: the caller's goals don't split.
+fn one_of_two(one: bool, other: bool) -> bool
     ensures { result ≡ (one || other) }
 {
     one || other
 }
 
-// The verdict on a text that a run followed so far.
-fn verdict_of(end: Followed, is_complete: bool, mut entries: Vec<Entry>) -> Verdict
+// The verdict on a trace that was replayed so far.
+fn verdict_of(end: ReplayEnd, is_complete: bool, mut entries: Vec<Entry>) -> Verdict
     requires { end.taken ≤ length entries.items }
     ensures { Gives end is_complete entries.items result }
 {
@@ -79,7 +84,7 @@ fn verdict_of(end: Followed, is_complete: bool, mut entries: Vec<Entry>) -> Verd
     }
 }
 
-// The verdict by terms that somebody has picked.
+// The verdict, under type-level terms that the caller has picked.
 fn check_by<J: Terms, S: Source>(
     alloc: Global,
     c: &Checked,
@@ -100,16 +105,16 @@ fn check_by<J: Terms, S: Source>(
     answers_fit(c);
     let code = lower(alloc, c)?;
     let mut store = Store::<J>::new(alloc, c, procs, fuel)?;
-    let mut seats = seats_of(alloc, &code, procs, fuel)?;
-    let end = follow(alloc, &code, &mut seats, &mut store, source)?;
-    let is_complete = either(have_ended(&seats), has_fault(store.history()));
+    let mut processes = start_processes(alloc, &code, procs, fuel)?;
+    let end = replay_lines(alloc, &code, &mut processes, &mut store, source)?;
+    let is_complete = one_of_two(have_ended(&processes), has_fault(store.history()));
     Ok(verdict_of(end, is_complete, store.into_history()))
 }
 
 /// Whether what is left of a source is the trace of a complete run of a checked program, by so many processes with so many ticks of fuel
 /// each.
 ///
-/// Each line names the process whose next entry it has to be. What is left is read in pieces, and one line is held at a time. A read that
+/// Each line names the process whose next entry it has to be. What is left is read in line_reader, and one line is held at a time. A read that
 /// fails is told as such, and nothing else is: `Err(Read)` comes only where the count of faults rose, and always where it is greater now.
 pub fn check_trace<S: Source>(
     alloc: Global,

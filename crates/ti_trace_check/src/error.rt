@@ -1,13 +1,13 @@
-// Why a trace has no verdict.
+// The errors of a check.
 
 use thiserror::Error;
 use ti_base::Memory;
 use ti_io::Failed;
 
-/// Why a trace has no verdict.
+/// The errors of a check.
 #[derive(Debug, Drop, PartialEq, Eq, Error)]
 pub enum TraceErr {
-    /// The source failed.
+    /// A read of the source failed.
     #[error("the trace can't be read")]
     Read,
     /// Out of memory.

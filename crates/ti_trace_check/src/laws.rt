@@ -1,4 +1,4 @@
-// What verdicts exclude.
+// A law about verdicts.
 ghost use Rattle.std.specs.Prelude.{◌≡◌, ◌<◌, ◌^◌, ℕ, List};
 ghost use Rattle.ti_base.specs.declared.entry.Entry.{Entry};
 ghost use Rattle.ti_lang.specs.Meaning.Processes.{Setting};

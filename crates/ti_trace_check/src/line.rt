@@ -1,11 +1,11 @@
-// The line of an entry.
+// The line that a trace has for an entry.
 ghost use Rattle.std.specs.Prelude.{◌≡◌, ◌≤◌, length};
 ghost use Rattle.ti_watch.specs.Reports.{entry_text};
 
 use ti_base::Entry;
 use ti_watch::Line;
 
-/// The line of an entry that has this number, with its end.
+/// The line of the entry with this index, counted from 0, with its line end.
 pub fn entry_line(number: usize, e: &Entry) -> Line
     ensures text { result ≡ entry_text number e.now }
     ensures short { length result ≤ 345 }

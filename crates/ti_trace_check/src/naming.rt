@@ -1,9 +1,9 @@
-// Which process a line names.
+// The number of the process that a line names, read from the line's start alone.
 ghost use Rattle.std.specs.Prelude.{◌≡◌, ◌+◌, ◌<◌, ◌≤◌, ℕ, List, ◌∷◌, ◌++◌, length, Some, codes, decimal};
 
 use ti_watch::Line;
 
-// The digit that a byte writes.
+// The value of a decimal digit.
 fn digit(byte: u8) -> u32
     ensures value { (d : ℕ) → byte ≡ 48 + d → result ≡ d }
     ensures small { result < 256 }
@@ -15,7 +15,7 @@ fn digit(byte: u8) -> u32
     }
 }
 
-// The number of one or two digits that a text begins with, behind which there is a blank.
+// The number of one or two digits at the start of a line, if a space follows it.
 fn small_number(text: &[u8]) -> Option<u32>
     ensures { (n : ℕ) (more : List ℕ) → n < 100 → text.now ≡ decimal n ++ 32 ∷ more → result ≡ Some n }
 {
@@ -29,8 +29,8 @@ fn small_number(text: &[u8]) -> Option<u32>
     Some(first * 10 + digit(text[1]))
 }
 
-/// The process that a line of this number names, where it names one of fewer than a hundred. The clause `short` says nothing of the result:
-/// it is a fact of the number, by which callers know that no line of an entry is too long.
+/// The number of the process that a line names, if that is below 100. The clause `short` says nothing of the result: it is a fact about the
+/// line's index, from which callers know that no line of an entry is too long to be held.
 pub fn process_in(number: usize, line: &[u8]) -> Option<u32>
     ensures names { (p : ℕ) (more : List ℕ) → p < 100 → line.now ≡ decimal number ++ codes " p" ++ decimal p ++ 32 ∷ more → result
         ≡ Some p }

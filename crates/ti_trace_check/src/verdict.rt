@@ -1,12 +1,12 @@
-// What a trace is.
+// Verdicts.
 
 use ti_base::Entry;
 
-/// What a text is as a trace.
+/// The verdict on a trace.
 #[derive(Drop)]
 pub enum Verdict {
-    /// It is the trace of this complete run.
+    /// The trace is that of this complete run.
     Run(Vec<Entry>),
-    /// It is the trace of no complete run: the number of its first wrong line, from 1, and the run of the lines before it.
+    /// The trace is that of no complete run: the number of its first wrong line, counted from 1, and the run of the lines before it.
     NoRun(u64, Vec<Entry>),
 }

@@ -1,5 +1,5 @@
--- Nobody has to believe what stands here: it mirrors the code, and only contracts of private functions speak of it.
--- Where the processes of a run stand after its entries, and what a line makes of them.
+-- Mirrors the code; only contracts of private functions cite it, so nobody has to believe it.
+-- The state of each process after the entries of a run so far, and what one line does to it.
 use Rattle.std.specs.Prelude.{◌≡◌, ◌⊎◌, ℕ, ◌+◌, ◌-◌, ◌<◌, ◌≤◌, Bool, true, false, if◌then◌else◌, List, [], ◌∷◌, ◌++◌, length, take, sum_by, slice_index_or}
 use Rattle.ti_base.specs.declared.place.Place.{Place}
 use Rattle.ti_base.specs.declared.action.Action.{Action}
@@ -21,70 +21,70 @@ use Rattle.ti_store.specs.Conditions.{IsWithin}
 use Rattle.ti_store.specs.Stores.{StoreState, setting_of}
 use Rattle.ti_watch.specs.Lines.{line_room}
 use Rattle.ti_watch.specs.Reports.{entry_text, trace_text}
-use Rattle.ti_trace_check.specs.declared.seat.Seat.{Seat}
-use Rattle.ti_trace_check.specs.declared.following.Followed.{Followed}
+use Rattle.ti_trace_check.specs.declared.replayed.ReplayedProc.{ReplayedProc}
+use Rattle.ti_trace_check.specs.declared.replay.ReplayEnd.{ReplayEnd}
 use Rattle.ti_trace_check.specs.declared.verdict.Verdict.{Verdict}
 use Rattle.ti_trace_check.specs.declared.verdict.Verdict.TheVariants.{Run, NoRun}
 use Rattle.ti_trace_check.specs.Lines.{first_line}
 use Rattle.ti_trace_check.specs.Verdicts.{IsTrace}
 
--- ---- seats
+-- ---- processes
 
--- what a process has next, as a store takes it
-abbrev pub doing_of : Next → Place × Action
-doing_of (next.Act at a) = (at, a)
-doing_of (next.End at) = (at, act.End)
-doing_of (next.Fault kind at) = (at, act.Fault kind)
+-- the next action of a process with its place; an end and a fault count as actions
+abbrev pub action_for : Next → Place × Action
+action_for (next.Act at a) = (at, a)
+action_for (next.End at) = (at, act.End)
+action_for (next.Fault kind at) = (at, act.Fault kind)
 
-abbrev pub place_of : Seat → Place
-place_of seat = (doing_of seat.next).0
+abbrev pub place_of : ReplayedProc → Place
+place_of replayed = (action_for replayed.next).0
 
-abbrev pub action_of : Seat → Action
-action_of seat = (doing_of seat.next).1
+abbrev pub action_of : ReplayedProc → Action
+action_of replayed = (action_for replayed.next).1
 
--- the seat stands at what this process has next
-pub record StandsAt (t : CodeStanding) (seat : Seat) : Type 0 where
-  pub process : seat.process ≡ record t { asks = is_act seat.next }
-  pub next : HasNext t seat.next
+-- the next action that is kept is the one that this process has next
+pub record StandsAt (t : CodeStanding) (replayed : ReplayedProc) : Type 0 where
+  pub process : replayed.process ≡ record t { asks = is_act replayed.next }
+  pub next : HasNext t replayed.next
 
 -- process i of the code, after the answers of its entries other than an end and a fault
 abbrev pub standing_of : Code → Setting → List Entry → ℕ → CodeStanding
 standing_of code s es i = record { code = code; procs = s.procs; fuel = s.fuel; number = i; told = answers_of i es; asks = false }
 
--- the seat tells where process i stands after these entries: what the program has next, with the code there
-pub record Seated (code : Code) (s : Setting) (es : List Entry) (i : ℕ) (seat : Seat) : Type 0 where
-  pub process : seat.process ≡ record (standing_of code s es i) { asks = is_act seat.next }
+-- process i is up to date with these entries: it has their answers, and its next action is the one that the program has next
+pub record Seated (code : Code) (s : Setting) (es : List Entry) (i : ℕ) (replayed : ReplayedProc) : Type 0 where
+  pub process : replayed.process ≡ record (standing_of code s es i) { asks = is_act replayed.next }
   pub there : Process
   pub world : World s es i there
-  pub is_next : IsNext there seat.next
-  pub ended : has_end i es ≡ seat.ended
+  pub is_next : IsNext there replayed.next
+  pub ended : has_end i es ≡ replayed.ended
 
 -- with one answer more
 abbrev pub told_more : CodeStanding → Answer → CodeStanding
 told_more t answer = record t { told = t.told ++ answer ∷ []; asks = false }
 
--- the process heard an answer, and stands at what it has next then
-pub record Hears (old : Seat) (answer : Answer) (new : Seat) : Type 0 where
+-- the process got an answer, and its next action is computed
+pub record Hears (old : ReplayedProc) (answer : Answer) (new : ReplayedProc) : Type 0 where
   pub stands : StandsAt (told_more old.process answer) new
   pub ended : new.ended ≡ old.ended
 
--- what an answer makes of a seat: after its end a process hears nothing
-pub record Moves (old : Seat) (answer : Answer) (new : Seat) : Type 0 where
+-- the process after the answer to its next action; an end has no answer
+pub record Moves (old : ReplayedProc) (answer : Answer) (new : ReplayedProc) : Type 0 where
   pub ends : is_act old.next ≡ false → new ≡ record old { ended = true }
   pub hears : is_act old.next ≡ true → Hears old answer new
 
--- ---- turns
+-- ---- steps
 
--- the answers that a process may still get, and its end
-abbrev pub steps_left : Setting → Seat → ℕ
-steps_left s seat = (s.fuel - length seat.process.told) + (if seat.ended then 0 else 1)
+-- how many entries a process may still take: its answers, and its end
+abbrev pub steps_left : Setting → ReplayedProc → ℕ
+steps_left s replayed = (s.fuel - length replayed.process.told) + (if replayed.ended then 0 else 1)
 
 -- how many faults may still come
 abbrev pub faults_left : List Entry → ℕ
 faults_left es = if has_fault es then 0 else 1
 
 -- process i took an entry
-pub record Takes (code : Code) (s : Setting) (es : List Entry) (i : ℕ) (old : Seat) (all : List Entry) (new : Seat) : Type 0 where
+pub record Takes (code : Code) (s : Setting) (es : List Entry) (i : ℕ) (old : ReplayedProc) (all : List Entry) (new : ReplayedProc) : Type 0 where
   pub entry : Entry
   pub can : CanTake s es i entry
   pub after : all ≡ es ++ entry ∷ []
@@ -92,35 +92,35 @@ pub record Takes (code : Code) (s : Setting) (es : List Entry) (i : ℕ) (old : 
   pub lighter : steps_left s new + faults_left all < steps_left s old + faults_left es
 
 -- process i took an entry, or there is none that it can take, and nothing changed
-abbrev pub TurnLeaves : Code → Setting → List Entry → ℕ → Seat → List Entry → Seat → Bool → Type 0
+abbrev pub TurnLeaves : Code → Setting → List Entry → ℕ → ReplayedProc → List Entry → ReplayedProc → Bool → Type 0
 TurnLeaves code s es i old all new true = Takes code s es i old all new
 TurnLeaves code s es i old all new false = (all ≡ es) × ((e : Entry) → CanTake s es i e → ⊥)
 
 -- ---- lines
 
--- the seats tell where all processes stand after the entries
-abbrev pub AllSeated : Code → Setting → List Entry → List Seat → Type 0
-AllSeated code s es seats = (d : Seat) (i : ℕ) → i < length seats → Seated code s es i (slice_index_or seats i d)
+-- all processes are up to date with the entries
+abbrev pub AllSeated : Code → Setting → List Entry → List ReplayedProc → Type 0
+AllSeated code s es processes = (d : ReplayedProc) (i : ℕ) → i < length processes → Seated code s es i (slice_index_or processes i d)
 
 -- so they do after those of a run
-pub record Stands (code : Code) (s : Setting) (es : List Entry) (seats : List Seat) : Type 0 where
+pub record Stands (code : Code) (s : Setting) (es : List Entry) (processes : List ReplayedProc) : Type 0 where
   pub run : IsRun s es
-  pub count : length seats ≡ s.procs
-  pub seated : AllSeated code s es seats
+  pub count : length processes ≡ s.procs
+  pub seated : AllSeated code s es processes
 
 -- how many entries may still come
-abbrev pub turns_left : Setting → List Entry → List Seat → ℕ
-turns_left s es seats = sum_by (steps_left s) seats + faults_left es
+abbrev pub turns_left : Setting → List Entry → List ReplayedProc → ℕ
+turns_left s es processes = sum_by (steps_left s) processes + faults_left es
 
--- a store that no want of memory halted, of a program that the code follows; with what holds of every run
+-- a store that accepts actions, of a program that the code follows; and what holds of every run
 pub record IsOpen (code : Code) (store : StoreState) : Type 0 where
   pub unhalted : store.halted ≡ false
   pub within : IsWithin store.procs store.fuel
   pub follows : Follows code (setting_of store).program
   pub fit : OfEveryRun AnswersFit (setting_of store).program
 
--- the run went on by the entry of the line
-pub record GoesOn (code : Code) (s : Setting) (es : List Entry) (old : List Seat) (all : List Entry) (new : List Seat)
+-- the run continued by the entry of the line
+pub record GoesOn (code : Code) (s : Setting) (es : List Entry) (old : List ReplayedProc) (all : List Entry) (new : List ReplayedProc)
     (line : List ℕ) : Type 0 where
   pub entry : Entry
   pub after : all ≡ es ++ entry ∷ []
@@ -128,35 +128,35 @@ pub record GoesOn (code : Code) (s : Setting) (es : List Entry) (old : List Seat
   pub stands : Stands code s all new
   pub lighter : turns_left s all new < turns_left s es old
 
--- the line is not, nor as much of it as a line may have bytes, that of an entry which can be taken; one that was taken is the last
+-- the line is that of no entry that can be taken, not even as far as it is held; an entry that was taken all the same is the last one
 pub record IsOff (s : Setting) (es all : List Entry) (line : List ℕ) : Type 0 where
   pub kept : take (length es) all ≡ es
   pub within : length es ≤ length all
   pub none : (e : Entry) → CanTake s es e.proc e → (more : List ℕ) → entry_text (length es) e ≡ line ++ more → (more ≡ [])
       ⊎ (line_room ≤ length line) → ⊥
 
--- what a line makes of the entries and the seats
-abbrev pub MeetsAt : Code → Setting → List Entry → List Seat → List Entry → List Seat → List ℕ → Bool → Type 0
-MeetsAt code s es old all new line true = GoesOn code s es old all new line
-MeetsAt code s es old all new line false = IsOff s es all line
+-- what a line does to the entries and the processes
+abbrev pub ReplaysLine : Code → Setting → List Entry → List ReplayedProc → List Entry → List ReplayedProc → List ℕ → Bool → Type 0
+ReplaysLine code s es old all new line true = GoesOn code s es old all new line
+ReplaysLine code s es old all new line false = IsOff s es all line
 
--- ---- texts
+-- ---- whole traces
 
--- the first so many entries are those that the lines took; where the text ended, they are all, and the seats tell where the processes stand
-pub record CameTo (code : Code) (s : Setting) (all : List Entry) (seats : List Seat) (end : Followed) : Type 0 where
+-- the first `taken` entries are those of the right lines; if the trace ended, they are all, and all processes are up to date
+pub record ReplayOutcome (code : Code) (s : Setting) (all : List Entry) (processes : List ReplayedProc) (end : ReplayEnd) : Type 0 where
   pub within : end.taken ≤ length all
   pub run : IsRun s (take end.taken all)
-  pub whole : end.is_end ≡ true → (end.taken ≡ length all) × Stands code s all seats
+  pub whole : end.is_end ≡ true → (end.taken ≡ length all) × Stands code s all processes
 
--- the text begins with the trace of those entries; behind it there is nothing where it ended, and else a wrong line
-pub record LeavesText (s : Setting) (text : List ℕ) (all : List Entry) (end : Followed) : Type 0 where
+-- the text begins with the trace of those entries; after that it ends, or has a wrong line
+pub record LeavesText (s : Setting) (text : List ℕ) (all : List Entry) (end : ReplayEnd) : Type 0 where
   pub left : List ℕ
   pub begins : text ≡ trace_text (take end.taken all) ++ left
   pub nothing : end.is_end ≡ true → left ≡ []
   pub wrong : end.is_end ≡ false → IsTrace s (trace_text (take end.taken all) ++ first_line left) → ⊥
 
--- the verdict behind lines that took the first so many of these entries
-abbrev pub Gives : Followed → Bool → List Entry → Verdict → Type 0
+-- the verdict after lines that took the first `taken` of these entries
+abbrev pub Gives : ReplayEnd → Bool → List Entry → Verdict → Type 0
 Gives end is_complete all (Run es) = (end.is_end ≡ true) × (is_complete ≡ true) × (es.items ≡ take end.taken all)
 Gives end is_complete all (NoRun line es) =
     (end.is_end ≡ true → is_complete ≡ false) × (line ≡ end.taken + 1) × (es.items ≡ take end.taken all)

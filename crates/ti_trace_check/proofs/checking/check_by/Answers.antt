@@ -2,52 +2,52 @@ use Rattle.std.proofs.Common.{◌≡◌, ◌∙◌, sym, ap, subst}
 use Rattle.ti_lang.specs.Meaning.Histories.{has_fault}
 use Rattle.ti_lang.specs.Meaning.Processes.{Setting}
 use Rattle.ti_lang.specs.Program.Views.{program_of}
-use Rattle.ti_trace_check.specs.Mirrors.Seats.{CameTo, LeavesText, Gives}
+use Rattle.ti_trace_check.specs.Mirrors.Seats.{ReplayOutcome, LeavesText, Gives}
 use Rattle.ti_trace_check.proofs.Completing.{opens, stands_first, all_have, complete, not_complete, keeps, judges}
 use Rattle.ti_trace_check.proofs.checking.check_by.Goals as goal
 
-pub seats_of-requires-clause-follows : goal.seats_of-requires-clause-follows
-seats_of-requires-clause-follows g c = (program_of c.args.c.now.program.parts, c.in_ok-code.ensures.follows)
+pub start_processes-requires-clause-follows : goal.start_processes-requires-clause-follows
+start_processes-requires-clause-follows g c = (program_of c.args.c.now.program.parts, c.in_ok-code.ensures.follows)
 
-pub follow-requires-clause-open : goal.follow-requires-clause-open
-follow-requires-clause-open g c =
+pub replay_lines-requires-clause-open : goal.replay_lines-requires-clause-open
+replay_lines-requires-clause-open g c =
     let s : Setting = record { program = program_of c.args.c.now.program.parts; procs = c.args.procs; fuel = c.args.fuel } in
     opens c.in_ok-code.code c.in_ok-store.store s c.in_ok-store.ensures.setting c.in_ok-store.ensures.halted c.requires.within c.in_ok-code.ensures.follows c.answers_fit.ensures
 
-pub follow-requires-clause-stands : goal.follow-requires-clause-stands
-follow-requires-clause-stands g c =
+pub replay_lines-requires-clause-stands : goal.replay_lines-requires-clause-stands
+replay_lines-requires-clause-stands g c =
     let program = program_of c.args.c.now.program.parts in
     let s : Setting = record { program = program; procs = c.args.procs; fuel = c.args.fuel } in
-    stands_first c.in_ok-code.code s _ _ c.in_ok-seats.seats.items c.in_ok-store.ensures.setting c.in_ok-store.ensures.entries (c.in_ok-seats.ensures program c.in_ok-code.ensures.follows)
+    stands_first c.in_ok-code.code s _ _ c.in_ok-processes.processes.items c.in_ok-store.ensures.setting c.in_ok-store.ensures.entries (c.in_ok-processes.ensures program c.in_ok-code.ensures.follows)
 
 pub returns-clause-keeps : goal.returns-clause-keeps
 returns-clause-keeps g c =
     let s : Setting = record { program = program_of c.args.c.now.program.parts; procs = c.args.procs; fuel = c.args.fuel } in
     let code = c.in_ok-code.code in
-    let all = c.follow.new.store.entries in
-    let seats = c.follow.new.seats.items in
+    let all = c.replay_lines.new.store.entries in
+    let processes = c.replay_lines.new.processes.items in
     let end = c.in_ok-end.end in
-    let came = subst (λ x. CameTo code x all seats end) c.in_ok-store.ensures.setting c.in_ok-end.ensures.came in
-    let ended : c.have_ended.result ≡ all_have seats = c.have_ended.ensures ∙ ap all_have c.deref.ensures.value in
+    let came = subst (λ x. ReplayOutcome code x all processes end) c.in_ok-store.ensures.setting c.in_ok-end.ensures.came in
+    let ended : c.have_ended.result ≡ all_have processes = c.have_ended.ensures ∙ ap all_have c.deref.ensures.value in
     let fault : c.has_fault.result ≡ has_fault all = c.has_fault.ensures ∙ ap has_fault c.history.ensures.entries in
-    keeps code s all seats end came c.either-is_complete.result
-    (λ e h. complete code s all seats (came.whole e).1 c.have_ended.result c.has_fault.result ended fault (sym c.either-is_complete.ensures ∙ h))
-    (λ e h. not_complete code s all seats (came.whole e).1 c.have_ended.result c.has_fault.result ended fault (sym c.either-is_complete.ensures ∙ h))
-    c.verdict_of.result (subst (λ xs. Gives end c.either-is_complete.result xs c.verdict_of.result) c.into_history.ensures.entries c.verdict_of.ensures)
+    keeps code s all processes end came c.one_of_two-is_complete.result
+    (λ e h. complete code s all processes (came.whole e).1 c.have_ended.result c.has_fault.result ended fault (sym c.one_of_two-is_complete.ensures ∙ h))
+    (λ e h. not_complete code s all processes (came.whole e).1 c.have_ended.result c.has_fault.result ended fault (sym c.one_of_two-is_complete.ensures ∙ h))
+    c.verdict_of.result (subst (λ xs. Gives end c.one_of_two-is_complete.result xs c.verdict_of.result) c.into_history.ensures.entries c.verdict_of.ensures)
 
 pub returns-clause-judges : goal.returns-clause-judges
 returns-clause-judges g c = λ tells.
     let s : Setting = record { program = program_of c.args.c.now.program.parts; procs = c.args.procs; fuel = c.args.fuel } in
     let code = c.in_ok-code.code in
-    let all = c.follow.new.store.entries in
-    let seats = c.follow.new.seats.items in
+    let all = c.replay_lines.new.store.entries in
+    let processes = c.replay_lines.new.processes.items in
     let end = c.in_ok-end.end in
-    let came = subst (λ x. CameTo code x all seats end) c.in_ok-store.ensures.setting c.in_ok-end.ensures.came in
+    let came = subst (λ x. ReplayOutcome code x all processes end) c.in_ok-store.ensures.setting c.in_ok-end.ensures.came in
     let leaves = subst (λ x. LeavesText x (g.S.Source.state c.args.source.now).left all end) c.in_ok-store.ensures.setting (c.in_ok-end.ensures.leaves tells) in
-    let ended : c.have_ended.result ≡ all_have seats = c.have_ended.ensures ∙ ap all_have c.deref.ensures.value in
+    let ended : c.have_ended.result ≡ all_have processes = c.have_ended.ensures ∙ ap all_have c.deref.ensures.value in
     let fault : c.has_fault.result ≡ has_fault all = c.has_fault.ensures ∙ ap has_fault c.history.ensures.entries in
-    judges code s all seats end came c.either-is_complete.result
-    (λ e h. complete code s all seats (came.whole e).1 c.have_ended.result c.has_fault.result ended fault (sym c.either-is_complete.ensures ∙ h))
-    (λ e h. not_complete code s all seats (came.whole e).1 c.have_ended.result c.has_fault.result ended fault (sym c.either-is_complete.ensures ∙ h))
+    judges code s all processes end came c.one_of_two-is_complete.result
+    (λ e h. complete code s all processes (came.whole e).1 c.have_ended.result c.has_fault.result ended fault (sym c.one_of_two-is_complete.ensures ∙ h))
+    (λ e h. not_complete code s all processes (came.whole e).1 c.have_ended.result c.has_fault.result ended fault (sym c.one_of_two-is_complete.ensures ∙ h))
     (g.S.Source.state c.args.source.now).left leaves c.verdict_of.result
-    (subst (λ xs. Gives end c.either-is_complete.result xs c.verdict_of.result) c.into_history.ensures.entries c.verdict_of.ensures)
+    (subst (λ xs. Gives end c.one_of_two-is_complete.result xs c.verdict_of.result) c.into_history.ensures.entries c.verdict_of.ensures)

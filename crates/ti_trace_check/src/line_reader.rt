@@ -1,28 +1,28 @@
-// Lines of a source that is read in pieces.
+// Lines of a source that is read in blocks.
 ghost use Rattle.std.specs.Prelude.{◌≡◌, ◌+◌, ◌≤◌, ◌++◌, not, true, [], length, take, IfOk, OnOk};
 ghost use Rattle.ti_io.specs.Faults.{HasCause};
 ghost use Rattle.ti_io.specs.Source.{SameFiles};
 ghost use Rattle.ti_trace_check.specs.Lines.{first_line, has_no_end};
-ghost use Rattle.ti_trace_check.specs.Mirrors.Pieces.{held, IsRoom, Fills, TakesLine};
+ghost use Rattle.ti_trace_check.specs.Mirrors.LineReader.{held, IsRoom, Fills, TakesLine};
 
 use ti_io::{Failed, Source};
 use ti_watch::Line;
 
-// The source is read in pieces of so many bytes.
+// The size of a block, in bytes.
 const PIECE: usize = 4096;
 
-// A line is held up to so many bytes.
+// The most bytes of a line that are held. No line of an entry is longer.
 const MOST_HELD: usize = 512;
 
-/// A piece of a source, of which the first bytes were taken.
+/// A reader that holds one block of a source, of which the first bytes are consumed.
 #[derive(Drop)]
-pub struct Pieces {
+pub struct LineReader {
     pub bytes: [u8; PIECE],
     pub at: usize,
     pub end: usize,
 }
 
-// How many bytes the first line of these has, and whether it ends with a line end.
+// The length of the first line of these bytes, and whether it has a line end.
 fn line_length(bytes: &[u8]) -> (usize, bool)
     ensures within { result.0 ≤ length bytes.now }
     ensures line { take result.0 bytes.now ≡ first_line bytes.now }
@@ -36,20 +36,20 @@ fn line_length(bytes: &[u8]) -> (usize, bool)
     (bytes.len(), false)
 }
 
-impl Pieces {
-    /// Nothing is held.
-    pub fn new() -> Pieces
+impl LineReader {
+    /// A reader that holds nothing.
+    pub fn new() -> LineReader
         ensures room { IsRoom result }
         ensures nothing { held result ≡ [] }
     {
-        Pieces {
+        LineReader {
             bytes: [0u8; PIECE],
             at: 0,
             end: 0,
         }
     }
 
-    // Reads the next piece where nothing is held.
+    // Reads the next block if nothing is left of the last one.
     fn fill<S: Source>(&mut self, source: &mut S) -> Result<(), Failed>
         requires { IsRoom self.old }
         ensures cause { HasCause (S.state source.old).faults (S.state source.new).faults result }
@@ -67,7 +67,7 @@ impl Pieces {
         Ok(())
     }
 
-    // The first line of the first so many bytes that are held, and whether it ends with a line end.
+    // The first line within the first `most` bytes that are left of the block, and whether it has a line end.
     fn front(&self, most: usize) -> (&[u8], bool)
         requires { IsRoom self.now }
         ensures line { result.0.now ≡ first_line (take most (held self.now)) }
@@ -80,7 +80,7 @@ impl Pieces {
         (&some[..count], is_ended)
     }
 
-    /// The next line, or its first 512 bytes where it is longer, which are taken off what is left. At the end it is empty.
+    /// Consumes the next line with its line end, or the first 512 bytes of a longer one. At the end of the source it is empty.
     pub fn next_line<S: Source>(&mut self, source: &mut S) -> Result<Line, Failed>
         requires { IsRoom self.old }
         ensures cause { HasCause (S.state source.old).faults (S.state source.new).faults result }
@@ -91,7 +91,7 @@ impl Pieces {
             → TakesLine (held self.old ++ (S.state source.old).left) line (held self.new ++ (S.state source.new).left)) }
     {
         let mut line = Line::new();
-        'pieces: while line.as_slice().len() < MOST_HELD {
+        'line_reader: while line.as_slice().len() < MOST_HELD {
             self.fill(source)?;
             let (front, is_ended) = self.front(MOST_HELD - line.as_slice().len());
             if front.is_empty() {

@@ -4,7 +4,7 @@ use Rattle.ti_lang.specs.Meaning.Runs.{none}
 use Rattle.ti_trace_check.specs.Mirrors.Seats.{Seated, AllSeated}
 use Rattle.ti_trace_check.proofs.ByCode.{begins_on, begins_seated}
 use Rattle.ti_trace_check.proofs.Turns.{seated_more}
-use Rattle.ti_trace_check.proofs.checking.seats_of.Goals as goal
+use Rattle.ti_trace_check.proofs.checking.start_processes.Goals as goal
 
 pub take-requires-clause-goes : goal.take-requires-clause-goes
 take-requires-clause-goes c =
@@ -13,15 +13,15 @@ take-requires-clause-goes c =
 pub loop-number-preserved : goal.loop-number-preserved
 loop-number-preserved c =
     let code = c.args.code.now in
-    let seats = c.loop-number.seats.items in
-    let seat = c.in_ok-seat.seat in
+    let processes = c.loop-number.processes.items in
+    let replayed = c.in_ok-replayed.replayed in
     record {
-      count = ap length c.in_ok-push.ensures.items ∙ length-append seats (seat ∷ []) ∙ ap (λ n. n + 1) c.loop-number.invariant.count;
+      count = ap length c.in_ok-push.ensures.items ∙ length-append processes (replayed ∷ []) ∙ ap (λ n. n + 1) c.loop-number.invariant.count;
       seated = λ program follows.
           let s : Setting = record { program = program; procs = c.args.procs; fuel = c.args.fuel } in
-          let one = begins_seated code s follows c.requires.within c.loop-number.number (omega arith) c.has_one_next.ensures seat c.in_ok-seat.ensures.stands c.in_ok-seat.ensures.unended in
+          let one = begins_seated code s follows c.requires.within c.loop-number.number (omega arith) c.has_one_next.ensures replayed c.in_ok-replayed.ensures.stands c.in_ok-replayed.ensures.unended in
           subst (AllSeated code s []) (sym c.in_ok-push.ensures.items)
-          (seated_more code s seats seat (subst (λ n. Seated code s [] n seat) (sym c.loop-number.invariant.count) one) (c.loop-number.invariant.seated program follows));
+          (seated_more code s processes replayed (subst (λ n. Seated code s [] n replayed) (sym c.loop-number.invariant.count) one) (c.loop-number.invariant.seated program follows));
     }
 
 pub returns : goal.returns

@@ -1,10 +1,10 @@
-// A process of a run with what it has next.
+// A process that is replayed, with its next action computed ahead.
 ghost use Rattle.std.specs.Prelude.{◌≡◌, ◌<◌, ◌^◌, [], true, false, IfOk, OnOk};
 ghost use Rattle.ti_eval.specs.Forms.{IsFormedAnswer};
 ghost use Rattle.ti_lang.specs.Meaning.Runs.{IsRun};
 ghost use Rattle.ti_machine.specs.Standing.{GoesOn, is_act};
 ghost use Rattle.ti_store.specs.Stores.{setting_of};
-ghost use Rattle.ti_trace_check.specs.Mirrors.Seats.{doing_of, told_more, StandsAt, Seated, Moves, IsOpen, TurnLeaves};
+ghost use Rattle.ti_trace_check.specs.Mirrors.Seats.{action_for, told_more, StandsAt, Seated, Moves, IsOpen, TurnLeaves};
 
 use std::alloc::Global;
 use ti_base::{Action, Answer, Memory, Next, Place};
@@ -12,17 +12,17 @@ use ti_code::Code;
 use ti_machine::{Proc, has_one_next};
 use ti_store::{ActErr, Store, Terms};
 
-/// A process of a run with what it has next, and whether it had its end.
+/// A process of the run, its next action, and whether it has ended.
 #[derive(Drop)]
-pub struct Seat {
+pub struct ReplayedProc {
     pub process: Proc,
     pub next: Next,
     pub ended: bool,
 }
 
-// What a process has next, as a store takes it.
-fn doing(next: Next) -> (Place, Action)
-    ensures { result ≡ doing_of next }
+// The next action of a process with its place; an end and a fault count as actions, as in the history.
+fn as_action(next: Next) -> (Place, Action)
+    ensures { result ≡ action_for next }
 {
     match next {
         Next::Act(place, action) => (place, action),
@@ -31,38 +31,38 @@ fn doing(next: Next) -> (Place, Action)
     }
 }
 
-impl Seat {
-    /// The process of a number before its first entry.
+impl ReplayedProc {
+    /// The process with this number before its first entry.
     pub fn take(
         alloc: Global,
         code: &Code,
         number: u32,
         procs: u32,
         fuel: u32,
-    ) -> Result<Seat, Memory>
+    ) -> Result<ReplayedProc, Memory>
         requires number { number < 2 ^ 31 }
         requires procs { procs < 2 ^ 31 }
         requires goes { GoesOn (record { code = code.now; procs = procs; fuel = fuel; number = number; told = []; asks = false }) }
-        ensures stands { IfOk result (λ seat. StandsAt (record {
+        ensures stands { IfOk result (λ replayed. StandsAt (record {
           code = code.now;
           procs = procs;
           fuel = fuel;
           number = number;
           told = [];
           asks = false;
-        }) seat) }
-        ensures unended { IfOk result (λ seat. seat.ended ≡ false) }
+        }) replayed) }
+        ensures unended { IfOk result (λ replayed. replayed.ended ≡ false) }
     {
         let mut process = Proc::start(alloc, code, number, procs, fuel)?;
         let next = process.advance(alloc, code)?;
-        Ok(Seat {
+        Ok(ReplayedProc {
             process,
             next,
             ended: false,
         })
     }
 
-    // Goes on behind what it has next, which got this answer.
+    // Hands the process the answer to its action, and computes its next one; or ends it.
     fn go_on(&mut self, alloc: Global, code: &Code, answer: Answer) -> Result<(), Memory>
         requires code { code.now ≡ self.old.process.code }
         requires asks { is_act self.old.next ≡ true → self.old.process.asks ≡ true }
@@ -79,8 +79,8 @@ impl Seat {
         Ok(())
     }
 
-    /// Lets the process take its next entry, where there is one that it can take.
-    pub fn take_turn<J: Terms>(
+    /// Performs the next action in the store. False if there is none that can be performed now: the process has ended or waits, or the run has.
+    pub fn step_in<J: Terms>(
         &mut self,
         alloc: Global,
         code: &Code,
@@ -99,7 +99,7 @@ impl Seat {
         if self.ended {
             return Ok(false);
         }
-        let (place, action) = doing(self.next);
+        let (place, action) = as_action(self.next);
         match store.act(alloc, number, place, action) {
             Ok(answer) => {
                 self.go_on(alloc, code, answer)?;

@@ -1,28 +1,28 @@
 use Rattle.ti_trace_check.proofs.Seats.{acting, goes_on, went, faulted, waits, stopped}
-use Rattle.ti_trace_check.proofs.seat.Seat.take_turn.Goals as goal
+use Rattle.ti_trace_check.proofs.replayed.ReplayedProc.step_in.Goals as goal
 
 pub act-requires-clause-next : goal.act-requires-clause-next
-act-requires-clause-next g c = rw c.doing-action.ensures (acting c.args.code.now c.args.store.now c.args.number c.args.self.now c.requires.seated c.if-self.false)
+act-requires-clause-next g c = rw c.as_action-action.ensures (acting c.args.code.now c.args.store.now c.args.number c.args.self.now c.requires.seated c.if-self.false)
 
 pub go_on-requires-clause-goes : goal.go_on-requires-clause-goes
 go_on-requires-clause-goes g c =
     goes_on c.args.code.now c.args.store.now c.requires.open c.requires.run c.args.number c.requires.number c.args.self.now c.requires.seated c.if-self.false c.in-Ok.answer c.act.new.self
-    (rw c.doing-action.ensures at c.in-Ok.ensures.ok)
+    (rw c.as_action-action.ensures at c.in-Ok.ensures.ok)
 
 pub returns-in_ok-go_on-in-Ok-clause-leaves : goal.returns-in_ok-go_on-in-Ok-clause-leaves
 returns-in_ok-go_on-in-Ok-clause-leaves g c =
     went c.args.code.now c.args.store.now c.requires.open c.requires.run c.args.number c.requires.number c.args.self.now c.requires.seated c.if-self.false c.in-Ok.answer c.act.new.self
-    (rw c.doing-action.ensures at c.in-Ok.ensures.ok) c.has_one_next.ensures c.go_on.new.self c.in_ok-go_on-in-Ok.ensures
+    (rw c.as_action-action.ensures at c.in-Ok.ensures.ok) c.has_one_next.ensures c.go_on.new.self c.in_ok-go_on-in-Ok.ensures
 
 pub returns-in-Err-Faulted-clause-leaves : goal.returns-in-Err-Faulted-clause-leaves
 returns-in-Err-Faulted-clause-leaves g c =
     faulted c.args.code.now c.args.store.now c.requires.open c.requires.run c.args.number c.requires.number c.args.self.now c.requires.seated c.if-self.false c.act.new.self c.in-Err-Faulted.field-0-0
-    (rw c.doing-action.ensures at rw c.in-Err-Faulted.field-0-is at c.in-Err-Faulted.ensures.err)
+    (rw c.as_action-action.ensures at rw c.in-Err-Faulted.field-0-is at c.in-Err-Faulted.ensures.err)
 
 pub returns-in-Err-NotYet-clause-leaves : goal.returns-in-Err-NotYet-clause-leaves
 returns-in-Err-NotYet-clause-leaves g c =
     waits c.args.code.now c.args.store.now c.requires.open c.requires.run c.args.number c.requires.number c.args.self.now c.requires.seated c.if-self.false c.act.new.self
-    (rw c.doing-action.ensures at rw c.in-Err-NotYet.field-0-is at c.in-Err-NotYet.ensures.err)
+    (rw c.as_action-action.ensures at rw c.in-Err-NotYet.field-0-is at c.in-Err-NotYet.ensures.err)
 
 pub returns-in-Err-Halted-clause-leaves : goal.returns-in-Err-Halted-clause-leaves
 returns-in-Err-Halted-clause-leaves g c =

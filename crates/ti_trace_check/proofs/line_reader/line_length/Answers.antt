@@ -2,7 +2,7 @@ use Rattle.std.proofs.Common.{length, ◌∙◌, sym, ap, arith}
 use Rattle.std.proofs.lemmas.List.{take_all}
 use Rattle.ti_trace_check.specs.Lines.{has_no_end}
 use Rattle.ti_trace_check.proofs.FirstLines.{ends_there, ended_there, goes_past, no_end, all_there}
-use Rattle.ti_trace_check.proofs.pieces.line_length.Goals as goal
+use Rattle.ti_trace_check.proofs.line_reader.line_length.Goals as goal
 
 pub loop-at-preserved : goal.loop-at-preserved
 loop-at-preserved c = goes_past c.args.bytes.now c.loop-at.at 0 c.loop-at-test.true c.loop-at.invariant c.if-byte-eq10.false
