@@ -1,4 +1,4 @@
--- What the turn of a process makes of its replayed.
+-- What one step does to a replayed process.
 use Rattle.std.proofs.Common.{◌≡◌, ℕ, ◌+◌, ◌-◌, ◌<◌, ◌≤◌, Bool, true, false, not, ◌||◌, length, Some, List, [], ◌∷◌, ◌++◌, refl, sym, ap, ◌∙◌, subst, arith, length-append}
 use Rattle.ti_base.specs.declared.place.Place.{Place}
 use Rattle.ti_base.specs.declared.fault.FaultKind.{FaultKind}
@@ -63,7 +63,7 @@ end_left (next.Act at a) e f = absurd (true_false e)
 end_left (next.End at) e f = refl
 end_left (next.Fault kind at) e f = absurd (true_false f)
 
--- ---- what a replayed tells
+-- ---- being up to date
 
 within_ticks : (n s f : ℕ) → 0 + n ≤ s → s ≤ f → n ≤ f
 within_ticks n s f h k = omega arith
@@ -72,7 +72,7 @@ within_ticks n s f h k = omega arith
 answers_few : (s : Setting) (i : ℕ) (rs : List Answer) (p : Process) → After (begin s i) rs p → length rs ≤ s.fuel
 answers_few s i rs p x = within_ticks (length rs) p.spent s.fuel (after_pays (begin s i) p rs x) (within s i rs p x).0
 
--- the replayed tells the same where the process got no answer since
+-- a process that got no answer since is still up to date
 seated_with : (code : Code) (s : Setting) (es all : List Entry) (i : ℕ) (replayed : ReplayedProc) (ended : Bool) → answers_of i all ≡ answers_of i es → has_end i all ≡ ended → Seated code s es i replayed
     → Seated code s all i (record replayed { ended = ended })
 seated_with code s es all i replayed ended same e y = record {
@@ -90,7 +90,7 @@ module _ (code : Code) (s : Setting) (es : List Entry) (i : ℕ) (replayed : Rep
   next_taken : IsNext y.there (next_of (place_of replayed) (action_of replayed))
   next_taken = subst (IsNext y.there) (sym (next_back y.there replayed.next y.is_next)) y.is_next
 
-  -- an entry that the process can take is that of what the replayed has next
+  -- an entry that the process can take is that of its next action
   only_next : (e : Entry) (t : CanTake s es i e) → t.next ≡ next_of (place_of replayed) (action_of replayed)
   only_next e t =
       let same : t.process ≡ y.there = after_same _ _ _ _ t.world y.world in

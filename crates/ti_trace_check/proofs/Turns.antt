@@ -18,7 +18,7 @@ use Rattle.ti_store.proofs.Lemmas.{other_more}
 use Rattle.ti_trace_check.specs.declared.replayed.ReplayedProc.{ReplayedProc}
 use Rattle.ti_trace_check.specs.Mirrors.Seats.{standing_of, Seated, steps_left, faults_left, Takes, AllSeated, Stands, turns_left, GoesOn}
 
--- the replayed of a process tells where it stands still, where the run went on elsewhere
+-- a process that took no entry is still up to date after entries of others
 seated_still : (code : Code) (s : Setting) (es all : List Entry) (i : ℕ) (replayed : ReplayedProc) → entries_of i all ≡ entries_of i es → Seated code s es i replayed → Seated code s all i replayed
 seated_still code s es all i replayed same y =
     let told : answers_of i all ≡ answers_of i es = ap (λ own. map (λ (e : Entry). e.answer) (filter is_answered own)) same in
@@ -66,7 +66,7 @@ module _ (code : Code) (s : Setting) (es all : List Entry) (processes : List Rep
     lighter = lighter_on;
   }
 
--- one replayed more, before the first entry
+-- one process more, before the first entry
 pub seated_more : (code : Code) (s : Setting) (xs : List ReplayedProc) (x : ReplayedProc) → Seated code s [] (length xs) x → AllSeated code s [] xs → AllSeated code s [] (xs ++ x ∷ [])
 seated_more code s xs x y seated d i l = by (nat_lt i (length xs)) refl
   where

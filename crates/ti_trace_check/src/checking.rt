@@ -111,11 +111,10 @@ fn check_by<J: Terms, S: Source>(
     Ok(verdict_of(end, is_complete, store.into_history()))
 }
 
-/// Whether what is left of a source is the trace of a complete run of a checked program, by so many processes with so many ticks of fuel
-/// each.
+/// Checks whether the rest of a source is the trace of a complete run of a checked program, with `procs` processes and `fuel` ticks for each.
 ///
-/// Each line names the process whose next entry it has to be. What is left is read in line_reader, and one line is held at a time. A read that
-/// fails is told as such, and nothing else is: `Err(Read)` comes only where the count of faults rose, and always where it is greater now.
+/// Each line names the process whose next entry it has to be. The source is read in blocks, and one line is held at a time. `Err(Read)` comes
+/// exactly if the source's count of faults is greater after the call than before, `Err(Memory)` when out of memory.
 pub fn check_trace<S: Source>(
     alloc: Global,
     c: &Checked,
