@@ -1,4 +1,4 @@
--- One call of the command, by what went in and what came out.
+-- One call of the command: its arguments and its results.
 use Rattle.std.specs.Prelude.{◌≡◌, ◌⊎◌, ℕ, ◌+◌, List, [], None, Some}
 use Rattle.std.specs.declared.option.Option.{Option}
 use Rattle.ti_base.specs.declared.entry.Entry.{Entry}
@@ -11,11 +11,11 @@ use Rattle.ti_words.specs.declared.job.Job.{Job}
 use Rattle.ti_words.specs.Job.{job_of}
 use Rattle.ti_top.specs.Reports.{Watcher, wanted}
 
--- at most so many bytes of a file are read: one more than a text may have
+-- the most bytes of a file that are read: one more than a program may have
 abbrev pub most_read : ℕ
 most_read = most_bytes + 1
 
--- the words and the watchers handed in; the source and the sinks before and after the call; and the call's outcome
+-- the arguments and the watchers; the source and the sinks before and after the call; and the outcome
 pub record Call : Type 0 where
   pub words : List (List ℕ)
   pub watchers : List Watcher
@@ -26,20 +26,20 @@ pub record Call : Type 0 where
   pub err : SinkState
   pub err_after : SinkState
   pub status : ℕ
-  -- what was read, or made
+  -- what was read, or generated
   pub text : List ℕ
   -- the code of the program
   pub code : Option Code
   -- the entries of the run
   pub history : List Entry
-  -- for each process how many instructions it has finished
+  -- for each process, how many instructions it has finished
   pub done : List ℕ
 
--- the words are a command for this job
+-- the arguments are the command for this job
 abbrev pub IsCommand : Call → Job → Type 0
 IsCommand c job = job_of c.words ≡ Some job
 
--- the words are no command
+-- the arguments are no command
 abbrev pub IsNoCommand : Call → Type 0
 IsNoCommand c = job_of c.words ≡ None
 
@@ -47,7 +47,7 @@ abbrev pub file_in : Option Job → List ℕ
 file_in None = []
 file_in (Some job) = job.file
 
--- the file that the words name, or nothing where they are no command
+-- the file that the arguments name, or the empty name if they are no command
 abbrev pub file_of : Call → List ℕ
 file_of c = file_in (job_of c.words)
 
@@ -64,10 +64,10 @@ ErrRose c = Rose c.err.faults c.err_after.faults
 abbrev pub SinkRose : Call → Type 0
 SinkRose c = OutRose c ⊎ ErrRose c
 
--- where the words or the text ask for a status, one of these may stand in its place: it ran out of memory, or a sink failed
+-- a failure that takes precedence over the status that the arguments and the text call for: memory ran out, or a write failed
 abbrev pub Yields : Call → Type 0
 Yields c = (c.status ≡ 6) ⊎ ((c.status ≡ 5) × SinkRose c)
 
--- a watcher that was handed in is wanted
+-- one of the watchers is wanted
 abbrev pub WantsReport : Job → Call → Type 0
 WantsReport job c = wanted job c.watchers ≡ [] → ⊥

@@ -1,4 +1,5 @@
--- The contract of the command, a record for each of its clauses.
+-- The contract of the command, one record for each clause. `c` is the call: its arguments, and the state of source and sinks before and after.
+-- `job` is the command that its arguments give.
 use Rattle.std.specs.Prelude.{◌≡◌, ◌⊎◌, ℕ, ◌≤◌, true, false, List, [], length, take, None, Some}
 use Rattle.ti_gen.specs.Source.{source_text}
 use Rattle.ti_io.specs.Source.{SameFiles, IsMissing, Holds}
@@ -30,9 +31,9 @@ use Rattle.ti_top.specs.Call.{most_read, Call, IsCommand, IsNoCommand, file_of, 
 use Rattle.ti_top.specs.Inference.{HasMarking, HasSomeMarking, IsUnmarkedRefusal, marks_text}
 use Rattle.ti_top.specs.Traces.{LacksTrace, IsUnreadable, IsWrongTrace, VerifiesTrace, TraceDecides}
 
--- The words: status 3 says that they are no command, and then nothing was read.
+-- Arguments: with status 3 the arguments are no command, and nothing was read.
 pub record AnswersWords (c : Call) : Type 0 where
-  -- the status is that of an ending
+  -- the status is one of those that have a meaning
   pub known : (ending : Ending) × (c.status ≡ status_of ending)
   pub only_where : c.status ≡ 3 → IsNoCommand c
   pub everywhere : IsNoCommand c → (c.status ≡ 3) ⊎ Yields c
@@ -42,19 +43,19 @@ pub record AnswersWords (c : Call) : Type 0 where
   pub no_history : IsNoCommand c → c.history ≡ []
   pub no_count : IsNoCommand c → c.done ≡ []
 
--- The text was read whole: the file isn't missing, and the text is what it holds, or its first bytes where it holds more than is read. Over
--- a source that doesn't tell its bytes a text counts as read whole with every status but 3 and 4.
+-- The file was read whole: it isn't missing, and the text is its contents, or the first `most_read` bytes of them. With a source that doesn't
+-- state its bytes, a file counts as read whole with every status but 3 and 4.
 pub record IsReadWhole (job : Job) (c : Call) : Type 0 where
   pub there : IsMissing c.source job.file → ⊥
   pub told : (bytes : List ℕ) → Holds c.source job.file bytes → c.text ≡ take most_read bytes
   pub untold_at_three : c.source.tells ≡ false → c.status ≡ 3 → ⊥
   pub untold_at_four : c.source.tells ≡ false → c.status ≡ 4 → ⊥
 
--- The text was made: it is that of the seed.
+-- The text was generated: it is that of the seed.
 abbrev pub IsMade : Job → Call → Type 0
 IsMade job c = c.text ≡ source_text job.seed
 
--- the whole text is there: it was read whole, or in mode gen made
+-- the whole text is there: the file was read whole, or in mode gen the text was generated
 abbrev pub IsWholeIn : Mode → Job → Call → Type 0
 IsWholeIn Gen job c = IsMade job c
 IsWholeIn _ job c = IsReadWhole job c
@@ -62,8 +63,8 @@ IsWholeIn _ job c = IsReadWhole job c
 abbrev pub HasText : Job → Call → Type 0
 HasText job c = IsWholeIn job.mode job c
 
--- The text where a file is named: a front of what the file holds, and the whole with status 0, 1, 2 or 7. Status 4 says that it, or in mode
--- verify the trace, can't be read.
+-- Reading, in the modes that name a file: the text is a prefix of the file, and with status 0, 1, 2 or 7 the whole file. With status 4 the
+-- file, or in mode verify the trace, can't be read.
 pub record ReadsText (job : Job) (c : Call) : Type 0 where
   pub front : (bytes : List ℕ) → Holds c.source job.file bytes → IsFront c.text bytes
   pub bound : length c.text ≤ most_read
@@ -77,13 +78,13 @@ pub record ReadsText (job : Job) (c : Call) : Type 0 where
   pub lacking : LacksTrace job c → (c.status ≡ 4) ⊎ Yields c
   pub same_files : SameFiles c.source c.source_after
 
--- The text in mode gen, where nothing is read: that of the seed, unless it ran out of memory before.
+-- Generating, in mode gen, which reads nothing: the text is that of the seed, unless memory ran out first.
 pub record MakesText (job : Job) (c : Call) : Type 0 where
   pub made : IsMade job c ⊎ ((c.text ≡ []) × Yields c)
   pub source_as_before : c.source_after ≡ c.source
   pub never_four : c.status ≡ 4 → ⊥
 
--- the text in a mode
+-- how the text comes about, by mode
 abbrev pub GetsText : Mode → Job → Call → Type 0
 GetsText Gen job c = MakesText job c
 GetsText _ job c = ReadsText job c
@@ -92,12 +93,12 @@ GetsText _ job c = ReadsText job c
 abbrev pub IsAccepted : List ℕ → Type 0
 IsAccepted text = (program : NumberedProgram) × HasProgram text program
 
--- the text is accepted in a mode: it has a program, or in mode infer, where its marks don't count, a greatest marking
+-- the text is accepted in a mode: it has a program; or in mode infer, which ignores the marks in it, a greatest marking
 abbrev pub IsAcceptedIn : Mode → List ℕ → Type 0
 IsAcceptedIn Infer text = HasSomeMarking text
 IsAcceptedIn _ text = IsAccepted text
 
--- what it is refused for in a mode
+-- its refusal in a mode
 abbrev pub IsRefusalIn : Mode → List ℕ → Refusal → Type 0
 IsRefusalIn Infer text refusal = IsUnmarkedRefusal text refusal
 IsRefusalIn _ text refusal = IsRefusal text refusal
@@ -107,11 +108,11 @@ pub record IsRefused (job : Job) (c : Call) (refusal : Refusal) : Type 0 where
   pub whole : HasText job c
   pub refused : IsRefusalIn job.mode c.text refusal
 
--- The refusal: status 1 says that the text is refused, and then there is no code, and nothing was run and nothing written; with status 0, 2
--- or 7 it is accepted. In mode infer the marks of the text don't count.
+-- Refusal: with status 1 the text is refused, and conversely; a refused text has no code, isn't run, and writes nothing to standard output.
+-- With status 0, 2 or 7 it is accepted. Mode infer ignores the marks in the text.
 pub record RefusesExactly (job : Job) (c : Call) : Type 0 where
   pub only_where : c.status ≡ 1 → (refusal : Refusal) × IsRefused job c refusal
-  -- it may run out of memory, and a sink or a reading may fail
+  -- unless memory runs out, or a write or a read fails
   pub everywhere : (refusal : Refusal) → IsRefused job c refusal → (c.status ≡ 1) ⊎ (Yields c ⊎ ((c.status ≡ 4) × SourceRose c))
   pub no_code : (refusal : Refusal) → IsRefusalIn job.mode c.text refusal → c.code ≡ None
   pub no_history : (refusal : Refusal) → IsRefusalIn job.mode c.text refusal → c.history ≡ []
@@ -121,9 +122,9 @@ pub record RefusesExactly (job : Job) (c : Call) : Type 0 where
   pub accepted_at_two : c.status ≡ 2 → IsAcceptedIn job.mode c.text
   pub accepted_at_seven : c.status ≡ 7 → IsAcceptedIn job.mode c.text
 
--- The run: whatever the status, the history is a run of the text's program, by however many workers, and by one worker, as far as it goes,
--- the one in which each entry is that of the lowest-numbered process that can take one; where there is no program, or the mode isn't one
--- that runs it or reads its trace, it is empty.
+-- Run: whatever the status and the number of workers, the history is a run of the text's program. With one worker it is, as far as it goes,
+-- the run in which each entry is that of the lowest-numbered process that can take one. If the text has no program, or the mode neither runs it
+-- nor reads its trace, the history is empty.
 pub record KeepsRun (job : Job) (c : Call) : Type 0 where
   pub run : (program : NumberedProgram) → HasProgram c.text program → IsRun (run_of program job) c.history
   pub solo : Runs job.mode → job.workers ≡ 1 → (program : NumberedProgram) → HasProgram c.text program
@@ -131,10 +132,9 @@ pub record KeepsRun (job : Job) (c : Call) : Type 0 where
   pub none : ((program : NumberedProgram) → HasProgram c.text program → ⊥) → c.history ≡ []
   pub unrun : (HasHistory job.mode → ⊥) → c.history ≡ []
 
--- The code: with status 0 or 2 in the modes run, code and gen it is there. One that is there is that of the text's program, and follows it:
--- for each number of processes, all ticks, each process and all answers that fit, it has next the action, the fault or the end that the
--- program has, at the same place. It is there in no other mode, and with no other status, unless a sink failed, or the run was out of
--- memory.
+-- Code: in the modes run, code and gen there is code with status 0 and 2. Code that is there is that of the text's program, and follows it: for
+-- any number of processes, any fuel, each process and all answers that fit, its next action, fault or end is the program's, at the same source
+-- position. There is none in any other mode, and none with another status, unless a write failed or the run was out of memory.
 pub record RunsCode (job : Job) (c : Call) : Type 0 where
   pub there : c.status ≡ 0 → HasCode job.mode → (program : NumberedProgram) → HasProgram c.text program → c.code
       ≡ Some (program_code program)
@@ -146,30 +146,30 @@ pub record RunsCode (job : Job) (c : Call) : Type 0 where
   pub none : ((program : NumberedProgram) → HasProgram c.text program → ⊥) → c.code ≡ None
   pub unlowered : (HasCode job.mode → ⊥) → c.code ≡ None
 
--- The counts of instructions: where the program was run and the history is complete, whatever the status, there is for each process the
--- number of instructions of the code that it has finished for the answers of its entries. Where there is no code, or the mode isn't one
--- that runs it, there are no counts.
+-- Counts of instructions: if the program was run and the history is complete, whatever the status, there is for each process the number of
+-- instructions of the code that it has finished, given the answers to its entries. Without code, or in a mode that doesn't run it, there are
+-- no counts.
 pub record CountsInstructions (job : Job) (c : Call) : Type 0 where
   pub complete : Runs job.mode → (program : NumberedProgram) → HasProgram c.text program
       → IsCompleteRun (run_of program job) c.history → IsDone (program_code program) (run_of program job) c.history c.done
   pub uncoded : c.code ≡ None → c.done ≡ []
   pub unrun : (Runs job.mode → ⊥) → c.done ≡ []
 
--- this holds of the job and the program wherever the text has one, in every mode but infer
+-- this holds of the job and the text's program, if the text has one, in every mode but infer
 abbrev pub WhereAccepted : Call → (Job → NumberedProgram → Type 0) → Type 0
 WhereAccepted c P =
     (job : Job) → IsCommand c job → (Infers job.mode → ⊥) → (program : NumberedProgram) → HasProgram c.text program → P job program
 
--- wherever it has one, and is to be run
+-- if the text has a program, and the mode runs it
 abbrev pub WhereRun : Call → (Job → NumberedProgram → Type 0) → Type 0
 WhereRun c P = (job : Job) → IsCommand c job → Runs job.mode → (program : NumberedProgram) → HasProgram c.text program → P job program
 
--- out grew by all that the job's mode writes: the lines of the history or the summary of the run, and the reports of all wanted watchers;
--- or the text of the code
+-- standard output grew by all that the mode writes: the lines of the history or the summary of the run, then the reports of all watchers that
+-- are wanted; or the listing of the code
 abbrev pub WritesAll : Call → Type 0
 WritesAll c = WhereAccepted c (λ job program. GrewBy c.out c.out_after (output job program c.history (wanted job c.watchers)))
 
--- The output: what out has taken in the call.
+-- Output: what was written to standard output in the call.
 pub record WritesOutput (c : Call) : Type 0 where
   pub done : c.status ≡ 0 → c.out.tells ≡ true → WritesAll c
   pub faulted : c.status ≡ 2 → c.out.tells ≡ true → WritesAll c
@@ -180,17 +180,17 @@ pub record WritesOutput (c : Call) : Type 0 where
   pub not_whole : (job : Job) → IsCommand c job → (HasText job c → ⊥) → c.out_after.taken ≡ c.out.taken
   pub not_accepted : (job : Job) → IsCommand c job → (IsAcceptedIn job.mode c.text → ⊥) → c.out_after.taken ≡ c.out.taken
   pub checked : (job : Job) → IsCommand c job → job.mode ≡ Check → c.out_after.taken ≡ c.out.taken
-  -- where code is wanted and there is none
+  -- if the mode wants code and there is none
   pub uncoded : (job : Job) → IsCommand c job → job.mode ≡ Code → c.code ≡ None → c.out_after.taken ≡ c.out.taken
-  -- a write to out or err failed
+  -- a write to standard output or standard error failed
   pub failed : c.status ≡ 5 → c.out.tells ≡ true → WhereAccepted c
       (λ job program. GrewByFront c.out c.out_after (output job program c.history (wanted job c.watchers)))
-  -- the lines of the kept history or its summary are written, and whole reports
+  -- the lines of the history or its summary are written, and then whole reports
   pub no_memory : c.status ≡ 6 → c.out.tells ≡ true → WhereRun c (λ job program. WroteFew job.mode (run_of program job)
       (wanted job c.watchers) c.history c.out c.out_after)
 
--- Inference, in mode infer: with status 0 the text has a greatest marking, and out grew by a line for each of its marks. Where a sink
--- failed, it grew by a front of these lines, and with no other status it grew.
+-- Inference, in mode infer: with status 0 the text has a greatest marking, and standard output grew by a line for each of its marks. If a write
+-- failed, it grew by a prefix of these lines; with any other status it didn't grow.
 pub record InfersMarks (job : Job) (c : Call) : Type 0 where
   pub done : c.status ≡ 0 → Infers job.mode → (marks : List Mark) × HasMarking c.text marks
       × (c.out.tells ≡ true → GrewBy c.out c.out_after (marks_text marks))
@@ -198,32 +198,32 @@ pub record InfersMarks (job : Job) (c : Call) : Type 0 where
       → GrewByFront c.out c.out_after (marks_text marks)
   pub unwritten : Infers job.mode → (c.status ≡ 0 → ⊥) → (c.status ≡ 5 → ⊥) → c.out_after.taken ≡ c.out.taken
 
--- Alignment: with status 0, 2 or 7 the program of the text is aligned.
+-- Alignment: with status 0, 2 or 7 the text's program is aligned.
 pub record HasAlignedRun (c : Call) : Type 0 where
   pub done : c.status ≡ 0 → (program : NumberedProgram) → HasProgram c.text program → IsAligned program
   pub faulted : c.status ≡ 2 → (program : NumberedProgram) → HasProgram c.text program → IsAligned program
   pub wrong : c.status ≡ 7 → (program : NumberedProgram) → HasProgram c.text program → IsAligned program
 
--- Determinacy: where the program is run, all processes have their end and nothing in the history stands in a race, what each process does
--- in every run of the program, by as many processes with as many ticks each, is a front of what it does in the history. What stands in a
--- race is what the report on the history alone lists.
+-- Determinacy: if the program is run, all processes end, and no entry of the history is part of a race, then what each process does in any run
+-- of the program, with as many processes and as much fuel, is a prefix of what it does in the history. The entries that are part of a race are
+-- those that the report lists, which depends on the history only.
 pub record IsDeterminate (job : Job) (c : Call) : Type 0 where
   pub followed : Runs job.mode → (program : NumberedProgram) → HasProgram c.text program → Determines (run_of program job) c.history
   pub told : races_told c.history ≡ races c.history
 
--- The end: where the text is run, all processes have their end with status 0, and status 2 says that the last entry is a fault, which the
--- line on err names with its process and place; status 6 never comes with a complete history, unless a watcher is wanted.
+-- End, if the text is run: with status 0 all processes have ended; with status 2 the last entry is a fault, and the line on standard error
+-- names it with its process and source position; status 6 never comes with a complete history, unless a watcher is wanted.
 pub record EndsRun (job : Job) (c : Call) : Type 0 where
   pub ended : c.status ≡ 0 → Runs job.mode → (program : NumberedProgram) → HasProgram c.text program
       → AllEnded (run_of program job) c.history
   pub fault_only_where : c.status ≡ 2 → Runs job.mode × ((fault : Fault) × EndsWithFault c.history fault)
-  -- a sink may fail, and memory for a wanted report
+  -- a write may fail, and memory may run out for a report that is wanted
   pub fault_everywhere : Runs job.mode → (fault : Fault) → EndsWithFault c.history fault → (c.status ≡ 2)
       ⊎ (((c.status ≡ 5) × SinkRose c) ⊎ ((c.status ≡ 6) × WantsReport job c))
   pub unfinished : c.status ≡ 6 → (program : NumberedProgram) → HasProgram c.text program → IsCompleteRun (run_of program job) c.history
       → WantsReport job c
 
--- What the command promises of everything but its line on err.
+-- All that the command promises, but for its line on standard error.
 pub record MeetsBesideErr (c : Call) : Type 0 where
   pub words : AnswersWords c
   pub text : (job : Job) → IsCommand c job → GetsText job.mode job c
@@ -239,7 +239,7 @@ pub record MeetsBesideErr (c : Call) : Type 0 where
   pub trace : (job : Job) → IsCommand c job → VerifiesTrace job c
   pub inference : (job : Job) → IsCommand c job → InfersMarks job c
 
--- What an ending says of the call.
+-- What an ending states about the call.
 abbrev pub Says : Call → Ending → Type 0
 Says c Done = (job : Job) × IsCommand c job × IsAcceptedIn job.mode c.text
 Says c (Refused refusal) = (job : Job) × IsCommand c job × IsRefused job c refusal
@@ -250,28 +250,29 @@ Says c CantWrite = (job : Job) × IsCommand c job × OutRose c
 Says c NoMemory = Unit {0}
 Says c (NoRun line) = (job : Job) × IsCommand c job × IsWrongTrace job c line
 
--- the line on err of an ending of the call
+-- the line on standard error for an ending of the call
 abbrev pub line : Call → Ending → List ℕ
 line c ending = err_line ending (file_of c)
 
--- err grew by the line of an ending that has the call's status and is true of the call
+-- standard error grew by the line of an ending that has the call's status and is true of the call
 abbrev pub TellsEnding : Call → Type 0
 TellsEnding c = (ending : Ending) × (c.status ≡ status_of ending) × Says c ending × GrewBy c.err c.err_after (line c ending)
 
--- the call with the status of an ending, before its line on err was written
+-- the call as if it had this ending's status, before the line was written to standard error
 abbrev pub before_err : Call → Ending → Call
 before_err c ending = record c { status = status_of ending; err_after = c.err }
 
--- the call had this ending before err failed: it is true of the call, and with its status the call kept its promises on everything else
+-- the call had this ending before standard error failed: it is true of the call, and with its status the call keeps all its other promises
 abbrev pub HadEnding : Call → Ending → Type 0
 HadEnding c before = Says c before × MeetsBesideErr (before_err c before)
 
--- err grew by a prefix of the line of the ending that the call had before err failed
+-- standard error grew by a prefix of the line of the ending that the call had before standard error failed
 abbrev pub TellsFront : Call → Type 0
 TellsFront c = (before : Ending) × HadEnding c before × GrewByFront c.err c.err_after (line c before)
 
--- The line on err: that of the status. Status 5 says that a sink failed; where err did, err grew by a prefix of a line. Where out didn't, the
--- call had kept all its other promises, those on the output among them, with the ending that it had before err failed.
+-- The line on standard error is that of the status. With status 5 a write failed. If it was one to standard error, that grew by a prefix of a
+-- line; and if none to standard output failed, the call keeps all its other promises, those on the output among them, with the status that it
+-- had before standard error failed.
 pub record WritesErr (c : Call) : Type 0 where
   pub nothing : c.status ≡ 0 → c.err_after.taken ≡ c.err.taken
   pub whole : (c.status ≡ 5 → ⊥) → c.err.tells ≡ true → TellsEnding c
@@ -280,7 +281,7 @@ pub record WritesErr (c : Call) : Type 0 where
   pub cut : c.status ≡ 5 → ErrRose c → c.err.tells ≡ true → GrewByFront c.err c.err_after (line c CantWrite) ⊎ TellsFront c
   pub err_alone : c.status ≡ 5 → (OutRose c → ⊥) → (before : Ending) × HadEnding c before
 
--- nothing failed: no count of faults rose, the file is there where one is named, and it didn't run out of memory
+-- nothing failed: no count of faults rose, the file exists if one is named, and memory didn't run out
 pub record NothingFailed (job : Job) (c : Call) : Type 0 where
   pub source : SourceRose c → ⊥
   pub out : OutRose c → ⊥
@@ -288,9 +289,8 @@ pub record NothingFailed (job : Job) (c : Call) : Type 0 where
   pub there : HasFile job.mode → IsMissing c.source job.file → ⊥
   pub memory : c.status ≡ 6 → ⊥
 
--- Completeness: where nothing failed the whole text is there and decides, and one without a refusal has a program; where it is to be run,
--- it is run until all processes have their end, or one has a fault; and where a trace is held against it, the trace decides, unless it is
--- missing.
+-- Completeness: if nothing failed, the whole text is there and decides: a text without a refusal has a program; if the mode runs it, it is run
+-- until all processes have ended or one has a fault; and if a trace is checked against it, the trace decides, unless it is missing.
 pub record IsComplete (job : Job) (c : Call) : Type 0 where
   pub whole : HasText job c
   pub refused : (refusal : Refusal) → IsRefusalIn job.mode c.text refusal → c.status ≡ 1
@@ -301,7 +301,7 @@ pub record IsComplete (job : Job) (c : Call) : Type 0 where
   pub verified : Verifies job.mode → (program : NumberedProgram) → HasProgram c.text program → (bytes : List ℕ)
       → Holds c.source job.against bytes → TraceDecides (run_of program job) bytes c
 
--- What the command promises.
+-- The contract of the command.
 pub record Meets (c : Call) : Type 0 where
   pub beside_err : MeetsBesideErr c
   pub err : WritesErr c

@@ -1,4 +1,4 @@
--- How a call ends, by its status and its line on err.
+-- The statuses of a call, and the lines on standard error.
 use Rattle.std.specs.Prelude.{ℕ, List, [], ◌++◌, codes, decimal}
 use Rattle.ti_base.specs.FaultNames.{name_of}
 use Rattle.ti_rules.specs.declared.refusal.Refusal.{Refusal}
@@ -18,7 +18,7 @@ status_of CantWrite = 5
 status_of NoMemory = 6
 status_of (NoRun line) = 7
 
--- what stands behind the name of the file in the line of a refused text
+-- the line of a refused text, after the name of the file
 abbrev pub refused_as : Refusal → List ℕ
 refused_as refusal =
     codes ":" ++ decimal refusal.place.line ++ codes ":" ++ decimal refusal.place.col ++ codes ": " ++ code_of refusal.rule ++ codes " "
@@ -30,11 +30,11 @@ fault_line fault =
     codes "titan: fault " ++ name_of fault.kind ++ codes " in process " ++ decimal fault.proc ++ codes " at " ++ decimal fault.place.line
     ++ codes ":" ++ decimal fault.place.col ++ codes "\n"
 
--- the line of a trace that is no run
+-- the line of a wrong trace
 abbrev pub no_run_line : ℕ → List ℕ
 no_run_line line = codes "titan: the trace is no run at line " ++ decimal line ++ codes "\n"
 
--- the line on err of an ending, where the file has this name; a command that was done has none
+-- the line on standard error for an ending, with this file name; a command that succeeded has none
 abbrev pub err_line : Ending → List ℕ → List ℕ
 err_line Done file = []
 err_line (Refused refusal) file = file ++ refused_as refusal

@@ -1,4 +1,4 @@
--- Mode infer: which marks of single values a text is given, and what it is refused for.
+-- Mode infer: the greatest marking of a text with single values, and its refusal.
 use Rattle.std.specs.Prelude.{◌≡◌, ℕ, List, [], ◌++◌, flat_map, Contains, codes, decimal}
 use Rattle.ti_base.specs.declared.place.Place.{Place}
 use Rattle.ti_syntax.specs.Trees.Classes.{TextTree}
@@ -18,7 +18,7 @@ use Rattle.ti_infer.specs.Answer.{IsGreatest, IsFirstUnaligned}
 
 -- ---- what is inferred
 
--- the greatest marking of a text: that of its program without its own marks, which breaks no rule of types and qualifiers
+-- the greatest marking of a text: that of its program with all marks removed, which breaks no rule of types and qualifiers
 pub record HasMarking (text : List ℕ) (marks : List Mark) : Type 0 where
   pub tree : TextTree
   pub has_tree : HasTree text tree
@@ -34,8 +34,8 @@ HasSomeMarking text = (marks : List Mark) × HasMarking text marks
 
 -- ---- refusals
 
--- what a tree is refused for: by the rules of names; where none of them is broken, by those of types and qualifiers, once its marks are
--- taken off; and where none of these is broken either, at the first collective that no marking aligns
+-- the refusal of a tree: by the rules of names; if none of them is broken, by those of types and qualifiers, with all marks removed; and if
+-- none of these is broken either, at the first collective that no marking aligns
 pub data IsUnmarkedTreeRefusal (tree : TextTree) : Refusal → Type 0 where
   of_names : {refusal : Refusal} → IsFirstRefusal (BreaksNames tree) refusal → IsUnmarkedTreeRefusal tree refusal
   of_types : {program : NumberedProgram} {refusal : Refusal} → HasNone (BreaksNames tree) → Numbers tree program
@@ -44,7 +44,7 @@ pub data IsUnmarkedTreeRefusal (tree : TextTree) : Refusal → Type 0 where
       → type_refusals (stripped program) ≡ []
       → IsFirstUnaligned (stripped program) place → IsUnmarkedTreeRefusal tree (record { rule = B1; place = place })
 
--- what a text is refused for, whatever marks it has: that of its tree, or where it has none, what every mode refuses it for
+-- the refusal of a text, whatever marks it has: that of its tree, or if it has no tree, that of every mode
 pub data IsUnmarkedRefusal (text : List ℕ) : Refusal → Type 0 where
   of_text : {refusal : Refusal} → ((tree : TextTree) → HasTree text tree → ⊥) → IsRefusal text refusal → IsUnmarkedRefusal text refusal
   of_tree : {tree : TextTree} {refusal : Refusal} → HasTree text tree → IsUnmarkedTreeRefusal tree refusal → IsUnmarkedRefusal text refusal

@@ -15,12 +15,12 @@ use Rattle.ti_words.specs.declared.job.Mode.TheVariants.{Run, Code, Gen}
 use Rattle.ti_top.specs.Run.{run_of}
 use Rattle.ti_top.specs.Summary.{summary}
 
--- a watcher, by its kind and the entries that it was told before the call
+-- a watcher: its kind, and the entries that it has seen before the call
 pub record Watcher : Type 0 where
   pub kind : ℕ
   pub told : List Entry
 
--- kind 0 is wanted by `--trace`, kind 1 by `--stats`, kind 2 by `--races`, and no other kind is
+-- `--trace` wants kind 0, `--stats` kind 1, `--races` kind 2; no other kind is ever wanted
 abbrev pub is_kind_wanted : Bool → Bool → Bool → ℕ → Bool
 is_kind_wanted trace stats races kind = if kind == 0 then trace else if kind == 1 then stats else if kind == 2 then races else false
 
@@ -32,16 +32,16 @@ is_wanted job watcher = is_kind_wanted job.trace job.stats job.races watcher.kin
 abbrev pub wanted : Job → List Watcher → List Watcher
 wanted job watchers = filter (is_wanted job) watchers
 
--- the report of a watcher that is told a history behind what it was told before
+-- the report of a watcher that sees a history after what it has seen before
 abbrev pub report_of : List Entry → Watcher → List ℕ
 report_of history watcher = watch_text watcher.kind (watcher.told ++ history)
 
--- the reports of watchers, one behind the other
+-- the reports of watchers, one after the other
 abbrev pub reports : List Watcher → List Entry → List ℕ
 reports watchers history = flat_map (report_of history) watchers
 
--- what is written of a program in a mode: the lines of the history or the summary of the run, and then the reports of watchers; or the text
--- of the program's code. In mode infer it isn't written of the program that the text has: it is in `Inference`.
+-- what a mode writes for a program: the lines of the history or the summary of the run, and then the reports of watchers; or the listing of
+-- the program's code. What mode infer writes depends on the text, not on its program: see `Inference`.
 abbrev pub output_in : Mode → Setting → List Entry → List Watcher → List ℕ
 output_in Run run history watchers = lines_of run.program history ++ reports watchers history
 output_in Code run history watchers = code_text (program_code run.program)
@@ -52,14 +52,14 @@ output_in _ run history watchers = []
 abbrev pub output : Job → NumberedProgram → List Entry → List Watcher → List ℕ
 output job program history watchers = output_in job.mode (run_of program job) history watchers
 
--- the lines of a history or the summary of its run were written, and the reports of the first few of these watchers
+-- the lines of a history or the summary of its run were written, and the reports of some first of these watchers
 pub record WroteFew (mode : Mode) (run : Setting) (watchers : List Watcher) (history : List Entry)
     (out out_after : SinkState) : Type 0 where
   pub few : List Watcher
   pub others : List Watcher
   pub first : few ++ others ≡ watchers
   pub grew : GrewBy out out_after (output_in mode run history few)
-  -- on a run that was cut short nobody reports
+  -- no watcher reports on a run that was cut short
   pub none_of_cut : (IsComplete run history → ⊥) → few ≡ []
-  -- on a complete run not all do
+  -- on a complete run, not all report
   pub not_all : IsComplete run history → others ≡ [] → ⊥

@@ -1,4 +1,4 @@
--- The run of a command: in which modes there is one, what its processes share, and how it ends with a fault.
+-- What the modes do, and the run of a command: its program, number of processes and fuel.
 use Rattle.std.specs.Prelude.{◌≡◌, ◌++◌, ◌∷◌, [], List}
 use Rattle.ti_base.specs.declared.action.Action.TheVariants as act
 use Rattle.ti_base.specs.declared.entry.Answer.TheVariants.{Done}
@@ -10,42 +10,42 @@ use Rattle.ti_words.specs.declared.job.Mode.{Mode}
 use Rattle.ti_words.specs.declared.job.Mode.TheVariants.{Run, Check, Code, Gen, Verify, Infer}
 use Rattle.ti_top.specs.declared.fault.Fault.{Fault}
 
--- in these modes a file is named, and its text read
+-- these modes name a file and read it
 abbrev pub HasFile : Mode → Type 0
 HasFile Gen = ⊥
 HasFile _ = Unit {0}
 
--- in these modes the program of the text is run
+-- these modes run the text's program
 abbrev pub Runs : Mode → Type 0
 Runs Run = Unit {0}
 Runs Gen = Unit {0}
 Runs _ = ⊥
 
--- in these modes the program has code
+-- these modes make the program's code
 abbrev pub HasCode : Mode → Type 0
 HasCode Check = ⊥
 HasCode Verify = ⊥
 HasCode Infer = ⊥
 HasCode _ = Unit {0}
 
--- in this mode a trace is named, and held against the program of the text
+-- this mode names a trace, and checks it against the text's program
 abbrev pub Verifies : Mode → Type 0
 Verifies Verify = Unit {0}
 Verifies _ = ⊥
 
--- in this mode the marks of single values of the text don't count, and are inferred
+-- this mode ignores the marks of single values in the text, and infers them
 abbrev pub Infers : Mode → Type 0
 Infers Infer = Unit {0}
 Infers _ = ⊥
 
--- in these modes there is a history: that of the run, or that of the trace
+-- these modes have a history: that of the run, or that of the trace
 abbrev pub HasHistory : Mode → Type 0
 HasHistory Check = ⊥
 HasHistory Code = ⊥
 HasHistory Infer = ⊥
 HasHistory _ = Unit {0}
 
--- the program, run by as many processes as the job asks for, with as many ticks each
+-- the program, with the number of processes and the fuel that the job gives
 abbrev pub run_of : NumberedProgram → Job → Setting
 run_of program job = record { program = program; procs = job.procs; fuel = job.fuel }
 

@@ -16,7 +16,7 @@ abbrev pub is_print : Action → Bool
 is_print (act.Print literal value) = true
 is_print a = false
 
--- the whole number that an action prints, and 0 where it prints none
+-- the integer that an action prints, or 0 if it prints none
 abbrev pub printed_int : Action → ℤ
 printed_int (act.Print literal (Some (v.Int n))) = n
 printed_int a = pos 0
@@ -25,20 +25,20 @@ printed_int a = pos 0
 abbrev pub prints : List Entry → ℕ
 prints es = count_by (λ (e : Entry). is_print e.act) es
 
--- all printed whole numbers, added up
+-- the sum of all printed integers
 abbrev pub printed_sum : List Entry → ℤ
 printed_sum es = fold (λ (total : ℤ) (e : Entry). total +ℤ printed_int e.act) (pos 0) es
 
--- how many prints and how many entries there are, and the sum of the printed whole numbers, as one of 32 bits
+-- the numbers of prints and of entries, and the sum of the printed integers, wrapped to 32 bits
 unfoldable pub summary_line : List Entry → List ℕ
 summary_line es =
     codes "lines " ++ decimal (prints es) ++ codes " entries " ++ decimal (length es) ++ codes " sum "
     ++ signed_decimal (wrap w32 (printed_sum es)) ++ codes "\n"
 
--- whether all processes have their end
+-- whether all processes have ended
 abbrev pub have_ended : Setting → List Entry → Bool
 have_ended run es = list_all (λ i. has_end i es) (range_with_len 0 run.procs)
 
--- the summary of a run in which all processes have their end; any other has none
+-- the summary of a run in which all processes have ended; any other run has none
 abbrev pub summary : Setting → List Entry → List ℕ
 summary run es = if have_ended run es then summary_line es else []

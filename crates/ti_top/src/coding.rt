@@ -1,4 +1,4 @@
-// The code of a program, written to out.
+// Mode code: the listing of a program's code.
 ghost use Rattle.std.specs.Prelude.{◌≡◌, IfOk};
 ghost use Rattle.ti_code.specs.CodeText.{code_text as text_spec};
 ghost use Rattle.ti_code.specs.Follows.{Follows};
@@ -16,21 +16,21 @@ use ti_io::Sink;
 use ti_lower::lower;
 use ti_rules::Checked;
 
-/// How the writing of a program's code ended, and the code.
+/// How writing the code ended, and the code.
 #[derive(Drop)]
 pub struct Coded {
     pub ending: Ending,
     pub code: Option<Code>,
 }
 
-// Code, and its text.
+// Code, and its listing.
 #[derive(Drop)]
 struct Listing {
     code: Code,
     text: Vec<u8>,
 }
 
-// The code of a program, which follows it, and the text of the code.
+// Lowers a program, and lists its code.
 fn listing_of(alloc: Global, checked: &Checked) -> Result<Listing, Memory>
     ensures code { IfOk result (λ l. l.code ≡ program_code (program_of checked.now.program.parts)) }
     ensures follows { IfOk result (λ l. Follows l.code (program_of checked.now.program.parts)) }
@@ -41,7 +41,7 @@ fn listing_of(alloc: Global, checked: &Checked) -> Result<Listing, Memory>
     Ok(Listing { code, text })
 }
 
-/// Writes the code of a program, as one piece. Where memory is wanting nothing is written.
+/// Writes the listing of a program's code, in one write. Out of memory, nothing is written.
 pub fn write_code<K: Sink>(alloc: Global, checked: &Checked, out: &mut K) -> Coded
     ensures says { CodeSays result.ending (program_of checked.now.program.parts) (K.state out.old) (K.state out.new) result.code }
     ensures leaves { LeavesOut result.ending (K.state out.old) (K.state out.new) }

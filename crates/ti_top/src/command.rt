@@ -1,4 +1,4 @@
-// The whole command.
+// The call that is the command: reads the arguments, does the job, and writes the line on standard error.
 ghost use Rattle.std.specs.Prelude.{◌≡◌, [], None, map, string_bytes};
 ghost use Rattle.ti_top.specs.Clauses.{Meets};
 ghost use Rattle.ti_top.specs.Reports.{Watcher};
@@ -14,28 +14,28 @@ use ti_io::{Gate, Sink, Source};
 use ti_watch::Watch;
 use ti_words::{WordsErr, read_words};
 
-/// What the command did.
+/// The outcome of the command.
 #[derive(Drop)]
 pub struct Outcome {
-    /// How it ended: 0 the command was done, 1 the text is refused, 2 the run ended with a fault, 3 the
-    /// words are no command, 4 the source can't be read, 5 the output can't be written, 6 it ran out of
-    /// memory, 7 the trace is that of no complete run.
+    /// The status: 0 success, 1 the text is refused, 2 the run ended with a fault, 3 the arguments are no
+    /// command, 4 the file or the trace can't be read, 5 a write failed, 6 out of memory, 7 the trace is
+    /// that of no complete run.
     pub status: u8,
-    /// What was read, or in mode gen what was made.
+    /// The text that was read, or in mode gen the text that was generated.
     pub text: Vec<u8>,
-    /// The code of the program, which the modes run and gen execute. In the modes run, code and gen
-    /// it is there with status 0 and 2, and may be there with status 5, if a write to out or err
-    /// failed; in the modes run and gen it may also be there with status 6. Otherwise there is none.
+    /// The code of the program. In the modes run, code and gen it is there with status 0 and 2, and may
+    /// be there with status 5; in the modes run and gen it may also be there with status 6. Otherwise
+    /// there is none.
     pub code: Option<Code>,
     /// The entries of the run, in order. In mode verify those of the trace: of its complete run, or of the lines before the wrong one.
     pub history: Vec<Entry>,
-    /// For each process, in the order of their numbers, how many instructions of the code it has finished for the answers of its entries,
-    /// where the program was run with status 0 or 2. Where nothing was run it is empty.
+    /// For each process, in the order of their numbers, how many instructions of the code it has finished, given the answers to its entries, if
+    /// the program was run and the history is complete. If nothing was run it is empty.
     pub done: Vec<u64>,
 }
 
 impl Outcome {
-    // Nothing was read and nothing run.
+    // Nothing was read and nothing was run.
     fn nothing(alloc: Global, status: u8) -> Self
         ensures status { result.status ≡ status }
         ensures text { result.text.items ≡ [] }
@@ -53,19 +53,20 @@ impl Outcome {
     }
 }
 
-/// The command of these words, those after the program's name: reads the file that they name, refuses
-/// its text or makes its code and runs it, writes the lines of the run to `out` and behind them the reports of the watchers
-/// whose flag is given, and where it can't be done a line to `err`. In mode check it runs nothing and writes
-/// nothing to `out`. In mode code it runs nothing either, and writes the code of the program. In mode gen no
-/// file is named: it makes the text from a seed, and in place of the lines writes one that sums up the run. In mode verify it runs
-/// nothing and writes nothing to `out`: it says whether a trace that is named is that of a complete run, and else which of its lines is
-/// wrong. In mode infer the marks of single values in the text don't count: it writes those of the greatest marking under which the text
-/// is accepted.
+/// Does what the command line `titan WORDS` does, and returns the outcome; `words` are the arguments after the program's name.
 ///
-/// The words are `--mode run`, `--mode check`, `--mode code`, `--mode gen`, `--mode verify` or `--mode infer`, `--procs`, `--workers`,
-/// `--fuel`, each with a number, and `--trace`, `--stats` and `--races`, each at most once, and a file's name, or in mode gen `--seed`
-/// with a number, and in mode verify `--against` with the name of a trace; `docs/LANGUAGE.md` says their ranges. What the call promises
-/// is `Meets`, one record of `specs/Clauses.antt` for each clause.
+/// It reads the file that the arguments name and compiles it, or refuses it with a line on `err`. Then, by mode:
+///
+/// - `run` runs the program, and writes its output and then the reports of the watchers whose option is given to `out`;
+/// - `check` writes nothing;
+/// - `code` writes the listing of the program's code;
+/// - `gen` names no file: it generates a program from a seed, runs it, and writes a summary in place of its output;
+/// - `verify` checks whether a trace is that of a complete run of the program, and names the first wrong line on `err` if not;
+/// - `infer` ignores the marks of single values in the program, and writes the greatest set of marks with which it is accepted.
+///
+/// The arguments are `--mode MODE`, `--procs N`, `--workers N`, `--fuel N`, `--trace`, `--stats` and `--races`, each at most once, and a file's
+/// name; in mode gen `--seed N` in its place, and in mode verify `--against TRACE` as well. docs/COMMAND.md has their
+/// ranges. The contract is `Meets`, with one record of `specs/Clauses.antt` for each clause.
 pub fn titan_top<R: AllocGlobal + Threads + Wait + Sync, S: Source, K: Sink, G: Gate + Sync>(
     rt: &R,
     words: &[String],

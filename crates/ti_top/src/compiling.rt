@@ -1,4 +1,4 @@
-// From a text to its program.
+// From a text to its checked program: the phases in order, each of which may refuse.
 ghost use Rattle.std.specs.Prelude.{◌≡◌, ◌⊎◌, ℕ, List};
 ghost use Rattle.ti_lang.specs.Program.Classes.{NumberedProgram};
 ghost use Rattle.ti_rules.specs.declared.refusal.Refusal.{Refusal as RefusalSeen};
@@ -28,7 +28,7 @@ impl CompileErr {
     ghost use Rattle.std.specs.Prelude.{◌≡◌};
     ghost use Rattle.ti_top.specs.Mirrors.Compiling.{ending_by};
 
-    /// How the work ends.
+    /// The ending that this error leads to.
     pub fn ending(self) -> Ending
         ensures { result ≡ ending_by self }
     {
@@ -95,7 +95,7 @@ impl From<CheckErr> for CompileErr {
     }
 }
 
-/// That a text has one program or one refusal, and never both.
+/// A law: a text has one program or one refusal, and never both.
 pub fn one_answer()
     ensures some { (text : List ℕ) → ((program : NumberedProgram) × HasProgram text program)
         ⊎ ((refusal : RefusalSeen) × IsRefusal text refusal) }
@@ -110,8 +110,7 @@ pub fn one_answer()
     one_program_refusal();
 }
 
-/// The program that a text has by the rules of bytes, tokens and names: the text becomes tokens, these become a tree, and the tree
-/// becomes a program with a number in place of each name. What isn't needed any more gives its room back at once.
+/// Reads a text as a program: lexes it, parses the tokens, and resolves the names. Each phase's input is freed as soon as the next has its own.
 pub fn read_program(alloc: Global, text: &[u8]) -> Result<Program, CompileErr>
     ensures { ReadsProgram text.now result }
 {
@@ -125,8 +124,7 @@ pub fn read_program(alloc: Global, text: &[u8]) -> Result<Program, CompileErr>
     Ok(program)
 }
 
-/// The program of a text, which is aligned: it has one by the rules of bytes, tokens and names, and this is checked against the rules of
-/// types, qualifiers and single values.
+/// Compiles a text to a checked program: reads it, and checks the rules of types, qualifiers and single values. A checked program is aligned.
 pub fn compile(alloc: Global, text: &[u8]) -> Result<Checked, CompileErr>
     ensures { Compiles text.now result }
 {

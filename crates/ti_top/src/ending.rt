@@ -1,4 +1,4 @@
-// The end of a call: its status, and its line on err.
+// The end of a call: its status, and its line on standard error.
 ghost use Rattle.std.specs.Prelude.{◌≡◌, ◌≤◌, length, OnOk};
 ghost use Rattle.ti_base.specs.FaultNames.{name_of};
 ghost use Rattle.ti_io.specs.Sink.{Writes};
@@ -13,29 +13,29 @@ use ti_io::{Failed, Sink, write_piece};
 use ti_rules::{Refusal, Rule, rule_text};
 use ti_watch::Line;
 
-/// How a call ends, before its line on err is written.
+/// How a call ends, before its line on standard error is written.
 #[derive(Clone, Copy, PartialEq, Eq)]
 pub enum Ending {
-    /// The command was done.
+    /// The command succeeded.
     Done,
     /// The text is refused.
     Refused(Refusal),
     /// The run ended with a fault.
     Faulted(Fault),
-    /// The words are no command.
+    /// The arguments are no command.
     NoCommand,
-    /// The source can't be read.
+    /// The file or the trace can't be read.
     CantRead,
-    /// The output can't be written.
+    /// A write failed.
     CantWrite,
     /// Out of memory.
     NoMemory,
-    /// The trace is wrong at this line.
+    /// The trace is wrong at this line, counted from 1.
     NoRun(u64),
 }
 
 impl Ending {
-    /// The status that stands for this ending.
+    /// The status of this ending.
     pub fn status(self) -> u8
         ensures { result ≡ status_of self }
     {
@@ -52,7 +52,7 @@ impl Ending {
     }
 }
 
-// The code of a rule, which is short enough for a line.
+// The code of a rule. It fits a line.
 fn code_bytes(rule: Rule) -> &'static [u8]
     ensures value { result.now ≡ code_of rule }
     ensures short { length result.now ≤ 2 }
@@ -60,7 +60,7 @@ fn code_bytes(rule: Rule) -> &'static [u8]
     rule.code().as_bytes()
 }
 
-// The text of a rule, which is short enough for a line.
+// The text of a rule. It fits a line.
 fn text_bytes(rule: Rule) -> &'static [u8]
     ensures value { result.now ≡ text_of rule }
     ensures short { length result.now ≤ 64 }
@@ -68,7 +68,7 @@ fn text_bytes(rule: Rule) -> &'static [u8]
     rule_text(rule).as_bytes()
 }
 
-// The name of a fault, which is short enough for a line.
+// The name of a fault. It fits a line.
 fn name_bytes(kind: FaultKind) -> &'static [u8]
     ensures value { result.now ≡ name_of kind }
     ensures short { length result.now ≤ 16 }
@@ -76,7 +76,7 @@ fn name_bytes(kind: FaultKind) -> &'static [u8]
     fault_name(kind).as_bytes()
 }
 
-// What stands behind the name of the file in the line of a refused text.
+// The line of a refused text, after the name of the file.
 fn refused_line(refusal: Refusal) -> Line
     ensures { result ≡ refused_as refusal }
 {
@@ -110,7 +110,7 @@ fn fault_line(fault: Fault) -> Line
     line
 }
 
-// The line of a trace that is no run.
+// The line of a wrong trace.
 fn no_run_line(number: u64) -> Line
     ensures { result ≡ no_run_spec number }
 {
@@ -121,7 +121,7 @@ fn no_run_line(number: u64) -> Line
     line
 }
 
-// Writes the line of a refused text in two pieces, since a name has no bound.
+// Writes the line of a refused text, first the name of the file, since its length has no bound.
 fn write_refused<K: Sink>(err: &mut K, file: &str, refusal: Refusal) -> Result<(), Failed>
     ensures { Writes (err_line (Ending.Refused refusal) file.now) (K.state err.old) (K.state err.new) result }
 {
@@ -145,7 +145,7 @@ fn write_line<K: Sink>(err: &mut K, ending: Ending, file: &str) -> Result<(), Fa
     }
 }
 
-// Writes the line of an ending, and flushes err.
+// Writes the line of an ending, and flushes standard error.
 fn write_through<K: Sink>(err: &mut K, ending: Ending, file: &str) -> Result<(), Failed>
     ensures written { Writes (err_line ending file.now) (K.state err.old) (K.state err.new) result }
     ensures unfailed { OnOk result (Unfailed (K.state err.old) (K.state err.new)) }
@@ -154,7 +154,7 @@ fn write_through<K: Sink>(err: &mut K, ending: Ending, file: &str) -> Result<(),
     err.flush()
 }
 
-/// Writes the line of an ending to err, and answers the status that the call ends with.
+/// Writes the line of an ending to standard error, and returns the status of the call: that of the ending, or 5 if the write failed.
 pub fn end_with<K: Sink>(err: &mut K, ending: Ending, file: &str) -> u8
     ensures { Ended ending file.now (K.state err.old) (K.state err.new) result }
 {

@@ -1,4 +1,4 @@
-// The marks of single values of a text, inferred and written to out.
+// Mode infer: the marks of single values of a text are inferred and written.
 ghost use Rattle.std.specs.Prelude.{◌≡◌, ◌≤◌, ◌++◌, ℕ, List, length, flat_map, IfOk, OnOk};
 ghost use Rattle.ti_blame.specs.declared.mark.Mark.{Mark as MarkSeen};
 ghost use Rattle.ti_rules.specs.declared.refusal.Refusal.{Refusal as RefusalSeen};
@@ -38,7 +38,7 @@ impl From<InferErr> for CompileErr {
     }
 }
 
-/// That a text has one greatest marking or one refusal, whatever marks it has, and never both.
+/// A law: a text has one greatest marking or one refusal, whatever marks it has, and never both.
 pub fn one_marking()
     ensures one_marking { (text : List ℕ) (a b : List MarkSeen) → HasMarking text a → HasMarking text b → a ≡ b }
     ensures one_refusal { (text : List ℕ) (a b : RefusalSeen) → IsUnmarkedRefusal text a → IsUnmarkedRefusal text b → a ≡ b }
@@ -52,8 +52,8 @@ pub fn one_marking()
     one_inference();
 }
 
-/// The greatest marking of a text: its program without its own marks is checked against the rules of types and qualifiers, and what can be
-/// single in it is inferred.
+/// Infers the greatest marking of a text: its program, with all marks removed, is checked against the rules of types and qualifiers, and then
+/// every declaration that can be single is marked.
 pub fn infer_marks(alloc: Global, text: &[u8]) -> Result<Marking, CompileErr>
     ensures { Infers text.now result }
 {
@@ -66,7 +66,7 @@ pub fn infer_marks(alloc: Global, text: &[u8]) -> Result<Marking, CompileErr>
     Ok(marking)
 }
 
-// What is marked, which is short enough for a line.
+// The name of a kind of declaration. It fits a line.
 fn kind_bytes(kind: MarkKind) -> &'static [u8]
     ensures value { result.now ≡ kind_name kind }
     ensures short { length result.now ≤ 8 }
@@ -110,7 +110,7 @@ fn marks_text(alloc: Global, marks: &[Mark]) -> Result<Vec<u8>, Memory>
     Ok(text)
 }
 
-/// Writes a line for each mark, all as one piece. Where memory is wanting nothing is written.
+/// Writes a line for each mark, all in one write. Out of memory, nothing is written.
 pub fn write_marks<K: Sink>(alloc: Global, marking: &Marking, out: &mut K) -> Ending
     ensures says { MarksSay result marking.now (K.state out.old) (K.state out.new) }
     ensures leaves { LeavesOut result (K.state out.old) (K.state out.new) }

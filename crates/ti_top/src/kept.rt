@@ -1,4 +1,4 @@
-// What is kept of the work on a text.
+// What a job leaves: the code, the history and the counts of instructions.
 ghost use Rattle.std.specs.Prelude.{◌≡◌, [], None};
 ghost use Rattle.ti_top.specs.Mirrors.Work.{kept_of};
 
@@ -6,8 +6,7 @@ use std::alloc::Global;
 use ti_base::Entry;
 use ti_code::Code;
 
-/// What is kept of the work on a text: the code of its program, the entries of the run, and how many instructions each process has
-/// finished.
+/// What a job leaves: the code of the program, the entries of the run, and for each process how many instructions it has finished.
 #[derive(Drop)]
 pub struct Kept {
     pub code: Option<Code>,
@@ -16,7 +15,7 @@ pub struct Kept {
 }
 
 impl Kept {
-    /// There is no code, and nothing was run.
+    /// No code, and no run.
     pub fn nothing(alloc: Global) -> Self
         ensures { kept_of result ≡ record { code = None; history = []; done = [] } }
     {

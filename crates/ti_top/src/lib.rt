@@ -1,4 +1,5 @@
-//! The whole of titan as one call.
+//! The whole of titan as one call, `titan_top`: arguments in, status out, with the files and streams as parameters. The program `titan` makes
+//! this call and nothing else, so the call's contract is that of the command.
 #![tactic(auto)]
 
 mod coding;

@@ -17,7 +17,7 @@ use ti_syntax::Spelled;
 use ti_watch::Line;
 use ti_words::Mode;
 
-// What the literal of a print spells.
+// The bytes of the literal of a print, or none.
 fn literal_bytes(literals: &[Spelled], literal: Option<u32>) -> &[u8]
     ensures { result.now ≡ literal_text literals.now literal }
 {
@@ -30,7 +30,7 @@ fn literal_bytes(literals: &[Spelled], literal: Option<u32>) -> &[u8]
     }
 }
 
-// The text of the value of a print.
+// The text of the value of a print, or none.
 fn value_line(value: Option<Value>) -> Line
     ensures text { result ≡ printed_text value }
     ensures short { length result ≤ 37 }
@@ -50,7 +50,7 @@ fn value_line(value: Option<Value>) -> Line
     line
 }
 
-// Forms the line of an action, which is empty unless it is a print.
+// Forms the line of an action. It is empty unless the action is a print.
 fn form_line(line: &mut RunLine, literals: &[Spelled], action: Action)
     requires { HasRoom literals.now line.old }
     ensures bytes { line.new.taken ≡ line_spec literals.now action }
@@ -64,7 +64,7 @@ fn form_line(line: &mut RunLine, literals: &[Spelled], action: Action)
     }
 }
 
-// Writes the lines of a history, each as one piece.
+// Writes the lines of a history, each in one write.
 fn write_entries<K: Sink>(
     out: &mut K,
     line: &mut RunLine,
@@ -81,7 +81,7 @@ fn write_entries<K: Sink>(
     Ok(())
 }
 
-// Writes the lines of a history, each as one piece, and flushes out.
+// Writes the lines of a history, each in one write, and flushes standard output.
 fn write_lines<K: Sink>(
     out: &mut K,
     line: &mut RunLine,
@@ -96,7 +96,7 @@ fn write_lines<K: Sink>(
     out.flush()
 }
 
-// Writes the summary of a run that ended so, and flushes out.
+// Writes the summary of a run, and flushes standard output.
 fn write_summary<K: Sink>(out: &mut K, ended: Ending, history: &[Entry]) -> Result<(), Failed>
     ensures written { Writes (summary_after ended history.now) (K.state out.old) (K.state out.new) result }
     ensures unfailed { OnOk result (Unfailed (K.state out.old) (K.state out.new)) }
@@ -110,7 +110,7 @@ fn write_summary<K: Sink>(out: &mut K, ended: Ending, history: &[Entry]) -> Resu
     }
 }
 
-/// Writes what stands before the reports on a run that ended so: in mode run its lines, each as one piece, and in mode gen its summary.
+/// Writes what comes before the reports: in mode run the lines of the run, each in one write; in mode gen its summary.
 pub fn write_head<K: Sink>(
     out: &mut K,
     line: &mut RunLine,

@@ -1,29 +1,28 @@
-// Reading a file whole.
+// Reading a whole file.
 ghost use Rattle.std.specs.Prelude.{◌≡◌, [], true, Some};
 ghost use Rattle.ti_io.specs.Source.{content_of};
 ghost use Rattle.ti_top.specs.Mirrors.Reading.{ReadsWhole};
 
 use ti_io::Source;
 
-/// At most so many bytes are read: one more than a text may have.
+/// The most bytes that are read: one more than a program may have, so that a longer file is seen to be too long.
 pub const MOST_READ: usize = 1_048_577;
 
-// A file is read in pieces of so many bytes.
+// The size of one read, in bytes.
 const PIECE: usize = 4096;
 
-/// How the reading ended.
+/// How reading a file ended.
 #[derive(Clone, Copy, PartialEq, Eq)]
 pub enum ReadEnd {
-    /// At the end of the file, or at the most that is read.
+    /// At the end of the file, or after the most bytes that are read.
     Whole,
-    /// The file is missing, or a call failed.
+    /// The file is missing, or a read failed.
     CantRead,
     /// Out of memory.
     NoMemory,
 }
 
-/// Reads a file in pieces until its end or until the most that is read. What was read stands in the text
-/// however the reading ended.
+/// Reads a file to its end, or up to the most bytes that are read. Whatever the result, `text` has what was read.
 pub fn read_whole<S: Source>(source: &mut S, name: &str, text: &mut Vec<u8>) -> ReadEnd
     requires { text.old.items ≡ [] }
     ensures { ReadsWhole name.now (S.state source.old) (S.state source.new) text.new.items result }
@@ -35,7 +34,7 @@ pub fn read_whole<S: Source>(source: &mut S, name: &str, text: &mut Vec<u8>) -> 
     }
 }
 
-// Reads what is left of the file that was found.
+// Reads the rest of the file that the source is at.
 fn read_rest<S: Source>(source: &mut S, name: &str, text: &mut Vec<u8>) -> ReadEnd
     requires none { text.old.items ≡ [] }
     requires found { (S.state source.old).tells ≡ true → content_of (S.state source.old).files name.now ≡ Some (S.state source.old).left }

@@ -12,7 +12,7 @@ use ti_io::{Failed, Sink, write_piece};
 use ti_watch::Watch;
 use ti_words::Job;
 
-/// How the writing of the reports ended.
+/// How writing the reports ended.
 #[derive(Clone, Copy)]
 pub enum ReportEnd {
     /// All are written.
@@ -23,7 +23,7 @@ pub enum ReportEnd {
     NoMemory,
 }
 
-// Whether a watcher's flag is given.
+// Whether a watcher's option is given.
 fn is_asked_for(watcher: &Box<dyn Watch>, trace: bool, stats: bool, races: bool) -> bool
     ensures { result ≡ is_kind_wanted trace stats races (kind_of watcher.now) }
 {
@@ -35,7 +35,7 @@ fn is_asked_for(watcher: &Box<dyn Watch>, trace: bool, stats: bool, races: bool)
     }
 }
 
-/// Keeps the watchers whose flag is given, and drops the others.
+/// Keeps the watchers whose option is given, and drops the others.
 pub fn keep_wanted(watchers: &mut Vec<Box<dyn Watch>>, job: &Job)
     ensures { map {B = Watcher} (λ w. record { kind = kind_of w; told = told w }) watchers.new.items
         ≡ wanted job.now (map {B = Watcher} (λ w. record { kind = kind_of w; told = told w }) watchers.old.items) }
@@ -50,7 +50,7 @@ pub fn keep_wanted(watchers: &mut Vec<Box<dyn Watch>>, job: &Job)
     );
 }
 
-// Tells a watcher one entry, by what its trait says.
+// Shows a watcher one entry. A function of its own for the prover: the contract of the call through `dyn` is stated once.
 fn see_one(watcher: &mut Box<dyn Watch>, entry: &Entry) -> Result<(), Memory>
     ensures kind { kind_of watcher.new ≡ kind_of watcher.old }
     ensures told { OnOk result (told watcher.new ≡ told watcher.old ++ entry.now ∷ []) }
@@ -58,14 +58,14 @@ fn see_one(watcher: &mut Box<dyn Watch>, entry: &Entry) -> Result<(), Memory>
     watcher.see(entry)
 }
 
-// Has a watcher report, by what its trait says.
+// Appends a watcher's report. A function of its own for the prover: the contract of the call through `dyn` is stated once.
 fn report_one(watcher: &Box<dyn Watch>, out: &mut Vec<u8>) -> Result<(), Memory>
     ensures { OnOk result (out.new.items ≡ out.old.items ++ watch_text (kind_of watcher.now) (told watcher.now)) }
 {
     watcher.report(out)
 }
 
-// Tells a watcher a history in its order.
+// Shows a watcher the entries of a history in order.
 fn tell(watcher: &mut Box<dyn Watch>, history: &[Entry]) -> Result<(), Memory>
     ensures kind { kind_of watcher.new ≡ kind_of watcher.old }
     ensures told { OnOk result (told watcher.new ≡ told watcher.old ++ history.now) }
@@ -76,7 +76,7 @@ fn tell(watcher: &mut Box<dyn Watch>, history: &[Entry]) -> Result<(), Memory>
     Ok(())
 }
 
-/// Writes a text as one piece, and flushes out.
+/// Writes a text in one write, and flushes standard output.
 pub fn write_text<K: Sink>(out: &mut K, text: &[u8]) -> Result<(), Failed>
     ensures written { Writes text.now (K.state out.old) (K.state out.new) result }
     ensures unfailed { OnOk result (Unfailed (K.state out.old) (K.state out.new)) }
@@ -85,7 +85,7 @@ pub fn write_text<K: Sink>(out: &mut K, text: &[u8]) -> Result<(), Failed>
     out.flush()
 }
 
-// Tells a watcher the history, writes its report, and drops it.
+// Shows a watcher the history, writes its report, and drops it.
 fn write_report<K: Sink>(
     alloc: Global,
     watcher: Box<dyn Watch>,
@@ -110,7 +110,7 @@ fn write_report<K: Sink>(
     }
 }
 
-/// Tells each watcher the history and writes its report, one after the other.
+/// Shows each watcher the history and writes its report, one watcher after the other.
 pub fn write_reports<K: Sink>(
     alloc: Global,
     watchers: Vec<Box<dyn Watch>>,

@@ -1,4 +1,4 @@
-// A line of a run, in room that is taken before the run.
+// The line of a print. Its buffer is allocated before the run, so that writing the output of a run can't be out of memory.
 ghost use Rattle.std.specs.Prelude.{◌≡◌, ℕ, ◌+◌, ◌^◌, ◌<◌, ◌≤◌, [], ◌++◌, length, slice_index_or, IfOk};
 ghost use Rattle.ti_top.specs.Mirrors.Line.{HasRoom};
 
@@ -7,10 +7,10 @@ use std::marker::Model;
 use ti_base::Memory;
 use ti_syntax::Spelled;
 
-/// A value has at most 37 bytes, those of a point, and a line end one.
+/// The most bytes of a value and a line end: a point of three coordinates has 37.
 const VALUE_ROOM: usize = 38;
 
-/// A line of a run. Contracts see its bytes, and for how many it has room.
+/// The buffer of a line. Contracts see its bytes, and its capacity.
 #[derive(Drop)]
 pub struct RunLine {
     bytes: Vec<u8>,
@@ -38,7 +38,7 @@ fn longest(literals: &[Spelled]) -> usize
 }
 
 impl RunLine {
-    /// An empty line with room for each of these literals, a value and a line end.
+    /// An empty line with room for any of these literals, a value and a line end.
     pub fn with_room(alloc: Global, literals: &[Spelled]) -> Result<Self, Memory>
         ensures { IfOk result (λ line. HasRoom literals.now line) }
     {
@@ -53,7 +53,7 @@ impl RunLine {
         &self.bytes
     }
 
-    /// Takes all bytes out.
+    /// Empties the line.
     pub fn clear(&mut self)
         ensures taken { self.new.taken ≡ [] }
         ensures room { self.new.room ≡ self.old.room }
@@ -61,7 +61,7 @@ impl RunLine {
         self.bytes.clear();
     }
 
-    /// Adds a piece of text, for which there is room.
+    /// Appends bytes, for which there must be room.
     pub fn text(&mut self, piece: &[u8])
         requires { length self.old.taken + length piece.now ≤ self.old.room }
         ensures taken { self.new.taken ≡ self.old.taken ++ piece.now }

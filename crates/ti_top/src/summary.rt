@@ -1,4 +1,4 @@
-// The line that sums up a run.
+// The line that sums up a run, which mode gen writes.
 ghost use Rattle.std.specs.Prelude.{◌≡◌};
 ghost use Rattle.std.specs.Int.{w32};
 ghost use Rattle.ti_base.specs.WholeNumbers.{wrap};
@@ -14,7 +14,7 @@ fn is_print(action: Action) -> bool
     matches!(action, Action::Print { .. })
 }
 
-// The whole number that an action prints, and 0 where it prints none.
+// The integer that an action prints, or 0 if it prints none.
 fn printed_int(action: Action) -> i32
     ensures { result ≡ int_spec action }
 {
@@ -34,7 +34,7 @@ fn count_prints(history: &[Entry]) -> usize
     history.iter().filter(|e| is_print(e.act)).count()
 }
 
-// All printed whole numbers, added up in 32 bits.
+// The sum of all printed integers, wrapped to 32 bits.
 fn printed_sum(history: &[Entry]) -> i32
     ensures { result ≡ wrap w32 (sum_spec history.now) }
 {
@@ -45,7 +45,7 @@ fn printed_sum(history: &[Entry]) -> i32
     sum
 }
 
-/// The line that sums up a run.
+/// The summary of a run: the number of prints, the sum of the printed integers, and the number of entries.
 pub fn summary_line(history: &[Entry]) -> Line
     ensures { result ≡ line_spec history.now }
 {

@@ -1,4 +1,4 @@
-// A trace held against the program of a text.
+// Mode verify: a trace is checked against a program.
 ghost use Rattle.std.specs.Prelude.{◌≡◌, [], true, Some};
 ghost use Rattle.ti_io.specs.Source.{content_of};
 ghost use Rattle.ti_lang.specs.Program.Views.{program_of};
@@ -18,7 +18,7 @@ use ti_rules::Checked;
 use ti_trace_check::{TraceErr, Verdict, check_trace, one_verdict};
 use ti_words::Job;
 
-/// How the work on a trace ended, and the run that it has.
+/// The ending of mode verify, and the run of the trace.
 #[derive(Drop)]
 pub struct Verified {
     pub ending: Ending,
@@ -26,7 +26,7 @@ pub struct Verified {
 }
 
 impl Verified {
-    // There is no verdict.
+    // No verdict was reached.
     fn without(alloc: Global, ending: Ending) -> Self
         ensures ending { result.ending ≡ ending }
         ensures history { result.history.items ≡ [] }
@@ -37,7 +37,7 @@ impl Verified {
         }
     }
 
-    // By a verdict.
+    // The ending that a verdict leads to.
     fn by(verdict: Verdict) -> Self
         ensures ending { result.ending ≡ ending_by verdict }
         ensures history { result.history.items ≡ run_by verdict }
@@ -55,7 +55,7 @@ impl Verified {
     }
 }
 
-// Holds the trace that was found against a program. What is said of its races and of its verdict is the law of every run and every text.
+// Checks the trace that the source is at against a program. That a trace has one verdict is a law, called here for the caller's contract.
 fn verify_found<S: Source>(alloc: Global, job: &Job, checked: &Checked, source: &mut S) -> Verified
     requires within { IsWithin job.now.procs job.now.fuel }
     requires found { (S.state source.old).tells ≡ true → content_of (S.state source.old).files job.now.against
@@ -73,7 +73,7 @@ fn verify_found<S: Source>(alloc: Global, job: &Job, checked: &Checked, source: 
     }
 }
 
-// Finds the trace that a job names, and holds it against a program.
+// Opens the trace that a job names, and checks it against a program.
 fn verify_named<S: Source>(alloc: Global, job: &Job, checked: &Checked, source: &mut S) -> Verified
     requires { IsWithin job.now.procs job.now.fuel }
     ensures { HeldTrace result.ending (run_of (program_of checked.now.program.parts) job.now) job.now.against (S.state source.old)
@@ -86,7 +86,7 @@ fn verify_named<S: Source>(alloc: Global, job: &Job, checked: &Checked, source: 
     }
 }
 
-// Checks a whole text, and holds the trace that a job names against its program.
+// Compiles a whole text, and checks the trace that a job names against its program.
 fn verify_text<S: Source>(alloc: Global, job: &Job, text: &[u8], source: &mut S) -> Verified
     requires { IsWithin job.now.procs job.now.fuel }
     ensures read { WasRead (S.state source.old) (S.state source.new) }
@@ -99,8 +99,8 @@ fn verify_text<S: Source>(alloc: Global, job: &Job, text: &[u8], source: &mut S)
     }
 }
 
-/// Reads the file of a job and checks the text, and holds the trace that the job names against its program. What was read of the file
-/// stands in the text however the work ended.
+/// Reads the file of a job, compiles it, and checks the trace that the job names against its program. Whatever the ending, `text` has what was
+/// read of the file.
 pub fn verify_file<S: Source>(
     alloc: Global,
     job: &Job,

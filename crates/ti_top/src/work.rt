@@ -1,4 +1,4 @@
-// What is done before the line on err.
+// Each mode's work, up to the line on standard error.
 ghost use Rattle.std.specs.Prelude.{◌≡◌, ℕ, List, [], None, Some, IfOk, map};
 ghost use Rattle.ti_align.specs.Alignment.{IsAligned};
 ghost use Rattle.ti_code.specs.Follows.{Follows};
@@ -45,7 +45,7 @@ use ti_runtime::{How, RunEnd, run};
 use ti_watch::Watch;
 use ti_words::{Job, Mode};
 
-/// How the work ended, what was read or made, and what is kept.
+/// The result of a job: its ending, the text that was read or generated, and what the job leaves.
 #[derive(Drop)]
 pub struct Worked {
     pub ending: Ending,
@@ -53,7 +53,7 @@ pub struct Worked {
     pub kept: Kept,
 }
 
-// How what was done with a text ended, and what is kept.
+// The result of a mode on a whole text.
 #[derive(Drop)]
 struct Written {
     ending: Ending,
@@ -61,7 +61,7 @@ struct Written {
 }
 
 impl Written {
-    // Nothing was run and nothing written.
+    // Nothing was run and nothing was written.
     fn nothing(alloc: Global, ending: Ending) -> Self
         ensures ending { result.ending ≡ ending }
         ensures kept { kept_of result.kept ≡ record { code = None; history = []; done = [] } }
@@ -73,14 +73,14 @@ impl Written {
     }
 }
 
-// What a run needs: the code, and room for a line.
+// What a run needs: the code, and the buffer of a line.
 #[derive(Drop)]
 struct Ready {
     code: Code,
     line: RunLine,
 }
 
-// How the work ends where all of a run is written.
+// The ending of a run whose output was written completely.
 fn ending_of(end: &RunEnd, code: &Code) -> Ending
     requires { (s : Setting) × (workers : ℕ) × Ran code.now s workers end.now }
     ensures { (s : Setting) (workers : ℕ) → Ran code.now s workers end.now → RunEnds s end.now.history.items result }
@@ -95,7 +95,7 @@ fn ending_of(end: &RunEnd, code: &Code) -> Ending
     }
 }
 
-// How the work ends after reports that ended so.
+// The ending after the reports.
 fn ending_after(reports: ReportEnd, ending: Ending) -> Ending
     ensures { result ≡ after_spec reports ending }
 {
@@ -106,7 +106,7 @@ fn ending_after(reports: ReportEnd, ending: Ending) -> Ending
     }
 }
 
-// Writes the reports on a run that ended so, unless it was cut short.
+// Writes the reports on a run, unless the run was cut short.
 fn report_after<K: Sink>(
     alloc: Global,
     ended: Ending,
@@ -124,8 +124,7 @@ fn report_after<K: Sink>(
     }
 }
 
-// Runs a program by its code. Where nothing in the run stands in a race, it decides every other run; what does is told by the entries
-// alone.
+// Runs a program by its code. If no entry of the run is part of a race, the run determines every other one (a law that is called here).
 fn run_by_code<R: Threads + Wait + Sync, G: Gate + Sync>(
     rt: &R,
     alloc: Global,
@@ -157,8 +156,8 @@ fn run_by_code<R: Threads + Wait + Sync, G: Gate + Sync>(
     end
 }
 
-// Runs a program by its code, and writes its lines, for which there is room, or its summary, and the reports on it. Where the run runs out
-// of memory, the lines of the entries so far are written.
+// Runs a program by its code, and writes its lines or its summary, and the reports on it. If the run is out of memory, the lines of the entries
+// so far are written.
 fn run_program<R: Threads + Wait + Sync, K: Sink, G: Gate + Sync>(
     rt: &R,
     alloc: Global,
@@ -202,7 +201,7 @@ fn run_program<R: Threads + Wait + Sync, K: Sink, G: Gate + Sync>(
     }
 }
 
-// What is kept of a run by this code.
+// What a run by this code leaves.
 fn kept_of_run(code: Code, end: RunEnd) -> Kept
     ensures { kept_of result ≡ record { code = Some code; history = end.history.items; done = end.done.items } }
 {
@@ -213,7 +212,7 @@ fn kept_of_run(code: Code, end: RunEnd) -> Kept
     }
 }
 
-// Makes a program's code, and takes room for its lines.
+// Makes a program's code, and allocates the buffer of its lines.
 fn ready_for(alloc: Global, checked: &Checked) -> Result<Ready, Memory>
     ensures code { IfOk result (λ r. r.code ≡ program_code (program_of checked.now.program.parts)) }
     ensures follows { IfOk result (λ r. Follows r.code (program_of checked.now.program.parts)) }
@@ -224,7 +223,7 @@ fn ready_for(alloc: Global, checked: &Checked) -> Result<Ready, Memory>
     Ok(Ready { code, line })
 }
 
-// Runs the program of a text. Its code is made and room for its lines is taken before the run.
+// Runs a compiled program. All that its output needs is allocated before the run.
 fn run_compiled<R: Threads + Wait + Sync, K: Sink, G: Gate + Sync>(
     rt: &R,
     alloc: Global,
@@ -248,7 +247,7 @@ fn run_compiled<R: Threads + Wait + Sync, K: Sink, G: Gate + Sync>(
     }
 }
 
-// Writes the code of a text's program.
+// Writes the code of a compiled program.
 fn code_compiled<K: Sink>(alloc: Global, checked: &Checked, out: &mut K) -> Written
     ensures says { (text : List ℕ) → IsCompiled text (program_of checked.now.program.parts)
         → CodeTextSays result.ending text (K.state out.old) (K.state out.new) (kept_of result.kept) }
@@ -265,7 +264,7 @@ fn code_compiled<K: Sink>(alloc: Global, checked: &Checked, out: &mut K) -> Writ
     }
 }
 
-// Runs the program of a whole text, if it has one.
+// Mode run and gen: compiles a whole text and runs its program.
 fn run_text<R: Threads + Wait + Sync, K: Sink, G: Gate + Sync>(
     rt: &R,
     alloc: Global,
@@ -287,7 +286,7 @@ fn run_text<R: Threads + Wait + Sync, K: Sink, G: Gate + Sync>(
     }
 }
 
-// Checks a whole text.
+// Mode check: compiles a whole text.
 fn check_text(alloc: Global, text: &[u8]) -> Written
     ensures says { (out : SinkState) → CheckTextSays result.ending text.now out out (kept_of result.kept) }
     ensures leaves { (out : SinkState) → LeavesOut result.ending out out }
@@ -298,7 +297,7 @@ fn check_text(alloc: Global, text: &[u8]) -> Written
     }
 }
 
-// Writes the code of the program of a whole text, if it has one.
+// Mode code: compiles a whole text and writes its code.
 fn code_text<K: Sink>(alloc: Global, text: &[u8], out: &mut K) -> Written
     ensures says { CodeTextSays result.ending text.now (K.state out.old) (K.state out.new) (kept_of result.kept) }
     ensures leaves { LeavesOut result.ending (K.state out.old) (K.state out.new) }
@@ -309,7 +308,7 @@ fn code_text<K: Sink>(alloc: Global, text: &[u8], out: &mut K) -> Written
     }
 }
 
-// Infers the marks of a whole text, and writes them.
+// Mode infer: infers the marks of a whole text, and writes them.
 fn infer_text<K: Sink>(alloc: Global, text: &[u8], out: &mut K) -> Written
     ensures says { InferTextSays result.ending text.now (K.state out.old) (K.state out.new) (kept_of result.kept) }
     ensures leaves { LeavesOut result.ending (K.state out.old) (K.state out.new) }
@@ -320,7 +319,7 @@ fn infer_text<K: Sink>(alloc: Global, text: &[u8], out: &mut K) -> Written
     }
 }
 
-// Does what a job asks for with a whole text: checks it, and runs its program or writes its code; or infers its marks.
+// What the mode of a job does with a whole text.
 fn do_text<R: Threads + Wait + Sync, K: Sink, G: Gate + Sync>(
     rt: &R,
     alloc: Global,
@@ -344,7 +343,7 @@ fn do_text<R: Threads + Wait + Sync, K: Sink, G: Gate + Sync>(
     }
 }
 
-// Reads the file of a job, and does what the job asks for with the text.
+// Reads the file of a job, and does with it what the mode does.
 fn work_on_file<R: Threads + Wait + Sync, S: Source, K: Sink, G: Gate + Sync>(
     rt: &R,
     alloc: Global,
@@ -379,7 +378,7 @@ fn work_on_file<R: Threads + Wait + Sync, S: Source, K: Sink, G: Gate + Sync>(
     }
 }
 
-// Makes the text of a job's seed and does what is to be done with it.
+// Generates the text of a job's seed, and runs it.
 fn work_on_seed<R: Threads + Wait + Sync, K: Sink, G: Gate + Sync>(
     rt: &R,
     alloc: Global,
@@ -410,7 +409,7 @@ fn work_on_seed<R: Threads + Wait + Sync, K: Sink, G: Gate + Sync>(
     }
 }
 
-// Reads the file of a job, and holds the trace that is named against its program.
+// Mode verify.
 fn work_on_trace<S: Source>(alloc: Global, job: &Job, source: &mut S) -> Worked
     requires { IsInRanges job.now }
     ensures verified { VerifiedBy job.now result.ending (S.state source.old)
@@ -431,9 +430,8 @@ fn work_on_trace<S: Source>(alloc: Global, job: &Job, source: &mut S) -> Worked
     }
 }
 
-/// Does what a job asks for: reads its file, or in mode gen makes the text of its seed, and checks the text; and where the program is to
-/// be run, runs it and writes the lines of the run or its summary and the reports of the watchers whose flag is given; or writes its
-/// code; or infers its marks; or holds a trace against it. The other watchers are dropped first.
+/// Does the work of a job, up to the line on standard error: reads its file, or in mode gen generates the text of its seed, and then does what
+/// the mode does. Watchers whose option isn't given are dropped first.
 pub fn work<R: Threads + Wait + Sync, S: Source, K: Sink, G: Gate + Sync>(
     rt: &R,
     alloc: Global,
