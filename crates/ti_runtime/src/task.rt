@@ -94,12 +94,9 @@ fn act<J: Terms + CodeOf>(
     store.act(alloc, number, place, action)
 }
 
-// Whether this outcome may let waiting processes continue, or make them stop: an arrival or a fault. Only speed depends on it.
-fn lets_others_go_on(next: Next, acted: &Result<Answer, ActErr>) -> bool {
-    match acted {
-        Ok(_) => matches!(next, Next::Act(_, Action::Arrive { .. })),
-        Err(why) => matches!(why, ActErr::Faulted(_)),
-    }
+// Whether a process arrives at a collective next, so that others may continue after it. Only speed depends on it.
+fn arrives(next: Next) -> bool {
+    matches!(next, Next::Act(_, Action::Arrive { .. }))
 }
 
 // Leaves the turnstile, and with `wakes` wakes the threads that sleep there.
@@ -205,9 +202,9 @@ impl<J: Terms + CodeOf> Task<J> {
         gate.pass(number);
         let mut inside = turnstile.enter(rt, pass);
         let acted = act(alloc, next, number, inside.value());
-        let pass = leave_after(turnstile, inside, lets_others_go_on(next, &acted));
         match acted {
             Ok(answer) => {
+                let pass = leave_after(turnstile, inside, arrives(next));
                 let _turn = pending.hear(next, answer);
                 (
                     Task {
@@ -218,12 +215,15 @@ impl<J: Terms + CodeOf> Task<J> {
                     TryOutcome::Went,
                 )
             }
-            Err(why) => Task {
-                number,
-                pending,
-                pass,
+            Err(why) => {
+                let pass = leave_after(turnstile, inside, matches!(why, ActErr::Faulted(_)));
+                Task {
+                    number,
+                    pending,
+                    pass,
+                }
+                .refused(rt, turnstile, why)
             }
-            .refused(rt, turnstile, why),
         }
     }
 

@@ -58,8 +58,8 @@ invariant_of-refused g c =
     let next = c.in-Ok.next in
     let after = c.act-acted.new.store in (
       inv.0,
-      c.leave_after-pass.ensures.number ∙ c.enter-inside.ensures.number ∙ inv.1,
-      seated_seen code s after.entries me.number (seen_by c.leave_after-pass.result) c.advance.new.self c.leave_after-pass.ensures.seen
+      c.leave_after-pass-in-Err.ensures.number ∙ c.enter-inside.ensures.number ∙ inv.1,
+      seated_seen code s after.entries me.number (seen_by c.leave_after-pass-in-Err.result) c.advance.new.self c.leave_after-pass-in-Err.ensures.seen
           (seated_refused code s store after me.number c.advance.new.self next c.in-Err.why c.in-Err.ensures.refused
           (seated_advanced code s store.entries me.number me.pending c.advance.new.self (is_act next) c.in-Ok.ensures.asks y)),
     )
