@@ -1,4 +1,4 @@
-// What is asked of the texts of rows.
+// Dispatches a row by its kind to the function that computes its result.
 
 use crate::evaluation::value;
 use crate::phases::phase;
@@ -10,13 +10,14 @@ use std::alloc::{AllocError, Global};
 use ti_row_files::{Judge, Row, RowErr};
 use ti_rules::Refusal;
 
-/// Asks the phases of titan.
+/// The judge of this program: computes the results of rows by single phases of titan.
 #[derive(Clone, Copy)]
 pub(crate) struct Phases {
     alloc: Global,
 }
 
 impl Phases {
+    /// A judge whose results use this allocator.
     pub(crate) fn new(alloc: Global) -> Phases {
         Phases { alloc }
     }
@@ -32,12 +33,12 @@ impl Judge for Phases {
     }
 }
 
-/// The rule that a text breaks and its place, such as `X1 1:62`.
+/// The rule that a source breaks and the place, such as `X1 1:62`.
 fn shown_refusal(alloc: Global, refusal: Refusal) -> Result<String, AllocError> {
     format!(in alloc; "{:?} {:?}", refusal.rule, refusal.place)
 }
 
-/// What comes of a row.
+/// The result of a row of the kind `asked`. `RowErr::Row` if the kind needs what is before `<-` and the row has no `<-`.
 fn found(alloc: Global, asked: &str, row: Row) -> Result<Vec<u8>, Stopped> {
     match asked {
         "job" => job(alloc, row.spelled),
@@ -50,7 +51,7 @@ fn found(alloc: Global, asked: &str, row: Row) -> Result<Vec<u8>, Stopped> {
     }
 }
 
-/// What comes of a text after the answers that are given.
+/// The result of a row of the kind `value`, `walk` or `slice` on a source, with what the row gives before `<-`.
 fn after(alloc: Global, asked: &str, given: &str, text: &[u8]) -> Result<Vec<u8>, Stopped> {
     match asked {
         "value" => value(alloc, given, text),

@@ -1,5 +1,5 @@
-// What expressions come to, from the answers that their actions have got so far. The process is number 1 of 3. The variable 0 is an int and
-// holds 5, the variable 1 holds a grid of ints.
+// Evaluates an expression, given the answers to the actions that it has requested so far. It is evaluated in process 1 of 3, where
+// variable 0 is an int with the value 5 and variable 1 is a one-dimensional grid of ints.
 
 use crate::phases::resolved;
 use crate::stopped::{MEMORY, NO_ROW, Stopped};
@@ -9,6 +9,7 @@ use ti_base::{Action, Id, Place, Value, fault_name};
 use ti_eval::{Env, Held, Level, Slot, Stop, Team, Told, evaluate};
 use ti_lang::program::{Declared, Expr, Method, Parts, Printed, Stmt, Ty, Variable};
 
+/// The grid that variable 1 holds.
 const GRID: Id = Id {
     maker: 0,
     serial: 0,
@@ -16,7 +17,7 @@ const GRID: Id = Id {
     region: 0,
 };
 
-/// The expression that the last statement of the last method prints.
+/// The expression that the last statement of the last method prints. `None` if that statement isn't a print of only a value.
 pub(crate) fn printed(parts: &Parts) -> Option<&Expr> {
     match parts.methods.last()?.body.last()? {
         Stmt::Print(_, Printed::Value(e)) => Some(e),
@@ -24,6 +25,7 @@ pub(crate) fn printed(parts: &Parts) -> Option<&Expr> {
     }
 }
 
+/// A variable that isn't single, with its value.
 fn slot(number: u32, ty: Ty, held: Held) -> Slot {
     Slot {
         variable: Variable {
@@ -34,6 +36,7 @@ fn slot(number: u32, ty: Ty, held: Held) -> Slot {
     }
 }
 
+/// The type of variable 1: a global one-dimensional grid of ints.
 fn grid_type(alloc: Global) -> Result<Ty, AllocError> {
     Ok(Ty::Grid {
         elem: Box::new(alloc, Ty::Int)?,
@@ -42,6 +45,7 @@ fn grid_type(alloc: Global) -> Result<Ty, AllocError> {
     })
 }
 
+/// The variables of the method: 0 holds 5, 1 holds a grid.
 fn slots(alloc: Global) -> Result<Vec<Slot>, Stopped> {
     let mut found = Vec::new(alloc);
     found.push(slot(0, Ty::Int, Held::plain(Value::Int(5))))?;
@@ -50,6 +54,7 @@ fn slots(alloc: Global) -> Result<Vec<Slot>, Stopped> {
     Ok(found)
 }
 
+/// Reads the answers that a row gives, separated by whitespace. `NO_ROW` if one is malformed.
 fn told(alloc: Global, given: &str) -> Result<Vec<Told>, Stopped> {
     let mut found = Vec::new(alloc);
     for word in given.split_ascii_whitespace() {
@@ -61,6 +66,7 @@ fn told(alloc: Global, given: &str) -> Result<Vec<Told>, Stopped> {
     Ok(found)
 }
 
+/// The action that an evaluation requests, and the place that requests it.
 fn shown_action(alloc: Global, place: Place, action: Action) -> Result<String, AllocError> {
     match action {
         Action::GetElem { grid: _, at } => {
@@ -71,7 +77,7 @@ fn shown_action(alloc: Global, place: Place, action: Action) -> Result<String, A
     }
 }
 
-/// A value and how many answers are left, an action that is asked for, or a fault.
+/// The result of an evaluation: the value and the number of unused answers, the action that is requested, or the fault.
 fn shown(alloc: Global, came: Result<(Held, &[Told]), Stop>) -> Result<String, Stopped> {
     match came {
         Ok((h, left)) => {
@@ -88,7 +94,7 @@ fn shown(alloc: Global, came: Result<(Held, &[Told]), Stop>) -> Result<String, S
     }
 }
 
-/// In process 1 of 3.
+/// The environment of process 1 of 3 with these variables: no method, no `this`, and no statement that has been entered.
 fn env<'a>(program: &'a Parts, variables: &'a [Slot]) -> Env<'a> {
     let method: Option<&'a Method> = None;
     let levels: &'a [Level] = &[];
@@ -106,7 +112,7 @@ fn env<'a>(program: &'a Parts, variables: &'a [Slot]) -> Env<'a> {
     }
 }
 
-/// What the expression comes to.
+/// Evaluates the expression that a program's last statement prints. `NO_ROW` if it prints none.
 fn comes(
     alloc: Global,
     program: &Parts,
@@ -119,14 +125,14 @@ fn comes(
     }
 }
 
-/// What it comes to behind answers.
+/// Evaluates the expression that a program's last statement prints, given the answers that a row spells.
 fn behind(alloc: Global, program: &Parts, given: &str) -> Result<String, Stopped> {
     let slots = slots(alloc)?;
     let told = told(alloc, given)?;
     comes(alloc, program, &slots, &told)
 }
 
-/// What the expression that a text prints comes to.
+/// Row kind `value`: evaluates the expression that the last statement of a source prints, given the answers that the row spells.
 pub(crate) fn value(alloc: Global, given: &str, text: &[u8]) -> Result<Vec<u8>, Stopped> {
     let program = resolved(alloc, text)?;
     Ok(behind(alloc, &program.parts, given)?.into_bytes())

@@ -1,4 +1,5 @@
-// Whether the names of an expression mean something, which `type_of` asks of its caller.
+// Checks the precondition of `type_of`: that the names of an expression are declared. The check is sound but incomplete, which is enough
+// for the expressions of the rows.
 
 ghost use Rattle.std.specs.Prelude.{IsTrue};
 ghost use Rattle.ti_lang.specs.Program.Scope.{contents_of};
@@ -8,7 +9,8 @@ ghost use Rattle.ti_rules.specs.Known.{IsKnown};
 use ti_lang::program::{Expr, Parts, Scope};
 use ti_lang::typing::variable_type;
 
-/// Whether the names of an expression without lists and without `this` mean something. Of any other it says no.
+/// Whether the names of an expression are declared in a program and a scope. False for `this`, fields of `this`, calls, points, domains and
+/// indexing, even if their names are declared.
 pub(crate) fn is_known(p: &Parts, s: &Scope, e: &Expr) -> bool
     ensures { IsTrue result → IsKnown (program_of p.now) (contents_of s.now) (expression_of e.now) }
 {

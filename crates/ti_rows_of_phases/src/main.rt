@@ -1,5 +1,5 @@
-//! Rows of texts with what the phases of titan make of each: its tokens, its tree, its program, what its expressions come to, and what its
-//! tables hold. What is expected stands in the files of `data` alone, and nothing of them is proved.
+//! Tests single phases of titan on rows, each of which is an input with the expected result: tokens, trees, programs, types and values of
+//! expressions, actions of processes, and entries of tables. The rows are in the files of `data`, and nothing about them is proved.
 #![tactic(auto)]
 
 mod asked;

@@ -1,4 +1,5 @@
-// What the phases of the compiler make of texts.
+// Runs single phases of the compiler on the source of a row and prints the result: tokens, trees, programs, scopes, types, or that the
+// phase accepts it. Each kind of row is the name of a phase and of what is printed.
 
 ghost use Rattle.std.specs.Prelude.{IfOk};
 ghost use Rattle.ti_parse_expr.specs.Answers.{EndsAtEnd};
@@ -19,38 +20,38 @@ use ti_rules::{Checked, Refusal, Rule};
 use ti_syntax::Token;
 use ti_syntax::tree::{Class, Expr, Member, Tree};
 
-/// The tokens of a text.
+/// Lexes a source. The last token is the end of the source.
 fn tokens(alloc: Global, text: &[u8]) -> Result<Vec<Token>, Stopped>
     ensures { IfOk result (λ list. EndsAtEnd list.items) }
 {
     Ok(lex(alloc, text)?)
 }
 
-/// The tree of a text.
+/// Lexes and parses a source.
 fn parsed(alloc: Global, text: &[u8]) -> Result<Tree, Stopped> {
     let list = tokens(alloc, text)?;
     Ok(parse(alloc, &list)?)
 }
 
-/// The program of a text.
+/// Compiles a source up to name resolution.
 pub(crate) fn resolved(alloc: Global, text: &[u8]) -> Result<Program, Stopped> {
     let tree = parsed(alloc, text)?;
     Ok(resolve(alloc, &tree)?)
 }
 
-/// The program of a text that breaks no rule.
+/// Compiles a source up to name resolution and checks all further rules.
 pub(crate) fn checked(alloc: Global, text: &[u8]) -> Result<Checked, Stopped> {
     let program = resolved(alloc, text)?;
     Ok(check(alloc, program)?)
 }
 
-/// Puts a token with its place behind others.
+/// Appends `place=kind` of a token, after a space unless it is the first.
 fn push_token(alloc: Global, listed: &mut String, token: &Token) -> Result<(), AllocError> {
     let space = if listed.is_empty() { "" } else { " " };
     listed.push_str(&format!(in alloc; "{space}{:?}={:?}", token.place, token.kind)?)
 }
 
-/// Tokens one behind the other.
+/// Tokens with their places, in order, separated by spaces.
 fn listed(alloc: Global, tokens: &[Token]) -> Result<String, AllocError> {
     let mut listed = String::new(alloc);
     for token in tokens {
@@ -59,12 +60,14 @@ fn listed(alloc: Global, tokens: &[Token]) -> Result<String, AllocError> {
     Ok(listed)
 }
 
+/// Row kind `tokens`: the tokens of a source with their places.
 fn token_list(alloc: Global, text: &[u8]) -> Result<String, Stopped> {
     let list = tokens(alloc, text)?;
     Ok(listed(alloc, &list)?)
 }
 
-/// The longest expression of a form from a token on, the number of the token behind it, and the weight used then.
+/// Parses the longest expression of a form that starts at token `at`, with `weight` used before it. Returns its tree, the index of the
+/// token after it, and the weight used up to there. `NO_ROW` if there is no token `at`.
 fn read(
     alloc: Global,
     text: &[u8],
@@ -80,24 +83,26 @@ fn read(
     }
 }
 
-/// A text with how many tokens were read and the weight that is used then.
+/// Appends to a result the index of the token after the expression, as `tokens`, and the weight used up to there.
 fn measured(alloc: Global, text: &str, behind: usize, used: u32) -> Result<String, AllocError> {
     format!(in alloc; "{text}, {behind} tokens, weight {used}")
 }
 
+/// The tree of the longest expression of a form at the start of a source, with the number of its tokens and the weight used.
 fn expression(alloc: Global, text: &[u8], form: Form, weight: u32) -> Result<String, Stopped> {
     let (tree, behind, used) = read(alloc, text, form, 0, weight)?;
     let text = tree_text::text_of(alloc, tree_text::Item::Expr(&tree))?;
     Ok(measured(alloc, text.as_str(), behind, used)?)
 }
 
+/// The place of the longest expression that starts at token `at`, with the index of the token after it and the weight used.
 fn extent(alloc: Global, text: &[u8], at: usize, weight: u32) -> Result<String, Stopped> {
     let (tree, behind, used) = read(alloc, text, Form::Whole, at, weight)?;
     let place = format!(in alloc; "{:?}", tree.place())?;
     Ok(measured(alloc, place.as_str(), behind, used)?)
 }
 
-/// The trees of the statements of a text with one method.
+/// The statements of the only member of the only class, if that is a method; else nothing.
 fn body(alloc: Global, tree: &Tree) -> Result<String, AllocError> {
     let [Class { members, .. }] = tree.classes.as_slice() else {
         return Ok(String::new(alloc));
@@ -108,23 +113,26 @@ fn body(alloc: Global, tree: &Tree) -> Result<String, AllocError> {
     tree_text::text_of(alloc, tree_text::Item::Stmts(&method.body))
 }
 
+/// Row kind `statements`: the trees of the statements of a source whose only class has one method and no other member.
 fn statements(alloc: Global, text: &[u8]) -> Result<String, Stopped> {
     let tree = parsed(alloc, text)?;
     Ok(body(alloc, &tree)?)
 }
 
+/// Row kind `tree`: the syntax tree of a source.
 fn tree(alloc: Global, text: &[u8]) -> Result<String, Stopped> {
     let tree = parsed(alloc, text)?;
     let classes = tree_text::text_of(alloc, tree_text::Item::Classes(&tree.classes))?;
     Ok(format!(in alloc; "Tree {{ classes: {classes} }}")?)
 }
 
+/// Row kind `program`: the parts of a program after name resolution.
 fn program(alloc: Global, text: &[u8]) -> Result<String, Stopped> {
     let program = resolved(alloc, text)?;
     Ok(program_text::text_of(alloc, program_text::Item::Parts(&program.parts))?)
 }
 
-/// What is shown of a copy, where it is another than what is shown of the original.
+/// Compares a copy with its original as they are printed: `the same`, or else the printed copy.
 fn compared(alloc: Global, parts: &Parts, copy: &Parts) -> Result<String, AllocError> {
     let original = program_text::text_of(alloc, program_text::Item::Parts(parts))?;
     let copied = program_text::text_of(alloc, program_text::Item::Parts(copy))?;
@@ -135,18 +143,20 @@ fn compared(alloc: Global, parts: &Parts, copy: &Parts) -> Result<String, AllocE
     }
 }
 
+/// Row kind `copy`: whether a copy of a resolved program is printed like the original.
 fn copy(alloc: Global, text: &[u8]) -> Result<String, Stopped> {
     let program = resolved(alloc, text)?;
     let copy = program.copy(alloc)?;
     Ok(compared(alloc, &program.parts, &copy.parts)?)
 }
 
+/// `accepted` if a phase succeeded; else its error.
 fn accepted<T: Drop>(alloc: Global, answer: Result<T, Stopped>) -> Result<String, Stopped> {
     answer?;
     Ok(String::from_str(alloc, "accepted")?)
 }
 
-/// The refusal of a text by the grammar.
+/// The error with which the lexer or parser rejects a source; `None` if they accept it.
 fn refusal_of(alloc: Global, text: &[u8]) -> Result<Option<Refusal>, Stopped> {
     match parsed(alloc, text) {
         Ok(_) => Ok(None),
@@ -155,7 +165,7 @@ fn refusal_of(alloc: Global, text: &[u8]) -> Result<Option<Refusal>, Stopped> {
     }
 }
 
-/// The place behind a byte.
+/// The place of the byte after one at `place`: a newline starts a line, any other byte is one column wide.
 fn place_behind(place: Place, byte: u8) -> Place {
     let (line, col) = match byte {
         b'\n' => (place.line.saturating_add(1), 1),
@@ -164,12 +174,13 @@ fn place_behind(place: Place, byte: u8) -> Place {
     Place { line, col }
 }
 
-/// Whether a refusal is of an unexpected token or an open string, at this place or before it.
+/// Whether a prefix that ends at `end` may be rejected only because it ends there: for an unexpected token or an open string, at `end` or
+/// before it.
 fn stands_by(refusal: Refusal, end: Place) -> bool {
     matches!(refusal.rule, Rule::G1 | Rule::X3) && !end.is_before(refusal.place)
 }
 
-/// Puts the number of a front behind those before it, if it is accepted, or refused elsewhere than by its end.
+/// Appends the length of a prefix if it is accepted, and the length after `!` if it is rejected for something other than its end at `end`.
 fn push_front(
     alloc: Global,
     fronts: &mut String,
@@ -184,6 +195,8 @@ fn push_front(
     }
 }
 
+/// Row kind `fronts`: checks every prefix of a source, from the empty one to the whole, by the grammar. Lists the lengths in bytes of those
+/// that are accepted and, after `!`, of those that are rejected for something other than their end.
 fn fronts(alloc: Global, text: &[u8]) -> Result<String, Stopped> {
     let mut fronts = String::from_str(alloc, "accepted")?;
     let mut end = Place::first();
@@ -197,7 +210,7 @@ fn fronts(alloc: Global, text: &[u8]) -> Result<String, Stopped> {
     Ok(fronts)
 }
 
-/// What is in scope at the first statement of the first method.
+/// The scope at the first statement of the first method. `NO_ROW` if the program has no method.
 pub(crate) fn scope_of(alloc: Global, program: &Program) -> Result<Scope, Stopped> {
     if program.parts.methods.is_empty() {
         Err(NO_ROW)
@@ -206,17 +219,20 @@ pub(crate) fn scope_of(alloc: Global, program: &Program) -> Result<Scope, Stoppe
     }
 }
 
+/// The scope at the first statement of the first method of a source.
 fn first_scope(alloc: Global, text: &[u8]) -> Result<Scope, Stopped> {
     let program = resolved(alloc, text)?;
     scope_of(alloc, &program)
 }
 
+/// Adds variable 2, a boolean that isn't single, and prints the scope.
 fn grown(alloc: Global, scope: &mut Scope) -> Result<String, Stopped> {
     scope.push(2, Ty::Bool, false)?;
     Ok(program_text::text_of(alloc, program_text::Item::Scope(scope))?)
 }
 
-/// What is shown of a scope that was cut and in which a loop was set and taken back, behind what was shown before.
+/// Truncates a scope to its first variable, sets an innermost loop and resets it. Appends to `grown` the scope after that, the previous
+/// loops that both calls of `set_loop` return, and the loop that remains.
 fn cut(alloc: Global, scope: &mut Scope, grown: &str) -> Result<String, AllocError> {
     scope.cut(1);
     let none = scope.set_loop(Some(Place { line: 2, col: 3 }));
@@ -228,13 +244,14 @@ fn cut(alloc: Global, scope: &mut Scope, grown: &str) -> Result<String, AllocErr
     )
 }
 
+/// Row kind `scope`: the scope at the first method's first statement, after a variable is added, and after that is undone.
 fn scope(alloc: Global, text: &[u8]) -> Result<String, Stopped> {
     let mut scope = first_scope(alloc, text)?;
     let grown = grown(alloc, &mut scope)?;
     Ok(cut(alloc, &mut scope, grown.as_str())?)
 }
 
-/// What an expression is read as, and the weight used before it, where a word such as `expression-behind-255` asks for it.
+/// The form that a row kind parses, and the weight used before it: 255 for `expression-behind-255`. `None` for any other kind.
 fn read_as(asked: &str) -> Option<(Form, u32)> {
     match asked {
         "expression" => Some((Form::Whole, 0)),
@@ -247,7 +264,7 @@ fn read_as(asked: &str) -> Option<(Form, u32)> {
     }
 }
 
-/// What a word asks of the expressions of a text.
+/// Runs a row kind that parses one expression. `RowErr::Heading` if there is no such kind.
 fn shown_expression(alloc: Global, asked: &str, text: &[u8]) -> Result<String, Stopped> {
     match asked {
         "extent" => extent(alloc, text, 0, 0),
@@ -259,7 +276,7 @@ fn shown_expression(alloc: Global, asked: &str, text: &[u8]) -> Result<String, S
     }
 }
 
-/// What a word asks of the program of a text.
+/// Runs a row kind that needs a resolved program, or one that parses one expression.
 fn shown_program(alloc: Global, asked: &str, text: &[u8]) -> Result<String, Stopped> {
     match asked {
         "names" => accepted(alloc, resolved(alloc, text)),
@@ -272,7 +289,7 @@ fn shown_program(alloc: Global, asked: &str, text: &[u8]) -> Result<String, Stop
     }
 }
 
-/// What a word such as `tokens` asks of a text.
+/// Runs any row kind that only needs a source, such as `tokens`.
 fn shown(alloc: Global, asked: &str, text: &[u8]) -> Result<String, Stopped> {
     match asked {
         "tokens" => token_list(alloc, text),
@@ -284,7 +301,7 @@ fn shown(alloc: Global, asked: &str, text: &[u8]) -> Result<String, Stopped> {
     }
 }
 
-/// What comes of a text in the phase that a word asks for.
+/// The result of the row kind `asked` on a source, as bytes. Stops at the first phase that rejects the source.
 pub(crate) fn phase(alloc: Global, asked: &str, text: &[u8]) -> Result<Vec<u8>, Stopped> {
     Ok(shown(alloc, asked, text)?.into_bytes())
 }

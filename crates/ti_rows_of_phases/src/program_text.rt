@@ -1,5 +1,6 @@
-// Programs as text, in the form that a derived `Debug` would write. A stack holds what is still to be written: a node is replaced by its
-// parts and the texts between them. So each kind of node has one short function without recursion, which costs the prover little.
+// Prints resolved programs in the format of a derived `Debug`, which ti_lang doesn't derive since that would slow down its proof.
+// An explicit stack of pending items takes the place of recursion: a node is replaced by its parts and the literals between them. So each
+// kind of node has one short function without recursion, which is cheap to prove.
 
 use std::alloc::{AllocError, Global};
 use ti_base::Place;
@@ -10,9 +11,10 @@ use ti_lang::program::{
 use ti_syntax::Spelled;
 use ti_syntax::tree::{BinaryOperator, Brackets, Modifier, Qualifier, StepOperator, UnaryOperator};
 
-/// What is still to be written, or a part of it.
+/// A pending item of the output: a literal, a value, a node of the tree or a list of nodes.
 #[derive(Clone, Copy)]
 pub(crate) enum Item<'a> {
+    /// Literal output, such as the name of a variant.
     Text(&'static str),
     Number(i64),
     Truth(bool),
@@ -61,14 +63,15 @@ pub(crate) enum Item<'a> {
     MaybePlace(Option<Place>),
 }
 
-/// What is still to be written, the first last.
+/// The items that are still to be written.
 #[derive(Drop)]
 pub(crate) struct Stack<'a> {
+    /// The last item is written next.
     items: Vec<Item<'a>>,
 }
 
 impl<'a> Stack<'a> {
-    /// Puts items in front of the others.
+    /// Pushes items in reverse, so that they are written next and in the given order.
     pub(crate) fn put(&mut self, items: &[Item<'a>]) -> Result<(), AllocError> {
         for item in items.iter().rev() {
             self.items.push(*item)?;
@@ -76,7 +79,7 @@ impl<'a> Stack<'a> {
         Ok(())
     }
 
-    /// Puts the elements of a list in front of the others.
+    /// Pushes a list, with its brackets and the commas between its elements, so that it is written next.
     fn list<T: Part>(&mut self, parts: &'a [T]) -> Result<(), AllocError> {
         self.items.push(Item::Text("]"))?;
         for (number, part) in parts.iter().enumerate().rev() {
@@ -90,8 +93,9 @@ impl<'a> Stack<'a> {
     }
 }
 
-/// What stands in lists.
+/// A node that occurs in lists.
 trait Part {
+    /// The item that writes this node.
     fn item(&self) -> Item<'_>;
 }
 
@@ -167,7 +171,7 @@ impl Part for InScope {
     }
 }
 
-/// Writes a part that is no node.
+/// Writes a literal or a value. Writes nothing for any other item.
 fn write_leaf(alloc: Global, out: &mut String, item: Item) -> Result<(), AllocError> {
     match item {
         Item::Text(text) => out.push_str(text),
@@ -186,7 +190,7 @@ fn write_leaf(alloc: Global, out: &mut String, item: Item) -> Result<(), AllocEr
     }
 }
 
-/// Puts the parts of a node in its place, or writes what is none.
+/// Processes one item: pushes the parts of a node, list or option, and writes a literal or a value.
 fn write_item<'a>(
     alloc: Global,
     stack: &mut Stack<'a>,
@@ -242,10 +246,10 @@ fn write_item<'a>(
     }
 }
 
-// So many items are written at most.
+// Upper bound on the number of items that are processed, so that the loop in `text_of` is bounded.
 const MOST: u32 = 100_000_000;
 
-/// The text of an item, as a derived `Debug` would write it.
+/// An item in the format of a derived `Debug`. The output is cut off after `MOST` items.
 pub(crate) fn text_of(alloc: Global, item: Item) -> Result<String, AllocError> {
     let mut stack = Stack {
         items: Vec::new(alloc),
@@ -261,7 +265,7 @@ pub(crate) fn text_of(alloc: Global, item: Item) -> Result<String, AllocError> {
     Ok(out)
 }
 
-/// A type.
+/// Pushes the parts of a resolved type.
 fn ty<'a>(stack: &mut Stack<'a>, ty: &'a Ty) -> Result<(), AllocError> {
     match ty {
         Ty::Int => stack.put(&[Item::Text("Int")]),
@@ -304,7 +308,7 @@ fn ty<'a>(stack: &mut Stack<'a>, ty: &'a Ty) -> Result<(), AllocError> {
     }
 }
 
-/// A type where it is written.
+/// Pushes the parts of a type as the source uses it, with its qualifiers and brackets.
 fn type_use<'a>(stack: &mut Stack<'a>, ty: &'a TypeUse) -> Result<(), AllocError> {
     stack.put(&[
         Item::Text("TypeUse { ty: "),
@@ -319,7 +323,7 @@ fn type_use<'a>(stack: &mut Stack<'a>, ty: &'a TypeUse) -> Result<(), AllocError
     ])
 }
 
-/// What is written where a variable is declared.
+/// Pushes the parts of how a variable was declared: with a type, or by `foreach`.
 fn declared<'a>(stack: &mut Stack<'a>, declared: &'a Declared) -> Result<(), AllocError> {
     match declared {
         Declared::Typed { single, ty } => stack.put(&[
@@ -333,7 +337,7 @@ fn declared<'a>(stack: &mut Stack<'a>, declared: &'a Declared) -> Result<(), All
     }
 }
 
-/// A variable where it is used.
+/// Pushes the parts of a use of a variable: its number and its declaration.
 fn variable<'a>(stack: &mut Stack<'a>, variable: &'a Variable) -> Result<(), AllocError> {
     stack.put(&[
         Item::Text("Variable { number: "),
@@ -344,7 +348,7 @@ fn variable<'a>(stack: &mut Stack<'a>, variable: &'a Variable) -> Result<(), All
     ])
 }
 
-/// An expression.
+/// Pushes the parts of an expression.
 fn expr<'a>(stack: &mut Stack<'a>, e: &'a Expr) -> Result<(), AllocError> {
     match e {
         Expr::Int(place, n) => stack.put(&[
@@ -525,7 +529,7 @@ fn expr<'a>(stack: &mut Stack<'a>, e: &'a Expr) -> Result<(), AllocError> {
     }
 }
 
-/// A range.
+/// Pushes the parts of a range, which is one dimension of a rectangular domain.
 fn range<'a>(stack: &mut Stack<'a>, range: &'a Range) -> Result<(), AllocError> {
     match range {
         Range::Plain { low, high } => stack.put(&[
@@ -547,7 +551,7 @@ fn range<'a>(stack: &mut Stack<'a>, range: &'a Range) -> Result<(), AllocError> 
     }
 }
 
-/// The domain of a grid that is made.
+/// Pushes the parts of the domain in a grid creation: an expression or a list of ranges.
 fn dims<'a>(stack: &mut Stack<'a>, dims: &'a Dims) -> Result<(), AllocError> {
     match dims {
         Dims::Domain(e) => stack.put(&[Item::Text("Domain("), Item::Expr(e), Item::Text(")")]),
@@ -559,7 +563,7 @@ fn dims<'a>(stack: &mut Stack<'a>, dims: &'a Dims) -> Result<(), AllocError> {
     }
 }
 
-/// A right side.
+/// Pushes the parts of an initializer, which is the right-hand side of a declaration or assignment.
 fn init<'a>(stack: &mut Stack<'a>, init: &'a Init) -> Result<(), AllocError> {
     match init {
         Init::Value(e) => stack.put(&[Item::Text("Value("), Item::Expr(e), Item::Text(")")]),
@@ -612,7 +616,7 @@ fn init<'a>(stack: &mut Stack<'a>, init: &'a Init) -> Result<(), AllocError> {
     }
 }
 
-/// What a print writes.
+/// Pushes the parts of the argument of a print statement.
 fn printed<'a>(stack: &mut Stack<'a>, printed: &'a Printed) -> Result<(), AllocError> {
     match printed {
         Printed::Nothing => stack.put(&[Item::Text("Nothing")]),
@@ -632,7 +636,7 @@ fn printed<'a>(stack: &mut Stack<'a>, printed: &'a Printed) -> Result<(), AllocE
     }
 }
 
-/// A statement.
+/// Pushes the parts of a statement.
 fn stmt<'a>(stack: &mut Stack<'a>, stmt: &'a Stmt) -> Result<(), AllocError> {
     match stmt {
         Stmt::Empty => stack.put(&[Item::Text("Empty")]),
@@ -792,7 +796,7 @@ fn stmt<'a>(stack: &mut Stack<'a>, stmt: &'a Stmt) -> Result<(), AllocError> {
     }
 }
 
-/// A field.
+/// Pushes the parts of a field declaration.
 fn field<'a>(stack: &mut Stack<'a>, field: &'a Field) -> Result<(), AllocError> {
     stack.put(&[
         Item::Text("Field { modifiers: "),
@@ -805,7 +809,7 @@ fn field<'a>(stack: &mut Stack<'a>, field: &'a Field) -> Result<(), AllocError> 
     ])
 }
 
-/// A class.
+/// Pushes the parts of a class.
 fn class<'a>(stack: &mut Stack<'a>, class: &'a Class) -> Result<(), AllocError> {
     stack.put(&[
         Item::Text("Class { modifiers: "),
@@ -816,7 +820,7 @@ fn class<'a>(stack: &mut Stack<'a>, class: &'a Class) -> Result<(), AllocError> 
     ])
 }
 
-/// A parameter.
+/// Pushes the parts of a parameter declaration.
 fn param<'a>(stack: &mut Stack<'a>, param: &'a Param) -> Result<(), AllocError> {
     stack.put(&[
         Item::Text("Param { place: "),
@@ -827,7 +831,7 @@ fn param<'a>(stack: &mut Stack<'a>, param: &'a Param) -> Result<(), AllocError> 
     ])
 }
 
-/// The parameters of a method.
+/// Pushes the parts of a parameter list: typed parameters, or `String[] x`.
 fn params<'a>(stack: &mut Stack<'a>, params: &'a Params) -> Result<(), AllocError> {
     match params {
         Params::Words => stack.put(&[Item::Text("Words")]),
@@ -839,7 +843,7 @@ fn params<'a>(stack: &mut Stack<'a>, params: &'a Params) -> Result<(), AllocErro
     }
 }
 
-/// The result of a method.
+/// Pushes the parts of the result type of a method, which may be `void`.
 fn result_type<'a>(stack: &mut Stack<'a>, ty: &'a ResultType) -> Result<(), AllocError> {
     match ty {
         ResultType::Void => stack.put(&[Item::Text("Void")]),
@@ -851,7 +855,7 @@ fn result_type<'a>(stack: &mut Stack<'a>, ty: &'a ResultType) -> Result<(), Allo
     }
 }
 
-/// A method.
+/// Pushes the parts of a method.
 fn method<'a>(stack: &mut Stack<'a>, method: &'a Method) -> Result<(), AllocError> {
     stack.put(&[
         Item::Text("Method { class: "),
@@ -876,7 +880,7 @@ fn method<'a>(stack: &mut Stack<'a>, method: &'a Method) -> Result<(), AllocErro
     ])
 }
 
-/// A variable in scope.
+/// Pushes the parts of an entry of a scope.
 fn in_scope<'a>(stack: &mut Stack<'a>, variable: &'a InScope) -> Result<(), AllocError> {
     stack.put(&[
         Item::Text("InScope { number: "),
@@ -889,7 +893,7 @@ fn in_scope<'a>(stack: &mut Stack<'a>, variable: &'a InScope) -> Result<(), Allo
     ])
 }
 
-/// What is in scope.
+/// Pushes the parts of a scope.
 fn scope<'a>(stack: &mut Stack<'a>, scope: &'a Scope) -> Result<(), AllocError> {
     stack.put(&[
         Item::Text("Scope { this: "),
@@ -904,7 +908,7 @@ fn scope<'a>(stack: &mut Stack<'a>, scope: &'a Scope) -> Result<(), AllocError> 
     ])
 }
 
-/// The parts of a program.
+/// Pushes the parts of a program: its classes, its methods, the number of `main`, and its names and literals.
 fn parts<'a>(stack: &mut Stack<'a>, parts: &'a Parts) -> Result<(), AllocError> {
     stack.put(&[
         Item::Text("Parts { classes: "),
@@ -921,7 +925,7 @@ fn parts<'a>(stack: &mut Stack<'a>, parts: &'a Parts) -> Result<(), AllocError> 
     ])
 }
 
-/// The brackets of a grid.
+/// Pushes the parts of one pair of brackets of a grid type: its number of dimensions and the qualifiers of the grid.
 fn brackets<'a>(stack: &mut Stack<'a>, brackets: &'a Brackets) -> Result<(), AllocError> {
     stack.put(&[
         Item::Text("Brackets { dim: "),

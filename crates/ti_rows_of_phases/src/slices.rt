@@ -1,4 +1,5 @@
-// What the slices of programs come to after outcomes.
+// Row kind `slice`: runs the slice of a program, which is the part that all processes execute alike, up to its next step. The row gives
+// the fuel, and the outcomes of the departures before that step.
 
 use crate::phases::checked;
 use crate::stopped::{NO_ROW, Stopped};
@@ -10,6 +11,7 @@ use ti_base::{Answer, CollKind, Place, fault_name};
 use ti_rules::Checked;
 use ti_slice::slice_next;
 
+/// An arrival of the program slice at a collective, with the argument of the collective if there is one, and the place.
 fn shown_arrival(
     alloc: Global,
     kind: CollKind,
@@ -23,6 +25,7 @@ fn shown_arrival(
     }
 }
 
+/// A step of a program slice.
 fn shown_step(alloc: Global, step: SliceStep) -> Result<String, AllocError> {
     match step {
         SliceStep::At(kind, place, arg) => shown_arrival(alloc, kind, place, arg),
@@ -36,6 +39,7 @@ fn shown_step(alloc: Global, step: SliceStep) -> Result<String, AllocError> {
     }
 }
 
+/// The outcomes that are spelled, separated by whitespace. `NO_ROW` if one is malformed.
 fn outcomes_of(alloc: Global, words: &str) -> Result<Vec<Answer>, Stopped> {
     let mut outcomes = Vec::new(alloc);
     for word in words.split_ascii_whitespace() {
@@ -47,18 +51,19 @@ fn outcomes_of(alloc: Global, words: &str) -> Result<Vec<Answer>, Stopped> {
     Ok(outcomes)
 }
 
-/// What the slice comes to with three processes.
+/// The next step of the program slice with three processes and `fuel` ticks, after the outcomes that are spelled.
 fn told(alloc: Global, c: &Checked, fuel: u32, words: &str) -> Result<SliceStep, Stopped> {
     let outcomes = outcomes_of(alloc, words)?;
     Ok(slice_next(alloc, c, 3, fuel, &outcomes)?)
 }
 
+/// The next step of the program slice of a source, with three processes and `fuel` ticks, after the outcomes that are spelled.
 fn step_of(alloc: Global, fuel: u32, words: &str, text: &[u8]) -> Result<SliceStep, Stopped> {
     let c = checked(alloc, text)?;
     told(alloc, &c, fuel, words)
 }
 
-/// The number in front, and the words behind it.
+/// Splits what a row gives into the fuel and the outcomes after it, which may be missing. `None` if the fuel isn't a `u32`.
 fn fuel_of(given: &str) -> Option<(u32, &str)> {
     match given.split_once(' ') {
         Some((fuel, words)) => Some((fuel.parse::<u32>().ok()?, words)),
@@ -66,7 +71,8 @@ fn fuel_of(given: &str) -> Option<(u32, &str)> {
     }
 }
 
-/// What the slice of a text comes to with three processes, by so many ticks and behind outcomes.
+/// Row kind `slice`: the next step of the program slice of a source with three processes. `given` has the ticks of fuel and then the
+/// outcomes of the departures so far.
 pub(crate) fn slice(alloc: Global, given: &str, text: &[u8]) -> Result<Vec<u8>, Stopped> {
     let Some((fuel, words)) = fuel_of(given) else {
         return Err(NO_ROW);

@@ -1,4 +1,4 @@
-// Why the phases stop.
+// The errors of all phases as one type, so that `?` converts each of them.
 
 use std::alloc::{AllocError, AllocFailed};
 use ti_base::Memory;
@@ -10,17 +10,19 @@ use ti_row_files::RowErr;
 use ti_rules::Refusal;
 use ti_types::TypeErr;
 
-/// Why nothing came of a text.
+/// Why a row has no result.
 #[derive(Clone, Copy)]
 pub(crate) enum Stopped {
+    /// A phase rejects the source. A row may expect this.
     Refused(Refusal),
+    /// The row can't be evaluated.
     Row(RowErr),
 }
 
 /// Out of memory.
 pub(crate) const MEMORY: Stopped = Stopped::Row(RowErr::Memory);
 
-/// The row can't be read.
+/// The row is malformed, or names something that doesn't exist.
 pub(crate) const NO_ROW: Stopped = Stopped::Row(RowErr::Row);
 
 impl From<RowErr> for Stopped {

@@ -1,4 +1,4 @@
-// What stands in tables: the jobs of words, rules, faults, and the texts of seeds.
+// Rows without a source: entries of the tables of rules and faults, generated programs, and how command-line arguments are read.
 
 use crate::stopped::{MEMORY, NO_ROW, Stopped};
 use std::alloc::{AllocError, Global};
@@ -8,7 +8,7 @@ use ti_row_files::bytes_of;
 use ti_rules::{Rule, rule_text};
 use ti_words::{Job, WordsErr, read_words};
 
-/// The rules by their numbers.
+/// The rules that a row can name by number.
 const RULES: &[Rule] = &[
     Rule::X1,
     Rule::X2,
@@ -44,7 +44,7 @@ const RULES: &[Rule] = &[
     Rule::B1,
 ];
 
-/// The faults by their numbers.
+/// The faults that a row can name by number.
 const FAULTS: &[FaultKind] = &[
     FaultKind::DivZero,
     FaultKind::NullRef,
@@ -63,7 +63,7 @@ const FAULTS: &[FaultKind] = &[
     FaultKind::Fuel,
 ];
 
-/// The rule of a number.
+/// Finds a rule by its number.
 fn rule_of(number: u32) -> Option<Rule> {
     for rule in RULES {
         if u32::from(rule.number()) == number {
@@ -73,7 +73,7 @@ fn rule_of(number: u32) -> Option<Rule> {
     None
 }
 
-/// The fault of a number.
+/// Finds a fault by its number.
 fn fault_of(number: u32) -> Option<FaultKind> {
     for kind in FAULTS {
         if *kind as u32 == number {
@@ -83,6 +83,7 @@ fn fault_of(number: u32) -> Option<FaultKind> {
     None
 }
 
+/// Row kind `rule`: the code of a rule and its text. `NO_ROW` if no rule has the number.
 fn rule(alloc: Global, number: u32) -> Result<Vec<u8>, Stopped> {
     match rule_of(number) {
         Some(rule) => Ok(
@@ -94,6 +95,7 @@ fn rule(alloc: Global, number: u32) -> Result<Vec<u8>, Stopped> {
     }
 }
 
+/// Row kind `fault`: the name of a fault. `NO_ROW` if no fault has the number.
 fn fault(alloc: Global, number: u32) -> Result<Vec<u8>, Stopped> {
     match fault_of(number) {
         Some(kind) => Ok(fault_name(kind).as_bytes().to_vec(alloc)?),
@@ -101,7 +103,7 @@ fn fault(alloc: Global, number: u32) -> Result<Vec<u8>, Stopped> {
     }
 }
 
-/// The bytes of a text as the digits of one number, each 31 times as much as the next, modulo 2^64.
+/// A checksum: the bytes as digits of a number in base 31, the most significant first, modulo 2^64.
 fn sum_of(text: &[u8]) -> u64 {
     let mut sum = 0u64;
     for byte in text {
@@ -110,13 +112,14 @@ fn sum_of(text: &[u8]) -> u64 {
     sum
 }
 
+/// Row kind `seed`: length in bytes and checksum of the program that is generated for a seed.
 fn seed(alloc: Global, number: u32) -> Result<Vec<u8>, Stopped> {
     let text = gen_source(alloc, number)?;
     let shown = format!(in alloc; "{} bytes, sum {}", text.len(), sum_of(&text))?;
     Ok(shown.into_bytes())
 }
 
-/// A word as it is written in a row, where `""` stands for the empty one.
+/// A command-line argument, from how a row spells it: escapes are decoded, and `""` is the empty argument. `NO_ROW` if it isn't UTF-8.
 fn word_of(alloc: Global, escaped: &str) -> Result<String, Stopped> {
     if escaped == "\"\"" {
         return Ok(String::new(alloc));
@@ -127,7 +130,7 @@ fn word_of(alloc: Global, escaped: &str) -> Result<String, Stopped> {
     }
 }
 
-/// Words with one space between two of them.
+/// The command-line arguments of a row, which whitespace separates.
 fn words_of(alloc: Global, row: &str) -> Result<Vec<String>, Stopped> {
     let mut words = Vec::new(alloc);
     for word in row.split_ascii_whitespace() {
@@ -136,6 +139,7 @@ fn words_of(alloc: Global, row: &str) -> Result<Vec<String>, Stopped> {
     Ok(words)
 }
 
+/// A job as a row expects it: its mode, numbers and file, and those options that are set.
 fn shown_job(alloc: Global, job: &Job) -> Result<String, AllocError> {
     let trace = if job.trace { " trace" } else { "" };
     let stats = if job.stats { " stats" } else { "" };
@@ -156,7 +160,7 @@ fn shown_job(alloc: Global, job: &Job) -> Result<String, AllocError> {
     Ok(shown)
 }
 
-/// The job that the words of a row ask for.
+/// Row kind `job`: what titan is to do for the command-line arguments of a row; `no command` if they aren't valid.
 pub(crate) fn job(alloc: Global, row: &str) -> Result<Vec<u8>, Stopped> {
     let words = words_of(alloc, row)?;
     match read_words(alloc, &words) {
@@ -166,7 +170,7 @@ pub(crate) fn job(alloc: Global, row: &str) -> Result<Vec<u8>, Stopped> {
     }
 }
 
-/// What a table holds for a number.
+/// Looks a number up in the table that a row kind names; for any kind but `rule`, `fault` and `seed`, generates the program of that seed.
 fn found_at(alloc: Global, asked: &str, number: u32) -> Result<Vec<u8>, Stopped> {
     match asked {
         "rule" => rule(alloc, number),
@@ -176,7 +180,7 @@ fn found_at(alloc: Global, asked: &str, number: u32) -> Result<Vec<u8>, Stopped>
     }
 }
 
-/// What a table of rules, faults or generated sources holds for the number that a row spells.
+/// Row kinds `rule`, `fault`, `seed` and `source`: what belongs to the number that a row spells. `NO_ROW` if it spells no `u32`.
 pub(crate) fn numbered(alloc: Global, asked: &str, row: &str) -> Result<Vec<u8>, Stopped> {
     match row.parse::<u32>() {
         Ok(number) => found_at(alloc, asked, number),

@@ -1,4 +1,5 @@
-// Answers as words of rows: `done`, `7`, `7L`, `object:0`, `grid:0`, `region:1`, and `line:0:2` for the points from one number to another.
+// Reads the answers that rows give to actions: `done`, `7`, `7L`, `object:0`, `grid:0`, `region:1`, and `line:0:2` for the domain of the
+// points from 0 to 2.
 
 ghost use Rattle.std.specs.Prelude.{◌≡◌, IfSome};
 ghost use Rattle.ti_base.specs.Points.{IsPoint};
@@ -7,7 +8,7 @@ ghost use Rattle.ti_eval.specs.Forms.{IsFormedAnswer};
 use ti_base::{Answer, Id, Point, Value};
 use ti_rect::rect_make;
 
-/// A thing of process 0 by its serial number.
+/// The object or grid with this sequence number that process 0 created and owns.
 fn thing(serial: u32) -> Id {
     Id {
         maker: 0,
@@ -17,6 +18,7 @@ fn thing(serial: u32) -> Id {
     }
 }
 
+/// A point of one dimension.
 fn at(x1: i32) -> Point
     ensures form { IsPoint result }
     ensures dim { result.dim ≡ 1 }
@@ -29,7 +31,9 @@ fn at(x1: i32) -> Point
     }
 }
 
-/// The points from one number to another.
+/// The one-dimensional domain of the points from `low` to `high`, both included; empty if `high` is below `low`.
+///
+/// For the prover: the error of `rect_make`, which is of steps below 1 only, is `None`.
 fn line(low: i32, high: i32) -> Option<Answer>
     ensures { IfSome result IsFormedAnswer }
 {
@@ -39,6 +43,7 @@ fn line(low: i32, high: i32) -> Option<Answer>
     }
 }
 
+/// The domain whose ends are spelled as in `0:2`. `None` if they aren't two ints.
 fn line_of(ends: &str) -> Option<Answer>
     ensures { IfSome result IsFormedAnswer }
 {
@@ -46,6 +51,7 @@ fn line_of(ends: &str) -> Option<Answer>
     line(low.parse::<i32>().ok()?, high.parse::<i32>().ok()?)
 }
 
+/// An object or grid by its sequence number, or a region by its number. `None` for any other kind.
 fn numbered(kind: &str, number: u32) -> Option<Answer>
     ensures { IfSome result IsFormedAnswer }
 {
@@ -57,6 +63,7 @@ fn numbered(kind: &str, number: u32) -> Option<Answer>
     }
 }
 
+/// An int, or a long if it ends with `L`. `None` if it is malformed or out of range.
 fn whole(digits: &str) -> Option<Answer>
     ensures { IfSome result IsFormedAnswer }
 {
@@ -66,7 +73,7 @@ fn whole(digits: &str) -> Option<Answer>
     }
 }
 
-/// The answer that a word stands for.
+/// Reads one answer, such as `done` or `grid:0`. `None` if it is malformed.
 pub(crate) fn answer_of(word: &str) -> Option<Answer>
     ensures { IfSome result IsFormedAnswer }
 {

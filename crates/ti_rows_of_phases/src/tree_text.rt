@@ -1,5 +1,6 @@
-// Trees as text, in the form that a derived `Debug` would write. A stack holds what is still to be written: a node is replaced by its
-// parts and the texts between them. So each kind of node has one short function without recursion, which costs the prover little.
+// Prints syntax trees in the format of a derived `Debug`, which ti_syntax doesn't derive since that would slow down its proof.
+// An explicit stack of pending items takes the place of recursion: a node is replaced by its parts and the literals between them. So each
+// kind of node has one short function without recursion, which is cheap to prove.
 
 use std::alloc::{AllocError, Global};
 use ti_base::Place;
@@ -10,9 +11,10 @@ use ti_syntax::tree::{
     UnaryOperator,
 };
 
-/// What is still to be written, or a part of it.
+/// A pending item of the output: a literal, a value, a node of the tree or a list of nodes.
 #[derive(Clone, Copy)]
 pub(crate) enum Item<'a> {
+    /// Literal output, such as the name of a variant.
     Text(&'static str),
     Number(i64),
     Truth(bool),
@@ -52,14 +54,15 @@ pub(crate) enum Item<'a> {
     MaybeStmt(&'a Option<Box<Stmt>>),
 }
 
-/// What is still to be written, the first last.
+/// The items that are still to be written.
 #[derive(Drop)]
 pub(crate) struct Stack<'a> {
+    /// The last item is written next.
     items: Vec<Item<'a>>,
 }
 
 impl<'a> Stack<'a> {
-    /// Puts items in front of the others.
+    /// Pushes items in reverse, so that they are written next and in the given order.
     pub(crate) fn put(&mut self, items: &[Item<'a>]) -> Result<(), AllocError> {
         for item in items.iter().rev() {
             self.items.push(*item)?;
@@ -67,7 +70,7 @@ impl<'a> Stack<'a> {
         Ok(())
     }
 
-    /// Puts the elements of a list in front of the others.
+    /// Pushes a list, with its brackets and the commas between its elements, so that it is written next.
     fn list<T: Part>(&mut self, parts: &'a [T]) -> Result<(), AllocError> {
         self.items.push(Item::Text("]"))?;
         for (number, part) in parts.iter().enumerate().rev() {
@@ -81,8 +84,9 @@ impl<'a> Stack<'a> {
     }
 }
 
-/// What stands in lists.
+/// A node that occurs in lists.
 trait Part {
+    /// The item that writes this node.
     fn item(&self) -> Item<'_>;
 }
 
@@ -140,7 +144,7 @@ impl Part for Class {
     }
 }
 
-/// Writes a part that is no node.
+/// Writes a literal or a value. Writes nothing for any other item.
 fn write_leaf(alloc: Global, out: &mut String, item: Item) -> Result<(), AllocError> {
     match item {
         Item::Text(text) => out.push_str(text),
@@ -157,7 +161,7 @@ fn write_leaf(alloc: Global, out: &mut String, item: Item) -> Result<(), AllocEr
     }
 }
 
-/// Puts the parts of a node in its place, or writes what is none.
+/// Processes one item: pushes the parts of a node, list or option, and writes a literal or a value.
 fn write_item<'a>(
     alloc: Global,
     stack: &mut Stack<'a>,
@@ -206,10 +210,10 @@ fn write_item<'a>(
     }
 }
 
-// So many items are written at most.
+// Upper bound on the number of items that are processed, so that the loop in `text_of` is bounded.
 const MOST: u32 = 100_000_000;
 
-/// The text of an item, as a derived `Debug` would write it.
+/// An item in the format of a derived `Debug`. The output is cut off after `MOST` items.
 pub(crate) fn text_of(alloc: Global, item: Item) -> Result<String, AllocError> {
     let mut stack = Stack {
         items: Vec::new(alloc),
@@ -225,7 +229,7 @@ pub(crate) fn text_of(alloc: Global, item: Item) -> Result<String, AllocError> {
     Ok(out)
 }
 
-/// What a type begins with.
+/// Pushes the parts of the base of a type name: a built-in type or a class.
 fn base<'a>(stack: &mut Stack<'a>, base: &'a Base) -> Result<(), AllocError> {
     match base {
         Base::Int(place) => stack.put(&[Item::Text("Int("), Item::Place(*place), Item::Text(")")]),
@@ -275,7 +279,7 @@ fn base<'a>(stack: &mut Stack<'a>, base: &'a Base) -> Result<(), AllocError> {
     }
 }
 
-/// The brackets of a grid.
+/// Pushes the parts of one pair of brackets of a grid type: its number of dimensions and the qualifiers of the grid.
 fn brackets<'a>(stack: &mut Stack<'a>, brackets: &'a Brackets) -> Result<(), AllocError> {
     stack.put(&[
         Item::Text("Brackets { dim: "),
@@ -286,7 +290,7 @@ fn brackets<'a>(stack: &mut Stack<'a>, brackets: &'a Brackets) -> Result<(), All
     ])
 }
 
-/// A type.
+/// Pushes the parts of a type name: its base, qualifiers and brackets.
 fn type_name<'a>(stack: &mut Stack<'a>, ty: &'a TypeName) -> Result<(), AllocError> {
     stack.put(&[
         Item::Text("TypeName { base: "),
@@ -299,7 +303,7 @@ fn type_name<'a>(stack: &mut Stack<'a>, ty: &'a TypeName) -> Result<(), AllocErr
     ])
 }
 
-/// An expression.
+/// Pushes the parts of an expression.
 fn expr<'a>(stack: &mut Stack<'a>, e: &'a Expr) -> Result<(), AllocError> {
     match e {
         Expr::Int(place, n) => stack.put(&[
@@ -456,7 +460,7 @@ fn expr<'a>(stack: &mut Stack<'a>, e: &'a Expr) -> Result<(), AllocError> {
     }
 }
 
-/// A range.
+/// Pushes the parts of a range, which is one dimension of a rectangular domain.
 fn range<'a>(stack: &mut Stack<'a>, range: &'a Range) -> Result<(), AllocError> {
     match range {
         Range::Plain { low, high } => stack.put(&[
@@ -478,7 +482,7 @@ fn range<'a>(stack: &mut Stack<'a>, range: &'a Range) -> Result<(), AllocError> 
     }
 }
 
-/// The domain of a grid that is made.
+/// Pushes the parts of the domain in a grid creation: an expression or a list of ranges.
 fn dims<'a>(stack: &mut Stack<'a>, dims: &'a Dims) -> Result<(), AllocError> {
     match dims {
         Dims::Domain(e) => stack.put(&[Item::Text("Domain("), Item::Expr(e), Item::Text(")")]),
@@ -490,7 +494,7 @@ fn dims<'a>(stack: &mut Stack<'a>, dims: &'a Dims) -> Result<(), AllocError> {
     }
 }
 
-/// A right side.
+/// Pushes the parts of an initializer, which is the right-hand side of a declaration or assignment.
 fn init<'a>(stack: &mut Stack<'a>, init: &'a Init) -> Result<(), AllocError> {
     match init {
         Init::Value(e) => stack.put(&[Item::Text("Value("), Item::Expr(e), Item::Text(")")]),
@@ -546,7 +550,7 @@ fn init<'a>(stack: &mut Stack<'a>, init: &'a Init) -> Result<(), AllocError> {
     }
 }
 
-/// What a print writes.
+/// Pushes the parts of the argument of a print statement.
 fn printed<'a>(stack: &mut Stack<'a>, printed: &'a Printed) -> Result<(), AllocError> {
     match printed {
         Printed::Nothing => stack.put(&[Item::Text("Nothing")]),
@@ -566,7 +570,7 @@ fn printed<'a>(stack: &mut Stack<'a>, printed: &'a Printed) -> Result<(), AllocE
     }
 }
 
-/// A statement.
+/// Pushes the parts of a statement.
 fn stmt<'a>(stack: &mut Stack<'a>, stmt: &'a Stmt) -> Result<(), AllocError> {
     match stmt {
         Stmt::Empty => stack.put(&[Item::Text("Empty")]),
@@ -729,7 +733,7 @@ fn stmt<'a>(stack: &mut Stack<'a>, stmt: &'a Stmt) -> Result<(), AllocError> {
     }
 }
 
-/// A field.
+/// Pushes the parts of a field declaration.
 fn field<'a>(stack: &mut Stack<'a>, field: &'a Field) -> Result<(), AllocError> {
     stack.put(&[
         Item::Text("Field { modifiers: "),
@@ -744,7 +748,7 @@ fn field<'a>(stack: &mut Stack<'a>, field: &'a Field) -> Result<(), AllocError> 
     ])
 }
 
-/// A parameter.
+/// Pushes the parts of a parameter declaration.
 fn param<'a>(stack: &mut Stack<'a>, param: &'a Param) -> Result<(), AllocError> {
     stack.put(&[
         Item::Text("Param { ty: "),
@@ -757,7 +761,7 @@ fn param<'a>(stack: &mut Stack<'a>, param: &'a Param) -> Result<(), AllocError> 
     ])
 }
 
-/// The parameters of a method.
+/// Pushes the parts of a parameter list: typed parameters, or `String[] x`.
 fn params<'a>(stack: &mut Stack<'a>, params: &'a Params) -> Result<(), AllocError> {
     match params {
         Params::Words(place, name) => stack.put(&[
@@ -775,7 +779,7 @@ fn params<'a>(stack: &mut Stack<'a>, params: &'a Params) -> Result<(), AllocErro
     }
 }
 
-/// The result of a method.
+/// Pushes the parts of the result type of a method, which may be `void`.
 fn result_type<'a>(stack: &mut Stack<'a>, ty: &'a ResultType) -> Result<(), AllocError> {
     match ty {
         ResultType::Void(place) => stack.put(&[
@@ -791,7 +795,7 @@ fn result_type<'a>(stack: &mut Stack<'a>, ty: &'a ResultType) -> Result<(), Allo
     }
 }
 
-/// A method.
+/// Pushes the parts of a method.
 fn method<'a>(stack: &mut Stack<'a>, method: &'a Method) -> Result<(), AllocError> {
     stack.put(&[
         Item::Text("Method { modifiers: "),
@@ -812,7 +816,7 @@ fn method<'a>(stack: &mut Stack<'a>, method: &'a Method) -> Result<(), AllocErro
     ])
 }
 
-/// A member of a class.
+/// Pushes the parts of a class member, which is a field or a method.
 fn member<'a>(stack: &mut Stack<'a>, member: &'a Member) -> Result<(), AllocError> {
     match member {
         Member::Field(field) => stack.put(&[
@@ -828,7 +832,7 @@ fn member<'a>(stack: &mut Stack<'a>, member: &'a Member) -> Result<(), AllocErro
     }
 }
 
-/// A class.
+/// Pushes the parts of a class.
 fn class<'a>(stack: &mut Stack<'a>, class: &'a Class) -> Result<(), AllocError> {
     stack.put(&[
         Item::Text("Class { modifiers: "),

@@ -1,4 +1,4 @@
-// The types of expressions.
+// Row kind `type`: the static type of an expression that a source prints.
 
 use crate::evaluation::printed;
 use crate::known::is_known;
@@ -10,7 +10,7 @@ use ti_base::Memory;
 use ti_lang::program::{Expr, Method, Program, Scope, Stmt};
 use ti_types::type_of;
 
-/// Puts the variables that statements declare into a scope.
+/// Adds the variables that statements declare to a scope. Declarations inside of compound statements are left out.
 fn declare(alloc: Global, scope: &mut Scope, body: &[Stmt]) -> Result<(), Memory> {
     for statement in body {
         if let Stmt::Declare { ty, variable, .. } = statement {
@@ -20,7 +20,7 @@ fn declare(alloc: Global, scope: &mut Scope, body: &[Stmt]) -> Result<(), Memory
     Ok(())
 }
 
-/// The type of an expression after the declarations of a method.
+/// The type of an expression in the scope after the declarations of a method's body. `NO_ROW` if `is_known` doesn't cover the expression.
 fn typed(
     alloc: Global,
     program: &Program,
@@ -36,7 +36,7 @@ fn typed(
     Ok(text_of(alloc, Item::Ty(&ty))?)
 }
 
-/// The type of what the last statement of a program's only method prints.
+/// The type of the expression that the last statement of a program's only method prints. `NO_ROW` if there is no such expression.
 fn printed_type(alloc: Global, program: &Program) -> Result<String, Stopped> {
     let ([method], Some(e)) = (program.parts.methods.as_slice(), printed(&program.parts)) else {
         return Err(NO_ROW);
@@ -45,7 +45,7 @@ fn printed_type(alloc: Global, program: &Program) -> Result<String, Stopped> {
     typed(alloc, program, &mut scope, method, e)
 }
 
-/// The type of what the last statement of a text with one method prints.
+/// Row kind `type`: the type of the expression that the last statement of a source's only method prints.
 pub(crate) fn type_printed(alloc: Global, text: &[u8]) -> Result<String, Stopped> {
     let program = resolved(alloc, text)?;
     printed_type(alloc, &program)

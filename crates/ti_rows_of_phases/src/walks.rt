@@ -1,5 +1,5 @@
-// Processes that walk over the trees of their programs, driven by hand: what each asks for is answered from a row, and behind the row by
-// nothing but that it was done.
+// Runs a process of the tree interpreter without other processes or a store: each action that it requests is printed and answered from
+// the row. After the row's last answer every action is answered with `done`.
 
 ghost use Rattle.std.specs.Prelude.{◌≡◌, IfOk, IfSome};
 ghost use Rattle.ti_eval.specs.Forms.{IsFormedAnswer};
@@ -13,10 +13,12 @@ use ti_base::{Action, Answer, CollKind, Deposit, Memory, Next, Value, fault_name
 use ti_exec::TreeProc;
 use ti_rules::Checked;
 
+/// Appends a piece of output.
 fn say(text: &mut String, piece: String) -> Result<(), AllocError> {
     text.push_str(piece.as_str())
 }
 
+/// A print action, with the number of its string literal and its value, if it has them.
 fn shown_print(
     alloc: Global,
     literal: Option<u32>,
@@ -30,6 +32,7 @@ fn shown_print(
     }
 }
 
+/// The name of a kind of collective.
 pub(crate) fn collective(kind: CollKind) -> &'static str {
     match kind {
         CollKind::Barrier => "Barrier",
@@ -40,7 +43,7 @@ pub(crate) fn collective(kind: CollKind) -> &'static str {
     }
 }
 
-/// A collective with its argument.
+/// An arrival at a collective, with the argument of the collective if there is one.
 fn shown_collective(alloc: Global, kind: CollKind, arg: Option<u32>) -> Result<String, AllocError> {
     let name = collective(kind);
     match arg {
@@ -49,6 +52,7 @@ fn shown_collective(alloc: Global, kind: CollKind, arg: Option<u32>) -> Result<S
     }
 }
 
+/// An arrival at a collective, with what the process contributes to it.
 fn shown_arrival(
     alloc: Global,
     kind: CollKind,
@@ -63,7 +67,7 @@ fn shown_arrival(
     }
 }
 
-/// What is done with a cell or a grid, by serial numbers and the first coordinate.
+/// An action on a field, an element or a grid. Objects and grids are printed by their sequence numbers, points by their first coordinate.
 fn shown_access(alloc: Global, action: Action) -> Result<String, AllocError> {
     match action {
         Action::GetField { obj, field } => {
@@ -94,6 +98,7 @@ fn shown_access(alloc: Global, action: Action) -> Result<String, AllocError> {
     }
 }
 
+/// An action that a process requests.
 fn shown_action(alloc: Global, action: Action) -> Result<String, AllocError> {
     match action {
         Action::Print { literal, value } => shown_print(alloc, literal, value),
@@ -106,6 +111,7 @@ fn shown_action(alloc: Global, action: Action) -> Result<String, AllocError> {
     }
 }
 
+/// What a process does next: an action, followed by `; `, or its end or fault with the place.
 fn shown_next(alloc: Global, next: Next) -> Result<String, AllocError> {
     match next {
         Next::Act(_, action) => {
@@ -120,7 +126,7 @@ fn shown_next(alloc: Global, next: Next) -> Result<String, AllocError> {
     }
 }
 
-/// The answer of this number, or that the action was done.
+/// The answer with index `n`, from 0; `done` if there are fewer. `None` if its word is malformed.
 fn answer_at(answers: &str, n: usize) -> Option<Answer>
     ensures { IfSome result IsFormedAnswer }
 {
@@ -130,7 +136,7 @@ fn answer_at(answers: &str, n: usize) -> Option<Answer>
     }
 }
 
-/// What a process has next, and the answer to it.
+/// Advances a process to its next action, end or fault, which is returned. An action is answered with `answer`.
 fn turn(alloc: Global, c: &Checked, process: &mut TreeProc, answer: Answer) -> Result<Next, Memory>
     requires same { program_of c.now.program.parts ≡ program_of process.old.program }
     requires form { IsFormedAnswer answer }
@@ -143,7 +149,8 @@ fn turn(alloc: Global, c: &Checked, process: &mut TreeProc, answer: Answer) -> R
     Ok(next)
 }
 
-/// Says what process 0 of 2 asks for with 1000 ticks, one behind the other, and what ends it.
+/// Runs process 0 of 2 with 1000 ticks of fuel and appends its actions in order, then its end or fault. Gives up silently after 1000
+/// actions. `NO_ROW` if an answer is malformed.
 fn say_all(alloc: Global, c: &Checked, answers: &str, shown: &mut String) -> Result<(), Stopped> {
     let mut process = TreeProc::start(alloc, c, 0, 2, 1000)?;
     for n in 0..1000 {
@@ -159,13 +166,14 @@ fn say_all(alloc: Global, c: &Checked, answers: &str, shown: &mut String) -> Res
     Ok(())
 }
 
+/// The actions of process 0 of 2 of a checked program, and its end or fault.
 fn walked(alloc: Global, c: &Checked, answers: &str) -> Result<String, Stopped> {
     let mut shown = String::new(alloc);
     say_all(alloc, c, answers, &mut shown)?;
     Ok(shown)
 }
 
-/// What process 0 of 2 of a text asks for.
+/// Row kind `walk`: the actions that process 0 of 2 of a source requests when it is given these answers, and its end or fault.
 pub(crate) fn walk(alloc: Global, answers: &str, text: &[u8]) -> Result<Vec<u8>, Stopped> {
     let c = checked(alloc, text)?;
     Ok(walked(alloc, &c, answers)?.into_bytes())
