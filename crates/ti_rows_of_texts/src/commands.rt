@@ -120,7 +120,7 @@ fn fails_of(alloc: Global, fails: Fails) -> Result<Vec<u32>, Memory> {
     Ok(numbers)
 }
 
-/// A sink that accepts 3 bytes per call and `room` bytes in all.
+/// A sink that accepts at most 3 bytes per write and `room` bytes in all.
 fn sink_of(alloc: Global, fails: Fails, room: usize) -> Result<MemSink, Memory> {
     let fails = fails_of(alloc, fails)?;
     MemSink::new(alloc, 3, room, fails)
@@ -155,7 +155,7 @@ fn files_of(alloc: Global, texts: Texts) -> Result<Vec<(String, Vec<u8>)>, Memor
     Ok(files)
 }
 
-/// An in-memory file system with these files, which yields 8 bytes per read.
+/// An in-memory file system with these files, which yields at most 8 bytes per read.
 fn source_of(alloc: Global, texts: Texts, fails: Fails) -> Result<MemSource, Memory> {
     let files = files_of(alloc, texts)?;
     let fails = fails_of(alloc, fails)?;
