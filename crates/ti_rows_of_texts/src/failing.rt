@@ -35,7 +35,7 @@ fn push_literal(text: &mut Vec<u8>, checked: &Checked, literal: Option<u32>) -> 
     Ok(())
 }
 
-/// Appends the line that a print event outputs, if its value is an `int` or absent; other events append nothing.
+/// Appends the line that a print event outputs, without a value that isn't an `int`. Other events append nothing.
 fn push_line(
     alloc: Global,
     text: &mut Vec<u8>,

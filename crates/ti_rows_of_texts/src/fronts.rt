@@ -54,7 +54,7 @@ fn said(left: &Left, end: Place) -> Option<&str> {
     }
 }
 
-/// Appends the length and the result of a prefix, unless `said` leaves it out.
+/// Appends the length and the result of a prefix, unless it is rejected with G1 or X3 at its end or before.
 fn push_front(
     alloc: Global,
     found: &mut String,
@@ -69,7 +69,7 @@ fn push_front(
     Ok(())
 }
 
-/// Runs a command on a prefix, and appends its length and result unless `said` leaves it out.
+/// Runs a command on a prefix, and appends its length and result unless it is rejected with G1 or X3 at its end or before.
 fn push_left<R: AllocGlobal + Threads + Wait + Sync>(
     rt: &R,
     found: &mut String,
@@ -83,7 +83,8 @@ fn push_left<R: AllocGlobal + Threads + Wait + Sync>(
     Ok(())
 }
 
-/// Runs a command on all prefixes of a source, by increasing length, and renders those that `said` doesn't leave out.
+/// Runs a command on all prefixes of a source, by increasing length, and renders the length and the result of each, but leaves out those
+/// that are rejected with G1 or X3 at their end or before.
 pub(crate) fn fronts<R: AllocGlobal + Threads + Wait + Sync>(
     rt: &R,
     line: &str,

@@ -31,7 +31,7 @@ impl Fails {
     }
 }
 
-/// The environment of a command: which calls of the file system, standard output and standard error fail, and more.
+/// The environment of a command. `source`, `out` and `err` select the failing calls of the file system, standard output and standard error.
 #[derive(Clone, Copy)]
 pub(crate) struct Stage {
     pub(crate) source: Fails,
