@@ -1,5 +1,5 @@
-// Differential test of the two executions of a program: runs its code on worker threads, executes each process by the syntax trees along the
-// resulting history, and replays the history on one thread.
+// Differential test of the two executions of a program: runs its code on worker threads, executes each process by the syntax trees along
+// the resulting history, and replays the history on one thread.
 
 ghost use Rattle.std.specs.Prelude.{◌≤◌, ◌<◌, IfSome};
 ghost use Rattle.ti_code.specs.Follows.{Follows};
