@@ -67,6 +67,7 @@ pub(crate) struct Sinks {
     pub(crate) err: MemSink,
 }
 
+/// The files that the command reads, and the streams that it writes.
 #[derive(Drop)]
 struct Streams {
     source: MemSource,

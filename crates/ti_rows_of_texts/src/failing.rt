@@ -25,7 +25,7 @@ fn counted(alloc: Global, history: &[Entry]) -> Result<Vec<u8>, Memory> {
     Ok(text)
 }
 
-/// Appends the text of the string literal with this index, if there is one.
+/// Appends the characters of the string literal with this index, if there is one.
 fn push_literal(text: &mut Vec<u8>, checked: &Checked, literal: Option<u32>) -> Result<(), Memory> {
     if let Some(number) = literal {
         if let Some(spelled) = checked.program.parts.literals.get(number as usize) {

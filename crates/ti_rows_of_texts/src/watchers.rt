@@ -29,7 +29,9 @@ const TOLD: Entry = Entry {
 /// Runs out of memory after `most` events, and in its report.
 #[derive(Drop)]
 pub(crate) struct Short {
+    /// The events observed so far.
     told: Vec<Entry>,
+    /// The number of events that it accepts.
     most: usize,
 }
 
