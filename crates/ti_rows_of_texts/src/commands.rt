@@ -112,7 +112,7 @@ impl<'a> Texts<'a> {
     }
 }
 
-/// The indices of the calls that fail, at most one.
+/// The indices of the calls that fail: one for `At`, none for `Never` and for an unresolved `Each`.
 fn fails_of(alloc: Global, fails: Fails) -> Result<Vec<u32>, Memory> {
     let mut numbers = Vec::new(alloc);
     if let Fails::At(number) = fails {
