@@ -20,6 +20,7 @@ impl From<Memory> for Stopped {
 }
 
 /// The program of a source with inferred annotations in place of its own. Error: the source is rejected, or out of memory.
+/// For the prover: `stripped_once` and `marked_is_numbered` are theorems, which do nothing at run time.
 fn remarked(alloc: Global, text: &[u8]) -> Result<Program, Stopped> {
     stripped_once();
     marked_is_numbered();
