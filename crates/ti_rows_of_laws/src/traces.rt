@@ -11,8 +11,8 @@ use ti_rows::refutations_of_walks::counts as finished;
 use ti_rows::simulation::simulates;
 use ti_trace_check::one_verdict;
 
-/// Traces of complete runs (`IsTraceOf`), and the first wrong line of a byte string that isn't one (`IsWrongAt`): a missing line, or one that
-/// isn't the line of the next event. A trace of a complete run has no wrong line.
+/// Traces of complete runs (`IsTraceOf`), and the first wrong line of a byte string that isn't one (`IsWrongAt`): a missing line, or a line
+/// that isn't the one of the next event. A trace of a complete run has no wrong line.
 pub fn verdicts()
     ensures all_lines { IsTraceOf traces.two_prints traces.all_lines (solo traces.two_prints 4) }
     ensures three_lines { (es : List Entry) → IsTraceOf traces.two_prints traces.three_lines es → ⊥ }
