@@ -1,4 +1,4 @@
-// Where a process stands behind a history, by the code of its program.
+// Executes one process by its code along a history, to find what it does next after the history's last event.
 
 ghost use Rattle.std.specs.Prelude.{◌≡◌, ◌<◌, ◌^◌, IfSome};
 
@@ -8,10 +8,10 @@ use ti_base::{Entry, Next};
 use ti_code::Code;
 use ti_machine::Proc;
 
-/// How many instructions a process may take up to what it has next.
+/// The most instructions that a process may execute up to its next operation, end or fault.
 const TURNS: u32 = 1_000_000;
 
-/// The process goes on over an entry of its own; none where memory is wanting, or it comes to nothing in so many instructions.
+/// Executes a process past an event of its own; none if memory runs out, or `TURNS` instructions reach no operation, end or fault.
 fn go_on(alloc: Global, code: &Code, process: &mut Proc, entry: &Entry) -> Option<()>
     requires { code.now ≡ process.old.code }
     ensures { IfSome result (λ _. code.now ≡ process.new.code) }
@@ -27,7 +27,8 @@ fn go_on(alloc: Global, code: &Code, process: &mut Proc, entry: &Entry) -> Optio
     Some(())
 }
 
-/// What a process has next behind its entries in a history; none where memory is wanting, or it comes to nothing.
+/// What process `number` does next after its events in a history; none if memory runs out, the code has no entry point, or `TURNS`
+/// instructions reach no operation, end or fault.
 pub(crate) fn next_by_code(
     alloc: Global,
     code: &Code,

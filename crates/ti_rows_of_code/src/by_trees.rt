@@ -1,4 +1,4 @@
-// A process over the trees of its program, led along a history.
+// Executes one process by its program's syntax trees along a history, and stops at the first event that the trees don't predict.
 
 ghost use Rattle.std.specs.Prelude.{◌≡◌, ◌<◌, ◌^◌, IfOk};
 ghost use Rattle.ti_lang.specs.Program.Views.{program_of};
@@ -9,7 +9,7 @@ use ti_base::{Entry, Next};
 use ti_exec::TreeProc;
 use ti_rules::Checked;
 
-/// The process takes an entry of its own; else the error is what it has next in place of that.
+/// Executes a process past an event of its own. Error: what the process does next instead, or none if memory runs out.
 fn take(
     alloc: Global,
     c: &Checked,
@@ -33,7 +33,7 @@ fn take(
     Ok(())
 }
 
-/// A process over trees takes its entries of a history.
+/// Executes process `number` by the trees along its events in a history. Error: the first event that differs, or at which memory runs out.
 pub(crate) fn follow(
     alloc: Global,
     c: &Checked,

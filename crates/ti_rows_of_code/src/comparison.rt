@@ -1,4 +1,5 @@
-// The run of a program by its code against its trees.
+// Differential test of the two executions of a program: runs its code on worker threads, executes each process by the syntax trees along
+// the resulting history, and replays the history on one thread.
 
 ghost use Rattle.std.specs.Prelude.{◌≤◌, ◌<◌, IfSome};
 ghost use Rattle.ti_code.specs.Follows.{Follows};
@@ -20,34 +21,37 @@ use ti_lower::lower;
 use ti_rules::Checked;
 use ti_runtime::{How, RunEnd, run};
 
-/// Where a process over trees does something else than that of code: at the entry of this number in the history, or behind the last; what
-/// the code has next there, and what is found in the trees.
+/// The first difference between the two executions of a process.
 #[derive(Clone, Copy)]
 pub(crate) struct Parting {
+    /// The process.
     pub number: u32,
+    /// The index of the event in the history, or the history's length if the difference is after its last event.
     pub entry: usize,
+    /// What the code does next there; none if that isn't known.
     pub expected: Option<Next>,
+    /// What the trees do next there; none if that isn't known.
     pub found: Option<Next>,
 }
 
-/// What comes of a program.
+/// The result of comparing the two executions of a program.
 #[derive(Clone, Copy)]
 pub(crate) enum Outcome {
-    /// All processes over trees agree with their entries, of which there are so many, and those of code make the history again.
+    /// The trees agree with all events, of which this is the number, and the replay yields the same history.
     Agrees(usize),
-    /// One of them doesn't.
+    /// The trees of a process differ from its code.
     Parts(Parting),
-    /// The text is refused, or memory is wanting for its program or its code.
+    /// The source is rejected, or memory runs out while it is compiled.
     Refused,
-    /// Memory is wanting for the run.
+    /// The run is out of memory.
     Memory,
-    /// An entry is of no process.
+    /// An event in the history belongs to no process of the run.
     Stranger,
-    /// Processes of code and a store make other entries on one thread, where they go on in the order of the history.
+    /// The replay on one thread, in the order of the history, yields other events.
     Other,
 }
 
-/// A program, its code and its run by it.
+/// A checked program, its code, and the result of running the code.
 #[derive(Drop)]
 struct Ran {
     checked: Checked,
@@ -55,7 +59,7 @@ struct Ran {
     end: RunEnd,
 }
 
-/// The code of a program, where there is memory for it.
+/// Compiles a checked program to code; none if memory runs out.
 fn code_of(alloc: Global, checked: &Checked) -> Option<Code>
     ensures { IfSome result (λ code. Follows code (program_of checked.now.program.parts)) }
 {
@@ -65,6 +69,7 @@ fn code_of(alloc: Global, checked: &Checked) -> Option<Code>
     }
 }
 
+/// Compiles a source and runs its code with `workers` workers; none if the source is rejected or memory runs out while it is compiled.
 fn ran_of<R: AllocGlobal + Threads + Wait + Sync>(
     rt: &R,
     text: &[u8],
@@ -82,7 +87,7 @@ fn ran_of<R: AllocGlobal + Threads + Wait + Sync>(
     Some(Ran { checked, code, end })
 }
 
-/// Whether a process may have this next where a run is over.
+/// Whether a process may have this next when a run is over: if all processes have terminated, its end only.
 fn may_stand(how: How, next: Next) -> bool {
     match how {
         How::Ended => matches!(next, Next::End(_)),
@@ -90,7 +95,7 @@ fn may_stand(how: How, next: Next) -> bool {
     }
 }
 
-/// Whether trees have the same next behind a history as code has.
+/// Whether both executions know what is next after the history, and agree, and the run may be over there.
 fn is_agreed(how: How, expected: Option<Next>, found: Option<Next>) -> bool {
     match (expected, found) {
         (Some(expected), Some(found)) => is_same(expected, found) && may_stand(how, found),
@@ -98,7 +103,7 @@ fn is_agreed(how: How, expected: Option<Next>, found: Option<Next>) -> bool {
     }
 }
 
-/// What the history says that the process had next at an entry.
+/// What the event with this index says that its process did next; none if there is no such event.
 fn expected_at(history: &[Entry], n: usize) -> Option<Next> {
     match history.get(n) {
         Some(entry) => Some(next_in(entry)),
@@ -106,7 +111,7 @@ fn expected_at(history: &[Entry], n: usize) -> Option<Next> {
     }
 }
 
-/// How many entries a process has, where its trees agree with them and with its code behind them.
+/// The number of events of process `number`, if its trees agree with them and, after them, with its code. Error: the first difference.
 fn compared(alloc: Global, ran: &Ran, limits: Limits, number: u32) -> Result<usize, Parting>
     requires few { limits.procs ≤ 32 }
     requires number { number < limits.procs }
@@ -135,7 +140,7 @@ fn compared(alloc: Global, ran: &Ran, limits: Limits, number: u32) -> Result<usi
     }
 }
 
-/// How many entries all processes have, where their trees agree.
+/// The number of events of all processes, if their trees agree. Error: the first difference in the first process that has one.
 fn all_compared(alloc: Global, ran: &Ran, limits: Limits) -> Result<usize, Parting>
     requires { limits.procs ≤ 32 }
 {
@@ -146,7 +151,7 @@ fn all_compared(alloc: Global, ran: &Ran, limits: Limits) -> Result<usize, Parti
     Ok(entries)
 }
 
-/// What comes of a history of which so many entries are of processes that agree.
+/// The result for a run whose trees agree with this number of events: checks that these are all events, and replays the history.
 fn judged_whole(alloc: Global, ran: &Ran, limits: Limits, entries: usize) -> Outcome
     requires { IsWithin limits.procs limits.fuel }
 {
@@ -161,6 +166,7 @@ fn judged_whole(alloc: Global, ran: &Ran, limits: Limits, entries: usize) -> Out
     }
 }
 
+/// The result for a run: compares all processes, and then the history as a whole.
 fn judged_run(alloc: Global, ran: &Ran, limits: Limits) -> Outcome
     requires { IsWithin limits.procs limits.fuel }
 {
@@ -173,7 +179,7 @@ fn judged_run(alloc: Global, ran: &Ran, limits: Limits) -> Outcome
     }
 }
 
-/// What comes of the program of a text, with so many processes and ticks, by so many workers.
+/// Compiles a source, runs it within these limits with `workers` workers, and compares the two executions.
 pub(crate) fn judged<R: AllocGlobal + Threads + Wait + Sync>(
     rt: &R,
     text: &[u8],

@@ -1,4 +1,4 @@
-// What a history says of a process, and how far another execution of the process agrees.
+// What a history states about one process, and the result of executing the process along it.
 
 ghost use Rattle.std.specs.Prelude.{IfSome};
 ghost use Rattle.ti_eval.specs.Forms.{IsFormedAnswer};
@@ -6,29 +6,30 @@ ghost use Rattle.ti_eval.specs.Forms.{IsFormedAnswer};
 use crate::forms::formed;
 use ti_base::{Action, Answer, Entry, Next};
 
-/// How many processes a program has, and how many ticks each of them.
+/// The number of processes of a run, and the tick budget of each (`fuel`).
 #[derive(Clone, Copy)]
 pub(crate) struct Limits {
     pub procs: u32,
     pub fuel: u32,
 }
 
-/// How many entries of a process agree, all that it has, and what it has next behind them.
+/// The result of executing a process along a history that it agrees with: the number of its events, and what it does next after them,
+/// or no next if memory runs out.
 #[derive(Clone, Copy)]
 pub(crate) struct Course {
     pub entries: usize,
     pub next: Option<Next>,
 }
 
-/// The first entry with which a process doesn't agree, by its number in the history, and what the process has next in its place; no next
-/// where memory is wanting.
+/// The first event with which a process disagrees, by its index in the history, and what the process does next instead, or no next if
+/// memory runs out.
 #[derive(Clone, Copy)]
 pub(crate) struct Stray {
     pub entry: usize,
     pub next: Option<Next>,
 }
 
-/// What the process of an entry is told: nothing of an end or a fault.
+/// The result that the process of an event receives; none for an end or a fault, or if the result isn't in canonical form.
 pub(crate) fn told(entry: &Entry) -> Option<Answer>
     ensures { IfSome result IsFormedAnswer }
 {
@@ -38,7 +39,7 @@ pub(crate) fn told(entry: &Entry) -> Option<Answer>
     }
 }
 
-/// What an entry says that its process had next.
+/// What an event states that its process did next.
 pub(crate) fn next_in(entry: &Entry) -> Next {
     let place = entry.place;
     match entry.act {
@@ -48,7 +49,7 @@ pub(crate) fn next_in(entry: &Entry) -> Next {
     }
 }
 
-/// Whether two processes have the same next.
+/// Whether two processes do the same next, at the same source location.
 pub(crate) fn is_same(one: Next, other: Next) -> bool {
     match (one, other) {
         (Next::Act(place, action), Next::Act(at, act)) => place == at && action == act,
@@ -58,8 +59,8 @@ pub(crate) fn is_same(one: Next, other: Next) -> bool {
     }
 }
 
-/// Whether a process with this next may take an entry. Of a fault that came of its action the entry tells the place alone; the action is
-/// compared behind the history.
+/// Whether an event is one that a process with this next can cause. If an operation faults, the event has only its source location; the
+/// operation itself is compared after the history.
 pub(crate) fn fits(next: Next, entry: &Entry) -> bool {
     match (next, entry.act) {
         (Next::Act(place, _), Action::Fault { .. }) => place == entry.place,

@@ -1,4 +1,4 @@
-// Answers in their one form, as processes are told them.
+// Checks that the results in a history are in canonical form, as the contracts of processes require.
 
 ghost use Rattle.std.specs.Prelude.{IsTrue, IfSome};
 ghost use Rattle.ti_base.specs.Points.{IsPoint};
@@ -8,7 +8,7 @@ ghost use Rattle.ti_eval.specs.Forms.{IsFormedAnswer};
 use ti_base::{Answer, Point, Rect, Value};
 use ti_rect::rect_make;
 
-/// Whether coordinates that are not used are 0.
+/// Whether a point has 1 to 3 dimensions, and its unused coordinates are 0.
 fn is_point(p: Point) -> bool
     ensures { IsTrue result → IsPoint p }
 {
@@ -20,7 +20,7 @@ fn is_point(p: Point) -> bool
     }
 }
 
-/// The step of a dimension, or 0 where it isn't used.
+/// The step of a dimension, or 0 if the dimension is unused; none if the step doesn't fit in an `int`.
 fn step_in(used: bool, step: u32) -> Option<i32> {
     if used {
         i32::try_from(step).ok()
@@ -29,7 +29,7 @@ fn step_in(used: bool, step: u32) -> Option<i32> {
     }
 }
 
-/// The steps of a rectangle.
+/// The steps of a rectangle as a point; none if one doesn't fit in an `int`.
 fn steps_of(r: &Rect) -> Option<Point> {
     let [x1, x2, x3] = r.step;
     Some(Point {
@@ -40,7 +40,7 @@ fn steps_of(r: &Rect) -> Option<Point> {
     })
 }
 
-/// The points from one to another by steps.
+/// The rectangle from `lo` to `hi` by `step`; none if a point is malformed, the dimensions differ, or `rect_make` fails.
 fn spanned(lo: Point, hi: Point, step: Point) -> Option<Rect>
     ensures { IfSome result IsRect }
 {
@@ -51,7 +51,7 @@ fn spanned(lo: Point, hi: Point, step: Point) -> Option<Rect>
     }
 }
 
-/// A rectangle in its one form; none where it isn't, or a step has more than 31 bits.
+/// The rectangle as a result, if it is in canonical form; none if it isn't, or a step doesn't fit in an `int`.
 fn formed_rect(r: &Rect) -> Option<Answer>
     ensures { IfSome result IsFormedAnswer }
 {
@@ -63,7 +63,7 @@ fn formed_rect(r: &Rect) -> Option<Answer>
     }
 }
 
-/// An answer in its one form; none where it isn't.
+/// The result itself if it is in canonical form, or none. Only points and rectangles can fail to be.
 pub(crate) fn formed(answer: Answer) -> Option<Answer>
     ensures { IfSome result IsFormedAnswer }
 {

@@ -1,4 +1,4 @@
-// The program of a text with the marks that are inferred for it.
+// Tests inference: replaces the `single` annotations of a program (its marks) by inferred ones, and checks the program again.
 
 use crate::phases::{Stopped, resolved};
 use std::alloc::Global;
@@ -19,7 +19,8 @@ impl From<Memory> for Stopped {
     }
 }
 
-// The program with the inferred marks in place of its own.
+/// The program of a source with inferred annotations in place of its own. Error: the source is rejected, or out of memory.
+/// For the prover: `stripped_once` and `marked_is_numbered` are theorems, which do nothing at run time.
 fn remarked(alloc: Global, text: &[u8]) -> Result<Program, Stopped> {
     stripped_once();
     marked_is_numbered();
@@ -31,7 +32,7 @@ fn remarked(alloc: Global, text: &[u8]) -> Result<Program, Stopped> {
     Ok(found)
 }
 
-/// Whether the program of a text breaks no rule with the marks that are inferred for it in place of its own.
+/// Whether the program of a source, with inferred `single` annotations in place of its own, breaks no rule. False if memory runs out.
 pub(crate) fn is_remarked(alloc: Global, text: &[u8]) -> bool {
     match remarked(alloc, text) {
         Ok(program) => check(alloc, program).is_ok(),

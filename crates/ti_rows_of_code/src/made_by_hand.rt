@@ -1,4 +1,4 @@
-// Code that is made by hand: its text, and how many instructions a process of it has finished in front of each thing that it has next.
+// Prints two hand-written programs in the virtual machine's code, and how many instructions a process has finished at each operation.
 
 ghost use Rattle.std.specs.Prelude.{◌≡◌, All, IsTrue, IfOk, false};
 ghost use Rattle.ti_code.specs.JumpRule.{jumps_fit};
@@ -11,11 +11,12 @@ use ti_base::{Answer, Next, Place, Value};
 use ti_code::{Code, Instr, Instrs, MethodCode, code_text};
 use ti_machine::Proc;
 
+/// A source location.
 fn at(line: u32, col: u32) -> Place {
     Place { line, col }
 }
 
-/// The code of one method without a `this` and without parameters.
+/// The code of a single static method without parameters.
 fn alone(alloc: Global, instrs: Vec<Instr>) -> Result<Code, AllocError>
     requires rule { IsTrue (jumps_fit (record { instance = false; params = 0; instrs = instrs.items })) }
     requires formed { All IsFormedInstr instrs.items }
@@ -30,7 +31,7 @@ fn alone(alloc: Global, instrs: Vec<Instr>) -> Result<Code, AllocError>
     Ok(Code::new(methods, 0))
 }
 
-/// Code that prints a number.
+/// Code that prints 3 once.
 fn printing(alloc: Global) -> Result<Code, AllocError> {
     let instrs = vec![in alloc;
         Instr::Const(Value::Int(3)),
@@ -40,7 +41,7 @@ fn printing(alloc: Global) -> Result<Code, AllocError> {
     alone(alloc, instrs)
 }
 
-/// Code that prints the own number again and again, up to its last tick.
+/// Code that prints the number of its process in a loop until it runs out of ticks.
 fn turning(alloc: Global) -> Result<Code, AllocError> {
     let instrs = vec![in alloc;
         Instr::Tick(at(1, 1)),
@@ -53,7 +54,8 @@ fn turning(alloc: Global) -> Result<Code, AllocError> {
     alone(alloc, instrs)
 }
 
-/// Tells how many instructions a process has finished, and what it has next; then it is told that this was done.
+/// Executes a process up to its next operation, end or fault, and prints how many instructions it has finished and what is next.
+/// Completes an operation, and returns whether there was one.
 fn tell_next(rt: &HostRuntime, code: &Code, process: &mut Proc) -> io::Result<bool>
     requires code { code.now ≡ process.old.code }
     ensures { IfOk result (λ _. code.now ≡ process.new.code) }
@@ -71,7 +73,7 @@ fn tell_next(rt: &HostRuntime, code: &Code, process: &mut Proc) -> io::Result<bo
     Ok(false)
 }
 
-/// Tells that of a process alone with 4 ticks, up to its end.
+/// Prints up to 9 steps of the only process of a run with 4 ticks.
 fn tell_course(rt: &HostRuntime, code: &Code) -> io::Result<()> {
     let Some(mut process) = Proc::start_there(rt.alloc(), code, 0, 1, 4) else {
         return Ok(());
@@ -84,6 +86,7 @@ fn tell_course(rt: &HostRuntime, code: &Code) -> io::Result<()> {
     Ok(())
 }
 
+/// Prints the code as text.
 fn tell_text(rt: &HostRuntime, code: &Code) -> io::Result<()> {
     match code_text(rt.alloc(), code) {
         Ok(text) => {
@@ -94,13 +97,13 @@ fn tell_text(rt: &HostRuntime, code: &Code) -> io::Result<()> {
     }
 }
 
-/// Tells the text of code, and the course of a process.
+/// Prints the code as text, and the steps of a process.
 fn tell_code(rt: &HostRuntime, code: &Code) -> io::Result<()> {
     tell_text(rt, code)?;
     tell_course(rt, code)
 }
 
-/// Tells what comes of code that is made by hand.
+/// Prints the two hand-written programs and their executions.
 pub(crate) fn tell_made(rt: &HostRuntime) -> io::Result<()> {
     let printing = printing(rt.alloc())?;
     tell_code(rt, &printing)?;

@@ -1,7 +1,7 @@
-//! Programs whose code must do what their trees do, from the files that the arguments name. A program whose trees do something else is
-//! printed with the first entry where it does, and at the end how many programs agree, how many entries they have, and how many agree
-//! where each process has a worker of its own, and how many break no rule with the marks that are inferred in place of their own; then
-//! comes the text of code that is made by hand, and how many instructions a process of it finishes. Nothing of the programs is proved.
+//! Differential test: runs the programs in the files that the arguments name, by their code and by their syntax trees, and compares the two
+//! executions. Prints each program that differs, with its first difference; then how many programs agree with one worker and with a worker
+//! per process, the number of their events, and how many pass the check with inferred `single` annotations; then two hand-written programs.
+//! Nothing is proved of the programs.
 #![tactic(auto)]
 
 mod by_code;

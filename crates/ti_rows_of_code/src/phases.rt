@@ -1,4 +1,4 @@
-// The checked program of a text.
+// Compiles a source up to its checked program, with one error type for all passes.
 
 ghost use Rattle.std.specs.Prelude.{IfOk};
 ghost use Rattle.ti_parse_expr.specs.Answers.{EndsAtEnd};
@@ -13,7 +13,7 @@ use ti_rules::Checked;
 use ti_syntax::Token;
 use ti_syntax::tree::Tree;
 
-/// The text is refused, or memory is wanting.
+/// The source is rejected, or memory runs out.
 #[derive(Clone, Copy)]
 pub(crate) struct Stopped;
 
@@ -41,29 +41,32 @@ impl From<CheckErr> for Stopped {
     }
 }
 
+/// Lexes a source.
 fn tokens(alloc: Global, text: &[u8]) -> Result<Vec<Token>, Stopped>
     ensures { IfOk result (λ list. EndsAtEnd list.items) }
 {
     Ok(lex(alloc, text)?)
 }
 
+/// Lexes and parses a source.
 fn parsed(alloc: Global, text: &[u8]) -> Result<Tree, Stopped> {
     let list = tokens(alloc, text)?;
     Ok(parse(alloc, &list)?)
 }
 
-/// The program that a text has by the rules of bytes, tokens and names.
+/// Lexes, parses and resolves a source. Types and `single` are not checked.
 pub(crate) fn resolved(alloc: Global, text: &[u8]) -> Result<Program, Stopped> {
     let tree = parsed(alloc, text)?;
     Ok(resolve(alloc, &tree)?)
 }
 
+/// Compiles a source up to its checked program.
 fn accepted(alloc: Global, text: &[u8]) -> Result<Checked, Stopped> {
     let program = resolved(alloc, text)?;
     Ok(check(alloc, program)?)
 }
 
-/// The program of a text, where it breaks no rule and there is memory.
+/// The checked program of a source; none if the source is rejected or memory runs out.
 pub(crate) fn checked_of(alloc: Global, text: &[u8]) -> Option<Checked> {
     accepted(alloc, text).ok()
 }

@@ -1,4 +1,4 @@
-// Files of programs.
+// Reads files of test programs, compares the two executions of each program and counts those that agree.
 
 ghost use Rattle.std.specs.Prelude.{◌≤◌, IfSome};
 ghost use Rattle.ti_store.specs.Conditions.{IsWithin};
@@ -12,17 +12,20 @@ use std::sync::Wait;
 use std::thread::Threads;
 use std::{fs, io};
 
-/// How many programs agree by one worker, how many entries they have, how many agree by as many workers as processes, and how many break no
-/// rule with the marks that are inferred in place of their own.
+/// The totals over all programs so far.
 #[derive(Clone, Copy)]
 pub(crate) struct Count {
+    /// The programs whose executions agree with one worker.
     pub programs: u64,
+    /// The events of these runs.
     pub entries: usize,
+    /// The programs whose executions agree with as many workers as processes.
     pub on_threads: u64,
+    /// The programs that break no rule with inferred `single` annotations in place of their own.
     pub remarked: u64,
 }
 
-/// The limits that two words say, where a run may have them.
+/// Parses limits; none unless there are 1 to 32 processes and 1 to 4,000,000 ticks.
 fn limits_of(procs: &str, fuel: &str) -> Option<Limits>
     ensures { IfSome result (λ limits. IsWithin limits.procs limits.fuel) }
 {
@@ -35,7 +38,7 @@ fn limits_of(procs: &str, fuel: &str) -> Option<Limits>
     }
 }
 
-/// What a heading such as `2 1000 a barrier` says: the limits, and a name.
+/// Parses a heading such as `2 1000 a barrier`: the number of processes, the ticks of each, and a name.
 fn heading(line: &str) -> Option<(Limits, &str)>
     ensures { IfSome result (λ found. IsWithin found.0.procs found.0.fuel) }
 {
@@ -44,7 +47,7 @@ fn heading(line: &str) -> Option<(Limits, &str)>
     Some((limits_of(procs, fuel)?, name))
 }
 
-/// How many entries the program of a text has by so many workers, where it agrees; else it is told what comes of it.
+/// Compares the two executions of a program with `workers` workers. Returns the number of events if they agree; else prints the result.
 fn agreeing<R: Print + AllocGlobal + Threads + Wait + Sync>(
     rt: &R,
     name: &str,
@@ -66,7 +69,8 @@ fn agreeing<R: Print + AllocGlobal + Threads + Wait + Sync>(
     Ok(None)
 }
 
-/// Judges the program of a text by one worker and by as many as it has processes, and counts it where it agrees.
+/// Compares the executions of a program with one worker and with a worker per process, checks it with inferred annotations, and adds it to
+/// the totals.
 fn judge<R: Print + AllocGlobal + Threads + Wait + Sync>(
     rt: &R,
     name: &str,
@@ -90,7 +94,7 @@ fn judge<R: Print + AllocGlobal + Threads + Wait + Sync>(
     Ok(found)
 }
 
-/// Judges the program that a piece of a file holds behind its heading.
+/// Judges a piece of a file: a heading, then a program. Prints the first line if it is no heading.
 fn judge_piece<R: Files + Print + AllocGlobal + Threads + Wait + Sync>(
     rt: &R,
     piece: &str,
@@ -109,7 +113,7 @@ fn judge_piece<R: Files + Print + AllocGlobal + Threads + Wait + Sync>(
     }
 }
 
-/// Judges the programs of a text, each of which stands behind a line that begins with two equals signs.
+/// Judges the programs in a file's contents, each of which follows a line that begins with `== `.
 fn judge_all<R: Files + Print + AllocGlobal + Threads + Wait + Sync>(
     rt: &R,
     text: &str,
@@ -132,7 +136,7 @@ fn judge_all<R: Files + Print + AllocGlobal + Threads + Wait + Sync>(
     Ok(found)
 }
 
-/// Judges the programs of a file.
+/// Judges the programs of a file, or prints that it can't be read.
 pub(crate) fn judge_file<R: Files + Print + AllocGlobal + Threads + Wait + Sync>(
     rt: &R,
     file: &str,

@@ -1,4 +1,4 @@
-// A history, replayed on one thread by processes of code and a store.
+// Replays a history on one thread: processes by code and a store, scheduled in the order of the history's events.
 
 ghost use Rattle.ti_store.specs.Conditions.{IsWithin};
 
@@ -10,7 +10,7 @@ use ti_rules::Checked;
 use ti_trace_check::{Verdict, check_trace};
 use ti_watch::{TraceWatch, Watch};
 
-/// A history as the trace writes it.
+/// Renders a history as a trace.
 fn text_of(alloc: Global, history: &[Entry]) -> Result<Vec<u8>, Memory> {
     let mut trace = TraceWatch::new(alloc);
     for entry in history {
@@ -21,7 +21,7 @@ fn text_of(alloc: Global, history: &[Entry]) -> Result<Vec<u8>, Memory> {
     Ok(text)
 }
 
-/// A source that gives this text, where there is memory.
+/// An opened in-memory file with these contents; none if memory runs out.
 fn source_of(alloc: Global, text: Vec<u8>) -> Option<MemSource> {
     let name = String::from_str(alloc, "trace").ok()?;
     let files = vec![in alloc; (name, text)].ok()?;
@@ -32,7 +32,8 @@ fn source_of(alloc: Global, text: Vec<u8>) -> Option<MemSource> {
     }
 }
 
-/// The entries that processes of code make with a store, where each line of a text names the one that goes on, and all lines are theirs.
+/// The events of a run in which each line of a trace schedules the process that it names; none if a line differs from the event of that
+/// process, the run isn't complete, or memory runs out.
 fn made(alloc: Global, checked: &Checked, limits: Limits, text: Vec<u8>) -> Option<Vec<Entry>>
     requires { IsWithin limits.procs limits.fuel }
 {
@@ -43,7 +44,7 @@ fn made(alloc: Global, checked: &Checked, limits: Limits, text: Vec<u8>) -> Opti
     }
 }
 
-/// Whether processes of code and a store make just the entries of a history, where they go on in its order.
+/// Whether replaying a history, with the processes scheduled in its order, yields exactly its events. False if memory runs out.
 pub(crate) fn is_replayed(
     alloc: Global,
     checked: &Checked,

@@ -1,4 +1,4 @@
-// How a difference is told.
+// Prints differences between the two executions of a program.
 
 use crate::comparison::Parting;
 use std::alloc::Global;
@@ -6,7 +6,7 @@ use std::io;
 use ti_base::{Action, Answer, Entry, Memory, Next};
 use ti_watch::{TraceWatch, Watch};
 
-/// The entry of a process that has this next.
+/// An event for what process `number` does next, with the result `Done`.
 fn entry_of(number: u32, next: Next) -> Entry {
     let (place, act) = match next {
         Next::Act(place, action) => (place, action),
@@ -21,7 +21,7 @@ fn entry_of(number: u32, next: Next) -> Entry {
     }
 }
 
-/// An entry as the trace writes it where it is alone.
+/// Renders an event as the only line of a trace.
 fn traced(alloc: Global, entry: &Entry) -> Result<Vec<u8>, Memory> {
     let mut trace = TraceWatch::new(alloc);
     trace.see(entry)?;
@@ -30,7 +30,7 @@ fn traced(alloc: Global, entry: &Entry) -> Result<Vec<u8>, Memory> {
     Ok(text)
 }
 
-/// What of that line stands between the number of the entry and the answer.
+/// The part of a trace line after the event's number and before its result.
 fn short(line: &str) -> &str {
     let behind = match line.split_once(' ') {
         Some((_, behind)) => behind,
@@ -42,13 +42,14 @@ fn short(line: &str) -> &str {
     }
 }
 
+/// Prints a label and the short form of a trace line.
 fn tell_next<R: Print + AllocGlobal>(rt: &R, label: &str, line: &[u8]) -> io::Result<()> {
     let line = String::from_utf8_lossy(rt.alloc(), line)?;
     let shown = short(line.as_str());
     println!(rt; "  {label} {shown}")
 }
 
-/// Tells what a process has next, behind a label.
+/// Prints a label and what process `number` does next, or `nothing`.
 pub(crate) fn tell<R: Print + AllocGlobal>(
     rt: &R,
     label: &str,
@@ -64,7 +65,7 @@ pub(crate) fn tell<R: Print + AllocGlobal>(
     }
 }
 
-/// Tells where the code of a program does something else than its trees.
+/// Prints the first difference between the two executions of a program: process, index of the event, and what code and trees do there.
 pub(crate) fn tell_parting<R: Print + AllocGlobal>(
     rt: &R,
     name: &str,

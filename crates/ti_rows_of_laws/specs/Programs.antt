@@ -1,4 +1,4 @@
--- Programs whose declarations can be marked.
+-- Programs whose declarations can be annotated with `single`. Locations are those in the source above a program, written in one line.
 use Rattle.std.specs.Prelude.{pos, [], ◌∷◌, None}
 use Rattle.ti_syntax.specs.declared.tree.exprs.BinaryOperator.TheVariants as b
 use Rattle.ti_lang.specs.Program.Types as ty
@@ -10,7 +10,7 @@ use Rattle.ti_rows_of_laws.specs.Texts.{pl, plain, var, main_alone}
 -- class Main { public static single void main(String[] args) {
 --     int k = broadcast Ti.thisProc() from 1; while (k > 0) { Ti.barrier(); k = k - 2; }
 -- } }
--- the barrier is aligned where k is single
+-- the barrier is aligned if k is single
 abbrev pub a_sent_number : NumberedProgram
 a_sent_number =
     main_alone (
@@ -27,7 +27,7 @@ a_sent_number =
 -- class Main { public static single void main(String[] args) {
 --     int k = Ti.thisProc(); while (k > 0) { Ti.barrier(); Ti.barrier(); k = k - 2; }
 -- } }
--- neither barrier is aligned, whatever is marked
+-- neither barrier is aligned, whatever is annotated
 abbrev pub an_own_number : NumberedProgram
 an_own_number =
     main_alone (
@@ -43,7 +43,7 @@ an_own_number =
     ) 142
 
 -- class Main { public static single void main(String[] args) { int a = 1; int b = 2; } }
--- each of the two can be single, and both
+-- each of the two variables can be single, and both together
 abbrev pub two_numbers : NumberedProgram
 two_numbers =
     main_alone (
@@ -52,12 +52,12 @@ two_numbers =
     []
     ) 84
 
--- ---- programs that no text has
+-- ---- programs that no source resolves to
 
--- the update of a loop leaves it
+-- the update of a `for` loop is a `break`
 abbrev pub an_update_that_jumps : NumberedProgram
 an_update_that_jumps = main_alone (s.For (pl 1 62) s.NoStm None (s.SomeStm (s.Break (pl 1 71))) s.Empty ∷ []) 80
 
--- there is no method, and so no `main`
+-- a program without methods, and so without `main`
 abbrev pub no_method : NumberedProgram
 no_method = record two_numbers { methods = [] }

@@ -1,4 +1,4 @@
--- How programs of one method, `main`, are written down.
+-- Constructors for resolved programs that consist of one method, `main`.
 use Rattle.std.specs.Prelude.{ℕ, false, true, List, [], ◌∷◌, codes}
 use Rattle.ti_base.specs.declared.place.Place.{Place}
 use Rattle.ti_syntax.specs.declared.tree.classes.ModifierWord.{ModifierWord}
@@ -10,23 +10,23 @@ use Rattle.ti_lang.specs.Program.Statements.{NumberedStm}
 use Rattle.ti_lang.specs.Program.Classes.{NumberedMethod, NumberedProgram}
 use Rattle.ti_lang.specs.Program.Classes as c
 
--- a place, by its line and its column
+-- a source location, by its line and its column
 abbrev pub pl : ℕ → ℕ → Place
 pl line col = record { line = line; col = col }
 
--- a type without `single`
+-- a type without `single`, qualifiers and grid dimensions
 abbrev pub plain : ValueType → NumberedType
 plain type = record { type = type; is_single = false; qualifiers = []; grids = [] }
 
--- a variable of a number and a type, where it is used
+-- a use of a non-single variable, by its location, number and type
 abbrev pub var : Place → ℕ → ValueType → NumberedExp
 var at number type = Variable at (record { number = number; declared = Typed false type })
 
--- a word before a member, at a column
+-- a modifier in line 1, by its keyword and column
 abbrev word_at : ModifierWord → ℕ → Modifier
 word_at word column = record { word = word; place = pl 1 column }
 
--- `public static single void main(String[] args)` with these statements, which end at a column
+-- `public static single void main(String[] args)` with this body, whose closing brace is at a column of line 1
 abbrev main_with : List NumberedStm → ℕ → NumberedMethod
 main_with body end =
     record {
@@ -41,7 +41,7 @@ main_with body end =
       end = pl 1 end;
     }
 
--- a class Main alone, with this method
+-- a program of one class, `Main`, with the method `main` only
 abbrev pub main_alone : List NumberedStm → ℕ → NumberedProgram
 main_alone body end =
     record { classes = record { modifiers = []; fields = [] } ∷ []; methods = main_with body end ∷ []; main = 0; names = codes "main" ∷ []; literals = [] }

@@ -1,5 +1,5 @@
-//! Rows on definitions about markings, traces and counts of instructions: for each, something of which it is true and something of which
-//! it is false.
+//! Worked examples of definitions about annotations, traces and instruction counts: instances that satisfy a definition and instances that
+//! don't. They rule out that these definitions are trivially true or trivially false.
 #![tactic(auto)]
 
 pub mod markings;

@@ -1,4 +1,5 @@
-// What the laws of markings rule out: markings of short programs of which what a law says is false, beside some of which it's true.
+// Worked examples of the definitions used by inference of `single` annotations (an assignment of annotations is a marking): short programs,
+// with markings that satisfy a definition and markings that violate it.
 ghost use Rattle.std.specs.Prelude.{◌≡◌, [], ◌∷◌, false, true, None};
 ghost use Rattle.std.specs.List.{list_any};
 ghost use Rattle.ti_base.specs.declared.place.Place.{Place};
@@ -22,7 +23,8 @@ ghost use Rattle.ti_rows_of_laws.specs.Texts.{pl};
 ghost use Rattle.ti_rows_of_laws.specs.Markings as marks;
 ghost use Rattle.ti_rows_of_laws.specs.Programs as programs;
 
-/// Which markings are accepted.
+/// Accepted markings (`IsAccepted`): the marked program breaks no rule of types, qualifiers or `single`. Includes the union of two accepted
+/// markings, and markings that are rejected.
 pub fn accepted()
     ensures the_variable { IsAccepted programs.a_sent_number (marks_of marks.the_first) }
     ensures nothing { IsAccepted programs.a_sent_number (marks_of marks.nothing) → ⊥ }
@@ -31,7 +33,7 @@ pub fn accepted()
     ensures a_union_with_main { IsAccepted programs.two_numbers (union (marks_of marks.the_first) (marks_of marks.main)) → ⊥ }
 {}
 
-/// Which marking is the greatest.
+/// The greatest accepted marking of a program (`IsGreatest`, `IsInferred`); not greatest are a smaller, an unsorted and a rejected marking.
 pub fn greatest()
     ensures the_variable { IsGreatest programs.a_sent_number marks.the_first }
     ensures both { IsGreatest programs.two_numbers marks.both }
@@ -42,7 +44,8 @@ pub fn greatest()
     ensures less { IsInferred programs.a_sent_number (names_of programs.a_sent_number) marks.nothing None → ⊥ }
 {}
 
-/// Which collective is the first that no marking aligns.
+/// The first collective that no marking aligns (`IsFirstUnaligned`); it is neither a later collective nor a location without one, and
+/// a program with an accepted marking has none.
 pub fn first_unaligned()
     ensures collectives { collectives programs.an_own_number ≡ pl 1 104 ∷ pl 1 118 ∷ [] }
     ensures the_first_barrier { IsFirstUnaligned programs.an_own_number (pl 1 104) }
@@ -51,7 +54,8 @@ pub fn first_unaligned()
     ensures where_a_marking_is_accepted { (at : Place) → IsFirstUnaligned programs.a_sent_number at → ⊥ }
 {}
 
-/// The rules of single values where some collectives count.
+/// The rules on `single`, checked for all collectives or for none: by the reasons that inference collects (`KeepsSingle`) and by the
+/// rules themselves (`limited_refusals`).
 pub fn rules()
     ensures by_reasons { KeepsSingle every_one programs.a_sent_number (marks_of marks.the_first) }
     ensures against_reasons { KeepsSingle every_one programs.an_own_number (marks_of marks.nothing) → ⊥ }
@@ -61,7 +65,8 @@ pub fn rules()
     ensures no_reason_counts { KeepsSingle (λ at. false) programs.an_own_number (marks_of marks.nothing) }
 {}
 
-/// What is taken away, and what can't be.
+/// Steps of the descent to the greatest marking: an annotation that a violation removes (`without`), one that stays, and violations that
+/// removing annotations can't resolve (`is_fixed`, `is_always`).
 pub fn descent()
     ensures the_variable_falls { IsPart (marks_of marks.the_first)
         (without (program_blamed programs.an_own_number (marks_of marks.the_first)) (marks_of marks.the_first)) → ⊥ }
@@ -71,7 +76,7 @@ pub fn descent()
     ensures a_jump_is_always { list_any is_always (program_blamed programs.an_update_that_jumps (marks_of marks.nothing)) ≡ true }
 {}
 
-/// Where marks can stand, and what falls with what.
+/// Declarations that can be annotated (`MarksFit`), and dependencies between annotations that a marking keeps or breaks (`KeepsEdges`).
 pub fn edges()
     ensures a_mark_fits { MarksFit (marks_of marks.the_first) programs.a_sent_number }
     ensures main_is_marked { MarksFit (marks_of marks.main) programs.a_sent_number → ⊥ }
@@ -83,7 +88,8 @@ pub fn edges()
         (fit_edges programs.a_sent_number) → ⊥ }
 {}
 
-/// Programs without marks.
+/// Removing all annotations but that of `main` (`stripped`): a program without others is unchanged, one with another is not, and the result
+/// for a program without `main` is not the resolved program of any source (`IsNumbered`).
 pub fn stripped_programs()
     ensures nothing_to_take_off { stripped programs.two_numbers ≡ programs.two_numbers }
     ensures a_mark_to_take_off { stripped (marked (marks_of marks.the_first) programs.two_numbers)

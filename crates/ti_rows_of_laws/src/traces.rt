@@ -1,4 +1,4 @@
-// Texts, as traces of the run of a program that prints, and how many instructions of its code the processes have finished.
+// Worked examples of the definitions about traces and instruction counts, for a program that prints a number.
 ghost use Rattle.std.specs.Prelude.{ℕ, List, [], ◌∷◌};
 ghost use Rattle.ti_base.specs.declared.entry.Entry.{Entry};
 ghost use Rattle.ti_runtime.specs.Ran.{IsDone};
@@ -11,7 +11,8 @@ use ti_rows::refutations_of_walks::counts as finished;
 use ti_rows::simulation::simulates;
 use ti_trace_check::one_verdict;
 
-/// Which text is the trace of a complete run, and which line of another is the first wrong one.
+/// Traces of complete runs (`IsTraceOf`), and the first wrong line of a byte string that isn't one (`IsWrongAt`): a missing line, or a line
+/// that isn't the one of the next event. A trace of a complete run has no wrong line.
 pub fn verdicts()
     ensures all_lines { IsTraceOf traces.two_prints traces.all_lines (solo traces.two_prints 4) }
     ensures three_lines { (es : List Entry) → IsTraceOf traces.two_prints traces.three_lines es → ⊥ }
@@ -24,7 +25,7 @@ pub fn verdicts()
     one_verdict();
 }
 
-/// How many instructions each process has finished: two, one that pushes the number and one that prints it.
+/// The numbers of instructions that the processes have finished (`IsDone`): two each, one that pushes the number and one that prints it.
 pub fn counts()
     ensures two_each { IsDone (prints_at 62) traces.two_prints (solo traces.two_prints 4) (2 ∷ 2 ∷ []) }
     ensures another_number { IsDone (prints_at 62) traces.two_prints (solo traces.two_prints 4) (2 ∷ 3 ∷ []) → ⊥ }

@@ -1,4 +1,4 @@
-// What is asked of the texts of rows.
+// Dispatches a test case to the function that its heading selects.
 
 use crate::collectives::collectives;
 use crate::commands::command;
@@ -7,7 +7,8 @@ use std::sync::Wait;
 use std::thread::Threads;
 use ti_row_files::{Row, RowErr};
 
-/// What comes of the text of a row whose heading asks this, such as `command`.
+/// The bytes to be compared with what a test case expects. `asked` is the first word of the section's heading, such as `command`.
+/// Errors: the row has no arguments or is malformed, the heading is unknown, or out of memory.
 pub(crate) fn answer<R: AllocGlobal + Threads + Wait + Sync>(
     rt: &R,
     asked: &str,

@@ -1,4 +1,4 @@
-// The checked programs of texts, for what rows ask besides their commands.
+// Compiles a source up to its checked program, for test cases that examine the program besides running the command.
 
 use std::alloc::Global;
 use ti_check::check;
@@ -10,7 +10,7 @@ use ti_row_files::RowErr;
 use ti_rules::Checked;
 use ti_syntax::tree::Tree;
 
-/// The tree of a text.
+/// Lexes and parses a source. Any failure is a malformed row.
 fn parsed(alloc: Global, text: &[u8]) -> Result<Tree, RowErr> {
     match lex(alloc, text) {
         Ok(tokens) => parse(alloc, &tokens).map_err(|_| RowErr::Row),
@@ -18,13 +18,13 @@ fn parsed(alloc: Global, text: &[u8]) -> Result<Tree, RowErr> {
     }
 }
 
-/// The program of a text.
+/// Lexes, parses and resolves a source. Any failure is a malformed row.
 fn resolved(alloc: Global, text: &[u8]) -> Result<Program, RowErr> {
     let tree = parsed(alloc, text)?;
     resolve(alloc, &tree).map_err(|_| RowErr::Row)
 }
 
-/// The program of a text that breaks no rule. Where there is none, or no memory for it, the row can't be read.
+/// The checked program of a source. If the source is rejected or memory runs out, the row is malformed.
 pub(crate) fn checked(alloc: Global, text: &[u8]) -> Result<Checked, RowErr> {
     check(alloc, resolved(alloc, text)?).map_err(|_| RowErr::Row)
 }

@@ -1,4 +1,5 @@
-// From how many collectives the processes of runs depart, where the slices of their programs tell them.
+// Test cases on program slices: runs a program and checks that the slice of each process predicts every collective at which the process
+// arrives, and its end, from the results of the earlier collectives.
 
 ghost use Rattle.std.specs.Prelude.{◌≤◌, IfSome};
 
@@ -14,10 +15,10 @@ use ti_row_files::RowErr;
 use ti_rules::Checked;
 use ti_slice::slice_next;
 
-/// The ticks of each process of a run, where its words say nothing else, and of its slice.
+/// The tick budget of each process, both of the run (the command's default) and of its program slice.
 const FUEL: u32 = 100000;
 
-/// What the slice comes to where a process does this next; none where the slice leaves it out.
+/// The slice step that predicts this event: an arrival at a collective or an end; none for events that slices leave out.
 fn slice_at(entry: &Entry) -> Option<SliceStep> {
     match entry.act {
         Action::Arrive { kind, arg, .. } => Some(SliceStep::At(kind, entry.place, arg)),
@@ -26,7 +27,7 @@ fn slice_at(entry: &Entry) -> Option<SliceStep> {
     }
 }
 
-/// Whether the slice tells this entry after the outcomes before it.
+/// Whether the slice predicts this event, given the results of the collectives before it. Events that slices leave out always pass.
 fn tells_entry(
     alloc: Global,
     c: &Checked,
@@ -42,7 +43,7 @@ fn tells_entry(
     }
 }
 
-/// From how many collectives a process departs in a history, where the slice tells each of its arrivals and its end.
+/// The number of collectives from which process `number` departs in a history; none if its slice mispredicts an arrival or the end.
 fn departures_of(
     alloc: Global,
     c: &Checked,
@@ -66,7 +67,7 @@ fn departures_of(
     Ok(Some(outcomes.len()))
 }
 
-/// From how many collectives process 0 departs, where the slice tells those of each process.
+/// The number of collectives from which process 0 departs; none if the slice of any process mispredicts an arrival or the end.
 fn departures(
     alloc: Global,
     c: &Checked,
@@ -83,7 +84,7 @@ fn departures(
     departures_of(alloc, c, procs, history, 0)
 }
 
-/// What the run of a text with so many processes on one worker leaves.
+/// Runs the command on a source with `procs` processes and one worker.
 fn left_with<R: AllocGlobal + Threads + Wait + Sync>(
     rt: &R,
     procs: u32,
@@ -93,7 +94,7 @@ fn left_with<R: AllocGlobal + Threads + Wait + Sync>(
     left_by(rt, line.as_str(), PLAIN, Texts::of(text))
 }
 
-/// From how many collectives process 0 departs in the run of a text, where the slice tells those of each process.
+/// Runs a source with `procs` processes and returns the number of collectives from which process 0 departs; none if a slice mispredicts.
 fn departures_in<R: AllocGlobal + Threads + Wait + Sync>(
     rt: &R,
     procs: u32,
@@ -106,7 +107,7 @@ fn departures_in<R: AllocGlobal + Threads + Wait + Sync>(
     Ok(departures(rt.alloc(), &c, procs, &left.outcome.history)?)
 }
 
-/// How many processes run.
+/// Parses the number of processes; none unless it is at most 32.
 fn procs_of(given: &str) -> Option<u32>
     ensures { IfSome result (λ procs. procs ≤ 32) }
 {
@@ -116,7 +117,8 @@ fn procs_of(given: &str) -> Option<u32>
     }
 }
 
-/// From how many collectives process 0 of as many as are given departs in the run of a text, where the slice tells those of each process.
+/// Runs a source with the number of processes in `given`. Returns the number of collectives from which process 0 departs, in decimal, or
+/// `not told` if the slice of some process mispredicts an arrival or the end.
 pub(crate) fn collectives<R: AllocGlobal + Threads + Wait + Sync>(
     rt: &R,
     given: &str,

@@ -1,4 +1,5 @@
-// Runs of the command over memory, with calls that fail where a row says so.
+// Runs the command on in-memory files and streams, with failing calls, watchers and held processes as a test case requests, and renders
+// what the test case compares.
 
 use crate::failing::each_failing;
 use crate::fronts::fronts;
@@ -15,9 +16,10 @@ use ti_row_files::{RowErr, bytes_of};
 use ti_top::{Outcome, titan_top};
 use ti_watch::{StatsWatch, TraceWatch, Watch};
 
-/// What the processes pass: it counts the passes, and holds two processes where it is told to.
+/// The gate that processes pass before their operations: counts the passes, and holds two processes if a test case requests it.
 #[derive(Drop)]
 struct Passage {
+    /// How often a process has passed so far, over all processes.
     passes: AtomicU32,
     held: Option<HoldGate>,
 }
@@ -32,6 +34,7 @@ impl Gate for Passage {
 }
 
 impl Passage {
+    /// A gate without passes that holds the processes in `held`, if there are any.
     fn of(held: Option<Held>) -> Passage {
         let passes = AtomicU32::new(0);
         match held {
@@ -43,7 +46,7 @@ impl Passage {
         }
     }
 
-    /// Whether a process that was held gave up.
+    /// Whether a held process stopped waiting for the other.
     fn gave_up(&self) -> bool {
         match &self.held {
             Some(gate) => gate.gave_up(),
@@ -51,41 +54,45 @@ impl Passage {
         }
     }
 
-    /// How often a process has passed.
+    /// How often a process has passed, over all processes.
     fn count(&self) -> u32 {
         self.passes.load(Ordering::SeqCst)
     }
 }
 
+/// The in-memory standard output and standard error.
 #[derive(Drop)]
 pub(crate) struct Sinks {
     pub(crate) out: MemSink,
     pub(crate) err: MemSink,
 }
 
+/// The files that the command reads, and the streams that it writes.
 #[derive(Drop)]
 struct Streams {
     source: MemSource,
     sinks: Sinks,
 }
 
-/// The words, and what is read and written.
+/// The command-line arguments, and the streams that the command reads and writes.
 #[derive(Drop)]
 struct Call {
     words: Vec<String>,
     streams: Streams,
 }
 
-/// What the call left.
+/// The result of a command: its outcome, its output, and what the gate observed.
 #[derive(Drop)]
 pub(crate) struct Left {
     pub(crate) outcome: Outcome,
     pub(crate) sinks: Sinks,
+    /// Whether a held process stopped waiting for the other.
     gave_up: bool,
+    /// How often a process has passed the gate, over all processes.
     passes: u32,
 }
 
-/// What the files hold: `a.ti` a text, and `t.tr` a trace where there is one.
+/// The contents of the files: `a.ti` is a source, and `t.tr` is a trace, if there is one.
 #[derive(Clone, Copy)]
 pub(crate) struct Texts<'a> {
     pub(crate) text: &'a [u8],
@@ -93,19 +100,19 @@ pub(crate) struct Texts<'a> {
 }
 
 impl<'a> Texts<'a> {
-    /// A text without a trace.
+    /// A source without a trace.
     pub(crate) fn of(text: &'a [u8]) -> Texts<'a> {
         Texts { text, trace: None }
     }
 
-    /// A text with a trace.
+    /// A source and a trace.
     pub(crate) fn with_trace(text: &'a [u8], trace: &'a [u8]) -> Texts<'a> {
         let trace = Some(trace);
         Texts { text, trace }
     }
 }
 
-/// The numbers of the calls that fail.
+/// The indices of the calls that fail: one for `At`, none for `Never` and for an unresolved `Each`.
 fn fails_of(alloc: Global, fails: Fails) -> Result<Vec<u32>, Memory> {
     let mut numbers = Vec::new(alloc);
     if let Fails::At(number) = fails {
@@ -114,19 +121,20 @@ fn fails_of(alloc: Global, fails: Fails) -> Result<Vec<u32>, Memory> {
     Ok(numbers)
 }
 
-/// A sink that is written in pieces of 3 bytes, and takes so many.
+/// A sink that accepts at most 3 bytes per write and `room` bytes in all.
 fn sink_of(alloc: Global, fails: Fails, room: usize) -> Result<MemSink, Memory> {
     let fails = fails_of(alloc, fails)?;
     MemSink::new(alloc, 3, room, fails)
 }
 
+/// Standard output and standard error as a stage describes them.
 fn sinks_of(alloc: Global, stage: Stage) -> Result<Sinks, Memory> {
     let out = sink_of(alloc, stage.out, stage.room)?;
     let err = sink_of(alloc, stage.err, ROOM)?;
     Ok(Sinks { out, err })
 }
 
-/// Puts a file after others.
+/// Appends a file.
 fn push_file(
     alloc: Global,
     files: &mut Vec<(String, Vec<u8>)>,
@@ -138,7 +146,7 @@ fn push_file(
     Ok(())
 }
 
-/// The files with what they hold.
+/// The files by name, with their contents.
 fn files_of(alloc: Global, texts: Texts) -> Result<Vec<(String, Vec<u8>)>, Memory> {
     let mut files = Vec::new(alloc);
     push_file(alloc, &mut files, "a.ti", texts.text)?;
@@ -148,20 +156,21 @@ fn files_of(alloc: Global, texts: Texts) -> Result<Vec<(String, Vec<u8>)>, Memor
     Ok(files)
 }
 
-/// A source with these files, which is read in pieces of 8 bytes.
+/// An in-memory file system with these files, which yields at most 8 bytes per read.
 fn source_of(alloc: Global, texts: Texts, fails: Fails) -> Result<MemSource, Memory> {
     let files = files_of(alloc, texts)?;
     let fails = fails_of(alloc, fails)?;
     Ok(MemSource::new(files, 8, fails))
 }
 
+/// The files and the output streams as a stage describes them.
 fn streams_of(alloc: Global, stage: Stage, texts: Texts) -> Result<Streams, Memory> {
     let source = source_of(alloc, texts, stage.source)?;
     let sinks = sinks_of(alloc, stage)?;
     Ok(Streams { source, sinks })
 }
 
-/// The words as a line of the command has them.
+/// Splits a command line into arguments at white space.
 fn words_of(alloc: Global, line: &str) -> Result<Vec<String>, Memory> {
     let mut words = Vec::new(alloc);
     for word in line.split_ascii_whitespace() {
@@ -170,13 +179,14 @@ fn words_of(alloc: Global, line: &str) -> Result<Vec<String>, Memory> {
     Ok(words)
 }
 
+/// A command line with its files and streams, ready to run.
 fn call_of(alloc: Global, line: &str, stage: Stage, texts: Texts) -> Result<Call, Memory> {
     let streams = streams_of(alloc, stage, texts)?;
     let words = words_of(alloc, line)?;
     Ok(Call { words, streams })
 }
 
-/// The command. This is the only function that calls it: each further one would be dear to prove.
+/// Runs the command. For the prover: the only call of `titan_top`, since each further one would be expensive to prove.
 fn called<R: AllocGlobal + Threads + Wait + Sync>(
     rt: &R,
     call: Call,
@@ -198,14 +208,15 @@ fn called<R: AllocGlobal + Threads + Wait + Sync>(
     }
 }
 
-/// Puts a watcher after others.
+/// Appends a watcher.
 fn put(watchers: &mut Vec<Box<dyn Watch>>, watcher: Box<dyn Watch>) -> Result<(), Memory> {
     watchers.push(watcher)?;
     Ok(())
 }
 
-/// The command with watchers, which are made here, since no function may make them and hand them out. They are made first: of what is alive
-/// where one finds no memory, each value has to be let go on a path of its own.
+/// Runs a command line in a stage.
+/// For the prover: the watchers are constructed here, since no function can return them, and first, since each value that is live at an
+/// allocation failure must be dropped on a path of its own.
 pub(crate) fn left_by<R: AllocGlobal + Threads + Wait + Sync>(
     rt: &R,
     line: &str,
@@ -230,7 +241,7 @@ pub(crate) fn left_by<R: AllocGlobal + Threads + Wait + Sync>(
     Ok(called(rt, call, &gate, watchers))
 }
 
-/// Puts bytes after a text and a word, where there are any.
+/// Appends a label and bytes, unless there are no bytes.
 fn push_named(text: &mut Vec<u8>, name: &[u8], bytes: &[u8]) -> Result<(), Memory> {
     if !bytes.is_empty() {
         text.extend_from_slice(name)?;
@@ -239,7 +250,7 @@ fn push_named(text: &mut Vec<u8>, name: &[u8], bytes: &[u8]) -> Result<(), Memor
     Ok(())
 }
 
-/// The status, and what stands on out and err.
+/// Renders the exit status, then standard output and standard error, each unless it is empty.
 pub(crate) fn shown_ending(alloc: Global, status: u8, sinks: &Sinks) -> Result<Vec<u8>, Memory> {
     let mut text = format!(in alloc; "{status}")?.into_bytes();
     push_named(&mut text, b" out: ", sinks.out.bytes())?;
@@ -247,6 +258,7 @@ pub(crate) fn shown_ending(alloc: Global, status: u8, sinks: &Sinks) -> Result<V
     Ok(text)
 }
 
+/// A trace watcher that has observed these events.
 fn told(alloc: Global, history: &[Entry]) -> Result<TraceWatch, Memory> {
     let mut trace = TraceWatch::new(alloc);
     for entry in history {
@@ -255,7 +267,7 @@ fn told(alloc: Global, history: &[Entry]) -> Result<TraceWatch, Memory> {
     Ok(trace)
 }
 
-/// Entries as the trace writes them.
+/// Renders events as a trace.
 pub(crate) fn trace_of(alloc: Global, history: &[Entry]) -> Result<Vec<u8>, Memory> {
     let trace = told(alloc, history)?;
     let mut text = Vec::new(alloc);
@@ -263,7 +275,7 @@ pub(crate) fn trace_of(alloc: Global, history: &[Entry]) -> Result<Vec<u8>, Memo
     Ok(text)
 }
 
-/// How many entries there are, and the last as the trace writes it where it is alone.
+/// Renders the number of events, and the last one as the only line of a trace.
 fn last_of(alloc: Global, history: &[Entry]) -> Result<Vec<u8>, Memory> {
     let behind = history.len().saturating_sub(1);
     let last = trace_of(alloc, &history[behind..])?;
@@ -272,7 +284,7 @@ fn last_of(alloc: Global, history: &[Entry]) -> Result<Vec<u8>, Memory> {
     Ok(text)
 }
 
-/// Numbers, parted by blanks.
+/// Renders numbers in decimal, separated by spaces.
 fn spaced(alloc: Global, numbers: &[u64]) -> Result<Vec<u8>, Memory> {
     let mut text = Vec::new(alloc);
     for number in numbers {
@@ -284,7 +296,7 @@ fn spaced(alloc: Global, numbers: &[u64]) -> Result<Vec<u8>, Memory> {
     Ok(text)
 }
 
-/// The status, how many entries there are, and whether a process that was held gave up.
+/// Renders the exit status, the number of events, and whether a held process stopped waiting.
 fn shown_holding(alloc: Global, left: &Left) -> Result<Vec<u8>, Memory> {
     let how = if left.gave_up {
         "one gave up"
@@ -299,7 +311,7 @@ fn shown_holding(alloc: Global, left: &Left) -> Result<Vec<u8>, Memory> {
     Ok(format!(in alloc; "{status}, {} entries, {how}", history.len())?.into_bytes())
 }
 
-/// The status, how many entries there are, and how often a process has passed the gate.
+/// Renders the exit status, the number of events, and how often processes have passed the gate.
 fn shown_passes(alloc: Global, left: &Left) -> Result<Vec<u8>, Memory> {
     let Outcome {
         status,
@@ -310,7 +322,7 @@ fn shown_passes(alloc: Global, left: &Left) -> Result<Vec<u8>, Memory> {
     Ok(format!(in alloc; "{status}, {count} entries, {passes} passes")?.into_bytes())
 }
 
-/// What a word such as `command` asks of what a run left.
+/// Renders the part of a result that a heading word such as `command` selects. Error: the word is unknown, or out of memory.
 fn part_of(alloc: Global, asked: &str, left: &Left) -> Result<Vec<u8>, RowErr> {
     let Left { outcome, sinks, .. } = left;
     match asked {
@@ -324,7 +336,7 @@ fn part_of(alloc: Global, asked: &str, left: &Left) -> Result<Vec<u8>, RowErr> {
     }
 }
 
-/// What a command leaves over a text, and over a trace where one is given.
+/// Runs a command on a source, and on a trace if one is given, in the spelling of rows.
 fn left_over<R: AllocGlobal + Threads + Wait + Sync>(
     rt: &R,
     line: &str,
@@ -340,7 +352,7 @@ fn left_over<R: AllocGlobal + Threads + Wait + Sync>(
     Ok(left_by(rt, line, stage, texts)?)
 }
 
-/// What is given without the trace after ` |`, and that trace as it is spelled.
+/// Splits what a row gives at ` |` into the command and, if present, the spelled trace.
 fn parted(given: &str) -> (&str, Option<&str>) {
     match given.split_once(" |") {
         Some((words, trace)) => (words, Some(trace.strip_prefix(" ").unwrap_or(trace))),
@@ -348,7 +360,8 @@ fn parted(given: &str) -> (&str, Option<&str>) {
     }
 }
 
-/// What a command leaves over a file `a.ti` that holds a text, and a file `t.tr` that holds a trace where one is given after ` |`.
+/// Runs a command on a file `a.ti` with this source, and on a file `t.tr` if a trace is given after ` |`, and renders what `asked` selects:
+/// one run, a run per failing call (`failing`), or a run per prefix of the source (`command-fronts`).
 pub(crate) fn command<R: AllocGlobal + Threads + Wait + Sync>(
     rt: &R,
     asked: &str,

@@ -1,4 +1,4 @@
-// Runs of a command, in each of which another call fails.
+// Fault injection: runs a command repeatedly, each time with another failing call, and renders how much output it still wrote.
 
 use crate::checked::checked;
 use crate::commands::{Left, Texts, left_by, trace_of};
@@ -11,10 +11,10 @@ use ti_row_files::RowErr;
 use ti_rules::Checked;
 use ti_watch::{StatsWatch, Watch};
 
-/// There are so many runs, one for the number of each call.
+/// The number of runs; in run n, the call with index n fails.
 const RUNS: u32 = 20;
 
-/// The report of the statistics on entries.
+/// Renders the statistics of events.
 fn counted(alloc: Global, history: &[Entry]) -> Result<Vec<u8>, Memory> {
     let mut stats = StatsWatch::new(alloc);
     for entry in history {
@@ -25,7 +25,7 @@ fn counted(alloc: Global, history: &[Entry]) -> Result<Vec<u8>, Memory> {
     Ok(text)
 }
 
-/// Puts what a literal spells behind a text.
+/// Appends the characters of the string literal with this index, if there is one.
 fn push_literal(text: &mut Vec<u8>, checked: &Checked, literal: Option<u32>) -> Result<(), Memory> {
     if let Some(number) = literal {
         if let Some(spelled) = checked.program.parts.literals.get(number as usize) {
@@ -35,7 +35,7 @@ fn push_literal(text: &mut Vec<u8>, checked: &Checked, literal: Option<u32>) -> 
     Ok(())
 }
 
-/// Puts the line of a print of whole numbers behind a text.
+/// Appends the line that a print event outputs, without a value that isn't an `int`. Other events append nothing.
 fn push_line(
     alloc: Global,
     text: &mut Vec<u8>,
@@ -52,7 +52,7 @@ fn push_line(
     Ok(())
 }
 
-/// The lines of a history, and behind them a trace of it and its statistics.
+/// The full standard output of a run: the printed lines, then the trace and the statistics.
 fn output_of(alloc: Global, checked: &Checked, history: &[Entry]) -> Result<Vec<u8>, Memory> {
     let mut text = Vec::new(alloc);
     for entry in history {
@@ -63,7 +63,7 @@ fn output_of(alloc: Global, checked: &Checked, history: &[Entry]) -> Result<Vec<
     Ok(text)
 }
 
-/// How much of a text was written: all, so many bytes of its front, or something else.
+/// Renders how much of the full output was written: `all`, the length in bytes of a proper prefix, or `something else`.
 fn part_of(alloc: Global, written: &[u8], whole: &[u8]) -> Result<String, AllocError> {
     if written == whole {
         return String::from_str(alloc, "all");
@@ -75,7 +75,8 @@ fn part_of(alloc: Global, written: &[u8], whole: &[u8]) -> Result<String, AllocE
     }
 }
 
-/// The status of a run, how much of its output stands on out, and how many bytes on err.
+/// Renders a run as `status:output:errors`: its exit status, how much of its output was written to standard output, and the number of
+/// bytes on standard error.
 fn shown(alloc: Global, checked: &Checked, left: &Left) -> Result<String, RowErr> {
     let whole = output_of(alloc, checked, &left.outcome.history)?;
     let out = part_of(alloc, left.sinks.out.bytes(), &whole)?;
@@ -83,7 +84,7 @@ fn shown(alloc: Global, checked: &Checked, left: &Left) -> Result<String, RowErr
     Ok(format!(in alloc; "{}:{}:{err}", left.outcome.status, out.as_str())?)
 }
 
-/// Appends what is shown of the run of a number.
+/// Runs the command once and appends the rendered run.
 fn push_run<R: AllocGlobal + Threads + Wait + Sync>(
     rt: &R,
     found: &mut Vec<u8>,
@@ -98,7 +99,7 @@ fn push_run<R: AllocGlobal + Threads + Wait + Sync>(
     Ok(())
 }
 
-/// Appends what is shown of each run, in which the call of its number fails.
+/// Appends the rendered runs, separated by spaces; in run n, the call with index n fails.
 fn push_runs<R: AllocGlobal + Threads + Wait + Sync>(
     rt: &R,
     found: &mut Vec<u8>,
@@ -116,7 +117,8 @@ fn push_runs<R: AllocGlobal + Threads + Wait + Sync>(
     Ok(())
 }
 
-/// Of each run in which another call fails the status, how much of its output stands on out, and how many bytes on err.
+/// Renders all runs of a command, in each of which another call fails: the exit status, how much of its output was written to standard
+/// output, and the number of bytes on standard error.
 pub(crate) fn each_failing<R: AllocGlobal + Threads + Wait + Sync>(
     rt: &R,
     line: &str,

@@ -1,5 +1,6 @@
-// Files of rows, and what is printed of them: the loops of ti_row_files over a function of this program. They stand here for the prover alone:
-// a call that starts threads isn't proved behind a trait's method, since the bounds of a method are known on one thread.
+// Reads files of test cases (rows), judges them and prints those that fail.
+// For the prover: these repeat the loops of `ti_row_files` over a function of this crate, since a call that starts threads can't be proved
+// through a trait method, whose bounds are known on one thread only.
 
 use crate::asked::answer;
 use std::env::Env;
@@ -9,7 +10,7 @@ use std::thread::Threads;
 use std::{env, fs, io};
 use ti_row_files::{Line, Row, RowErr, differing, parted, read_line, text_of};
 
-/// What comes of a row below a heading such as `command whole`.
+/// The actual result of a row below a heading such as `command whole`: the query, then the frame that completes its source.
 fn found<R: Files + AllocGlobal + Threads + Wait + Sync>(
     rt: &R,
     heading: &str,
@@ -31,7 +32,7 @@ fn found<R: Files + AllocGlobal + Threads + Wait + Sync>(
     )
 }
 
-/// What comes of a row, as a row spells it, where the row expects something else.
+/// The actual result of a row in the spelling of rows if it differs from the expected one; none if the row holds.
 fn judged<R: Files + AllocGlobal + Threads + Wait + Sync>(
     rt: &R,
     heading: &str,
@@ -42,7 +43,7 @@ fn judged<R: Files + AllocGlobal + Threads + Wait + Sync>(
     differing(rt.alloc(), &found, expected)
 }
 
-/// Judges a row, prints it with what was found where it doesn't hold, and returns whether it holds.
+/// Judges a row, prints it with the actual result or the error if it fails, and returns whether it holds.
 fn row_holds<R: Files + Print + AllocGlobal + Threads + Wait + Sync>(
     rt: &R,
     heading: &str,
@@ -59,7 +60,7 @@ fn row_holds<R: Files + Print + AllocGlobal + Threads + Wait + Sync>(
     Ok(false)
 }
 
-/// Judges the rows of a section, whose first line is a heading, and returns how many hold.
+/// Judges the rows of a section, whose first line is its heading, and returns how many hold. Prints lines that are neither row nor comment.
 fn judge_section<R: Files + Print + AllocGlobal + Threads + Wait + Sync>(
     rt: &R,
     file: &str,
@@ -81,7 +82,7 @@ fn judge_section<R: Files + Print + AllocGlobal + Threads + Wait + Sync>(
     Ok(holding)
 }
 
-/// Judges the rows of a text that begins with an empty line.
+/// Judges the rows of a file's contents, preceded by an empty line, and prints how many hold.
 fn judge_text<R: Files + Print + AllocGlobal + Threads + Wait + Sync>(
     rt: &R,
     file: &str,
@@ -94,7 +95,7 @@ fn judge_text<R: Files + Print + AllocGlobal + Threads + Wait + Sync>(
     println!(rt; "{file}: {holding} rows hold")
 }
 
-/// Judges the rows of a file.
+/// Judges the rows of a file, or prints that it can't be read.
 fn judge_file<R: Files + Print + AllocGlobal + Threads + Wait + Sync>(
     rt: &R,
     file: &str,
@@ -108,7 +109,7 @@ fn judge_file<R: Files + Print + AllocGlobal + Threads + Wait + Sync>(
     }
 }
 
-/// Judges the rows of the files that the program's arguments name.
+/// Judges the rows of the files that the command-line arguments name.
 pub(crate) fn judge_files<R: Files + Print + Env + AllocGlobal + Threads + Wait + Sync>(
     rt: &R,
 ) -> io::Result<()> {

@@ -1,4 +1,5 @@
-// A command over each front of a text.
+// Runs a command on every prefix of a source, and reports the prefixes that are accepted or rejected for another reason than that they end
+// too early.
 
 use crate::commands::{Left, Texts, left_by};
 use crate::stages::Stage;
@@ -8,7 +9,7 @@ use std::thread::Threads;
 use ti_base::Place;
 use ti_row_files::RowErr;
 
-/// The place that two numbers such as `1:62` stand for.
+/// Parses a source location such as `1:62`.
 fn place_of(numbers: &str) -> Option<Place> {
     let (line, col) = numbers.split_once(':')?;
     Some(Place {
@@ -17,7 +18,7 @@ fn place_of(numbers: &str) -> Option<Place> {
     })
 }
 
-/// The place after a byte.
+/// The source location after a byte at `place`.
 fn place_after(place: Place, byte: u8) -> Place {
     let (line, col) = match byte {
         b'\n' => (place.line.saturating_add(1), 1),
@@ -26,14 +27,14 @@ fn place_after(place: Place, byte: u8) -> Place {
     Place { line, col }
 }
 
-/// The rule and the place in a line of `a.ti` such as `a.ti:1:62: G1 an unexpected token`.
+/// The rule and the source location in a diagnostic on `a.ti` such as `a.ti:1:62: G1 an unexpected token`.
 fn refusal_in(line: &str) -> Option<(&str, Place)> {
     let (place, behind) = line.strip_prefix("a.ti:")?.split_once(": ")?;
     let (rule, _) = behind.split_once(' ')?;
     Some((rule, place_of(place)?))
 }
 
-/// Whether a line says that a token is unexpected or a string open, at this place or before it.
+/// Whether a diagnostic reports an unexpected token (G1) or an unterminated string (X3) at `end` or before.
 fn stands_by(line: &str, end: Place) -> bool {
     match refusal_in(line) {
         Some(("G1" | "X3", place)) => !end.is_before(place),
@@ -41,7 +42,7 @@ fn stands_by(line: &str, end: Place) -> bool {
     }
 }
 
-/// What a command left over a front that isn't refused by its end: `accepted`, or its line on err.
+/// `accepted`, or the diagnostic of a prefix; none if the prefix, which ends at `end`, is rejected with G1 or X3 at its end or before.
 fn said(left: &Left, end: Place) -> Option<&str> {
     if left.outcome.status == 0 {
         return Some("accepted");
@@ -53,7 +54,7 @@ fn said(left: &Left, end: Place) -> Option<&str> {
     }
 }
 
-/// Puts what a command left over a front behind that of others, but where it is refused by its end.
+/// Appends the length and the result of a prefix, unless it is rejected with G1 or X3 at its end or before.
 fn push_front(
     alloc: Global,
     found: &mut String,
@@ -68,7 +69,7 @@ fn push_front(
     Ok(())
 }
 
-/// Appends what a command comes to over a front, but where it is refused by its end.
+/// Runs a command on a prefix, and appends its length and result unless it is rejected with G1 or X3 at its end or before.
 fn push_left<R: AllocGlobal + Threads + Wait + Sync>(
     rt: &R,
     found: &mut String,
@@ -82,7 +83,8 @@ fn push_left<R: AllocGlobal + Threads + Wait + Sync>(
     Ok(())
 }
 
-/// What a command comes to over the fronts of a text, by their lengths, but where one is refused by its end.
+/// Runs a command on all prefixes of a source, by increasing length, and renders the length and the result of each, but leaves out those
+/// that are rejected with G1 or X3 at their end or before.
 pub(crate) fn fronts<R: AllocGlobal + Threads + Wait + Sync>(
     rt: &R,
     line: &str,

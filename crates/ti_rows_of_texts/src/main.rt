@@ -1,5 +1,5 @@
-//! Rows of texts with what the whole command makes of each. What is expected stands in the files of `data` alone, and nothing of them is
-//! proved.
+//! Test runner: runs the whole command on the sources of test cases and compares the results with the expected ones, which are in the files
+//! of `data` only. Nothing is proved of the results.
 #![tactic(auto)]
 
 mod asked;

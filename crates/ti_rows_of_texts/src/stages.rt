@@ -1,8 +1,9 @@
-// What stands around the words of a command: calls that fail, watchers, and processes that a gate holds.
+// The test environment of a command (its stage): calls that fail, watchers, and processes that a gate holds. Parsed from what follows
+// ` / ` in a row.
 
 use crate::watchers::Handed;
 
-/// Two processes, each of which is held at its second act until the other has come to its own, or until it has looked for it so many times.
+/// Two processes, each held at its second operation until the other has reached its own, or until it has polled `looks` times.
 #[derive(Clone, Copy)]
 pub(crate) struct Held {
     pub(crate) one: u32,
@@ -10,18 +11,18 @@ pub(crate) struct Held {
     pub(crate) looks: u64,
 }
 
-/// Which call of a source or a sink fails.
+/// Which call of the file system or of an output stream fails.
 #[derive(Clone, Copy)]
 pub(crate) enum Fails {
     Never,
-    /// The one of this number.
+    /// The call with this index.
     At(u32),
-    /// In each of several runs the one that has the run's number.
+    /// In run n of several runs, the call with index n.
     Each,
 }
 
 impl Fails {
-    /// Which call fails in the run of a number.
+    /// Resolves `Each` for the run with this number.
     fn in_run(self, number: u32) -> Fails {
         match self {
             Fails::Each => Fails::At(number),
@@ -30,20 +31,22 @@ impl Fails {
     }
 }
 
-/// The calls of the source, out and err that fail, how many bytes out takes, the watchers that are handed in, and the
-/// processes that are held.
+/// The environment of a command. `source`, `out` and `err` select the failing calls of the file system, standard output and standard error.
 #[derive(Clone, Copy)]
 pub(crate) struct Stage {
     pub(crate) source: Fails,
     pub(crate) out: Fails,
     pub(crate) err: Fails,
+    /// How many bytes standard output accepts in all.
     pub(crate) room: usize,
+    /// The watchers that are passed to the command, in order.
     pub(crate) watchers: [Option<Handed>; 3],
+    /// The processes that the gate holds, if any.
     pub(crate) held: Option<Held>,
 }
 
 impl Stage {
-    /// The stage of the run of a number.
+    /// The stage of the run with this number, where `Each` is resolved.
     pub(crate) fn in_run(self, number: u32) -> Stage {
         Stage {
             source: self.source.in_run(number),
@@ -54,10 +57,10 @@ impl Stage {
     }
 }
 
-/// So many bytes a sink takes.
+/// The default capacity of an output stream, in bytes.
 pub(crate) const ROOM: usize = 200_000;
 
-/// No call fails, and the watchers are those that `main` hands in.
+/// The default stage: no call fails, and the watchers are those that the executable passes.
 pub(crate) const PLAIN: Stage = Stage {
     source: Fails::Never,
     out: Fails::Never,
@@ -71,6 +74,7 @@ pub(crate) const PLAIN: Stage = Stage {
     held: None,
 };
 
+/// Parses the name of a watcher.
 fn handed_of(word: &str) -> Option<Handed> {
     match word {
         "trace" => Some(Handed::Trace),
@@ -83,7 +87,7 @@ fn handed_of(word: &str) -> Option<Handed> {
     }
 }
 
-/// The watchers that a word such as `trace` or `stats,trace` names.
+/// Parses one to three names of watchers such as `trace` or `stats,trace`.
 fn named(word: &str) -> Option<[Option<Handed>; 3]> {
     let Some((first, rest)) = word.split_once(',') else {
         return Some([Some(handed_of(word)?), None, None]);
@@ -95,7 +99,7 @@ fn named(word: &str) -> Option<[Option<Handed>; 3]> {
     }
 }
 
-/// A stage with the watchers that a word names, or with none.
+/// Sets the watchers of a stage from a list of names or `none`.
 fn with_watchers(stage: Stage, word: &str) -> Option<Stage> {
     let watchers = if word == "none" {
         [None, None, None]
@@ -105,7 +109,7 @@ fn with_watchers(stage: Stage, word: &str) -> Option<Stage> {
     Some(Stage { watchers, ..stage })
 }
 
-/// What a word such as `0:1:1000` says: the processes 0 and 1, and so many looks.
+/// Parses a word such as `0:1:1000`: the processes 0 and 1, and 1000 polls.
 fn held_of(word: &str) -> Option<Held> {
     let (one, behind) = word.split_once(':')?;
     let (other, looks) = behind.split_once(':')?;
@@ -116,7 +120,7 @@ fn held_of(word: &str) -> Option<Held> {
     })
 }
 
-/// A stage with two processes that are held.
+/// Sets the held processes of a stage.
 fn with_held(stage: Stage, word: &str) -> Option<Stage> {
     let held = held_of(word)?;
     Some(Stage {
@@ -125,13 +129,13 @@ fn with_held(stage: Stage, word: &str) -> Option<Stage> {
     })
 }
 
-/// A stage with an out that takes as many bytes as a word says.
+/// Sets the capacity of a stage's standard output, in bytes.
 fn with_room(stage: Stage, word: &str) -> Option<Stage> {
     let room = word.parse::<u32>().ok()? as usize;
     Some(Stage { room, ..stage })
 }
 
-/// The call that a word such as `4` or `each` says.
+/// Parses the index of a failing call such as `4`, or `each`.
 fn fails_of(word: &str) -> Option<Fails> {
     match word {
         "each" => Some(Fails::Each),
@@ -139,7 +143,7 @@ fn fails_of(word: &str) -> Option<Fails> {
     }
 }
 
-/// A stage with what a word such as `out:4` says.
+/// Applies a setting such as `out:4` to a stage; none if it is malformed.
 fn with(stage: Stage, word: &str) -> Option<Stage> {
     let (part, value) = word.split_once(':')?;
     match part {
@@ -160,7 +164,7 @@ fn with(stage: Stage, word: &str) -> Option<Stage> {
     }
 }
 
-/// The stage that words such as `source:0 out:1 watch:stats,trace hold:0:1:1000` describe.
+/// Parses settings such as `source:0 out:1 watch:stats,trace hold:0:1:1000`, which override the default stage.
 fn stage_of(words: &str) -> Option<Stage> {
     let mut stage = PLAIN;
     for word in words.split_ascii_whitespace() {
@@ -169,7 +173,7 @@ fn stage_of(words: &str) -> Option<Stage> {
     Some(stage)
 }
 
-/// The words of a command, and the stage behind ` / ` where there is one.
+/// Splits what a row gives into the command line and the stage after ` / `, by default `PLAIN`.
 pub(crate) fn staged(given: &str) -> Option<(&str, Stage)> {
     if let Some(words) = given.strip_prefix("/ ") {
         return Some(("", stage_of(words)?));

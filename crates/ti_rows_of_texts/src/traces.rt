@@ -1,4 +1,4 @@
-// Traces of runs, held against the programs that were run.
+// Test cases on `--mode verify`: checks the trace of a run, intact or with one byte changed, against the program that was run.
 
 use crate::commands::{Texts, left_by, shown_ending, trace_of};
 use crate::stages::{Stage, staged};
@@ -8,7 +8,7 @@ use std::thread::Threads;
 use ti_base::Memory;
 use ti_row_files::RowErr;
 
-/// A run: the words of the command, what stands around it, its text, and the trace that it left.
+/// A run: its command line, stage, source, and the trace that it left.
 #[derive(Drop)]
 struct TracedRun<'a> {
     line: &'a str,
@@ -17,7 +17,7 @@ struct TracedRun<'a> {
     trace: Vec<u8>,
 }
 
-/// The trace that a command over a text leaves.
+/// Runs a command on a source and returns the trace of its history.
 fn trace_left<R: AllocGlobal + Threads + Wait + Sync>(
     rt: &R,
     line: &str,
@@ -28,7 +28,7 @@ fn trace_left<R: AllocGlobal + Threads + Wait + Sync>(
     trace_of(rt.alloc(), &left.outcome.history)
 }
 
-/// The run of a command over a text.
+/// Runs what a row gives on a source, and keeps the trace. Error: the row is malformed, or out of memory.
 fn run_of<'a, R: AllocGlobal + Threads + Wait + Sync>(
     rt: &R,
     given: &'a str,
@@ -46,7 +46,7 @@ fn run_of<'a, R: AllocGlobal + Threads + Wait + Sync>(
     })
 }
 
-/// What holding a trace against the program of a run leaves, by the words of the run.
+/// Checks a trace against the program of a run, with the run's arguments, and renders the command's exit status and output.
 fn held<R: AllocGlobal + Threads + Wait + Sync>(
     rt: &R,
     run: &TracedRun,
@@ -58,7 +58,7 @@ fn held<R: AllocGlobal + Threads + Wait + Sync>(
     shown_ending(rt.alloc(), left.outcome.status, &left.sinks)
 }
 
-/// What holding the trace of a run against its program leaves.
+/// Runs a program, checks the trace against it, and renders the check's exit status and output.
 pub(crate) fn traced<R: AllocGlobal + Threads + Wait + Sync>(
     rt: &R,
     given: &str,
@@ -68,7 +68,7 @@ pub(crate) fn traced<R: AllocGlobal + Threads + Wait + Sync>(
     Ok(held(rt, &run, &run.trace)?)
 }
 
-/// What holding the trace of a run with this byte changed against its program leaves.
+/// Checks the trace of a run against its program with the lowest bit of the byte at this index flipped.
 fn held_with_change<R: AllocGlobal + Threads + Wait + Sync>(
     rt: &R,
     run: &TracedRun,
@@ -81,12 +81,12 @@ fn held_with_change<R: AllocGlobal + Threads + Wait + Sync>(
     held(rt, run, &changed)
 }
 
-/// What a command leaves that refuses a trace at a line.
+/// The rendered result of a check that rejects a trace at this line.
 fn refused_at(alloc: Global, line: u64) -> Result<String, AllocError> {
     format!(in alloc; "7 err: titan: the trace is no run at line {line}\n")
 }
 
-/// Appends the number of a byte, and what was found where it was changed.
+/// Appends the index of a changed byte and the result of the check.
 fn push_found(
     alloc: Global,
     shown: &mut Vec<u8>,
@@ -99,7 +99,7 @@ fn push_found(
     Ok(())
 }
 
-/// Appends what holding a trace with this byte changed against the program left, unless it is refused at this line.
+/// Checks the trace with the byte at this index changed, and appends the result unless the trace is rejected at line `line`.
 fn push_change<R: AllocGlobal + Threads + Wait + Sync>(
     rt: &R,
     shown: &mut Vec<u8>,
@@ -115,7 +115,7 @@ fn push_change<R: AllocGlobal + Threads + Wait + Sync>(
     Ok(())
 }
 
-/// Appends what is left for each byte of the trace of a run.
+/// Checks the trace of a run once per byte, with that byte changed.
 fn push_changes<R: AllocGlobal + Threads + Wait + Sync>(
     rt: &R,
     shown: &mut Vec<u8>,
@@ -131,8 +131,8 @@ fn push_changes<R: AllocGlobal + Threads + Wait + Sync>(
     Ok(())
 }
 
-/// How many bytes the trace of a run has, and each of them by its number from 0 with which changed the trace isn't refused at the line of
-/// the byte, with what is left then.
+/// Renders the trace's length in bytes and, for each byte whose change isn't rejected at the byte's own line, its index from 0 and the
+/// result of the check.
 pub(crate) fn changed<R: AllocGlobal + Threads + Wait + Sync>(
     rt: &R,
     given: &str,

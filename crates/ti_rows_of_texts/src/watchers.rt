@@ -1,24 +1,24 @@
-// Watchers that are handed in, and one that wants memory.
+// The watchers that a test case can pass to the command, including one that runs out of memory.
 
 use std::alloc::Global;
 use ti_base::{Action, Answer, Entry, Memory, Place};
 use ti_watch::{TraceWatch, Watch};
 
-/// A watcher that is handed in.
+/// A watcher that a test case names.
 #[derive(Clone, Copy)]
 pub(crate) enum Handed {
     Trace,
-    /// A trace that was told `TOLD`.
+    /// A trace that has already observed `TOLD`.
     ToldTrace,
     Stats,
     Races,
-    /// One of kind 0 that wants memory when it is told its second entry.
+    /// A watcher of kind 0 that runs out of memory at its second event.
     Deaf,
-    /// One of kind 0 that wants memory for its report.
+    /// A watcher of kind 0 that runs out of memory in its report.
     Mute,
 }
 
-/// What a watcher was told before the call.
+/// An event that a watcher observed before the command runs.
 const TOLD: Entry = Entry {
     proc: 5,
     place: Place { line: 9, col: 9 },
@@ -26,10 +26,12 @@ const TOLD: Entry = Entry {
     answer: Answer::Done,
 };
 
-/// Is told so many entries, and then wants memory; and so does its report.
+/// Runs out of memory after `most` events, and in its report.
 #[derive(Drop)]
 pub(crate) struct Short {
+    /// The events observed so far.
     told: Vec<Entry>,
+    /// The number of events that it accepts.
     most: usize,
 }
 
@@ -55,7 +57,7 @@ impl Watch for Short {
     }
 }
 
-/// One that is told so many entries.
+/// A watcher that runs out of memory after `most` events.
 pub(crate) fn short_of(alloc: Global, most: usize) -> Short {
     Short {
         told: Vec::new(alloc),
@@ -63,7 +65,7 @@ pub(crate) fn short_of(alloc: Global, most: usize) -> Short {
     }
 }
 
-/// A trace that was told `TOLD`.
+/// A trace that has already observed `TOLD`.
 pub(crate) fn told_trace(alloc: Global) -> Result<TraceWatch, Memory> {
     let mut trace = TraceWatch::new(alloc);
     trace.see(&TOLD)?;

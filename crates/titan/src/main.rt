@@ -1,4 +1,5 @@
-//! `titan`: the command over the files and streams of the machine.
+//! The executable `titan`: runs the command of `ti_top` on the machine's arguments, files, standard streams and threads, with the three
+//! watchers (trace, statistics, races).
 #![tactic(auto)]
 
 use std::env;
@@ -11,7 +12,8 @@ use ti_race::RaceWatch;
 use ti_top::titan_top;
 use ti_watch::{StatsWatch, TraceWatch, Watch};
 
-// The words after the program's name. Words of which one is no text are no command, as no words are.
+/// The command-line arguments after the program's name. If one of them isn't valid Unicode, the list is empty, which is not a valid
+/// command either.
 fn words_of(rt: &HostRuntime) -> io::Result<Vec<String>> {
     let mut words = Vec::new(rt.alloc());
     let args = match env::args(rt) {
@@ -25,8 +27,8 @@ fn words_of(rt: &HostRuntime) -> io::Result<Vec<String>> {
     Ok(words)
 }
 
-// The status of the command, with a trace, statistics and races as watchers, by threads of one that can start them. Where memory is wanting
-// for the words or for the watchers, nothing is written.
+/// Runs the command and returns its exit status. `threads` starts the worker threads. If memory runs out for the arguments or the
+/// watchers, returns the error before anything is written.
 fn run<R: AllocGlobal + Threads + Wait + Sync>(rt: &HostRuntime, threads: &R) -> io::Result<u8> {
     let alloc = rt.alloc();
     let words = words_of(rt)?;
@@ -49,6 +51,7 @@ fn run<R: AllocGlobal + Threads + Wait + Sync>(rt: &HostRuntime, threads: &R) ->
     Ok(outcome.status)
 }
 
+/// Exits with the command's exit status, or with 6 if the command couldn't be set up.
 fn main(rt: HostRuntime) -> ExitCode {
     match run(&rt, &rt) {
         Ok(status) => ExitCode::from(status),
