@@ -65,6 +65,7 @@ FitsWanted (NewThing type) r = (value : Value) × (r ≡ Val value) × HasForm t
 
 -- the answer is well-formed for the action that process p has next
 pub record FitsAction (p : Process) (r : Answer) : Type 0 where
+  -- the configuration in which the process performs the action, after its silent steps
   pub settled : Process
   pub reaches : Reaches p settled
   pub request : Request

@@ -1,4 +1,4 @@
--- Moves: the outcome of one piece of pending work, that is, how it changes its process's control state.
+-- Moves: the outcome of one item of work, that is, how it changes the control state of its process.
 use Rattle.std.specs.Prelude.{ℕ, List, [], Option}
 use Rattle.ti_base.specs.declared.place.Place.{Place}
 use Rattle.ti_base.specs.declared.value.Id.{Id}
@@ -10,7 +10,7 @@ use Rattle.ti_lang.specs.Meaning.Processes.{Variable, Receiver, Work, Wait}
 use Rattle.ti_lang.specs.Meaning.Scoping.{Env}
 use Rattle.ti_lang.specs.Meaning.Targets.{into}
 
--- what a piece of work has its process do next
+-- what an item of work has its process do next
 pub data Move : Type 0 where
   -- continues with these variables in scope, and with this work before the rest of the continuation
   Goes : (variables : List Variable) (works : List Work) → Move

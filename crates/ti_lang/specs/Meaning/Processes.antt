@@ -35,18 +35,20 @@ pub data Receiver : Type 0 where
   Updated : (at : Place) (op : BinaryOperator) (target : NumberedExp) → Receiver
 
 -- A loop in progress: a `while` or a `for` with its condition and its update, each optional, or a `foreach` with the points that
--- are left. During an iteration the first of them is the value of the loop's variable.
+-- are left. During an iteration, the first of them is the value of the loop's variable.
 pub data Loop : Type 0 where
   While : (at : Place) (condition : Option NumberedExp) (update : MaybeNumbered) (body : NumberedStm) → Loop
   Foreach : (at : Place) (variable : ℕ) (domain : NumberedExp) (points : List Point) (body : NumberedStm) → Loop
 
 -- an item of a continuation: work still to be done
 pub data Work : Type 0 where
+  -- executes a statement
   Do : (s : NumberedStm) → Work
   -- the end of a block or a `for`: the variables that it declared go out of scope
   End : (s : NumberedStm) → Work
-  -- a loop before its next iteration; and after an iteration, which marks the target of `continue` and `break`
+  -- a loop before its next iteration
   Before : (loop : Loop) → Work
+  -- the end of an iteration of a loop; while the iteration is in progress, this is the mark that `continue` and `break` refer to
   Behind : (loop : Loop) → Work
   -- stores the value of a call or a collective in its receiver
   Receive : (receiver : Receiver) (held : Held) → Work
@@ -56,18 +58,19 @@ pub data Work : Type 0 where
   TakeAll : (at : Place) (grid : Reference) (procs : List ℕ) → Work
 
 -- a frame, which is a call in progress: its method, the object that `this` is, the variables in scope, the newest first, its
--- continuation, and where the caller stores the result
+-- continuation, and where the caller stores its result
 pub record Frame : Type 0 where
   pub method : NumberedMethod
   pub this : Option Id
   pub variables : List Variable
+  -- the continuation: the work that is left, in order
   pub left : List Work
   pub receiver : Receiver
 
 -- ---- processes
 
--- between an arrival and its departure: the position, the kind of collective and its argument, what the departure requests, and
--- the receiver of its value
+-- the wait of a process between its arrival at a collective and its departure: the position, the kind of collective and its argument,
+-- what the departure requests, and the receiver of its value
 pub record Wait : Type 0 where
   pub place : Place
   pub kind : CollKind

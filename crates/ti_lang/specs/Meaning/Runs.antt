@@ -12,7 +12,7 @@ use Rattle.ti_lang.specs.Meaning.NextStep.{IsNext, After}
 use Rattle.ti_lang.specs.Meaning.Histories.{history_of, answers_of, arrivals, departures, has_end, has_fault}
 use Rattle.ti_lang.specs.Meaning.HeapAnswers.{Outcome, Answers, Faults, Impossible, heap_answer}
 
--- the state of process i after these entries: the entries' answers to its own actions determine it
+-- p is the configuration of process i after these entries: it depends on nothing but the answers to its own actions
 abbrev pub World : Setting → List Entry → ℕ → Process → Type 0
 World s es i p = After (begin s i) (answers_of i es) p
 
@@ -34,12 +34,14 @@ entry_of s es i (next.Act at a) = entry_with i at a (heap_answer s.program (hist
 entry_of s es i (next.End at) = Some (record { proc = i; place = at; act = act.End; answer = Done })
 entry_of s es i (next.Fault kind at) = Some (record { proc = i; place = at; act = act.Fault kind; answer = Done })
 
--- process i can append the entry e to these entries: nobody has faulted, i hasn't ended, and e records what i, in its state
--- after the entries, has next, which is enabled
+-- process i can append the entry e to these entries: no process has faulted, i hasn't ended, and e records what i has next in its
+-- configuration after the entries, which is enabled
 pub record CanTake (s : Setting) (es : List Entry) (i : ℕ) (e : Entry) : Type 0 where
   pub within : i < s.procs
+  -- no process has faulted
   pub goes_on : has_fault es ≡ false
   pub unended : has_end i es ≡ false
+  -- the configuration of process i, and the label of its next visible step
   pub process : Process
   pub world : World s es i process
   pub next : Next

@@ -27,7 +27,7 @@ pub record Env : Type 0 where
   pub turns : List Turn
   pub dims : ℕ → ℕ
 
--- the environment of a piece of work, of which `left` is the rest of the continuation
+-- the environment of an item of work, after which `left` is the rest of the continuation
 abbrev pub env_of : Process → Frame → List Work → Env
 env_of p f left = record {
   number = p.number;
@@ -62,7 +62,7 @@ abbrev pub zero_declared : Declaration → Held
 zero_declared (Typed is_single type) = zero_of type
 zero_declared Foreach = nothing
 
--- the value of a variable; if it isn't in scope, which no program has, the zero of its type
+-- the value of a variable; a program uses no variable out of scope, and one would have the zero of its type
 abbrev pub find_variable : VariableUse → List Variable → Held
 find_variable x [] = zero_declared x.declared
 find_variable x (w ∷ ws) = if same_variable x w.named then w.held else find_variable x ws

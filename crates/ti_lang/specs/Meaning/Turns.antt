@@ -1,4 +1,4 @@
--- The enclosing foreach loops of a piece of work: the points of their iterations and the dimensions of their variables.
+-- The enclosing foreach loops of an item of work: the points of their iterations and the dimensions of their variables.
 use Rattle.std.specs.Prelude.{ℕ, ◌==◌, if◌then◌else◌, List, [], ◌∷◌, Option}
 use Rattle.ti_base.specs.declared.point.Point.{Point}
 use Rattle.ti_base.specs.declared.value.Value.TheVariants as v
