@@ -1,4 +1,4 @@
--- Determinacy: a complete race-free run fixes what each process does in every other run.
+-- Determinacy: a race-free run in which all processes have ended fixes what each process does in every run.
 use Rattle.std.specs.Prelude.{◌≡◌, ℕ, List, [], ◌++◌}
 use Rattle.ti_base.specs.declared.entry.Entry.{Entry}
 use Rattle.ti_lang.specs.Meaning.Processes.{Setting}
@@ -14,6 +14,6 @@ IsFront front whole = (rest : List Entry) × (whole ≡ front ++ rest)
 abbrev pub IsFollowed : Setting → List Entry → Type 0
 IsFollowed s kept = (other : List Entry) (i : ℕ) → IsRun s other → IsFront (entries_of i other) (entries_of i kept)
 
--- a run in which all processes have ended and which has no race fixes what each process does in every run
+-- if all processes have ended in `kept` and it has no race, it fixes what each process does in every run
 abbrev pub Determines : Setting → List Entry → Type 0
 Determines s kept = AllEnded s kept → races kept ≡ [] → IsFollowed s kept
