@@ -1,4 +1,4 @@
--- Lists whose elements are the same are seen as the same list.
+-- A program whose parts are copied one by one is equal to the original: lists with equal elements have equal views.
 use Rattle.std.proofs.Common.{◌≡◌, ℕ, ◌+◌, ◌<◌, List, [], ◌∷◌, ◌++◌, length, map, take, get_or, Result, Ok, Err, refl, sym, ap, subst, ◌∙◌}
 use Rattle.std.specs.Prelude.{IfOk}
 use Rattle.std.proofs.lemmas.List.{take_more}

@@ -1,4 +1,4 @@
--- Elements of a list that is seen through a view.
+-- Indexing the view of a list of classes, fields or methods yields the view of the element, and None past the end.
 use Rattle.std.proofs.Common.{◌≡◌, ℕ, ◌<◌, ◌≤◌, map, length, get_or, slice_get, List, Some, None, option_map, ap, ◌∙◌}
 use Rattle.std.proofs.lemmas.Option.{slice_get-map, slice_get-get_or, slice_get_past}
 use Rattle.ti_lang.specs.declared.program.classes.Class.{Class}

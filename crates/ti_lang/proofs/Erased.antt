@@ -1,4 +1,4 @@
--- Counting each number of dimensions as 1 twice is counting it so once.
+-- Replacing each number of dimensions in a type by 1 is idempotent.
 use Rattle.std.proofs.Common.{◌≡◌, Bool, true, false, refl, ap}
 use Rattle.ti_lang.specs.Program.Types.{ValueType, Int, Long, Boolean, Pt, Rc, Dm, Region, Class, Grid, Null, Void}
 use Rattle.ti_lang.specs.Typing.Alike.{one_dim}

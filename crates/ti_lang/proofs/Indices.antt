@@ -1,4 +1,4 @@
--- What is looked up in the tables of first fields and first methods is what the program declares.
+-- A lookup in the tables of first fields and first methods yields the number of the first declaration in the program.
 use Rattle.std.proofs.Common.{◌≡◌, ℕ, zero, suc, ◌+◌, ◌<◌, ◌==◌, nat_lt, Bool, true, false, cond, ◌&&◌, if◌then◌else◌, List, [], ◌∷◌, ◌++◌, map, length, drop, drop-cons, get_or, find, Option, Some, None, is_some, slice_get, position, refl, ap, sym, ◌∙◌, true≢false, arith}
 use Rattle.std.specs.Map.{lookup}
 use Rattle.std.specs.List.{position_from, position_or_len}

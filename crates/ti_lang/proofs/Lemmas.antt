@@ -1,4 +1,4 @@
--- The lemmas of this crate that other crates may cite; no other module of its proofs is seen outside.
+-- The lemmas that other crates can use; the other modules of this crate's proofs are private to it.
 pub use Rattle.ti_lang.proofs.Copies.{copies}
 pub use Rattle.ti_lang.proofs.Crossing.{program_send, program_sync}
 pub use Rattle.ti_lang.proofs.Elements.{method_here, method_lookups}

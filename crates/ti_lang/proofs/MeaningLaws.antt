@@ -1,3 +1,4 @@
+-- The theorems of `src/meaning` about processes, runs, heaps, races and static types, by the properties of each computation and step.
 pub mod Computing
 pub mod Costs
 pub mod Dims

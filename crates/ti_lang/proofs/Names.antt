@@ -1,4 +1,4 @@
--- The names of members, by number.
+-- Indexing the table of member names yields the element, and None past the end.
 use Rattle.std.proofs.Common.{◌≡◌, ℕ, ◌<◌, ◌≤◌, length, get_or, slice_get, List, Some, None}
 use Rattle.std.proofs.lemmas.Option.{slice_get-get_or, slice_get_past}
 

@@ -1,4 +1,4 @@
--- The numbers of dimensions of literals, by the lengths of the lists in the code.
+-- The dimensions of a literal, and the number of its coordinates, are determined by the lengths of the lists in the code.
 use Rattle.std.proofs.Common.{◌≡◌, ℕ, List, [], ◌∷◌, map, length, get_or, Option, refl, sym, arith}
 use Rattle.ti_lang.specs.declared.program.exprs.Expr.{Expr}
 use Rattle.ti_lang.specs.declared.program.exprs.Range.{Range}

@@ -1,5 +1,6 @@
--- What a program means, in the order in which it is read: values and computations, processes, what work comes to, steps; the heap,
--- the regions and the rounds of a history; runs and their lines; races, and what a run without one decides.
+-- The operational semantics, in reading order: runtime values and computations; process states and the small-step relation;
+-- the heap, regions and collectives as functions of a history; runs (interleavings) and their output; races, and determinacy of
+-- race-free runs.
 pub mod Held
 pub mod Asking
 pub mod Conversions

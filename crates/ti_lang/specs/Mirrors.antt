@@ -1,5 +1,5 @@
--- What the code keeps, list by list. Nobody has to believe it: a program's copy is equal to it (`Program::copy`), and the types in the
--- text are said by `Typing`.
+-- Models of the data structures that the code uses. They aren't part of what has to be believed: a program's copy is equal to it
+-- (`Program::copy`), and the static types are defined by `Typing`.
 pub mod Copies
 pub mod Indices
 pub mod ListedDims

@@ -1,5 +1,5 @@
--- The types of the expressions of a program; and what the text alone tells of expressions and statements: types, single values,
--- global effects.
+-- Static semantics: the types of expressions, and what the source determines of expressions and statements: their static
+-- types, which are single, which have global effects.
 pub mod Alike
 pub mod Kinds
 pub mod Fits

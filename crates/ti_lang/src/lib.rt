@@ -1,4 +1,4 @@
-//! The programs of the language, and what they mean.
+//! The language: resolved programs, their static types and their operational semantics.
 #![tactic(auto)]
 
 pub mod meaning;

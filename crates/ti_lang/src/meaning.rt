@@ -1,4 +1,4 @@
-//! Laws of the meaning of programs: functions that do nothing, whose contracts are the laws.
+//! Theorems about the semantics: functions with empty bodies whose contracts are the theorems.
 
 pub mod heap_laws;
 pub mod process_laws;

@@ -1,4 +1,4 @@
-//! The types of expressions as the text tells them, borrowed from the program, so that reading one takes no memory.
+//! Static types of expressions, as views that borrow from the program, so that typing doesn't allocate.
 
 mod copied;
 mod fields;

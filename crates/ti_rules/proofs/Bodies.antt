@@ -1,4 +1,5 @@
--- The site of a body, of a method or of a foreach: its variables are known, and no later number is taken.
+-- In the body of a method or of a foreach, all variables in scope are known to the scope of the typing rules, and their numbers are
+-- below the next free one.
 use Rattle.std.proofs.Common.{◌≡◌, ℕ, suc, ◌+◌, ◌≤◌, ◌==◌, Bool, true, false, cond, find, length, option_map, Option, Some, None, List, [], ◌∷◌, ◌++◌, refl, ap, sym, ◌∙◌, subst, arith, eqb-true, eq-eqb}
 use Rattle.ti_syntax.specs.Trees.Classes.{ParamTree, ParamsTree}
 use Rattle.ti_lang.specs.Program.Types.{Declaration}

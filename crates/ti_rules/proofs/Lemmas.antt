@@ -1,4 +1,4 @@
--- The lemmas of this crate that other crates may cite; no other module of its proofs is seen outside.
+-- The lemmas that other crates can use; the other modules of this crate's proofs are private to it.
 pub use Rattle.ti_rules.proofs.Bodies.{body_fits, params_behind, point_fits}
 pub use Rattle.ti_rules.proofs.First.{first_alone, first_append, first_append_each, first_cons_each, first_is, first_nil, first_node}
 pub use Rattle.ti_rules.proofs.First.{first_none, firsts, sooner_assoc, sooner_none}

@@ -1,4 +1,5 @@
--- What the numbers of a text say of its program: what the names in its expressions mean.
+-- In the resolved program of a source program, every reference of an expression refers to something, and the scopes of name resolution
+-- agree with those of the typing rules.
 use Rattle.std.proofs.Common.{◌≡◌, ◌⊎◌, inl, inr, ℕ, zero, suc, ◌<◌, ◌≤◌, ◌==◌, nat_lt, Bool, true, false, not, ◌||◌, ◌&&◌, cond}
 use Rattle.std.proofs.Common.{if◌then◌else◌, length, position, slice_get, get_or, is_some, option_map, option_and_then, Option, Some, None}
 use Rattle.std.proofs.Common.{List, [], ◌∷◌, ◌++◌, bytes_eq, refl, ap, sym, ◌∙◌, subst, arith}

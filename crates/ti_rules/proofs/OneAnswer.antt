@@ -1,4 +1,4 @@
--- A text has at most one refusal or one program, by what is known of its bytes and tokens.
+-- A source program has at most one error or one resolved program, and not both, given that its tokens, tree and resolution are unique.
 use Rattle.std.proofs.Common.{◌≡◌, ℕ, ◌≤◌, List, length, Option, None, Some, ap, subst}
 use Rattle.std.proofs.lemmas.Option.{same_Some, none-some}
 use Rattle.ti_base.specs.declared.place.Place.{Place}

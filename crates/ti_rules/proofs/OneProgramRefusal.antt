@@ -1,4 +1,4 @@
--- A program breaks no rule, or has one first refusal.
+-- A program breaks no rule, or has exactly one first error, and never both.
 use Rattle.std.proofs.Common.{◌≡◌, List, [], length, Contains, Option, Some, None, refl, ap, ◌∙◌, arith}
 use Rattle.std.specs.Option.{option_or}
 use Rattle.ti_lang.specs.Program.Classes.{NumberedProgram}

@@ -1,4 +1,4 @@
--- What breaks no rule of types has a type, and in a checked program nothing breaks one.
+-- The typing rules are sound: an expression that breaks none has a type, and in a checked program no statement breaks one.
 pub mod Refused
 pub mod Calls
 pub mod Expressions

@@ -1,4 +1,4 @@
--- What each node of a program breaks by the rules of types and qualifiers.
+-- The rules of types and qualifiers: the errors of each node of a program.
 pub mod Refused
 pub mod Words
 pub mod Misplaced

@@ -1,4 +1,4 @@
--- Expressions whose names mean something: variables in scope, and classes, fields and methods of the program.
+-- Well-formed references: the variables, methods and fields of `this` to which an expression refers by number exist, and so does `this`.
 use Rattle.std.specs.Prelude.{◌≡◌, Option, Some, slice_get, option_and_then}
 use Rattle.ti_lang.specs.Program.Expressions.{NumberedExp, NumberedExps, NumberedRange, NumberedRanges}
 use Rattle.ti_lang.specs.Program.Expressions as x
@@ -6,12 +6,12 @@ use Rattle.ti_lang.specs.Program.Classes.{NumberedProgram}
 use Rattle.ti_lang.specs.Program.Scope.{ScopeContents}
 use Rattle.ti_lang.specs.Typing.Declared.{variable_type, field_type}
 
--- there is one
+-- the option isn't empty
 abbrev pub IsThere : {A : Type 0} → Option A → Type 0
 IsThere {A} o = (a : A) × (o ≡ Some a)
 
 abbrev mutual
-  -- the names of an expression mean something in a scope
+  -- all references in an expression refer to something in the scope or the program
   pub IsKnown : NumberedProgram → ScopeContents → NumberedExp → Type 0
   IsKnown p s (x.Variable at v) = IsThere (variable_type s v)
   IsKnown p s (x.This at) = IsThere s.this_class
@@ -28,17 +28,17 @@ abbrev mutual
   IsKnown p s (x.Index at a parts) = IsKnown p s a × AreKnown p s parts
   IsKnown p s e = Unit {0}
 
-  -- those of all of these
+  -- all references in a list of expressions refer to something
   pub AreKnown : NumberedProgram → ScopeContents → NumberedExps → Type 0
   AreKnown p s x.NoExp = Unit {0}
   AreKnown p s (x.MoreExp a rest) = IsKnown p s a × AreKnown p s rest
 
-  -- those of the bounds and the step of a range
+  -- all references in the bounds and the stride of a range refer to something
   pub IsKnownRange : NumberedProgram → ScopeContents → NumberedRange → Type 0
   IsKnownRange p s (x.Plain low high) = IsKnown p s low × IsKnown p s high
   IsKnownRange p s (x.Stepped low high step) = IsKnown p s low × IsKnown p s high × IsKnown p s step
 
-  -- those of all ranges
+  -- all references in ranges refer to something
   pub AreKnownRanges : NumberedProgram → ScopeContents → NumberedRanges → Type 0
   AreKnownRanges p s x.NoRange = Unit {0}
   AreKnownRanges p s (x.MoreRange r rest) = IsKnownRange p s r × AreKnownRanges p s rest

@@ -1,6 +1,6 @@
--- What the code finds, refusal by refusal. Nobody has to believe it: which refusal counts is said by `Refusals` and `ProgramRefusals`, and
--- the laws `first_counts` and `one_program_refusal` say that it is the one that is found. `Literals` says of the numbers of a program what its
--- type in the code says too.
+-- Models of how the code finds an error. They aren't part of what has to be believed: which error is reported is defined by `Refusals`
+-- and `ProgramRefusals`, and the theorems `first_counts` and `one_program_refusal` say that the one found is that one. `Literals` states,
+-- for a program as a tree, what the integer types of the code guarantee.
 pub mod First
 pub mod Literals
 pub mod LiteralFacts

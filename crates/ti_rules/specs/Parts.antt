@@ -1,10 +1,10 @@
--- The expressions in an expression.
+-- The subexpressions of an expression.
 use Rattle.std.specs.Prelude.{List, [], ◌∷◌, ◌++◌}
 use Rattle.ti_lang.specs.Program.Expressions.{NumberedExp, NumberedExps, NumberedRange, NumberedRanges}
 use Rattle.ti_lang.specs.Program.Expressions as x
 
 abbrev mutual
-  -- an expression and those inside it, each behind its own parts
+  -- an expression and all its subexpressions, in postorder
   pub parts : NumberedExp → List NumberedExp
   parts (x.Call at method args) = parts_of_all args ++ x.Call at method args ∷ []
   parts (x.OwnCall at method args) = parts_of_all args ++ x.OwnCall at method args ∷ []
@@ -18,17 +18,17 @@ abbrev mutual
   parts (x.Index at a xs) = (parts a ++ parts_of_all xs) ++ x.Index at a xs ∷ []
   parts e = e ∷ []
 
-  -- those of all of these
+  -- the subexpressions of a list of expressions
   pub parts_of_all : NumberedExps → List NumberedExp
   parts_of_all x.NoExp = []
   parts_of_all (x.MoreExp a rest) = parts a ++ parts_of_all rest
 
-  -- those of the bounds and the step of a range
+  -- the subexpressions of the bounds and the stride of a range
   pub parts_of_range : NumberedRange → List NumberedExp
   parts_of_range (x.Plain low high) = parts low ++ parts high
   parts_of_range (x.Stepped low high step) = (parts low ++ parts high) ++ parts step
 
-  -- those of all ranges
+  -- the subexpressions of ranges
   pub parts_of_ranges : NumberedRanges → List NumberedExp
   parts_of_ranges x.NoRange = []
   parts_of_ranges (x.MoreRange r rest) = parts_of_range r ++ parts_of_ranges rest

@@ -1,4 +1,4 @@
--- What a numbered program is refused for, and which programs break no rule.
+-- The error that is reported for a resolved program, and which programs break no rule.
 use Rattle.std.specs.Prelude.{◌≡◌, [], Contains}
 use Rattle.ti_lang.specs.Program.Classes.{NumberedProgram}
 use Rattle.ti_lang.specs.Numbering.{IsNumbered}
@@ -7,18 +7,18 @@ use Rattle.ti_rules.specs.Refusals.{IsFirstRefusal}
 use Rattle.ti_rules.specs.TypeRules.{type_refusals}
 use Rattle.ti_rules.specs.SingleRules.{single_refusals}
 
--- the first refusal by the rules of types and qualifiers, or, where there is none, by those of single values
+-- the first error by the rules of types and qualifiers, or, if there is none, the first by the rules of single values
 pub data IsProgramRefusal (p : NumberedProgram) : Refusal → Type 0 where
   of_types : {refusal : Refusal} → IsFirstRefusal (Contains (type_refusals p)) refusal → IsProgramRefusal p refusal
   of_single : {refusal : Refusal} → type_refusals p ≡ [] → IsFirstRefusal (Contains (single_refusals p)) refusal
       → IsProgramRefusal p refusal
 
--- no rule of types, qualifiers and single values is broken
+-- no rule of types, qualifiers or single values is broken
 pub record BreaksNothing (p : NumberedProgram) : Type 0 where
   pub types : type_refusals p ≡ []
   pub single : single_refusals p ≡ []
 
--- a program of a text that breaks no rule
+-- a resolved program that breaks no rule
 pub record IsChecked (p : NumberedProgram) : Type 0 where
   pub numbered : ∥ IsNumbered p ∥₁
   pub unbroken : BreaksNothing p

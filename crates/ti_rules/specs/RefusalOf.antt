@@ -1,5 +1,5 @@
--- The refusal of a text, by phases: bytes, tokens, names, types and qualifiers, single values. A later phase is judged only where no
--- earlier one has a refusal.
+-- The error that is reported for a source program. The rules are checked in passes: bytes, tokens, names, types and qualifiers, single
+-- values; an error of a pass is reported only if the passes before it have none.
 use Rattle.std.specs.Prelude.{ℕ, ◌≤◌, List, length, Some}
 use Rattle.ti_base.specs.declared.place.Place.{Place}
 use Rattle.ti_syntax.specs.declared.token.Token.{Token}
@@ -16,38 +16,38 @@ use Rattle.ti_rules.specs.LexicalRefusals.{most_bytes, IsLexicalRefusal}
 use Rattle.ti_rules.specs.BrokenNames.{BreaksNames}
 use Rattle.ti_rules.specs.ProgramRefusals.{IsProgramRefusal, BreaksNothing}
 
--- ---- the phases over trees
+-- ---- passes over trees
 
--- none of these refusals is there
+-- there is no such error
 abbrev pub HasNone : (Refusal → Type 0) → Type 0
 HasNone broken = (refusal : Refusal) → broken refusal → ⊥
 
--- the refusal of a tree: by the rules of names, or, where none of them is broken, that of its program
+-- the error of a tree: the first by the rules of names, or, if there is none, that of its resolved program
 pub data IsTreeRefusal (tree : TextTree) : Refusal → Type 0 where
   of_names : {refusal : Refusal} → IsFirstRefusal (BreaksNames tree) refusal → IsTreeRefusal tree refusal
   of_program : {program : NumberedProgram} {refusal : Refusal} → HasNone (BreaksNames tree) → Numbers tree program
       → IsProgramRefusal program refusal → IsTreeRefusal tree refusal
 
--- ---- texts
+-- ---- source programs
 
--- the text isn't too long, and is these tokens
+-- the source isn't too long, and its token sequence is `tokens`
 pub record HasTokens (text : List ℕ) (tokens : List Token) : Type 0 where
   pub short : length text ≤ most_bytes
   pub tokenized : IsTokenized text tokens
 
--- the tokens of the text spell this tree, and none is too deep
+-- the tokens of the source parse to this tree, and none is nested too deeply
 pub record HasTree (text : List ℕ) (tree : TextTree) : Type 0 where
   pub tokens : List Token
   pub has_tokens : HasTokens text tokens
   pub spells : Spells tokens tree
   pub shallow : IsShallow tokens
 
--- the rule that a misfit breaks
+-- the rule that a token breaks which doesn't fit the grammar
 abbrev pub rule_of_misfit : Misfit → Rule
 rule_of_misfit Unexpected = G1
 rule_of_misfit TooDeep = G2
 
--- the refusal of a text
+-- the error of a source program
 pub data IsRefusal (text : List ℕ) : Refusal → Type 0 where
   of_bytes : {refusal : Refusal} → IsLexicalRefusal text refusal → IsRefusal text refusal
   of_tokens : {tokens : List Token} {misfit : Misfit} {place : Place} → HasTokens text tokens
@@ -55,7 +55,7 @@ pub data IsRefusal (text : List ℕ) : Refusal → Type 0 where
       → IsRefusal text (record { rule = rule_of_misfit misfit; place = place })
   of_tree : {tree : TextTree} {refusal : Refusal} → HasTree text tree → IsTreeRefusal tree refusal → IsRefusal text refusal
 
--- the program of a text that has no refusal
+-- the resolved program of a source program without errors
 pub record HasProgram (text : List ℕ) (program : NumberedProgram) : Type 0 where
   pub tree : TextTree
   pub has_tree : HasTree text tree

@@ -1,4 +1,4 @@
--- What is wrong in a program by the rules of single values.
+-- The errors of a program by the rules of single values. A value is plain if it isn't single.
 use Rattle.std.specs.Prelude.{ℕ, Bool, true, false, not, ◌&&◌, if◌then◌else◌, List, [], ◌∷◌, ◌++◌, flat_map, Option, Some, None, unwrap_or}
 use Rattle.std.specs.Option.{option_map_or}
 use Rattle.ti_base.specs.declared.place.Place.{Place}
@@ -20,9 +20,9 @@ use Rattle.ti_rules.specs.declared.refusal.Refusal.{Refusal}
 use Rattle.ti_rules.specs.Refusals.{refused_if}
 use Rattle.ti_rules.specs.Standing.{Around, scope_of, singles_in, Standing, loop_acts, standing_in_method}
 
--- ---- what is single and what has effects, where it stands
+-- ---- single values and global effects, in context
 
--- an expression inside another one, or a condition, is plain
+-- an operand or a condition is plain
 abbrev pub is_plain_part : NumberedProgram → Around → NumberedExp → Bool
 is_plain_part p around e = not (is_single_part p (this_of around.method) (singles_in (scope_of around)) e)
 
@@ -45,32 +45,32 @@ has_effects p around x =
 
 -- ---- calls
 
--- plain arguments for single parameters
+-- the errors of plain arguments for single parameters
 abbrev pub argument_refusals : NumberedProgram → Around → List NumberedParam → NumberedExps → List Refusal
 argument_refusals p around (w ∷ params) (x.MoreExp e rest) =
     refused_if (w.ty.is_single && is_plain_part p around e) S5 (place_of_numbered e) ++ argument_refusals p around params rest
 argument_refusals p around _ _ = []
 
--- the same for what stands between the parentheses of a method
+-- the errors of plain arguments for single parameters, given the parameters of a method; `String[] x` isn't single
 abbrev pub params_refusals : NumberedProgram → Around → NumberedParams → NumberedExps → List Refusal
 params_refusals p around Words args = []
 params_refusals p around (Params params) args = argument_refusals p around params args
 
--- a call of the method, if there is one
+-- the errors of plain arguments in a call of the method, if there is one
 abbrev pub call_refusals : NumberedProgram → Around → Option NumberedMethod → NumberedExps → List Refusal
 call_refusals p around m args = option_map_or (λ (m : NumberedMethod). params_refusals p around m.params args) m []
 
--- the member that deletes a region
+-- the built-in member that deletes a region
 abbrev pub is_delete : Option BuiltIn → Bool
 is_delete (Some Delete) = true
 is_delete _ = false
 
--- a member form that deletes a plain region
+-- the error of deleting a plain region
 abbrev pub delete_refusals : NumberedProgram → Around → Place → NumberedExp → ℕ → List Refusal
 delete_refusals p around at a name =
     refused_if (is_delete (member_called p (this_of around.method) a name) && is_plain_part p around a) S8 at
 
--- an expression that stands whole: a right side, or a statement
+-- the errors of an expression that is a right side or a statement
 abbrev pub whole_refusals : NumberedProgram → Around → NumberedExp → List Refusal
 whole_refusals p around (x.Call at method args) =
     call_refusals p around (called_method p (this_of around.method) (x.Call at method args)) args
@@ -80,7 +80,7 @@ whole_refusals p around (x.Member at a name args) =
     call_refusals p around (called_method p (this_of around.method) (x.Member at a name args)) args ++ delete_refusals p around at a name
 whole_refusals p around e = []
 
--- a right side: the root of a broadcast is single
+-- the errors of a right side: the root of a broadcast must be single
 abbrev pub initial_refusals : NumberedProgram → Around → NumberedInit → List Refusal
 initial_refusals p around (st.Value e) = whole_refusals p around e
 initial_refusals p around (st.Broadcast at e root) = refused_if (is_plain_part p around root) S8 at
@@ -88,12 +88,12 @@ initial_refusals p around value = []
 
 -- ---- statements
 
--- what a method with single result gives back is single
+-- the error of a `return`: the value of a method with a single result must be single
 abbrev pub return_refusals : NumberedProgram → Around → Place → Option NumberedExp → List Refusal
 return_refusals p around at None = []
 return_refusals p around at (Some e) = refused_if (has_single_result around.method && is_plain_part p around e) S7 at
 
--- what is wrong with a statement that has this around it, apart from what is wrong with the statements in it
+-- the errors of a statement in this context, apart from those of nested statements
 abbrev pub single_refusals_at : NumberedProgram → Around → NumberedStm → List Refusal
 single_refusals_at p around (st.Declare at type variable value) =
     initial_refusals p around value ++ refused_if (type.is_single && is_plain_initial p around value) S4 at
@@ -107,40 +107,40 @@ single_refusals_at p around (st.IfElse at c a b) = refused_if (has_effects p aro
 single_refusals_at p around (st.While at c body) = refused_if (loop_acts p around.method st.NoStm body && is_plain_part p around c) S2 at
 single_refusals_at p around (st.For at first c update body) =
     refused_if (loop_acts p around.method update body && is_plain_condition p around c) S2 at
-    -- no update of a text is a jump, or has one in it
+    -- by the grammar, no update is or contains a jump
     ++ refused_if (doings_of_maybe p (this_of around.method) update).jumps S2 at
 single_refusals_at p around (st.Foreach at number domain body) =
     refused_if (loop_acts p around.method st.NoStm body && is_plain_part p around domain) S3 at
 single_refusals_at p around (st.Return at value) = return_refusals p around at value
--- a step adds 1, which is single; the others have no rule
+-- `t++` and `t--` add or subtract 1, which is single; the other statements have no rule
 single_refusals_at p around x = []
 
--- what is wrong with a statement where it stands
+-- the errors of a statement in its context
 abbrev pub standing_single_refusals : NumberedProgram → Standing → List Refusal
 standing_single_refusals p x = single_refusals_at p x.around x.statement
 
 -- ---- methods
 
--- global effects in a method that isn't single
+-- the error of a method with global effects that isn't single
 abbrev pub effect_refusals : NumberedProgram → NumberedMethod → List Refusal
 effect_refusals p m = refused_if (has_global_effects (return_acts p m) false (doings_of_method p m) && not m.is_single) S6 m.place
 
--- the words `single` among those of a result
+-- the error of a qualifier `single` of a result
 abbrev pub word_refusals : Qualifier → List Refusal
 word_refusals q = refused_if (is_single_word q.word) S9 q.place
 
--- those of the result of a method that isn't single
+-- the errors of the result of a method: if the method isn't single, its result can't be
 abbrev pub result_refusals : Bool → NumberedResult → List Refusal
 result_refusals is_single c.Void = []
 result_refusals is_single (c.Typed t) = if is_single then [] else flat_map word_refusals t.qualifiers
 
--- what is wrong in a method
+-- the errors of a method
 abbrev pub method_single_refusals : NumberedProgram → NumberedMethod → List Refusal
 method_single_refusals p m =
     (effect_refusals p m ++ result_refusals m.is_single m.result) ++ flat_map (standing_single_refusals p) (standing_in_method p m)
 
 -- ---- programs
 
--- what is wrong in a program
+-- the errors of a program by the rules of single values
 abbrev pub single_refusals : NumberedProgram → List Refusal
 single_refusals p = flat_map (method_single_refusals p) p.methods

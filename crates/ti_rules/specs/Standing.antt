@@ -1,4 +1,4 @@
--- Where the statements of a program stand.
+-- The statements of a program, each with its context.
 use Rattle.std.specs.Prelude.{ℕ, Bool, false, List, [], ◌∷◌, ◌++◌, flat_map, Option, Some, None, option_and_then}
 use Rattle.std.specs.Option.{option_map_or}
 use Rattle.ti_lang.specs.Program.Types.{Pt}
@@ -13,39 +13,39 @@ use Rattle.ti_lang.specs.Typing.Expressions.{operand_type}
 use Rattle.ti_lang.specs.Typing.Singleness.{is_single_part}
 use Rattle.ti_lang.specs.Typing.Effects.{Doings, together, doings, doings_of_maybe, return_acts, jump_acts}
 
--- ---- what stands around
+-- ---- contexts
 
--- What stands around a statement: its method, the parameters and the variables of the foreach loops around it, and, where there is a
--- loop around it, whether a jump out of the innermost one has an effect. A use of any other variable carries its declaration.
+-- The context of a statement: its method; the parameters and the variables of the enclosing foreach loops; and, if there is an
+-- enclosing loop, whether a jump out of the innermost one has a global effect. A use of any other variable carries its declaration.
 pub record Around : Type 0 where
   pub method : NumberedMethod
   pub variables : List ScopeVariable
   pub jump_has : Option Bool
 
--- what is in scope there
+-- the scope in a context
 abbrev pub scope_of : Around → ScopeContents
 scope_of around = record { this_class = this_of around.method; variables = around.variables }
 
--- a statement where it stands
+-- a statement in its context
 pub record Standing : Type 0 where
   pub around : Around
   pub statement : NumberedStm
 
--- the statement with this around it
+-- the statement in this context
 abbrev pub stands : Around → NumberedStm → Standing
 stands around x = record { around = around; statement = x }
 
 -- ---- loops
 
--- what the update and the body of a loop of a method do
+-- the effect summary of the update and the body of a loop of a method
 abbrev pub doings_of_loop : NumberedProgram → NumberedMethod → MaybeNumbered → NumberedStm → Doings
 doings_of_loop p m update body = together (doings_of_maybe p (this_of m) update) (doings p (this_of m) body)
 
--- the loop has global effects, and a jump out of it has one
+-- the loop has global effects, and so has a jump out of it
 abbrev pub loop_acts : NumberedProgram → NumberedMethod → MaybeNumbered → NumberedStm → Bool
 loop_acts p m update body = jump_acts (return_acts p m) (doings_of_loop p m update body)
 
--- in the body of a loop with this update
+-- the context of the body of a loop with this update
 abbrev pub in_loop : NumberedProgram → Around → MaybeNumbered → NumberedStm → Around
 in_loop p around update body = record around { jump_has = Some (loop_acts p around.method update body) }
 
@@ -53,26 +53,26 @@ in_loop p around update body = record around { jump_has = Some (loop_acts p arou
 abbrev pub singles_in : ScopeContents → ℕ → Bool
 singles_in s number = option_map_or (λ (v : ScopeVariable). v.is_single) (in_scope s number) false
 
--- the variables with that of a foreach over a domain of so many dimensions; over what is no domain there is none
+-- the variables and that of a foreach over a domain with this number of dimensions; without a dimension, none is added
 abbrev pub with_point : List ScopeVariable → ℕ → Bool → Option ℕ → List ScopeVariable
 with_point variables number is_single None = variables
 with_point variables number is_single (Some n) = variables ++ record { number = number; type = Pt n; is_single = is_single } ∷ []
 
--- the variables in the body of a foreach: its own is single exactly where its domain is
+-- the variables in the body of a foreach: its own is single exactly if its domain is
 abbrev pub variables_inside : NumberedProgram → ScopeContents → ℕ → NumberedExp → List ScopeVariable
 variables_inside p s number domain = with_point s.variables number (is_single_part p s.this_class (singles_in s) domain)
     (option_and_then domain_dim (operand_type p s domain))
 
--- in the body of a foreach
+-- the context of the body of a foreach
 abbrev pub in_foreach : NumberedProgram → Around → ℕ → NumberedExp → NumberedStm → Around
 in_foreach p around number domain body =
     record (in_loop p around st.NoStm body) { variables = variables_inside p (scope_of around) number domain }
 
--- ---- the statements in a statement
+-- ---- nested statements
 
 abbrev mutual
-  -- the statement itself and all statements in it, each with what stands around it; an update stands outside its loop, as no update
-  -- is a jump
+  -- the statement and all statements nested in it, each in its context; an update is in the context of its loop, not of the body, since
+  -- no update is a jump
   pub inside : NumberedProgram → Around → NumberedStm → List Standing
   inside p around (st.Block body) = stands around (st.Block body) ∷ inside_all p around body
   inside p around (st.If at c a) = stands around (st.If at c a) ∷ inside p around a
@@ -85,19 +85,19 @@ abbrev mutual
       stands around (st.Foreach at number domain body) ∷ inside p (in_foreach p around number domain body) body
   inside p around x = stands around x ∷ []
 
-  -- those of a statement, if there is one
+  -- the statements of an optional statement
   pub inside_maybe : NumberedProgram → Around → MaybeNumbered → List Standing
   inside_maybe p around st.NoStm = []
   inside_maybe p around (st.SomeStm x) = inside p around x
 
-  -- those of all of these
+  -- the statements of a list
   pub inside_all : NumberedProgram → Around → NumberedStms → List Standing
   inside_all p around st.Nil = []
   inside_all p around (st.Cons x rest) = inside p around x ++ inside_all p around rest
 
 -- ---- the statements of a program
 
--- around the statements of a method
+-- the context of the statements of a method
 abbrev pub around_method : NumberedMethod → Around
 around_method m = record { method = m; variables = parameters m.params; jump_has = None }
 

@@ -1,4 +1,4 @@
-// Programs that break no rule.
+// Checked programs: those that break no rule.
 
 ghost use Rattle.std.specs.Prelude.{◌≡◌};
 ghost use Rattle.ti_lang.specs.Program.Views.{program_of};
@@ -9,7 +9,7 @@ ghost use Rattle.ti_rules.specs.ProgramRefusals.{BreaksNothing, IsChecked};
 use crate::reading::literals_fit;
 use ti_lang::program::Program;
 
-/// A program that breaks no rule: none of names, of types and qualifiers, and of single values.
+/// A program that breaks no rule: of names, of types and qualifiers, and of single values.
 #[derive(Drop)]
 pub struct Checked {
     pub program: Program,
@@ -18,8 +18,9 @@ pub struct Checked {
 }
 
 impl Checked {
-    /// A program that breaks none of the rules which come behind those of names; these every program keeps. Its numbers are read once, so that
-    /// all are known from here on to be within the ranges of their types.
+    /// A resolved program, which keeps the rules of names, that breaks no other rule. Reads the program's literals once.
+    ///
+    /// For the prover: reading them brings the ranges of their types into scope, so that every later pass knows them.
     pub fn of(p: Program) -> Checked
         requires { BreaksNothing (program_of p.parts) }
         ensures { result.program ≡ p }

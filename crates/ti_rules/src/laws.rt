@@ -1,4 +1,4 @@
-// Laws of the rules: functions that do nothing, whose contracts are the laws.
+// Theorems about the rules: functions with empty bodies whose contracts are the theorems.
 ghost use Rattle.std.specs.Prelude.{◌≡◌, [], Contains, Some, None};
 ghost use Rattle.ti_lang.specs.Program.Expressions.{NumberedExp};
 ghost use Rattle.ti_lang.specs.Program.Classes.{NumberedProgram};
@@ -13,20 +13,20 @@ ghost use Rattle.ti_rules.specs.declared.refusal.Refusal.{Refusal};
 ghost use Rattle.ti_rules.specs.ProgramRefusals.{IsProgramRefusal, BreaksNothing};
 ghost use Rattle.ti_rules.specs.Mirrors.ProgramRefusal.{program_refusal};
 
-/// An expression whose names mean something, and in which no rule of types is broken, has a type.
+/// An expression whose references refer to something, and in which no typing rule is broken, has a type.
 pub fn typed_where_unbroken()
     ensures { (p : NumberedProgram) (s : ScopeContents) (e : NumberedExp) → IsKnown p s e → exp_refusals p s e ≡ []
         → IsThere (typed p s e) }
 {}
 
-/// Where a program breaks no rule, no statement that stands in it does.
+/// In a program that breaks no rule, no statement in its context does.
 pub fn checked_standing()
     ensures types { (p : NumberedProgram) (x : Standing) → BreaksNothing p → Contains (standing_in p) x → standing_refusals p x ≡ [] }
     ensures single { (p : NumberedProgram) (x : Standing) → BreaksNothing p → Contains (standing_in p) x → standing_single_refusals p x
         ≡ [] }
 {}
 
-/// A program breaks no rule, or has one first refusal, and never both; the one that is found is the first.
+/// A program breaks no rule, or has exactly one first error, and never both; `program_refusal` computes which.
 pub fn one_program_refusal()
     ensures found { (p : NumberedProgram) (r : Refusal) → program_refusal p ≡ Some r → IsProgramRefusal p r }
     ensures none { (p : NumberedProgram) → program_refusal p ≡ None → BreaksNothing p }

@@ -1,4 +1,4 @@
-//! The rules that a text must keep, and what it is refused for.
+//! The rules of the language, the errors of programs that break them, and the type of programs that break none.
 #![tactic(auto)]
 
 mod checked;

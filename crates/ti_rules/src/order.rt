@@ -1,4 +1,4 @@
-// Which of several refusals counts.
+// The order in which errors are reported: by position, then by rule.
 
 ghost use Rattle.std.specs.Prelude.{◌≡◌, List, ◌++◌, [], Contains, Some, None};
 ghost use Rattle.ti_rules.specs.declared.refusal.Refusal.{Refusal as RefusalSeen};
@@ -8,7 +8,7 @@ ghost use Rattle.ti_rules.specs.Mirrors.First.{sooner, first_of};
 use crate::{Refusal, Rule};
 use ti_base::Place;
 
-/// The one of two that counts; of two that count the same, the first.
+/// The earlier of two errors; the first argument on a tie.
 #[tactic(auto, unfolding(crate::specs::Mirrors::First::sooner))]
 pub fn sooner(first: Option<Refusal>, second: Option<Refusal>) -> Option<Refusal>
     ensures { result ≡ sooner first second }
@@ -26,7 +26,7 @@ pub fn sooner(first: Option<Refusal>, second: Option<Refusal>) -> Option<Refusal
     }
 }
 
-/// A rule at a place, where it is broken.
+/// The error of a rule at a position, if the rule is broken.
 #[tactic(auto, unfolding(crate::specs::Mirrors::First::first_of, crate::specs::Mirrors::First::sooner))]
 pub fn refused_if(broken: bool, rule: Rule, place: Place) -> Option<Refusal>
     ensures { result ≡ first_of (refused_if broken rule place) }
@@ -38,8 +38,8 @@ pub fn refused_if(broken: bool, rule: Rule, place: Place) -> Option<Refusal>
     }
 }
 
-/// The refusal of a list that counts is the first of the list, none counts exactly where the list is empty, and that of two lists is
-/// the sooner of theirs.
+/// The earliest error of a list, as `first_of` computes it, is one that no other precedes; there is none exactly if the list is empty;
+/// and that of a concatenation is the earlier of those of its parts.
 pub fn first_counts()
     ensures some { (list : List RefusalSeen) (r : RefusalSeen) → first_of list ≡ Some r → IsFirstRefusal (Contains list) r }
     ensures none { (list : List RefusalSeen) → first_of list ≡ None → list ≡ [] }

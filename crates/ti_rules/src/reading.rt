@@ -1,4 +1,5 @@
-// The numbers that are written in a program are within the ranges of their types: reading them shows it.
+// For the prover: all literals of a program are in the ranges of their types. Nothing but reading an integer brings its range into scope,
+// so each literal is read once; the functions have no other effect.
 ghost use Rattle.std.specs.Prelude.{map};
 ghost use Rattle.std.specs.Option.{option_map};
 ghost use Rattle.ti_syntax.specs.Trees.Views.{maybe_of};
@@ -222,7 +223,7 @@ fn read_methods(methods: &[Method])
     }
 }
 
-/// All numbers that are written in a program are within the ranges of their types.
+/// All literals of a program are in the ranges of their types.
 pub fn literals_fit(p: &Program)
     ensures { LiteralsFit (program_of p.now.parts) }
 {

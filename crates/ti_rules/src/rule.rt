@@ -1,88 +1,88 @@
-// The rules that a text must keep.
+// The rules of the language, with their codes and messages.
 ghost use Rattle.std.specs.Prelude.{◌≡◌};
 ghost use Rattle.ti_rules.specs.Rules.{code_of, number_of, text_of};
 
-/// A rule that a text can break, by the code that users see.
+/// A rule of the language, named by its code in error messages.
 ///
-/// The order is that of the rules: of two broken at one place, the one listed first is reported.
+/// The order of the variants is that of the rules: of two that are broken at one position, the one listed first is reported.
 #[derive(Clone, Copy, Debug, PartialEq, Eq)]
 pub enum Rule {
-    /// A byte that begins no token, or one that a string can't hold.
+    /// A byte that begins no token, or that can't occur in a string.
     X1,
     /// A `/*` without `*/`.
     X2,
-    /// A string whose line or text ends before its closing quote.
+    /// A string whose line, or whose source, ends before its closing quote.
     X3,
-    /// A run of digits, with an `L` or `l` behind it or not, that is no whole number in range, or has a 0 in front.
+    /// A number literal, with or without `L` or `l` after it, that is out of range or has a leading 0.
     X4,
-    /// A text of more than 1048576 bytes.
+    /// A source of more than 1048576 bytes.
     X5,
-    /// A token that goes on with no text of the grammar.
+    /// A token that the grammar doesn't allow after those before it.
     G1,
-    /// A token too deep in statements or in an expression.
+    /// A token nested too deeply in statements or in an expression.
     G2,
-    /// A name that names nothing, or `this` in a static method.
+    /// A name that refers to nothing, or `this` in a static method.
     N1,
     /// A name that is declared already.
     N2,
-    /// No `public static single void main(String[] x)` in a class `Main`, or such a parameter elsewhere.
+    /// No `public static single void main(String[] x)` in a class `Main`, or such a parameter in another method.
     N3,
     /// The 201st variable in scope.
     N4,
-    /// Operands that the operator or form doesn't take, or an unknown member.
+    /// Operands that the operator or form doesn't accept, or an unknown member.
     Y1,
-    /// A value that doesn't fit what is to hold it, or an assignment to a foreach variable.
+    /// A value that doesn't fit its target, or an assignment to a foreach variable.
     Y2,
     /// A condition that isn't boolean.
     Y3,
-    /// Another number of arguments than the method or member has.
+    /// A wrong number of arguments.
     Y4,
-    /// What would fit with other numbers of dimensions.
+    /// Operands or a value that would be accepted with other numbers of dimensions.
     Y5,
-    /// The value of a void call, a call where none can stand, or a `return` that doesn't go with its method.
+    /// A void value, a call where none is allowed, or a `return` that doesn't match its method.
     Y6,
-    /// A qualifier or modifier on what can't have it, or twice in one place.
+    /// A qualifier or modifier where it isn't allowed, or a duplicate.
     Y7,
-    /// A `break` or `continue` in no loop of its method.
+    /// A `break` or `continue` outside of the loops of its method.
     Y8,
-    /// A global reference where a local one is wanted.
+    /// A global reference where a local one is expected.
     Q1,
-    /// A field or element of local type that is written through a global reference.
+    /// A store into a field or element of local type through a global reference.
     Q2,
     /// An exchange into elements of local type.
     Q3,
-    /// An `if` with global effects and a plain condition.
+    /// An `if` with global effects and a plain condition, that is, one that isn't single.
     S1,
     /// A `while` or `for` with global effects and a plain condition.
     S2,
     /// A `foreach` with global effects and a plain domain.
     S3,
-    /// A plain value declared into, assigned to or added into a single variable.
+    /// A plain value for a single variable, in its declaration, an assignment or a compound assignment.
     S4,
     /// A plain argument for a single parameter.
     S5,
-    /// Global effects in a method that isn't declared single.
+    /// Global effects in a method that isn't single.
     S6,
     /// A plain value returned by a method with a single result.
     S7,
     /// A plain root of a broadcast, or a plain region that is deleted.
     S8,
-    /// A single result of a method that isn't declared single.
+    /// A single result of a method that isn't single.
     S9,
-    /// A collective that no marking of single values aligns. The rules of the marks that stand in a text are S1 to S9; this one is
-    /// for a text whose marks are to be found.
+    /// A collective that no assignment of `single` annotations aligns. S1 to S9 are the rules for the annotations in a source; this one is
+    /// for a source whose annotations are to be inferred.
     B1,
 }
 
 impl Rule {
-    /// The rule's place in the order of the rules, from 0.
+    /// The index of the rule in the order of the rules, from 0.
     pub fn number(self) -> u8
         ensures { result ≡ number_of self }
     {
         self as u8
     }
 
-    /// The code that users see, such as `G1`.
+    /// The code in an error message, such as `G1`.
     pub fn code(self) -> &'static str
         ensures { result.now ≡ code_of self }
     {
@@ -123,7 +123,7 @@ impl Rule {
     }
 }
 
-/// What a refusal says beside the rule's code.
+/// The message after the rule's code.
 pub fn rule_text(r: Rule) -> &'static str
     ensures { result.now ≡ text_of r }
 {

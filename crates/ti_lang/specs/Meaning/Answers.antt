@@ -1,4 +1,4 @@
--- Which answers fit what a process has next.
+-- Which answers are well-formed for what a process has next: what a process may assume of its environment.
 use Rattle.std.specs.Prelude.{◌≡◌, ◌<◌, ◌^◌, ℕ, true, Option, None, Some, is_some}
 use Rattle.std.specs.Int.{w32, w64}
 use Rattle.ti_base.specs.declared.point.Point.{Point}
@@ -21,29 +21,29 @@ use Rattle.ti_lang.specs.Meaning.NextStep.{Reaches}
 
 -- ---- values of types
 
--- a number of 32 bits without a sign
+-- an unsigned 32-bit number
 abbrev pub IsCount : ℕ → Type 0
 IsCount n = n < 2 ^ 32
 
--- a point of this dimension, with coordinates of 32 bits
+-- a point of this dimension, in canonical form, with 32-bit coordinates
 pub record IsPointOf (dim : ℕ) (p : Point) : Type 0 where
   pub form : IsPoint p
   pub dim_is : p.dim ≡ dim
   pub coordinates : HasCoordinates p
 
--- a rectangular domain of this dimension, in its one form
+-- a rectangular domain of this dimension, in canonical form
 pub record IsRectOf (dim : ℕ) (r : Rect) : Type 0 where
   pub form : IsRect r
   pub dim_is : r.dim ≡ dim
   pub low : IsPointOf dim r.lo
   pub high : IsPointOf dim r.hi
 
--- what is named, if something is, has a name within the ranges
+-- the name, if there is one, has components in range
 abbrev pub IsName : Option Id → Type 0
 IsName None = Unit {0}
 IsName (Some id) = IsCount id.maker × IsCount id.serial × IsCount id.owner × IsCount id.region
 
--- the value has the form of the type: which class, which element and whether local is no part of the form
+-- the value has the form of the type; the form doesn't include the class, the element type or locality
 abbrev pub HasForm : ValueType → Value → Type 0
 HasForm t.Int (v.Int n) = Fits w32 n
 HasForm t.Long (v.Long n) = Fits w64 n
@@ -57,14 +57,15 @@ HasForm type value = ⊥
 
 -- ---- answers
 
--- the answer fits what an action asks for
+-- the answer is well-formed for what the action requests
 abbrev pub FitsWanted : Wanted → Answer → Type 0
 FitsWanted ToBeDone r = r ≡ Done
 FitsWanted (ValueOf type) r = (value : Value) × (r ≡ Val value) × HasForm type value
 FitsWanted (NewThing type) r = (value : Value) × (r ≡ Val value) × HasForm type value × (is_some (named_by value) ≡ true)
 
--- the answer fits the action that the process has next
+-- the answer is well-formed for the action that process p has next
 pub record FitsAction (p : Process) (r : Answer) : Type 0 where
+  -- the configuration in which the process performs the action, after its silent steps
   pub settled : Process
   pub reaches : Reaches p settled
   pub request : Request

@@ -18,7 +18,7 @@ use Rattle.ti_lang.specs.Meaning.Moves.{Move, Calls}
 
 -- ---- which call
 
--- a call of a declared method: its place, the method, the object on which an instance method is called, and the arguments
+-- a call of a declared method: its position, the method, the receiver of an instance method, and the arguments
 pub record Call : Type 0 where
   pub place : Place
   pub method : NumberedMethod
@@ -29,31 +29,31 @@ pub record Call : Type 0 where
 abbrev pub call_of : Place → Option NumberedExp → NumberedExps → NumberedMethod → Call
 call_of at object args method = record { place = at; method = method; object = object; args = args }
 
--- the call that an expression is, given the method that it calls, if it calls one
+-- the call that an expression denotes, given the method that it calls; None if it calls none
 abbrev pub call_by : NumberedExp → Option NumberedMethod → Option Call
 call_by (e.Call at method args) m = option_map (call_of at None args) m
 call_by (e.OwnCall at method args) m = option_map (call_of at (Some (e.This at)) args) m
 call_by (e.Member at x name args) m = option_map (call_of at (Some x) args) m
 call_by other m = None
 
--- the call that an expression is, if it is one
+-- the call that an expression denotes; None if it is no call of a declared method
 abbrev pub called : Env → NumberedExp → Option Call
 called env x = call_by x (called_method env.program (this_of env.method) x)
 
 -- ---- parameters
 
--- parameters, numbered from a number on
+-- parameters as variables, numbered from `number` on
 abbrev pub parameters_from : ℕ → List NumberedParam → List VariableUse
 parameters_from number [] = []
 parameters_from number (p ∷ rest) =
     record { number = number; declared = Typed p.ty.is_single p.ty.type } ∷ parameters_from (number + 1) rest
 
--- the parameters of a method; `String[] x` is no variable
+-- the parameters of a method; the `String[] x` of `main` is no variable
 abbrev pub parameters_of : NumberedParams → List VariableUse
 parameters_of Words = []
 parameters_of (Params params) = parameters_from 0 params
 
--- the parameters with the values of their arguments, each made one of its type at once
+-- the parameters bound to the values of their arguments, each converted to the parameter's type before the next is evaluated
 abbrev pub bound : Env → List VariableUse → NumberedExps → List Variable → Asking (List Variable)
 bound env (p ∷ ps) (e.MoreExp x xs) found = do
   h ← eval env x
@@ -63,21 +63,21 @@ bound env ps xs found = gives found
 
 -- ---- the call
 
--- the value of an expression, where there is one
+-- the value of an optional expression
 abbrev pub maybe_eval : Env → Option NumberedExp → Asking (Option Held)
 maybe_eval env None = gives None
 maybe_eval env (Some x) = do
   h ← eval env x
   gives (Some h)
 
--- the object that an instance method needs
+-- the object on which an instance method is called; a fault if it is `null`
 abbrev pub maybe_needed : Place → Option Held → Asking (Option Id)
 maybe_needed at None = gives None
 maybe_needed at (Some h) = do
   r ← needed at Void h
   gives (Some r.thing)
 
--- the object and the arguments are evaluated in order, and then `null` is refused
+-- evaluates the receiver and the arguments in order, and only then faults if the receiver is `null`
 abbrev pub calling : Env → Receiver → Call → Asking Move
 calling env receiver c = do
   object ← maybe_eval env c.object

@@ -1,4 +1,4 @@
--- What processes do together, up to their arrival.
+-- Collective operations up to the arrival of a process.
 use Rattle.std.specs.Prelude.{ℕ, ◌==◌, ◌&&◌, int_le, int_lt, if◌then◌else◌, pos, ◌-ℤ◌, [], ◌∷◌, slice_index_or, None, Some}
 use Rattle.ti_base.specs.declared.place.Place.{Place}
 use Rattle.ti_base.specs.declared.point.Rect.{Rect}
@@ -28,7 +28,7 @@ use Rattle.ti_lang.specs.Meaning.Moves.{Move, Meets, Deletes}
 abbrev pub meets : Place → Asking Move
 meets at = gives (Meets (record { place = at; kind = coll.Barrier; arg = None; wanted = ToBeDone; receiver = Nowhere }) deposit.Nothing [])
 
--- `new SharedRegion()`, whose departure gives the region
+-- `new SharedRegion()`; its departure yields the region
 abbrev pub makes_region : Receiver → Place → Asking Move
 makes_region receiver at =
     gives (Meets (record { place = at; kind = coll.MakeRegion; arg = None; wanted = ValueOf t.Region; receiver = receiver }) deposit.Nothing
@@ -42,16 +42,16 @@ deletes env at x = do
 
 -- ---- broadcasts
 
--- the number of a process, or else the fault
+-- the number of a process; a fault if there is no process of this number
 abbrev pub root_among : ℕ → Place → Held → Asking ℕ
 root_among procs at h = guarded (int_le (pos 0) (whole_of h) && int_lt (whole_of h) (pos procs)) BadRoot at (natural (whole_of h))
 
--- the root evaluates the expression, and no other process does
+-- the deposit of a broadcast: only the root evaluates the expression
 abbrev pub root_deposit : Env → ℕ → NumberedExp → Asking Deposit
 root_deposit env root x =
     if env.number == root then (eval env x >>= λ h. gives (deposit.One (plain_of h))) else gives deposit.Nothing
 
--- `broadcast e from p`, whose departure gives the root's value
+-- `broadcast e from p`; its departure yields the root's value
 abbrev pub broadcasts : Env → Receiver → Place → NumberedExp → NumberedExp → Asking Move
 broadcasts env receiver at x p = do
   h ← eval env p
@@ -62,11 +62,12 @@ broadcasts env receiver at x p = do
 
 -- ---- exchanges
 
--- one element for each process
+-- the domain of the process numbers, which has one point for each process
 abbrev pub team : ℕ → Rect
 team procs = made (element_at 0) (point_of_numbers ((pos procs -ℤ pos 1) ∷ [])) (element_at 1)
 
--- `a.exchange(e)`: the grid has the domain of the team, and behind the departure the values of all are taken into it
+-- `a.exchange(e)`: the grid must have the domain of the process numbers; after the departure the values of all processes are
+-- stored in it
 abbrev pub exchanges : Env → Place → NumberedExp → NumberedExps → Asking Move
 exchanges env at x args = do
   h ← eval env x

@@ -1,4 +1,4 @@
--- Values as those of a type, and domains.
+-- Conversions of values to a type, and the limit on the number of points of a domain.
 use Rattle.std.specs.Prelude.{ℕ, nat_le, List, length}
 use Rattle.ti_base.specs.declared.place.Place.{Place}
 use Rattle.ti_base.specs.declared.point.Point.{Point}
@@ -10,25 +10,25 @@ use Rattle.ti_lang.specs.Program.Types as t
 use Rattle.ti_lang.specs.Meaning.Held.{Held, Plain, Dm, points_in, dim_of, as_type}
 use Rattle.ti_lang.specs.Meaning.Asking.{Asking, ◌>>=◌, gives, guarded}
 
--- how many points a domain may have
+-- the greatest number of points that a domain may have
 abbrev pub most_points : ℕ
 most_points = 1048576
 
--- a rectangular domain becomes the domain of its points, unless these are too many
+-- a rectangular domain as the list of its points, or a fault if there are too many; any other value is unchanged
 abbrev pub to_domain : Place → Held → Asking Held
 to_domain at (Plain (v.Rc r)) = guarded (nat_le (size_of r) most_points) DomainSize at (Dm r.dim (points_of r))
 to_domain at h = gives h
 
--- a value as one of a type
+-- a value converted to a type, as by an assignment, a parameter or a cast
 abbrev pub converted : Place → ValueType → Held → Asking Held
 converted at (t.Dm dim) h = to_domain at h
 converted at type h = gives (as_type type h)
 
--- a domain of these points, unless they are too many
+-- the domain of these points, or a fault if there are too many
 abbrev pub domain_within : Place → ℕ → List Point → Asking Held
 domain_within at dim points = guarded (nat_le (length points) most_points) DomainSize at (Dm dim points)
 
--- what is made of two domains, each rectangular or not
+-- the result of a set operation on two domains, each rectangular or not
 abbrev pub of_domains : (List Point → List Point → List Point) → Place → Held → Held → Asking Held
 of_domains both at x y = do
   d ← to_domain at x

@@ -1,4 +1,4 @@
--- Copies of grids, and what an exchange puts into its grid.
+-- Copies between grids, and the stores of an exchange; both proceed element by element.
 use Rattle.std.specs.Prelude.{ℕ, zero, suc, ◌+◌, ◌==◌, if◌then◌else◌, pos, List, [], ◌∷◌, slice_index_or}
 use Rattle.ti_base.specs.declared.place.Place.{Place}
 use Rattle.ti_base.specs.declared.point.Point.{Point}
@@ -20,16 +20,16 @@ use Rattle.ti_lang.specs.Meaning.Moves.{Move, Goes, goes_on}
 
 -- ---- copies
 
--- the type that the first of these expressions has in the text
+-- the static type of the first of these expressions; `Void` if there is none
 abbrev pub first_type : Env → NumberedExps → ValueType
 first_type env NoExp = Void
 first_type env (MoreExp x xs) = type_of env x
 
--- the points that are in both of two rectangular domains of one dimension
+-- the points that are in both of two rectangular domains; none if their dimensions differ
 abbrev pub common_points : Rect → Rect → List Point
 common_points r s = if r.dim == s.dim then points_of (meet r s) else []
 
--- `a.copy(b)`: both grids, then the domain of each; the points of both are left to be copied
+-- `a.copy(b)`: evaluates both grids, then requests the domain of each; the common points are left to be copied
 abbrev pub copies : Env → Place → NumberedExp → NumberedExps → Asking Move
 copies env at x args = do
   h ← eval env x
@@ -40,7 +40,7 @@ copies env at x args = do
   e ← domain_asked at from
   gives (Goes env.variables (CopyAll at to from (common_points (rect_of d) (rect_of e)) ∷ []))
 
--- the element of the first point that is left is read and written, and the others are left
+-- reads and writes the element of the first point that is left; the others are left
 abbrev pub copied : Env → Place → Reference → Reference → List Point → Asking Move
 copied env at to from [] = goes_on env
 copied env at to from (p ∷ ps) = do
@@ -50,16 +50,16 @@ copied env at to from (p ∷ ps) = do
 
 -- ---- exchanges
 
--- the element of a process in a grid of one dimension
+-- the index of a process's element in a grid of one dimension
 abbrev pub element_at : ℕ → Point
 element_at i = point_of_numbers (pos i ∷ [])
 
--- so many numbers from one on
+-- n consecutive numbers from i on
 abbrev pub counted : ℕ → ℕ → List ℕ
 counted i zero = []
 counted i (suc n) = i ∷ counted (i + 1) n
 
--- the value of the first process that is left is taken and written, and the others are left
+-- takes the value of the first process that is left and stores it in the grid; the others are left
 abbrev pub taken : Env → Place → Reference → List ℕ → Asking Move
 taken env at grid [] = goes_on env
 taken env at grid (i ∷ is) = do

@@ -1,4 +1,4 @@
--- The value of an expression, from the answers that its actions have got so far.
+-- Evaluation of expressions, as a computation that may perform actions.
 use Rattle.std.specs.Prelude.{ℕ, ℤ, pos, Bool, true, not, ◌||◌, ◌==◌, List, [], ◌∷◌, ◌++◌, Option, Some, None}
 use Rattle.ti_base.specs.declared.place.Place.{Place}
 use Rattle.ti_base.specs.declared.value.Id.{Id}
@@ -22,30 +22,31 @@ use Rattle.ti_lang.specs.Meaning.MemberForms.{member}
 
 -- ---- casts
 
--- the thing, if one is named, lies in the memory of this process
+-- the object or grid, if there is one, is in the memory of this process
 abbrev pub is_own : ℕ → Option Id → Bool
 is_own number None = true
 is_own number (Some id) = id.owner == number
 
--- a reference of local type names a thing of the own process, or nothing
+-- a value of a local reference type must be `null` or in the process's own memory; otherwise a fault
 abbrev pub kept_local : ℕ → Place → ValueType → Held → Asking Held
 kept_local number at type h = guarded (not (is_local type) || is_own number (thing_of h)) NotLocal at h
 
 -- ---- operators that may leave out their right operand
 
--- the result, where it is settled, and else what more comes to
+-- the result if it is settled, and otherwise the other computation
 abbrev pub unless_settled : Option Held → Asking Held → Asking Held
 unless_settled (Some result) more = gives result
 unless_settled None more = more
 
--- what an operator comes to behind its left operand, given what its right one comes to
+-- a binary operator after its left operand: the right one is evaluated only if the left one doesn't decide the result
 abbrev pub with_right : Place → BinaryOperator → Held → Asking Held → Asking Held
 with_right at op x right = unless_settled (settled op x) (right >>= λ y. operated at op x y)
 
 -- ---- expressions
 
 abbrev mutual
-  -- the value of an expression; operands go from left to right; a call of a declared method has none here
+  -- the value of an expression; operands are evaluated from left to right; a call of a declared method is executed by
+  -- `Statements`, and has no value here
   pub eval : Env → NumberedExp → Asking Held
   eval env (e.Int at n) = gives (Plain (v.Int n))
   eval env (e.Long at n) = gives (Plain (v.Long n))
@@ -87,7 +88,7 @@ abbrev mutual
   eval env (e.Call at method args) = gives nothing
   eval env (e.OwnCall at method args) = gives nothing
 
-  -- the values of expressions, in order
+  -- the values of expressions, evaluated in order
   pub eval_all : Env → NumberedExps → Asking (List Held)
   eval_all env e.NoExp = gives []
   eval_all env (e.MoreExp x xs) = do
@@ -95,7 +96,7 @@ abbrev mutual
     hs ← eval_all env xs
     gives (h ∷ hs)
 
-  -- the numbers that expressions come to, or the coordinates of points
+  -- the numbers that expressions evaluate to, or the coordinates of the points
   pub eval_numbers : Env → NumberedExps → Asking (List ℤ)
   eval_numbers env e.NoExp = gives []
   eval_numbers env (e.MoreExp x xs) = do

@@ -1,4 +1,4 @@
--- What the heap, the regions and the rounds answer to an action of a process.
+-- The answer of the heap, the regions and the rounds to an action of a process, as a function of the history.
 use Rattle.std.specs.Prelude.{◌≡◌, [], ◌∷◌, ℕ, ◌+◌, ◌==◌, Bool, ◌&&◌, not, nat_lt, if◌then◌else◌, Option, Some, None}
 use Rattle.ti_base.specs.declared.point.Point.{Point}
 use Rattle.ti_base.specs.declared.value.Value.{Value}
@@ -23,57 +23,57 @@ use Rattle.ti_lang.specs.Meaning.Zeros.{zeros_of_class}
 use Rattle.ti_lang.specs.Meaning.HeapOf.{grid_of, new_id, view_id, cell_value, cost_of, cost_of_making, most_cells}
 use Rattle.ti_lang.specs.Meaning.RegionUse.{is_in_use}
 
--- an answer, or a fault; or the step is not possible
+-- an answer; or a fault; or none, and then the process can't perform the action
 pub data Outcome : Type 0 where
   Answers : (answer : Answer) → Outcome
   Faults : (kind : FaultKind) → Outcome
   Impossible : Outcome
 
--- what comes of a thing, where it is there
+-- the outcome for the contents of an option; impossible if it is empty
 abbrev pub where_some : {A : Type 0} → Option A → (A → Outcome) → Outcome
 where_some None go = Impossible
 where_some (Some a) go = go a
 
--- the outcome, where the test holds
+-- the outcome if the test holds; otherwise impossible
 abbrev pub possible_if : Bool → Outcome → Outcome
 possible_if test outcome = if test then outcome else Impossible
 
--- a fault, where the test holds
+-- a fault if the test holds; otherwise the outcome
 abbrev pub faults_if : Bool → FaultKind → Outcome → Outcome
 faults_if test kind outcome = if test then Faults kind else outcome
 
--- the value of a cell
+-- answers with the contents of a cell; impossible if there is no such cell
 abbrev pub answers_value : Option Value → Outcome
 answers_value value = where_some value (λ x. Answers (Val x))
 
--- ---- things
+-- ---- objects and grids
 
--- something is made, unless the cells of the process would be too many
+-- the creation of something, unless the process would be charged too many cells
 abbrev pub makes : NumberedProgram → History → ℕ → Action → Value → Outcome
 makes program h i a made =
     faults_if (nat_lt most_cells (cost_of program i h + cost_of_making program a)) fault.HeapFull (Answers (Val made))
 
--- something is placed in a region, which was made and isn't gone
+-- an allocation in a region, which must be 0 (none) or have been created; a fault if it has been deleted
 abbrev pub places : ℕ → History → Outcome → Outcome
 places region h outcome = possible_if (is_place region h) (faults_if (is_gone region h) fault.RegionGone outcome)
 
--- a point is used that has the dimension of a grid, and is one of its domain
+-- an access to a grid at a point, which must have the grid's dimension; a fault if the point is outside the grid's domain
 abbrev pub at_point : Grid → Point → Outcome → Outcome
 at_point g at outcome = possible_if (at.dim == g.domain.dim) (faults_if (not (is_in g.domain at)) fault.Bounds outcome)
 
--- a view is made, unless there is none
+-- the creation of a view, unless it faults
 abbrev pub views : Option FaultKind → Outcome → Outcome
 views None outcome = outcome
 views (Some kind) outcome = Faults kind
 
 -- ---- departures
 
--- the first process to leave a delete learns whether the region is in use
+-- the departure from a delete: only the first process to leave checks whether the region is in use
 abbrev pub leaves_delete : NumberedProgram → History → ℕ → Option ℕ → Outcome
 leaves_delete program h round None = Impossible
 leaves_delete program h round (Some r) = faults_if (not (was_left round h) && is_in_use program r round h) fault.RegionInUse (Answers Done)
 
--- the departure from the round at which the process arrived so
+-- the departure of process i from the round of its last arrival, which had this kind and argument
 abbrev pub departs : NumberedProgram → History → ℕ → CollKind → Option ℕ → Outcome
 departs program h i coll.Barrier arg = Answers Done
 departs program h i coll.Exchange arg = Answers Done
@@ -81,14 +81,14 @@ departs program h i coll.Broadcast arg = where_some arg (λ root. answers_value 
 departs program h i coll.MakeRegion arg = Answers (Val (v.Region (rounds_making i h)))
 departs program h i coll.DeleteRegion arg = leaves_delete program h (round_of i h) arg
 
--- the arrival at a delete of a region that is gone is a fault
+-- an arrival; at the delete of a region it is a fault if the region has been deleted already
 abbrev pub arrives : History → CollKind → Option ℕ → Outcome
 arrives h coll.DeleteRegion arg = where_some arg (λ r. possible_if (is_made r h) (faults_if (is_gone r h) fault.RegionGone (Answers Done)))
 arrives h kind arg = Answers Done
 
 -- ---- the answer
 
--- what process i is answered after this history
+-- the outcome of an action of process i after this history
 abbrev pub heap_answer : NumberedProgram → History → ℕ → Action → Outcome
 heap_answer program h i (act.GetField obj field) = answers_value (cell_value program (Field obj field) h)
 heap_answer program h i (act.PutField obj field value) = where_some (cell_value program (Field obj field) h) (λ old. Answers Done)
@@ -112,7 +112,7 @@ heap_answer program h i (act.Take who) = answers_value (given i who h)
 heap_answer program h i act.End = Answers Done
 heap_answer program h i (act.Fault kind) = Answers Done
 
--- each entry of the history got the answer that the entries before it give
+-- each entry of the history has the answer that the entries before it determine
 pub data IsAnswered (program : NumberedProgram) : History → Type 0 where
   none : IsAnswered program []
   more : {h : History} {e : Entry} → IsAnswered program h → heap_answer program h e.proc e.act ≡ Answers e.answer

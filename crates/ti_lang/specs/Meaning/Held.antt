@@ -1,4 +1,4 @@
--- What variables hold, and how a value becomes one of a type.
+-- Runtime values: what variables hold, the zero of each type, and conversion to a type.
 use Rattle.std.specs.Prelude.{ℕ, ℤ, pos, Bool, false, if◌then◌else◌, List, [], Option, None}
 use Rattle.ti_base.specs.declared.point.Point.{Point}
 use Rattle.ti_base.specs.declared.point.Rect.{Rect}
@@ -12,12 +12,12 @@ use Rattle.ti_base.specs.Forms.{is_dim}
 use Rattle.ti_lang.specs.Program.Types.{ValueType}
 use Rattle.ti_lang.specs.Program.Types as t
 
--- a value, or a domain: the list of its points, which rises
+-- a value of a cell, or a domain as the strictly increasing list of its points
 pub data Held : Type 0 where
   Plain : (value : Value) → Held
   Dm : (dim : ℕ) (points : List Point) → Held
 
--- what stands where there is no value
+-- the placeholder if there is no value
 abbrev pub nothing : Held
 nothing = Plain (v.Bool false)
 
@@ -29,45 +29,45 @@ truth b = Plain (v.Bool b)
 abbrev pub zero_point : ℕ → Point
 zero_point dim = record { dim = dim; x1 = pos 0; x2 = pos 0; x3 = pos 0 }
 
--- ---- the parts of a value; of another form, which no program without a broken rule gives, a zero
+-- ---- projections; a value of another kind, which doesn't occur in a program that breaks no rule, yields a zero
 
--- the number that an int or a long is
+-- the number of an int or a long
 abbrev pub whole_of : Held → ℤ
 whole_of (Plain (v.Int n)) = n
 whole_of (Plain (v.Long n)) = n
 whole_of h = pos 0
 
--- the number that an int is
+-- the number of an int
 abbrev pub int_of : Held → ℤ
 int_of (Plain (v.Int n)) = n
 int_of h = pos 0
 
--- whether a boolean is true
+-- the value of a boolean
 abbrev pub truth_of : Held → Bool
 truth_of (Plain (v.Bool b)) = b
 truth_of h = false
 
--- the point that it is
+-- the value of a point
 abbrev pub point_of : Held → Point
 point_of (Plain (v.Pt p)) = p
 point_of h = zero_point 1
 
--- the rectangular domain that it is
+-- the value of a rectangular domain
 abbrev pub rect_of : Held → Rect
 rect_of (Plain (v.Rc r)) = r
 rect_of h = empty_rect 1
 
--- the number of the region that it is
+-- the number of a region
 abbrev pub region_of : Held → ℕ
 region_of (Plain (v.Region n)) = n
 region_of h = 0
 
--- the object or the grid that it names, if it names one
+-- the object or grid that a reference refers to; None for `null`
 abbrev pub thing_of : Held → Option Id
 thing_of (Plain value) = named_by value
 thing_of (Dm dim points) = None
 
--- the value that goes into a cell or an action
+-- the value as it is stored in a cell or passed to an action
 abbrev pub plain_of : Held → Value
 plain_of (Plain value) = value
 plain_of (Dm dim points) = v.Bool false
@@ -86,11 +86,11 @@ dim_of h = 1
 
 -- ---- values of types
 
--- the value, where there are so many dimensions; no program has a type of another number of them
+-- the value, if this is a valid number of dimensions; no program has a type with another
 abbrev pub where_dim : ℕ → Held → Held
 where_dim dim h = if is_dim dim then h else nothing
 
--- the zero of a type
+-- the zero of a type: what a new variable, field or element of the type holds
 abbrev pub zero_of : ValueType → Held
 zero_of t.Int = Plain (v.Int (pos 0))
 zero_of t.Long = Plain (v.Long (pos 0))
@@ -104,7 +104,8 @@ zero_of (t.Grid element dim is_local) = Plain (v.Grid None)
 zero_of t.Null = Plain (v.Obj None)
 zero_of t.Void = nothing
 
--- an int becomes the long of the same number, a long the int that is left of it, and `null` that of the type; other values stay
+-- converts a number or a reference to a type: an int to a long, a long to an int by truncation, `null` to the `null` of the type;
+-- other values are unchanged
 abbrev pub as_type : ValueType → Held → Held
 as_type t.Long (Plain (v.Int n)) = Plain (v.Long (to_long n))
 as_type t.Int (Plain (v.Long n)) = Plain (v.Int (to_int n))

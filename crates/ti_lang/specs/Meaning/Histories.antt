@@ -1,5 +1,5 @@
--- What a run's entries say of a process: its answers, how often it has arrived at a collective, how often it has left one, how many
--- things it has made.
+-- What a history records of a process: its answers, its arrivals at and departures from collectives, and how many objects, grids
+-- and views it has created.
 use Rattle.std.specs.Prelude.{ℕ, ◌==◌, Bool, true, false, not, ◌||◌, List, map, filter, reverse, count_by}
 use Rattle.std.specs.List.{list_any}
 use Rattle.ti_base.specs.declared.action.Action.{Action}
@@ -7,11 +7,11 @@ use Rattle.ti_base.specs.declared.action.Action.TheVariants as act
 use Rattle.ti_base.specs.declared.entry.Answer.{Answer}
 use Rattle.ti_base.specs.declared.entry.Entry.{Entry}
 
--- the entries of a run so far, the last one first
+-- a history: the entries (events) of a run so far, the latest first
 abbrev pub History : Type 0
 History = List Entry
 
--- the history of a run's entries in their order
+-- the history of entries that are given in order
 abbrev pub history_of : List Entry → History
 history_of es = reverse es
 
@@ -37,43 +37,43 @@ abbrev pub is_departure : Action → Bool
 is_departure act.Depart = true
 is_departure a = false
 
--- an object, a grid or a view is made
+-- the creation of an object, a grid or a view
 abbrev pub is_making : Action → Bool
 is_making (act.NewObj class region) = true
 is_making (act.NewGrid zero domain region) = true
 is_making (act.MakeView grid how) = true
 is_making a = false
 
--- an entry of an action, which is neither an end nor a fault
+-- the entry is of an action that got an answer, so neither an end nor a fault
 abbrev pub is_answered : Entry → Bool
 is_answered e = not (is_end e.act || is_fault e.act)
 
 -- ---- the entries of a process
 
--- the entries of a process
+-- the entries of process i
 abbrev pub entries_of : ℕ → List Entry → List Entry
 entries_of i es = filter (λ e. e.proc == i) es
 
--- the answers that the actions of a process have got
+-- the answers that the actions of process i have received, in order
 abbrev pub answers_of : ℕ → List Entry → List Answer
 answers_of i es = map (λ (e : Entry). e.answer) (filter is_answered (entries_of i es))
 
--- how often a process has arrived at a collective; its nth arrival belongs to the nth round
+-- the number of collectives at which process i has arrived; its nth arrival belongs to the nth round
 abbrev pub arrivals : ℕ → List Entry → ℕ
 arrivals i es = count_by (λ e. is_arrival e.act) (entries_of i es)
 
--- how often a process has left a collective
+-- the number of collectives that process i has left
 abbrev pub departures : ℕ → List Entry → ℕ
 departures i es = count_by (λ e. is_departure e.act) (entries_of i es)
 
--- how many things a process has made, views among them
+-- the number of objects, grids and views that process i has created
 abbrev pub things_made : ℕ → List Entry → ℕ
 things_made i es = count_by (λ e. is_making e.act) (entries_of i es)
 
--- the process has its end
+-- process i has ended
 abbrev pub has_end : ℕ → List Entry → Bool
 has_end i es = list_any (λ e. is_end e.act) (entries_of i es)
 
--- some entry is a fault
+-- some process has faulted
 abbrev pub has_fault : List Entry → Bool
 has_fault es = list_any (λ e. is_fault e.act) es

@@ -1,28 +1,28 @@
--- Jumps: to the mark of the innermost loop in progress.
+-- Jumps out of the innermost loop in progress, whose mark in a continuation is its item `Behind`.
 use Rattle.std.specs.Prelude.{Bool, true, false, List, [], ◌∷◌}
 use Rattle.ti_lang.specs.Meaning.Processes.{Variable, Work, End, Behind}
 use Rattle.ti_lang.specs.Meaning.Scoping.{without}
 use Rattle.ti_lang.specs.Meaning.Performing.{declared_in}
 
--- there is a loop in progress
+-- there is a loop in progress in the continuation
 abbrev pub has_mark : List Work → Bool
 has_mark [] = false
 has_mark (Behind loop ∷ left) = true
 has_mark (w ∷ left) = has_mark left
 
--- the work from the mark on: the loop's update and its next turn are left
+-- the continuation from the mark on: for a `continue`, the loop's update and its next iteration are left
 abbrev pub from_mark : List Work → List Work
 from_mark [] = []
 from_mark (Behind loop ∷ left) = Behind loop ∷ left
 from_mark (w ∷ left) = from_mark left
 
--- the work behind the mark: the loop is left
+-- the continuation after the mark: for a `break`, the loop is left
 abbrev pub past_mark : List Work → List Work
 past_mark [] = []
 past_mark (Behind loop ∷ left) = left
 past_mark (w ∷ left) = past_mark left
 
--- the variables that are in scope at the mark: those of the blocks on the way have left
+-- the variables in scope at the mark: without those of the blocks that the jump leaves
 abbrev pub variables_at_mark : List Work → List Variable → List Variable
 variables_at_mark [] variables = variables
 variables_at_mark (Behind loop ∷ left) variables = variables

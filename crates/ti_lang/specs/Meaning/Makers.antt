@@ -1,4 +1,4 @@
--- New objects and grids.
+-- Creation of objects and grids.
 use Rattle.std.specs.Prelude.{ℕ, true, Option, None, Some}
 use Rattle.ti_base.specs.declared.place.Place.{Place}
 use Rattle.ti_base.specs.declared.action.Action.TheVariants as act
@@ -14,27 +14,27 @@ use Rattle.ti_lang.specs.Meaning.Scoping.{Env}
 use Rattle.ti_lang.specs.Meaning.Evaluation.{eval, eval_ranges}
 use Rattle.ti_lang.specs.Meaning.Zeros.{zero_of_type}
 
--- the region in which a new thing is placed; 0 is none
+-- the region in which a new object or grid is allocated; 0 if none is given
 abbrev pub region_for : Env → Option NumberedExp → Asking ℕ
 region_for env None = gives 0
 region_for env (Some x) = do
   h ← eval env x
   gives (region_of h)
 
--- the domain that a new grid spreads over
+-- the domain of a new grid
 abbrev pub spread : Env → Place → NumberedDims → Asking Held
 spread env at (s.Domain x) = eval env x
 spread env at (s.Ranges ranges) = do
   bounds ← eval_ranges env (numbered_ranges ranges)
   rect_within at bounds
 
--- `new C()`, in a region or in none
+-- `new C()`, in a region if one is given
 abbrev pub new_object : Env → Place → Option NumberedExp → ℕ → Asking Held
 new_object env at region class = do
   r ← region_for env region
   asked (request at (act.NewObj class r) (NewThing (t.Class class true)))
 
--- `new T [D]`, in a region or in none
+-- `new T [D]`, in a region if one is given
 abbrev pub new_grid : Env → Place → Option NumberedExp → ValueType → Place → NumberedDims → Asking Held
 new_grid env at region element dims_at dims = do
   r ← region_for env region

@@ -1,4 +1,4 @@
--- The members of the language that have a value: of domains and of grids.
+-- The built-in members that have a value: those of domains and grids.
 use Rattle.std.specs.Prelude.{ℕ, nat_le, pos, Bool, false, not, List, length, slice_index_or, Option, Some}
 use Rattle.ti_base.specs.declared.place.Place.{Place}
 use Rattle.ti_base.specs.declared.point.Point.{Point}
@@ -13,27 +13,27 @@ use Rattle.ti_lang.specs.Meaning.Held.{Held, Plain, Dm, nothing, truth, int_of, 
 use Rattle.ti_lang.specs.Meaning.Asking.{Asking, gives, guarded}
 use Rattle.ti_lang.specs.Meaning.Parts.{viewed, domain_of}
 
--- how large the size of a rectangular domain may be
+-- the greatest size of a rectangular domain for which `size` doesn't fault
 abbrev pub greatest_size : ℕ
 greatest_size = 2147483647
 
--- how many points a domain has
+-- the number of points of a domain
 abbrev pub sized : Place → Held → Asking Held
 sized at (Plain (v.Rc r)) = guarded (nat_le (size_of r) greatest_size) DomainSize at (Plain (v.Int (pos (size_of r))))
 sized at (Dm dim points) = gives (Plain (v.Int (pos (length points))))
 sized at h = gives nothing
 
--- the point, which is the least or the greatest of a rectangular domain, unless this is empty
+-- the point p, which is the least or the greatest of a rectangular domain; an empty domain is a fault
 abbrev pub extreme : Place → Held → Point → Asking Held
 extreme at h p = guarded (not (is_empty (rect_of h))) EmptyDomain at (Plain (v.Pt p))
 
--- whether a domain has a point
+-- whether a domain contains a point
 abbrev pub contained : Held → Point → Bool
 contained (Plain (v.Rc r)) p = is_in r p
 contained (Dm dim points) p = is_among points p
 contained h p = false
 
--- a member form: its result has the first type, its receiver the second; `copy`, `exchange` and `delete` have no value
+-- the value of a built-in member of type `type` on a receiver of type `through`; `copy`, `exchange` and `delete` have no value
 abbrev pub member : Place → ValueType → Option BuiltIn → ValueType → Held → List Held → Asking Held
 member at type (Some Size) through h args = sized at h
 member at type (Some Min) through h args = extreme at h (rect_of h).lo

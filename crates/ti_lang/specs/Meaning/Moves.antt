@@ -1,4 +1,4 @@
--- What a piece of work comes to: a move of its process.
+-- Moves: the outcome of one item of work, that is, how it changes the control state of its process.
 use Rattle.std.specs.Prelude.{ℕ, List, [], Option}
 use Rattle.ti_base.specs.declared.place.Place.{Place}
 use Rattle.ti_base.specs.declared.value.Id.{Id}
@@ -10,29 +10,29 @@ use Rattle.ti_lang.specs.Meaning.Processes.{Variable, Receiver, Work, Wait}
 use Rattle.ti_lang.specs.Meaning.Scoping.{Env}
 use Rattle.ti_lang.specs.Meaning.Targets.{into}
 
--- a move of a process
+-- what an item of work has its process do next
 pub data Move : Type 0 where
-  -- these variables are in scope, and this work is to be done before the rest
+  -- continues with these variables in scope, and with this work before the rest of the continuation
   Goes : (variables : List Variable) (works : List Work) → Move
-  -- the same for a tick: the turn of a loop
+  -- enters an iteration of a loop: as `Goes`, and costs a tick, charged at this position
   Turns : (at : Place) (variables : List Variable) (works : List Work) → Move
-  -- out of the innermost loop, and to its next turn
+  -- `break` and `continue`, which refer to the innermost loop
   Breaks : Move
   Continues : Move
-  -- a call, with the object that `this` will be and the parameters
+  -- a call, with the object that `this` will be, the parameters bound to their values, and the receiver of the result
   Calls : (at : Place) (method : NumberedMethod) (this : Option Id) (parameters : List Variable) (receiver : Receiver) → Move
-  -- out of the method, with a value or without one
+  -- returns from the method, with a value or without one
   Returns : (value : Option Held) → Move
-  -- an arrival at a collective, and the work that comes right behind it
+  -- arrives at a collective with this deposit; `behind` is the work to do right after the departure
   Meets : (wait : Wait) (deposit : Deposit) (behind : List Work) → Move
-  -- the arrival at the delete of a region, whose deposit is counted over all frames
+  -- arrives at the delete of a region; its deposit, a count over all frames, is computed by the step
   Deletes : (at : Place) (region : ℕ) → Move
 
--- goes on with the rest
+-- continues with the rest of the continuation, with the variables unchanged
 abbrev pub goes_on : Env → Asking Move
 goes_on env = gives (Goes env.variables [])
 
--- goes on when what a right side comes to has gone to its receiver
+-- stores the value of a right side in its receiver, then continues
 abbrev pub receives : Env → Receiver → Asking Held → Asking Move
 receives env receiver right = do
   variables ← into env receiver right

@@ -1,4 +1,4 @@
--- The operators, on the values of their operands.
+-- The value of an operator, from the values of its operands.
 use Rattle.std.specs.Prelude.{ℕ, ℤ, pos, ◌-ℤ◌, neg_ℤ, int_lt, int_le, Bool, true, false, not, ◌&&◌, ◌||◌, ◌==◌, if◌then◌else◌, bit_and, bit_or, bit_xor, Option, Some, None}
 use Rattle.std.specs.Int.{Width, w32, w64}
 use Rattle.ti_base.specs.declared.place.Place.{Place}
@@ -21,7 +21,7 @@ use Rattle.ti_lang.specs.Meaning.Operands.{Operands, Wholes, Truths, Points, Rec
 
 -- ---- sums, products and quotients
 
--- `x + y`: a sum, or a union
+-- `x + y`: a sum of numbers or points, or a union of domains
 abbrev pub added : Place → Held → Held → Operands → Asking Held
 added at x y (Wholes w a b) = gives (number w (sum w a b))
 added at x y (Points p q) = gives (Plain (v.Pt (pt_sum p q)))
@@ -29,7 +29,7 @@ added at x y (Rects r s) = of_domains union at x y
 added at x y Domains = of_domains union at x y
 added at x y _ = gives nothing
 
--- `x - y`: a difference, of numbers or of sets
+-- `x - y`: a difference of numbers, of points or of domains as sets
 abbrev pub subtracted : Place → Held → Held → Operands → Asking Held
 subtracted at x y (Wholes w a b) = gives (number w (difference w a b))
 subtracted at x y (Points p q) = gives (Plain (v.Pt (pt_difference p q)))
@@ -37,40 +37,40 @@ subtracted at x y (Rects r s) = of_domains minus at x y
 subtracted at x y Domains = of_domains minus at x y
 subtracted at x y _ = gives nothing
 
--- `x * y`: a product, or a meet, which of rectangular domains is rectangular
+-- `x * y`: a product of numbers, or an intersection of domains; that of rectangular domains is rectangular
 abbrev pub multiplied : Place → Held → Held → Operands → Asking Held
 multiplied at x y (Wholes w a b) = gives (number w (product w a b))
 multiplied at x y (Rects r s) = gives (Plain (v.Rc (rect.meet r s)))
 multiplied at x y Domains = of_domains meet at x y
 multiplied at x y _ = gives nothing
 
--- `x / y` or `x % y`, which a zero divisor refuses
+-- `x / y` or `x % y`; a zero divisor is a fault
 abbrev pub divided : (Width → ℤ → ℤ → ℤ) → Place → Operands → Asking Held
 divided result at (Wholes w a b) = guarded (not (same_number b (pos 0))) DivZero at (number w (result w a b))
 divided result at _ = gives (truth false)
 
 -- ---- bits
 
--- an operator on the bits of numbers, or on booleans
+-- a bitwise operator on integers, or its counterpart on booleans
 abbrev pub combined : (ℕ → ℕ → ℕ) → (Bool → Bool → Bool) → Operands → Held
 combined f g (Wholes w a b) = number w (on_bits f w a b)
 combined f g (Truths a b) = truth (g a b)
 combined f g _ = truth false
 
--- a shift, which has the type of its left operand
+-- a shift; the result has the type of the left operand
 abbrev pub shifted : (Width → ℤ → ℤ → ℤ) → Held → Held → Held
 shifted f (Plain (v.Long a)) y = number w64 (f w64 a (whole_of y))
 shifted f x y = number w32 (f w32 (whole_of x) (whole_of y))
 
 -- ---- comparisons
 
--- a comparison of numbers, or of points, where it holds in every coordinate
+-- a comparison of numbers, or of points: it holds if it holds in every coordinate
 abbrev pub compared : (ℤ → ℤ → Bool) → Operands → Held
 compared test (Wholes w a b) = truth (test a b)
 compared test (Points p q) = truth (in_each test p q)
 compared test _ = truth false
 
--- whether two operands are equal; two domains are where they have the same points
+-- whether two operands are equal; domains are equal if they have the same points
 abbrev pub equal : Place → Held → Held → Operands → Asking Bool
 equal at x y (Wholes w a b) = gives (same_number a b)
 equal at x y (Truths a b) = gives (same_truth a b)
@@ -86,7 +86,7 @@ equal at x y Others = gives false
 
 -- ---- all operators
 
--- an operator of two operands; what `&&` and `||` come to behind their right operand is that operand
+-- a binary operator on both operands; once the right operand of `&&` or `||` is evaluated, its value is the result
 abbrev pub operated : Place → BinaryOperator → Held → Held → Asking Held
 operated at op.OrElse x y = gives y
 operated at op.AndThen x y = gives y
@@ -108,18 +108,18 @@ operated at op.Multiply x y = multiplied at x y (operands x y)
 operated at op.Divide x y = divided (λ w a b. wrap w (quotient a b)) at (operands x y)
 operated at op.Remainder x y = divided (λ w a b. remainder a b) at (operands x y)
 
--- the result that needs no right operand, if the left one tells it
+-- the result of a short-circuit operator if the left operand decides it; otherwise None
 abbrev pub settled : BinaryOperator → Held → Option Held
 settled op.OrElse x = if truth_of x then Some (truth true) else None
 settled op.AndThen x = if truth_of x then None else Some (truth false)
 settled o x = None
 
--- an operator on the number of one operand, in its own width
+-- a unary operator on an integer, in the operand's width
 abbrev pub signed : (Width → ℤ → ℤ) → Held → Held
 signed f (Plain (v.Long n)) = number w64 (f w64 n)
 signed f h = number w32 (f w32 (whole_of h))
 
--- an operator of one operand
+-- a unary operator
 abbrev pub operated_alone : UnaryOperator → Held → Held
 operated_alone un.Minus h = signed negation h
 operated_alone un.Plus h = h

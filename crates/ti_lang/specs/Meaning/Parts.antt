@@ -1,4 +1,4 @@
--- Cells of things, and views.
+-- Access to cells, domains and views through references, which may be `null`.
 use Rattle.std.specs.Prelude.{Bool, true, false, ℕ, pred, ℤ, pos, if◌then◌else◌, int_le, List, slice_get, slice_index_or, None}
 use Rattle.ti_base.specs.declared.place.Place.{Place}
 use Rattle.ti_base.specs.declared.point.Point.{Point}
@@ -16,12 +16,12 @@ use Rattle.ti_lang.specs.Meaning.Literals as literal
 
 -- ---- cells
 
--- a cell that an expression names: a field of an object or an element of a grid, with the type of the reference in the text
+-- a cell that an expression names: a field of an object or an element of a grid, with the static type of the reference
 pub data Part : Type 0 where
   Field : (object : Held) (through : ValueType) (field : ℕ) → Part
   Element : (grid : Held) (through : ValueType) (index : Point) → Part
 
--- the value of this type that a cell holds
+-- reads a cell, whose static type is `type`
 abbrev pub fetched : Place → ValueType → Part → Asking Held
 fetched at type (Field object through field) = do
   r ← needed at through object
@@ -32,17 +32,17 @@ fetched at type (Element grid through index) = do
 
 -- ---- grids
 
--- the domain of a grid
+-- the domain of a grid, by an action
 abbrev pub domain_asked : Place → Reference → Asking Held
 domain_asked at r = asked (request_through r at (act.DomainOf r.thing) (ValueOf (t.Rc (dim_of_type r.type))))
 
--- the domain of the grid that a value of this type names
+-- the domain of the grid that a value of type `through` refers to
 abbrev pub domain_of : Place → ValueType → Held → Asking Held
 domain_of at through grid = do
   r ← needed at through grid
   domain_asked at r
 
--- a view, of the first type, of the grid that a value of the second names
+-- a view, of type `type`, of the grid that a value of type `through` refers to
 abbrev pub viewed : Place → ValueType → ViewHow → ValueType → Held → Asking Held
 viewed at type view through grid = do
   r ← needed at through grid
@@ -50,13 +50,13 @@ viewed at type view through grid = do
 
 -- ---- indices
 
--- a coordinate of a point, counted from 1
+-- the coordinate of a point with this number, from 1; another number is a fault
 abbrev pub coordinate : Place → Point → ℤ → Asking Held
 coordinate at p k = do
   x ← found_or Bounds at (if int_le (pos 1) k then slice_get (literal.coordinates_of p) (pred (natural k)) else None)
   gives (Plain (v.Int x))
 
--- `e[..]`: a coordinate where `e` is a point in the text, and else an element, which has the first type, of a grid of the second
+-- `e[..]`: a coordinate if `e` is statically a point, and otherwise an element of type `type` of a grid of type `through`
 abbrev pub indexed : Bool → Place → ValueType → ValueType → Held → List ℤ → Asking Held
 indexed true at type through h indices = coordinate at (point_of h) (slice_index_or indices 0 (pos 0))
 indexed false at type through h indices = fetched at type (Element h through (literal.point_of_numbers indices))

@@ -1,4 +1,4 @@
--- What a piece of work comes to: a statement, the end of one, a loop, a value on its way, a copy, an exchange.
+-- The move of each item of a continuation.
 use Rattle.std.specs.Prelude.{if◌then◌else◌, true, List, [], ◌∷◌, ◌++◌, Option, None, Some}
 use Rattle.ti_lang.specs.Program.Types.{VariableUse}
 use Rattle.ti_lang.specs.Program.Expressions.{NumberedExp}
@@ -15,22 +15,22 @@ use Rattle.ti_lang.specs.Meaning.Statements.{declared_as, maybe_do, statement}
 
 -- ---- declarations
 
--- the variables that a statement itself declares
+-- the variables that a statement itself declares in the enclosing scope
 abbrev pub declared_alone : NumberedStm → List VariableUse
 declared_alone (s.Declare at type variable value) = declared_as type variable ∷ []
 declared_alone x = []
 
--- those that the statements of a list declare
+-- the variables that the statements of a list declare in their scope
 abbrev pub declared_among : NumberedStms → List VariableUse
 declared_among Nil = []
 declared_among (Cons x rest) = declared_alone x ++ declared_among rest
 
--- those that a statement declares, if there is one
+-- the variables that an optional statement declares
 abbrev pub declared_maybe : MaybeNumbered → List VariableUse
 declared_maybe NoStm = []
 declared_maybe (SomeStm x) = declared_alone x
 
--- the variables that leave at the end of a block or a `for`
+-- the variables that go out of scope at the end of a block or a `for`
 abbrev pub declared_in : NumberedStm → List VariableUse
 declared_in (s.Block body) = declared_among body
 declared_in (s.For at first c update body) = declared_maybe first
@@ -43,7 +43,7 @@ abbrev pub condition : Env → Option NumberedExp → Asking Held
 condition env None = gives (truth true)
 condition env (Some c) = eval env c
 
--- a loop before its next turn, which takes a tick once its condition is true or its next point is there
+-- a loop before its next iteration, which costs a tick once the condition is true or there is a next point
 abbrev pub before_turn : Env → Loop → Asking Move
 before_turn env (While at c update body) = do
   h ← condition env c
@@ -52,20 +52,20 @@ before_turn env (Foreach at variable domain [] body) = goes_on env
 before_turn env (Foreach at variable domain (p ∷ ps) body) =
     gives (Turns at env.variables (Do body ∷ Behind (Foreach at variable domain (p ∷ ps) body) ∷ []))
 
--- the update of a loop, which a turn ends with
+-- the update that ends an iteration of a loop
 abbrev pub update_of : Loop → List Work
 update_of (While at c update body) = maybe_do update
 update_of (Foreach at variable domain points body) = []
 
--- the loop behind a turn
+-- the loop after an iteration: of a `foreach`, without the first point
 abbrev pub turned : Loop → Loop
 turned (While at c update body) = While at c update body
 turned (Foreach at variable domain [] body) = Foreach at variable domain [] body
 turned (Foreach at variable domain (p ∷ ps) body) = Foreach at variable domain ps body
 
--- ---- all work
+-- ---- all items
 
--- what a piece of work comes to
+-- the move of an item of work
 abbrev pub performed : Env → Work → Asking Move
 performed env (Do x) = statement env x
 performed env (End x) = gives (Goes (without (declared_in x) env.variables) [])

@@ -1,4 +1,4 @@
--- A process between its steps.
+-- The configuration of a process: its frames with their continuations, and the collective at which it waits.
 use Rattle.std.specs.Prelude.{ℕ, List, [], ◌∷◌, Option, None, slice_get}
 use Rattle.std.specs.Option.{option_map_or}
 use Rattle.ti_base.specs.declared.place.Place.{Place}
@@ -14,7 +14,7 @@ use Rattle.ti_lang.specs.Program.Classes.{NumberedMethod, NumberedProgram}
 use Rattle.ti_lang.specs.Meaning.Held.{Held}
 use Rattle.ti_lang.specs.Meaning.Asking.{Wanted, Reference}
 
--- what all processes of a run share: the program, how many they are, and the ticks that each may spend
+-- what all processes of a run share: the program, the number of processes, and the fuel of each, in ticks
 pub record Setting : Type 0 where
   pub program : NumberedProgram
   pub procs : ℕ
@@ -22,51 +22,55 @@ pub record Setting : Type 0 where
 
 -- ---- frames
 
--- a variable in scope, with what is written where it is declared beside what it holds
+-- a variable in scope: its number and declaration, and its value
 pub record Variable : Type 0 where
   pub named : VariableUse
   pub held : Held
 
--- where a value goes that is on its way: nowhere, into a new variable, into what an assignment names, or there by an operator
+-- where a value goes: nowhere, into a new variable, into the target of an assignment, or into that of a compound assignment
 pub data Receiver : Type 0 where
   Nowhere : Receiver
   Declared : (at : Place) (variable : VariableUse) → Receiver
   Assigned : (at : Place) (target : NumberedExp) → Receiver
   Updated : (at : Place) (op : BinaryOperator) (target : NumberedExp) → Receiver
 
--- A loop in progress: a `while` or a `for` with its condition and its update, each if there is one, or a `foreach` with the points
--- that are left. In a turn the first of them is the point of the turn, which the loop's variable holds.
+-- A loop in progress: a `while` or a `for` with its condition and its update, each optional, or a `foreach` with the points that
+-- are left. During an iteration, the first of them is the value of the loop's variable.
 pub data Loop : Type 0 where
   While : (at : Place) (condition : Option NumberedExp) (update : MaybeNumbered) (body : NumberedStm) → Loop
   Foreach : (at : Place) (variable : ℕ) (domain : NumberedExp) (points : List Point) (body : NumberedStm) → Loop
 
--- a piece of work that is left to do
+-- an item of a continuation: work still to be done
 pub data Work : Type 0 where
+  -- executes a statement
   Do : (s : NumberedStm) → Work
-  -- the end of a block or a `for`: what it declared leaves
+  -- the end of a block or a `for`: the variables that it declared go out of scope
   End : (s : NumberedStm) → Work
-  -- a loop before its next turn, and the end of a turn, which is the loop's mark
+  -- a loop before its next iteration
   Before : (loop : Loop) → Work
+  -- the end of an iteration of a loop; while the iteration is in progress, this is the mark that `continue` and `break` refer to
   Behind : (loop : Loop) → Work
-  -- a value that a call or a collective gave goes to its receiver
+  -- stores the value of a call or a collective in its receiver
   Receive : (receiver : Receiver) (held : Held) → Work
-  -- a copy of grids, with the points that are left
+  -- a copy between grids, with the points that are left
   CopyAll : (at : Place) (to from : Reference) (points : List Point) → Work
-  -- an exchange that the process has left, with the processes whose values are left to be taken into the grid
+  -- an exchange after its departure, with the processes whose values are still to be stored in the grid
   TakeAll : (at : Place) (grid : Reference) (procs : List ℕ) → Work
 
--- a call in progress: its method, the object that `this` is, the variables in scope, the newest first, the work left,
--- and where the caller wants the result
+-- a frame, which is a call in progress: its method, the object that `this` is, the variables in scope, the newest first, its
+-- continuation, and where the caller stores its result
 pub record Frame : Type 0 where
   pub method : NumberedMethod
   pub this : Option Id
   pub variables : List Variable
+  -- the continuation: the work that is left, in order
   pub left : List Work
   pub receiver : Receiver
 
 -- ---- processes
 
--- between an arrival and its departure: the collective with its argument, what its departure asks for, and where that goes
+-- the wait of a process between its arrival at a collective and its departure: the position, the kind of collective and its argument,
+-- what the departure requests, and the receiver of its value
 pub record Wait : Type 0 where
   pub place : Place
   pub kind : CollKind
@@ -74,36 +78,36 @@ pub record Wait : Type 0 where
   pub wanted : Wanted
   pub receiver : Receiver
 
--- one of the processes of a run
+-- the configuration of one process of a run
 pub record Process : Type 0 where
   pub setting : Setting
   -- its number, from 0
   pub number : ℕ
-  -- the ticks that it has spent
+  -- the number of ticks that it has spent
   pub spent : ℕ
-  -- the calls in progress, the innermost first; where there is none, `main` has ended
+  -- the calls in progress, the innermost first; if there are none, `main` has returned
   pub frames : List Frame
-  -- the collective at which it has arrived and which it has not left
+  -- the collective at which it has arrived and which it hasn't left
   pub wait : Option Wait
-  -- the answers that its current work has got so far
+  -- the answers that its current item of work has received so far
   pub answers : List Answer
 
--- the statements of a list, to be done in order before the work behind them
+-- a continuation preceded by the statements of a list, in order
 abbrev pub all_before : NumberedStms → List Work → List Work
 all_before Nil left = left
 all_before (Cons s rest) left = Do s ∷ all_before rest left
 
--- a frame before the first statement of its method
+-- a new frame, before the first statement of its method
 abbrev pub frame_of : NumberedMethod → Option Id → List Variable → Receiver → Frame
 frame_of method this variables receiver =
     record { method = method; this = this; variables = variables; left = all_before (numbered_stms method.body) []; receiver = receiver }
 
--- the frame in which a run begins
+-- the frames with which a run begins: a call of `main`
 abbrev pub first_frames : NumberedProgram → List Frame
 first_frames program =
     option_map_or (λ (main : NumberedMethod). frame_of main None [] Nowhere ∷ []) (slice_get program.methods program.main) []
 
--- the process of this number before its first step
+-- the initial configuration of process i
 abbrev pub begin : Setting → ℕ → Process
 begin s i = record {
   setting = s;

@@ -11,17 +11,17 @@ use Rattle.ti_lang.specs.Meaning.RoundsOf.{was_counted}
 use Rattle.ti_lang.specs.Meaning.RegionsOf.{is_gone}
 use Rattle.ti_lang.specs.Meaning.HeapOf.{cells_of, cell_value}
 
--- the value names a thing in the region
+-- the value refers into region r
 abbrev pub names : ℕ → Option Value → Bool
 names r None = false
 names r (Some value) = option_map_or (λ (id : Id). id.region == r) (named_by value) false
 
--- the cell is outside the region, and in none that is gone
+-- the cell is neither in region r nor in a deleted region
 abbrev pub is_outside : ℕ → Cell → History → Bool
 is_outside r cell h = not ((thing_of cell).region == r) && not (is_gone (thing_of cell).region h)
 
--- a region is in use where a cell outside it names something in it, or where some process arrived at the round that deletes it
--- with a count above 0
+-- region r is in use if a cell outside refers into it, or if some process arrived at the round that deletes it with a count above
+-- 0, that is, with variables that refer into it
 abbrev pub is_in_use : NumberedProgram → ℕ → ℕ → History → Bool
 is_in_use program r round h =
     list_any (λ cell. is_outside r cell h && names r (cell_value program cell h)) (cells_of program h) || was_counted round h

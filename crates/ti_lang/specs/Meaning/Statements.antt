@@ -1,4 +1,4 @@
--- What a statement comes to.
+-- Execution of statements: the move of each.
 use Rattle.std.specs.Prelude.{ℕ, if◌then◌else◌, pos, List, [], ◌∷◌, ◌++◌, Option, None, Some}
 use Rattle.ti_base.specs.declared.place.Place.{Place}
 use Rattle.ti_base.specs.declared.value.Value.{Value}
@@ -30,12 +30,12 @@ use Rattle.ti_lang.specs.Meaning.Moves.{Move, Goes, Breaks, Continues, Returns, 
 
 -- ---- right sides
 
--- a call comes first, and where it leads; any other value goes to its receiver
+-- a right side: a call is made before the receiver is evaluated; the value of any other expression is stored there
 abbrev pub valued_or_called : Env → Receiver → NumberedExp → Option Call → Asking Move
 valued_or_called env receiver x None = receives env receiver (eval env x)
 valued_or_called env receiver x (Some c) = calling env receiver c
 
--- a thing is made first, and then goes to its receiver
+-- creates an object or grid first, and then stores it in the receiver
 abbrev pub made_first : Env → Receiver → Asking Held → Asking Move
 made_first env receiver new = do
   h ← new
@@ -50,7 +50,7 @@ initialized env receiver (s.NewGrid at region element dims_at dims) =
     made_first env receiver (new_grid env at region element.type dims_at dims)
 initialized env receiver (s.Broadcast at x root) = broadcasts env receiver at x root
 
--- the variable that a declaration makes
+-- the variable that a declaration declares
 abbrev pub declared_as : NumberedType → ℕ → VariableUse
 declared_as type number = record { number = number; declared = Typed type.is_single type.type }
 
@@ -59,16 +59,16 @@ abbrev pub one_more : StepOperator → BinaryOperator
 one_more Increment = op.Add
 one_more Decrement = op.Subtract
 
--- ---- expressions that stand alone
+-- ---- expression statements
 
--- a member form: three have no value, the value of another is dropped
+-- a built-in member as a statement: `copy`, `exchange` and `delete` have no value; the value of any other is dropped
 abbrev pub member_alone : Env → Place → NumberedExp → NumberedExps → Asking Move → Option BuiltIn → Asking Move
 member_alone env at x args other (Some Copy) = copies env at x args
 member_alone env at x args other (Some Exchange) = exchanges env at x args
 member_alone env at x args other (Some Delete) = deletes env at x
 member_alone env at x args other _ = other
 
--- a call, or a member form
+-- an expression statement: a call, or a built-in member
 abbrev pub alone : Env → NumberedExp → Option Call → Asking Move
 alone env x (Some c) = calling env Nowhere c
 alone env (e.Member at x name args) None =
@@ -78,13 +78,13 @@ alone env x None = receives env Nowhere (eval env x)
 
 -- ---- prints
 
--- a line of a literal, if there is one, and a value, if there is one
+-- prints a line: a literal, if there is one, and a value, if there is one
 abbrev pub prints : Env → Place → Option ℕ → Option Value → Asking Move
 prints env at literal value = do
   done ← asked (request at (act.Print literal value) ToBeDone)
   goes_on env
 
--- a print: first its value
+-- a print: evaluates its value first
 abbrev pub printed : Env → Place → NumberedPrint → Asking Move
 printed env at s.Nothing = prints env at None None
 printed env at (s.Text literal) = prints env at (Some literal) None
@@ -97,12 +97,12 @@ printed env at (s.TextAndExpression literal x) = do
 
 -- ---- statements
 
--- a statement, if there is one
+-- the work of an optional statement
 abbrev pub maybe_do : MaybeNumbered → List Work
 maybe_do NoStm = []
 maybe_do (SomeStm x) = Do x ∷ []
 
--- a `return`, of a value of the method's result or of none
+-- a `return`; its value is converted to the result type of the method
 abbrev pub returns : Env → Place → Option NumberedExp → Asking Move
 returns env at None = gives (Returns None)
 returns env at (Some x) = do
@@ -110,7 +110,7 @@ returns env at (Some x) = do
   k ← converted at (result_type env.method) h
   gives (Returns (Some k))
 
--- what a statement comes to
+-- the move of a statement
 abbrev pub statement : Env → NumberedStm → Asking Move
 statement env s.Empty = goes_on env
 statement env (s.Declare at type variable value) = initialized env (Declared at (declared_as type variable)) value

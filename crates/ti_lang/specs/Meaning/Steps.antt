@@ -1,4 +1,4 @@
--- The steps of a process.
+-- The small-step semantics of a process: what one step does in a configuration.
 use Rattle.std.specs.Prelude.{ℕ, ◌+◌, nat_lt, ◌==◌, if◌then◌else◌, Bool, false, List, [], ◌∷◌, ◌++◌, length, count_by, slice_get, Option, None, Some}
 use Rattle.std.specs.Option.{option_map_or}
 use Rattle.ti_base.specs.declared.place.Place.{Place}
@@ -19,7 +19,8 @@ use Rattle.ti_lang.specs.Meaning.Moves.{Move, Goes, Turns, Breaks, Continues, Ca
 use Rattle.ti_lang.specs.Meaning.Performing.{performed}
 use Rattle.ti_lang.specs.Meaning.Jumps.{has_mark, from_mark, past_mark, variables_at_mark}
 
--- a silent step to a process, or an action that is asked with what its answer makes of the process, or the end, or a fault
+-- the outcome of a step: a silent transition to a configuration; an action (the label) with the configuration that each answer
+-- leads to; the end of the process; or a fault
 pub data Step : Type 0 where
   To : (p : Process) → Step
   At : (request : Request) (go : Answer → Process) → Step
@@ -28,11 +29,11 @@ pub data Step : Type 0 where
 
 -- ---- ticks
 
--- the process with one tick more spent
+-- the process after spending one tick
 abbrev pub spends : Process → Process
 spends p = record p { spent = p.spent + 1 }
 
--- a tick, if one is left
+-- a step that needs a tick; a fault if the fuel is used up
 abbrev pub ticks : Process → Place → Step → Step
 ticks p at after = if nat_lt p.spent p.setting.fuel then after else Faults Fuel at
 
@@ -40,11 +41,11 @@ ticks p at after = if nat_lt p.spent p.setting.fuel then after else Faults Fuel 
 abbrev pub asks : Process → Request → (Answer → Process) → Step
 asks p request go = ticks p request.place (At request (λ r. spends (go r)))
 
--- the process with one answer more to its current work
+-- the process after its current item of work has received one more answer
 abbrev pub answered : Process → Answer → Process
 answered p r = record p { answers = p.answers ++ r ∷ [] }
 
--- goes on with what the work comes to, or stands at what it asks for or faults with
+-- the step of an item of work: continues with its move, or performs its request, or faults
 abbrev pub valued : Process → Got Move → (Move → Step) → Step
 valued p (Gives move rest) go = go move
 valued p (Asks request) go = asks p request (answered p)
@@ -52,55 +53,55 @@ valued p (Fails kind at) go = Faults kind at
 
 -- ---- frames
 
--- how many frames a process may have
+-- the greatest number of frames of a process
 abbrev pub most_frames : ℕ
 most_frames = 200
 
--- the current work is done, and these variables and this work are left in the frame
+-- the innermost frame after its current item: with these variables and this continuation
 abbrev pub going : Process → Frame → List Frame → List Variable → List Work → Process
 going p f fs variables left = record p { frames = record f { variables = variables; left = left } ∷ fs; wait = None; answers = [] }
 
--- the innermost frame is to take in a value, where there is one
+-- hands a value, if there is one, to the innermost frame, whose next work is to store it in the receiver
 abbrev pub handed : Receiver → Option Held → List Frame → List Frame
 handed receiver None fs = fs
 handed receiver (Some h) [] = []
 handed receiver (Some h) (f ∷ fs) = record f { left = Receive receiver h ∷ f.left } ∷ fs
 
--- the frame of a called method stands before the caller's, which has this work left
+-- a call: the frame of the method on top of the caller's, which has this continuation
 abbrev pub entering : Process → Frame → List Frame → List Work → Frame → Process
 entering p f fs left new = record p { frames = new ∷ record f { left = left } ∷ fs; wait = None; answers = [] }
 
 -- ---- collectives
 
--- the thing lies in the region
+-- the object or grid is in the region
 abbrev pub lies_in : ℕ → Option Id → Bool
 lies_in region None = false
 lies_in region (Some id) = id.region == region
 
--- how many variables in scope in these frames name something in the region; `this` is one
+-- the number of variables in scope in these frames that refer into the region; `this` counts as one
 abbrev pub named_in : ℕ → List Frame → ℕ
 named_in region [] = 0
 named_in region (f ∷ fs) =
     (count_by (λ (x : Variable). lies_in region (thing_of x.held)) f.variables + (if lies_in region f.this then 1 else 0)) + named_in region
     fs
 
--- arrives at a collective, behind which these frames go on
+-- arrives at a collective; the process continues with these frames after its departure
 abbrev pub arrives : Process → List Frame → Wait → Deposit → Step
 arrives p frames wait given =
     asks p (request wait.place (act.Arrive wait.kind wait.arg given) ToBeDone)
     (λ r. record p { frames = frames; wait = Some wait; answers = [] })
 
--- the arrival at the delete of a region
+-- the wait at the delete of a region
 abbrev pub deleting : Place → ℕ → Wait
 deleting at region = record { place = at; kind = coll.DeleteRegion; arg = Some region; wanted = ToBeDone; receiver = Nowhere }
 
--- the value that is handed on, where one was asked for
+-- the value of an answer, if one was requested
 abbrev pub value_asked : Wanted → Answer → Option Held
 value_asked ToBeDone r = None
 value_asked (ValueOf type) r = Some (told r)
 value_asked (NewThing type) r = Some (told r)
 
--- leaves a collective; what its departure gave goes to its receiver
+-- departs from a collective; the value of its answer, if one was requested, goes to the receiver
 abbrev pub departs : Process → Wait → Step
 departs p w = asks p (request w.place act.Depart w.wanted) (λ r. record p {
   frames = handed w.receiver (value_asked w.wanted r) p.frames;
@@ -110,7 +111,7 @@ departs p w = asks p (request w.place act.Depart w.wanted) (λ r. record p {
 
 -- ---- steps
 
--- The step at a move of the first piece of work, behind which this work is left. Without a loop in progress a jump leads nowhere.
+-- The step for the move of a frame's first item; `left` is the rest of its continuation. A jump outside of all loops does nothing.
 abbrev pub moves : Process → Frame → List Frame → List Work → Move → Step
 moves p f fs left (Goes variables works) = To (going p f fs variables (works ++ left))
 moves p f fs left (Turns at variables works) = ticks p at (To (spends (going p f fs variables (works ++ left))))
@@ -127,25 +128,25 @@ moves p f fs left (Meets wait given behind) = arrives p (record f { left = behin
 moves p f fs left (Deletes at region) =
     arrives p (record f { left = left } ∷ fs) (deleting at region) (deposit.Count (named_in region (f ∷ fs)))
 
--- the step at the work that is left in a frame; the end of the method returns
+-- the step of a frame with this continuation; at the end of the method it returns
 abbrev pub works : Process → Frame → List Frame → List Work → Step
 works p f fs [] = moves p f fs [] (Returns None)
 works p f fs (w ∷ left) = valued p (performed (env_of p f left) w p.answers) (moves p f fs left)
 
--- the place of the brace that closes `main`
+-- the position of the closing brace of `main`; zeros if there is no `main`
 abbrev pub end_of : NumberedProgram → Place
 end_of program = option_map_or (λ (main : NumberedMethod). main.end) (slice_get program.methods program.main) (record { line = 0; col = 0 })
 
--- the step of a process that waits nowhere
+-- the step of a process that waits at no collective
 abbrev pub runs : Process → List Frame → Step
 runs p [] = Ends (end_of p.setting.program)
 runs p (f ∷ fs) = works p f fs f.left
 
--- the step of a process that may wait at a collective, which it can then only leave
+-- the step of a process, which can only depart if it waits at a collective
 abbrev pub steps : Process → Option Wait → Step
 steps p None = runs p p.frames
 steps p (Some w) = departs p w
 
--- one step of a process by itself
+-- one step of a process
 abbrev pub step : Process → Step
 step p = steps p p.wait

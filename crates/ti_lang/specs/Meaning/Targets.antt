@@ -1,4 +1,4 @@
--- What a declaration, an assignment or a compound assignment writes.
+-- Assignment targets, and the stores of declarations, assignments and compound assignments.
 use Rattle.std.specs.Prelude.{List}
 use Rattle.ti_base.specs.declared.place.Place.{Place}
 use Rattle.ti_base.specs.declared.value.Value.TheVariants as v
@@ -16,12 +16,12 @@ use Rattle.ti_lang.specs.Meaning.Scoping.{Env, find_variable, with_new, with_cha
 use Rattle.ti_lang.specs.Meaning.Parts.{Part, Field, Element, fetched}
 use Rattle.ti_lang.specs.Meaning.Evaluation.{eval, eval_numbers}
 
--- what an assignment names: a variable or a cell
+-- the target of an assignment: a variable or a cell
 pub data Target : Type 0 where
   InVariable : (variable : VariableUse) → Target
   InPart : (part : Part) → Target
 
--- the target that an expression names: its reference and index are evaluated; no other expression is a target
+-- the target that an expression denotes, with its reference and index evaluated; no other expression is a target
 abbrev pub located : Env → NumberedExp → Asking Target
 located env (e.Variable at variable) = gives (InVariable variable)
 located env (e.OwnField at field) = gives (InPart (Field (Plain (v.Obj env.this)) (type_of env (e.This at)) field))
@@ -34,12 +34,12 @@ located env (e.Index at x parts) = do
   gives (InPart (Element h (type_of env x) (point_of_numbers indices)))
 located env other = gives (InPart (Field nothing Void 0))
 
--- the value of this type that a target holds
+-- the value in a target of this type
 abbrev pub held_in : Env → Place → ValueType → Target → Asking Held
 held_in env at type (InVariable variable) = gives (find_variable variable env.variables)
 held_in env at type (InPart part) = fetched at type part
 
--- the variables in scope after a value was put into a target
+-- the variables in scope after storing a value in a target
 abbrev pub stored : Env → Place → Target → Held → Asking (List Variable)
 stored env at (InVariable variable) h = gives (with_changed variable h env.variables)
 stored env at (InPart (Field object through field)) h = do
@@ -51,8 +51,8 @@ stored env at (InPart (Element grid through index)) h = do
   done ← asked (request_through r at (act.PutElem r.thing index (plain_of h)) ToBeDone)
   gives env.variables
 
--- The variables in scope after what a right side comes to has gone to its receiver. The receiver's reference and index are
--- evaluated before the right side; what a call, a `new` or a broadcast gave is there before.
+-- The variables in scope after storing the value of a right side in its receiver. The reference and index of the receiver are
+-- evaluated before the right side, except that the value of a call, a `new` or a broadcast is computed before both.
 abbrev pub into : Env → Receiver → Asking Held → Asking (List Variable)
 into env Nowhere right = do
   h ← right

@@ -1,4 +1,4 @@
--- What clauses see of the programs of src/.
+-- The views of the code's syntax trees (src/program) as the data types of specifications.
 use Rattle.std.specs.Prelude.{List, map}
 use Rattle.std.specs.declared.vec.Vec.{Vec}
 use Rattle.std.specs.declared.alloc.Global.{Global}

@@ -1,11 +1,11 @@
--- The members that the language gives to domains, grids and regions.
+-- The built-in members of domains, grids and regions, and their types.
 use Rattle.std.specs.Prelude.{ℕ, ◌-◌, Bool, false, not, ◌&&◌, ◌||◌, ◌==◌, nat_lt, if◌then◌else◌, List, [], ◌∷◌, Option, Some, None, slice_get, option_and_then, bytes_eq, codes}
 use Rattle.ti_lang.specs.Program.Types.{ValueType, Int, Boolean, Pt, Rc, Dm, Region, Grid, Void}
 use Rattle.ti_lang.specs.Program.Classes.{NumberedProgram}
 use Rattle.ti_lang.specs.Typing.Kinds.{where_true, same_type, is_local}
 use Rattle.ti_lang.specs.Typing.Fits.{fits}
 
--- a member of the language
+-- a built-in member
 pub data BuiltIn : Type 0 where
   Size : BuiltIn
   Min : BuiltIn
@@ -19,7 +19,7 @@ pub data BuiltIn : Type 0 where
   Exchange : BuiltIn
   Delete : BuiltIn
 
--- the member of this spelling
+-- the built-in member of this name
 abbrev pub spelled : List ℕ → Option BuiltIn
 spelled name =
     if bytes_eq name (codes "size") then Some Size else
@@ -34,30 +34,30 @@ spelled name =
     if bytes_eq name (codes "exchange") then Some Exchange else
     if bytes_eq name (codes "delete") then Some Delete else None
 
--- the member of this number among the names of the program
+-- the built-in member whose name has this number in the program
 unfoldable pub built_in : NumberedProgram → ℕ → Option BuiltIn
 built_in p name = option_and_then spelled (slice_get p.names name)
 
--- two grids of one element type and one dimension, local or not
+-- both are grids, with the same element type and dimension, local or not
 abbrev pub same_grids : ValueType → ValueType → Bool
 same_grids (Grid t n local) (Grid u m global) = same_type t u && (n == m)
 same_grids _ _ = false
 
--- the elements of the grid are local
+-- the elements of the grid are local references
 abbrev pub has_local_elements : ValueType → Bool
 has_local_elements (Grid t n local) = is_local t
 has_local_elements _ = false
 
--- elements of local type are copied only where both grids are local
+-- a copy can be made: if the elements are local references, both grids must be local
 abbrev pub can_copy : ValueType → ValueType → Bool
 can_copy t u = not (has_local_elements t) || (is_local t && is_local u)
 
--- a one-dimensional grid takes values of this type at an exchange
+-- a one-dimensional grid can store values of this type in an exchange
 abbrev pub can_exchange : ValueType → ValueType → Bool
 can_exchange (Grid t n local) u = (n == 1) && fits u t
 can_exchange _ _ = false
 
--- what the member gives, for a receiver and arguments of these types
+-- the result type of a member, for a receiver and arguments of these types; None if they are wrong
 abbrev pub member_type : BuiltIn → ValueType → List ValueType → Option ValueType
 member_type Size (Rc n) [] = Some Int
 member_type Size (Dm n) [] = Some Int

@@ -1,4 +1,4 @@
--- Which method a call means, and which member of the language.
+-- The method or built-in member that a call refers to.
 use Rattle.std.specs.Prelude.{ℕ, if◌then◌else◌, Option, None, slice_get}
 use Rattle.ti_lang.specs.Program.Types.{ValueType}
 use Rattle.ti_lang.specs.Program.Types as t
@@ -10,18 +10,18 @@ use Rattle.ti_lang.specs.Typing.BuiltIn.{BuiltIn, built_in}
 use Rattle.ti_lang.specs.Typing.Declared.{instance_method}
 use Rattle.ti_lang.specs.Typing.TextTypes.{type_in_text}
 
--- the instance method of this name, behind an object
+-- the instance method of this name on an object of this type
 abbrev pub method_behind : NumberedProgram → ValueType → ℕ → Option NumberedMethod
 method_behind program (t.Class class is_local) name = instance_method program class name
 method_behind program type name = None
 
--- the declared method that an expression calls, if it is such a call: `x.f(..)` is one where `x` is an object
+-- the declared method that an expression calls: `x.f(..)` calls one only if `x` is an object; None if the expression calls none
 abbrev pub called_method : NumberedProgram → Option ℕ → NumberedExp → Option NumberedMethod
 called_method program this (e.Call at method args) = slice_get program.methods method
 called_method program this (e.OwnCall at method args) = slice_get program.methods method
 called_method program this (e.Member at x name args) = method_behind program (type_in_text program this x) name
 called_method program this other = None
 
--- the member of the language that a name means behind an expression; behind an object it means none
+-- the built-in member that a name denotes on an expression; None on an object
 abbrev pub member_called : NumberedProgram → Option ℕ → NumberedExp → ℕ → Option BuiltIn
 member_called program this x name = if is_object (type_in_text program this x) then None else built_in program name

@@ -1,4 +1,4 @@
--- What a program declares: the variables, fields and methods that its expressions name by number.
+-- The declarations of variables, fields and methods that expressions refer to by number.
 use Rattle.std.specs.Prelude.{ℕ, Bool, not, ◌&&◌, ◌==◌, List, [], map, Option, Some, find, position, slice_get, option_map}
 use Rattle.std.specs.List.{list_any}
 use Rattle.std.specs.Option.{option_map_or}
@@ -12,22 +12,22 @@ use Rattle.ti_lang.specs.Program.Scope.{ScopeVariable, ScopeContents}
 
 -- ---- variables
 
--- the variable of this number
+-- the variable in scope of this number
 abbrev pub in_scope : ScopeContents → ℕ → Option ScopeVariable
 in_scope s number = find (λ (v : ScopeVariable). v.number == number) s.variables
 
--- a variable has its declared type; one of a foreach, what its scope says
+-- the type of a variable: the declared one; for a foreach variable, that in its scope
 abbrev pub declared_type : ScopeContents → ℕ → Declaration → Option ValueType
 declared_type s number (Typed is_single type) = Some type
 declared_type s number Foreach = option_map (λ (v : ScopeVariable). v.type) (in_scope s number)
 
--- the type of a variable that is used
+-- the type of a used variable
 abbrev pub variable_type : ScopeContents → VariableUse → Option ValueType
 variable_type s v = declared_type s v.number v.declared
 
 -- ---- fields
 
--- the fields of the class of a number
+-- the fields of a class; none if there is no such class
 abbrev pub fields_of_class : NumberedProgram → ℕ → List NumberedField
 fields_of_class p class = option_map_or (λ (c : NumberedClass). c.fields) (slice_get p.classes class) []
 
@@ -40,27 +40,27 @@ unfoldable pub named_field_type : NumberedProgram → ℕ → ℕ → Option Val
 named_field_type p class name =
     option_map (λ (f : NumberedField). f.ty.type) (find (λ (f : NumberedField). f.name == name) (fields_of_class p class))
 
--- the number in its class of the first field of this name
+-- the number, within its class, of the first field of this name
 abbrev pub field_numbered : NumberedProgram → ℕ → ℕ → Option ℕ
 field_numbered p name class = position (λ (f : NumberedField). f.name == name) (fields_of_class p class)
 
 -- ---- methods
 
--- the method has the word `static`
+-- the method has the modifier `static`
 abbrev pub is_static_method : NumberedMethod → Bool
 is_static_method m = list_any (λ (x : Modifier). is_static_word x.word) m.modifiers
 
--- the first method of this name in a class, where it's an instance method
+-- the first method of this name in a class, if that is an instance method
 unfoldable pub instance_method : NumberedProgram → ℕ → ℕ → Option NumberedMethod
 instance_method p class name = only_if (λ (m : NumberedMethod). not (is_static_method m))
     (find (λ (m : NumberedMethod). (m.class == class) && (m.name == name)) p.methods)
 
--- the type that a result is declared to have
+-- the type of a declared result
 abbrev pub type_of_result : NumberedResult → ValueType
 type_of_result c.Void = ty.Void
 type_of_result (c.Typed t) = t.type
 
--- what a call of the method gives
+-- the type of a call of the method
 abbrev pub result_type : NumberedMethod → ValueType
 result_type m = type_of_result m.result
 

@@ -1,4 +1,4 @@
--- The type of an expression: each form has one where all its operands have types and the form takes these.
+-- The typing rules of expressions: an expression has a type if its operands do and the rule of its form accepts these.
 use Rattle.std.specs.Prelude.{ℕ, ◌+◌, Bool, true, false, not, ◌&&◌, ◌==◌, if◌then◌else◌, List, [], ◌∷◌, ◌++◌, length, Option, Some, None, is_some, option_map, option_and_then, slice_get}
 use Rattle.std.specs.List.{list_all}
 use Rattle.ti_lang.specs.Members.{only_if}
@@ -13,64 +13,65 @@ use Rattle.ti_lang.specs.Typing.Operators.{unary_type, binary_type}
 use Rattle.ti_lang.specs.Typing.BuiltIn.{BuiltIn, built_in, member_type}
 use Rattle.ti_lang.specs.Typing.Declared.{variable_type, field_type, named_field_type, instance_method, result_type, types_of}
 
--- what is known of an expression: its type, where it has one, and whether it's a call of a declared method whose operands all
--- have types
+-- the result of typing an expression: its type, if it has one, and whether it is a call of a declared method whose operands all have
+-- types
 pub record Typed : Type 0 where
   pub type : Option ValueType
   pub is_call : Bool
 
--- what is no call of a declared method
+-- the result for anything but a call of a declared method
 abbrev pub plain : Option ValueType → Typed
 plain type = record { type = type; is_call = false }
 
--- the type of an expression inside another: a call of a declared method can't stand there, and what gives nothing is no value
+-- the type of an operand: it must not be a call of a declared method, and not void
 abbrev pub operand : Typed → Option ValueType
 operand t = if t.is_call then None else only_if (λ u. not (is_void u)) t.type
 
 -- ---- both, and all
 
--- what comes of two things, where both are there
+-- the function of the contents of two options, if both have any
 abbrev pub both : {A B C : Type 0} → Option A → Option B → (A → B → Option C) → Option C
 both (Some a) (Some b) f = f a b
 both (Some a) None f = None
 both None b f = None
 
--- both lists, where both are there
+-- the concatenation of two lists, if both are there
 abbrev pub joined : {A : Type 0} → Option (List A) → Option (List A) → Option (List A)
 joined (Some xs) (Some ys) = Some (xs ++ ys)
 joined (Some xs) None = None
 joined None ys = None
 
--- a list of one
+-- a list of one element, if it is there
 abbrev pub one : {A : Type 0} → Option A → Option (List A)
 one None = None
 one (Some a) = Some (a ∷ [])
 
 -- ---- literals in brackets
 
--- an int
+-- the type is `int`
 abbrev pub is_int : ValueType → Bool
 is_int Int = true
 is_int _ = false
 
--- all are ints
+-- all types are `int`
 abbrev pub all_ints : List ValueType → Bool
 all_ints ts = list_all is_int ts
 
--- a point of as many dimensions as there are coordinates
+-- a point literal has as many dimensions as coordinates, which must be ints
 abbrev pub point_literal : List ValueType → Option ValueType
 point_literal ts = where_true (all_ints ts) (Pt (length ts))
 
--- all are points of this dimension
+-- all types are points of this dimension
 abbrev pub all_points : ℕ → List ValueType → Bool
 all_points n ts = list_all (same_type (Pt n)) ts
 
--- one range of points
+-- the type of a literal with one range of points, from the types of its bounds and stride
 abbrev pub range_of_points : List ValueType → Option ValueType
 range_of_points (Pt n ∷ ts) = where_true (all_points n ts) (Rc n)
 range_of_points _ = None
 
--- so many ranges with bounds and steps of these types: of whole numbers, a range for each dimension, or one range of points
+-- the type of a literal with this number of ranges, from the types of their bounds and strides: either integers, with one range for each
+-- dimension, or a single range of points
 abbrev pub rect_literal : ℕ → List ValueType → Option ValueType
 rect_literal ranges ts =
     if all_ints ts then Some (Rc ranges) else
@@ -78,7 +79,7 @@ rect_literal ranges ts =
 
 -- ---- indices
 
--- a coordinate of a point, or an element of a grid
+-- the type of `e[..]`: a coordinate of a point, or an element of a grid
 abbrev pub index_type : ValueType → List ValueType → Option ValueType
 index_type (Pt n) (Int ∷ []) = Some Int
 index_type (Grid t n local) (Pt m ∷ []) = where_true (n == m) (read_through local t)
@@ -87,20 +88,20 @@ index_type _ _ = None
 
 -- ---- members
 
--- the type of `x.f`, for `x` of a type
+-- the type of `x.f`, from the type of `x`
 abbrev pub select_type : NumberedProgram → ValueType → ℕ → Option ValueType
 select_type p (Class c local) name = option_map (read_through local) (named_field_type p c name)
 select_type p _ name = None
 
 -- ---- calls
 
--- each value fits its parameter
+-- each argument fits its parameter
 abbrev pub all_fit : List ValueType → List ValueType → Bool
 all_fit (t ∷ ts) (u ∷ us) = fits t u && all_fit ts us
 all_fit [] [] = true
 all_fit _ _ = false
 
--- no value fits the parameter `String[] x`
+-- the parameters accept arguments of these types; `String[] x` accepts none
 abbrev pub takes : NumberedParams → List ValueType → Bool
 takes Words ts = false
 takes (Params params) ts = all_fit ts (types_of params)
@@ -110,17 +111,17 @@ abbrev pub call_type : Option NumberedMethod → List ValueType → Option Value
 call_type None ts = None
 call_type (Some m) ts = where_true (takes m.params ts) (result_type m)
 
--- a call of a declared method, where all its operands have types
+-- the result for a call of a declared method, if all its operands have types
 abbrev pub called : Option NumberedMethod → Option (List ValueType) → Typed
 called m None = record { type = None; is_call = false }
 called m (Some ts) = record { type = call_type m ts; is_call = is_some m }
 
--- behind an object there is a call of an instance method, behind another value a member that the language gives
+-- `x.f(..)`: on an object a call of an instance method, on any other value a built-in member
 abbrev pub member_given : NumberedProgram → ValueType → ℕ → List ValueType → Typed
 member_given p (Class c local) name ts = called (instance_method p c name) (Some ts)
 member_given p t name ts = plain (option_and_then (λ (b : BuiltIn). member_type b t ts) (built_in p name))
 
--- the same, where receiver and arguments have types
+-- the result for `x.f(..)`, from the types of the receiver and the arguments, if they have any
 abbrev pub member : NumberedProgram → Option ValueType → ℕ → Option (List ValueType) → Typed
 member p (Some t) name (Some ts) = member_given p t name ts
 member p (Some t) name None = plain None
@@ -128,19 +129,19 @@ member p None name ts = plain None
 
 -- ---- expressions
 
--- how many ranges there are
+-- the number of ranges
 abbrev pub range_count : NumberedRanges → ℕ
 range_count x.NoRange = 0
 range_count (x.MoreRange r rest) = 1 + range_count rest
 
 abbrev mutual
-  -- what is known of an expression of a program in a scope
+  -- the result of typing an expression in a scope
   pub known : NumberedProgram → ScopeContents → NumberedExp → Typed
   known p s (x.Int at n) = plain (Some Int)
   known p s (x.Long at n) = plain (Some Long)
   known p s (x.Truth at b) = plain (Some Boolean)
   known p s (x.Null at) = plain (Some Null)
-  -- `this` is global
+  -- `this` is a global reference
   known p s (x.This at) = plain (option_map (λ c. Class c false) s.this_class)
   known p s (x.Variable at v) = plain (variable_type s v)
   known p s (x.OwnField at field) = plain (option_map as_global (option_and_then (λ c. field_type p c field) s.this_class))
@@ -157,26 +158,26 @@ abbrev mutual
   known p s (x.Member at a name args) = member p (operand (known p s a)) name (operands p s args)
   known p s (x.Index at a parts) = plain (both (operand (known p s a)) (operands p s parts) index_type)
 
-  -- the types of expressions inside another, where all have types
+  -- the types of a list of operands, if all have one
   pub operands : NumberedProgram → ScopeContents → NumberedExps → Option (List ValueType)
   operands p s x.NoExp = Some []
   operands p s (x.MoreExp a rest) = joined (one (operand (known p s a))) (operands p s rest)
 
-  -- the types of the bounds and the step of a range
+  -- the types of the bounds and the stride of a range
   pub bound : NumberedProgram → ScopeContents → NumberedRange → Option (List ValueType)
   bound p s (x.Plain low high) = joined (one (operand (known p s low))) (one (operand (known p s high)))
   bound p s (x.Stepped low high step) =
       joined (joined (one (operand (known p s low))) (one (operand (known p s high)))) (one (operand (known p s step)))
 
-  -- the types of the bounds and steps of ranges
+  -- the types of the bounds and strides of ranges
   pub bounds : NumberedProgram → ScopeContents → NumberedRanges → Option (List ValueType)
   bounds p s x.NoRange = Some []
   bounds p s (x.MoreRange r rest) = joined (bound p s r) (bounds p s rest)
 
--- the type of an expression of a program in a scope, where no rule of types is broken in it
+-- the type of an expression in a scope; None if a typing rule is broken in it
 abbrev pub typed : NumberedProgram → ScopeContents → NumberedExp → Option ValueType
 typed p s e = (known p s e).type
 
--- its type inside another expression
+-- the type of an expression in a scope as an operand of another
 abbrev pub operand_type : NumberedProgram → ScopeContents → NumberedExp → Option ValueType
 operand_type p s e = operand (known p s e)

@@ -1,8 +1,8 @@
--- What kinds of types there are, and which types are the same.
+-- Kinds of types, and equality of types.
 use Rattle.std.specs.Prelude.{ℕ, Bool, true, false, not, ◌&&◌, ◌==◌, if◌then◌else◌, Option, Some, None}
 use Rattle.ti_lang.specs.Program.Types.{ValueType, Int, Long, Boolean, Pt, Rc, Dm, Region, Class, Grid, Null, Void}
 
--- the value, where the test holds
+-- the value, if the test holds
 abbrev pub where_true : {A : Type 0} → Bool → A → Option A
 where_true test a = if test then Some a else None
 
@@ -10,7 +10,7 @@ where_true test a = if test then Some a else None
 abbrev pub same_truth : Bool → Bool → Bool
 same_truth a b = if a then b else not b
 
--- the same type, `local` and dimensions included
+-- equality of types, including `local` and dimensions
 abbrev pub same_type : ValueType → ValueType → Bool
 same_type Int Int = true
 same_type Long Long = true
@@ -36,7 +36,7 @@ abbrev pub is_null : ValueType → Bool
 is_null Null = true
 is_null _ = false
 
--- the type of what gives nothing
+-- the type of a call without a result
 abbrev pub is_void : ValueType → Bool
 is_void Void = true
 is_void _ = false
@@ -68,12 +68,12 @@ abbrev pub class_of_type : ValueType → Option ℕ
 class_of_type (Class c local) = Some c
 class_of_type _ = None
 
--- the declared type of the elements of a grid
+-- the declared element type of a grid; `Void` for other types
 abbrev pub element_of : ValueType → ValueType
 element_of (Grid t n local) = t
 element_of _ = Void
 
--- how many dimensions a type has; 1 for one without
+-- the number of dimensions of a type; 1 if it has none
 abbrev pub dim_of_type : ValueType → ℕ
 dim_of_type (Pt n) = n
 dim_of_type (Rc n) = n
@@ -81,17 +81,17 @@ dim_of_type (Dm n) = n
 dim_of_type (Grid t n local) = n
 dim_of_type _ = 1
 
--- the type with `local` taken off the reference itself
+-- the type with the reference itself made global
 abbrev pub as_global : ValueType → ValueType
 as_global (Class c local) = Class c false
 as_global (Grid t n local) = Grid t n false
 as_global t = t
 
--- the type of a field or an element that is read through a reference, which is local or not
+-- the type of a field or an element of this type, read through a reference: through a global one, it is global
 abbrev pub read_through : Bool → ValueType → ValueType
 read_through local t = if local then t else as_global t
 
--- the dimension of a domain
+-- the dimension of a domain; None for other types
 abbrev pub domain_dim : ValueType → Option ℕ
 domain_dim (Rc n) = Some n
 domain_dim (Dm n) = Some n

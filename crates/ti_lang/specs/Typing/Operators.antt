@@ -1,4 +1,4 @@
--- The types that operators take, and what they give.
+-- The typing rules of operators.
 use Rattle.std.specs.Prelude.{ℕ, Bool, true, ◌&&◌, ◌||◌, ◌==◌, Option, Some, None, option_map}
 use Rattle.std.specs.Option.{option_or}
 use Rattle.ti_syntax.specs.declared.tree.exprs.UnaryOperator.{UnaryOperator}
@@ -8,49 +8,49 @@ use Rattle.ti_syntax.specs.declared.tree.exprs.BinaryOperator.TheVariants as b
 use Rattle.ti_lang.specs.Program.Types.{ValueType, Int, Long, Boolean, Pt, Rc, Dm, Region}
 use Rattle.ti_lang.specs.Typing.Kinds.{where_true, same_type, is_whole, is_null, is_reference, as_global, domain_dim}
 
--- ---- what two operands have in common
+-- ---- common types of two operands
 
--- the type of two whole numbers: `int` where both are, otherwise `long`
+-- the type of two integers: `int` if both are, and otherwise `long`
 abbrev pub wider : ValueType → ValueType → ValueType
 wider Int Int = Int
 wider _ _ = Long
 
--- the type of two operands that are whole numbers
+-- the common type of two integers
 abbrev pub whole_type : ValueType → ValueType → Option ValueType
 whole_type t u = where_true (is_whole t && is_whole u) (wider t u)
 
--- that of two booleans
+-- the common type of two booleans
 abbrev pub truth_type : ValueType → ValueType → Option ValueType
 truth_type Boolean Boolean = Some Boolean
 truth_type _ _ = None
 
--- two points of one dimension
+-- the common type of two points of the same dimension
 abbrev pub point_type : ValueType → ValueType → Option ValueType
 point_type (Pt n) (Pt m) = where_true (n == m) (Pt n)
 point_type _ _ = None
 
--- two rectangular domains of one dimension
+-- the common type of two rectangular domains of the same dimension
 abbrev pub rect_type : ValueType → ValueType → Option ValueType
 rect_type (Rc n) (Rc m) = where_true (n == m) (Rc n)
 rect_type _ _ = None
 
--- the dimension of two domains of one
+-- the common dimension; None if they differ
 abbrev pub same_dim : Option ℕ → Option ℕ → Option ℕ
 same_dim (Some n) (Some m) = where_true (n == m) n
 same_dim _ _ = None
 
--- two domains of one dimension, rectangular or not
+-- the common type of two domains of the same dimension, rectangular or not
 abbrev pub domain_type : ValueType → ValueType → Option ValueType
 domain_type t u = option_map Dm (same_dim (domain_dim t) (domain_dim u))
 
--- two references of one type apart from `local`, or null
+-- two references of the same type up to `local`, or null
 abbrev pub are_references : ValueType → ValueType → Bool
 are_references t u =
     ((is_reference t || is_null t) && (is_reference u || is_null u)) && ((is_null t || is_null u) || same_type (as_global t) (as_global u))
 
 -- ---- the table
 
--- the operators that take the same operands
+-- classes of operators with the same typing rule
 pub data Row : Type 0 where
   Sum : Row
   Product : Row
@@ -83,7 +83,7 @@ row_of b.GreaterEqual = Order
 row_of b.Equal = Equality
 row_of b.NotEqual = Equality
 
--- whether two values can be compared for equality
+-- operands of these types can be compared for equality
 abbrev pub are_comparable : ValueType → ValueType → Bool
 are_comparable Boolean Boolean = true
 are_comparable (Pt n) (Pt m) = n == m
@@ -94,12 +94,12 @@ are_comparable (Dm n) (Dm m) = n == m
 are_comparable Region Region = true
 are_comparable t u = (is_whole t && is_whole u) || are_references t u
 
--- whether two values can be put in order
+-- operands of these types can be ordered
 abbrev pub are_ordered : ValueType → ValueType → Bool
 are_ordered (Pt n) (Pt m) = n == m
 are_ordered t u = is_whole t && is_whole u
 
--- what the operators of a row give of two operands, where they take them
+-- the result type of the operators of a row; None if they don't accept the operands
 abbrev pub row_type : Row → ValueType → ValueType → Option ValueType
 row_type Sum t u = option_or (whole_type t u) (option_or (point_type t u) (domain_type t u))
 row_type Product t u = option_or (whole_type t u) (option_or (rect_type t u) (domain_type t u))
@@ -110,11 +110,11 @@ row_type Logic t u = truth_type t u
 row_type Order t u = where_true (are_ordered t u) Boolean
 row_type Equality t u = where_true (are_comparable t u) Boolean
 
--- what an operator of two operands gives, where it takes them
+-- the result type of a binary operator; None if it doesn't accept the operands
 abbrev pub binary_type : BinaryOperator → ValueType → ValueType → Option ValueType
 binary_type op t u = row_type (row_of op) t u
 
--- what an operator of one operand gives, where it takes it
+-- the result type of a unary operator; None if it doesn't accept the operand
 abbrev pub unary_type : UnaryOperator → ValueType → Option ValueType
 unary_type u.Not Boolean = Some Boolean
 unary_type u.Not _ = None

@@ -1,4 +1,4 @@
--- What clauses see of types and members in the code.
+-- The views of the code's types and members as the data types of specifications.
 use Rattle.std.specs.Prelude.{Bool, if◌then◌else◌}
 use Rattle.ti_lang.specs.Program.Types.{ValueType}
 use Rattle.ti_lang.specs.Program.Types as ty
@@ -10,11 +10,11 @@ use Rattle.ti_lang.specs.declared.typing.seen.Seen.TheVariants as t
 use Rattle.ti_lang.specs.declared.typing.members.BuiltIn.{BuiltIn}
 use Rattle.ti_lang.specs.declared.typing.members.BuiltIn.TheVariants as b
 
--- a type, with each number of dimensions counted as 1 or as it is
+-- a type, with its numbers of dimensions replaced by 1 if `any` holds
 abbrev pub erased : Bool → ValueType → ValueType
 erased any type = if any then one_dim type else type
 
--- the type that is seen
+-- the type that a value of the code represents
 abbrev pub seen : Seen → ValueType
 seen t.Int = ty.Int
 seen t.Long = ty.Long
@@ -28,7 +28,7 @@ seen (t.Grid elem any dim local) = ty.Grid (erased any (value_type_of elem.now))
 seen t.Null = ty.Null
 seen t.Void = ty.Void
 
--- the same member
+-- the built-in member that a value of the code represents
 abbrev pub built_in_of : BuiltIn → member.BuiltIn
 built_in_of b.Size = member.Size
 built_in_of b.Min = member.Min

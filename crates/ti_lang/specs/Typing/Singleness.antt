@@ -1,4 +1,4 @@
--- Which expressions are single: their value is the same in all processes.
+-- Single expressions: those whose value is statically known to be the same in all processes.
 use Rattle.std.specs.Prelude.{ℕ, Bool, true, false, not, ◌&&◌, Option, Some}
 use Rattle.std.specs.Option.{option_map_or}
 use Rattle.ti_lang.specs.Program.Types.{ValueType, Int, Long, Boolean, Pt, Rc, Declaration, Typed, Foreach}
@@ -15,12 +15,12 @@ use Rattle.ti_lang.specs.Typing.Called.{called_method, member_called}
 
 -- ---- variables and members
 
--- a variable is single where it is declared so; one of a foreach as is told for its number
+-- a variable is single if it is declared so; a foreach variable, as `singles` says for its number
 abbrev pub declared_single : (ℕ → Bool) → ℕ → Declaration → Bool
 declared_single singles number (Typed is_single type) = is_single
 declared_single singles number Foreach = singles number
 
--- a member that tells something of a domain
+-- a built-in member that reads a domain, and so is single on a single receiver
 abbrev pub tells_of_domain : Option BuiltIn → Bool
 tells_of_domain (Some Size) = true
 tells_of_domain (Some Min) = true
@@ -32,7 +32,7 @@ tells_of_domain _ = false
 
 module _ (program : NumberedProgram) (this : Option ℕ) (singles : ℕ → Bool) where
   abbrev mutual
-    -- an expression inside another, or one that is no call of a declared method, where these foreach variables are single
+    -- an operand, or an expression that is no call of a declared method, is single, given which foreach variables are
     pub is_single_part : NumberedExp → Bool
     is_single_part (x.Int at n) = true
     is_single_part (x.Long at n) = true
@@ -43,45 +43,45 @@ module _ (program : NumberedProgram) (this : Option ℕ) (singles : ℕ → Bool
     is_single_part (x.Rect at ranges) = are_single_ranges ranges
     is_single_part (x.Unary at op a) = is_single_part a
     is_single_part (x.Binary at op a b) = is_single_part a && is_single_part b
-    -- no single value is a local reference
+    -- a cast to a local reference isn't single
     is_single_part (x.Cast at to a) = not (is_local to.type) && is_single_part a
-    -- a coordinate of a point, and no element of a grid
+    -- of the index expressions, a coordinate of a point can be single, and an element of a grid can't
     is_single_part (x.Index at a xs) = is_point (type_in_text program this a) && (is_single_part a && are_single xs)
     is_single_part (x.Member at a name args) = tells_of_domain (member_called program this a name) && (is_single_part a && are_single args)
-    -- a read of a field, `this`, `null` and the own number are plain, and so is what a call inside an expression gives
+    -- a field, `this`, `null` and the process's own number aren't single, nor is a call inside an expression
     is_single_part e = false
 
-    -- all of these
+    -- all of these are single
     pub are_single : NumberedExps → Bool
     are_single x.NoExp = true
     are_single (x.MoreExp a rest) = is_single_part a && are_single rest
 
-    -- bounds and step
+    -- the bounds and the stride are single
     pub is_single_range : NumberedRange → Bool
     is_single_range (x.Plain low high) = is_single_part low && is_single_part high
     is_single_range (x.Stepped low high step) = (is_single_part low && is_single_part high) && is_single_part step
 
-    -- those of all ranges
+    -- all ranges are single
     pub are_single_ranges : NumberedRanges → Bool
     are_single_ranges x.NoRange = true
     are_single_ranges (x.MoreRange r rest) = is_single_range r && are_single_ranges rest
 
 -- ---- whole right sides
 
--- a result that is declared single
+-- the result is declared single
 abbrev pub single_result : NumberedResult → Bool
 single_result c.Void = false
 single_result (c.Typed t) = t.is_single
 
--- a method with such a result
+-- the method has a single result
 abbrev pub has_single_result : NumberedMethod → Bool
 has_single_result m = single_result m.result
 
--- an expression that is a whole right side: what a call of a method with single result gives is single
+-- an expression that is a whole right side: a call of a method with a single result is single
 abbrev pub is_single : NumberedProgram → Option ℕ → (ℕ → Bool) → NumberedExp → Bool
 is_single program this singles e = option_map_or has_single_result (called_method program this e) (is_single_part program this singles e)
 
--- a broadcast value of such a type is single; a reference isn't
+-- a value of this type is single after a broadcast; a reference isn't
 abbrev pub is_single_sent : ValueType → Bool
 is_single_sent Int = true
 is_single_sent Long = true
@@ -90,7 +90,7 @@ is_single_sent (Pt n) = true
 is_single_sent (Rc n) = true
 is_single_sent _ = false
 
--- the right side of a declaration or an assignment
+-- the right side of a declaration or an assignment is single
 abbrev pub is_single_initial : NumberedProgram → Option ℕ → (ℕ → Bool) → NumberedInit → Bool
 is_single_initial program this singles (st.Value e) = is_single program this singles e
 is_single_initial program this singles (st.NewRegion at) = true

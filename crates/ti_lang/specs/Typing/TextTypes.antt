@@ -1,5 +1,5 @@
--- The type that an expression has in the text: the declared type where a name is used, and what an operator or a member gives of
--- the types of its operands. No operand is judged, so every expression has one; it means nothing where a rule of types is broken.
+-- Static types without checking: the declared type of a name, and what an operator or a member yields from the types of its operands.
+-- Every expression has one, but it is meaningful only in a program that breaks no typing rule.
 use Rattle.std.specs.Prelude.{◌≡◌, ℕ, ◌-◌, ◌+◌, false, Option, Some, option_map, option_and_then, unwrap_or, slice_get}
 use Rattle.std.specs.Option.{option_map_or}
 use Rattle.ti_syntax.specs.declared.tree.exprs.BinaryOperator.{BinaryOperator}
@@ -17,25 +17,25 @@ use Rattle.ti_lang.specs.Typing.Expressions.{range_count}
 
 -- ---- names
 
--- the declared type; a foreach variable is a point, of the dimensions that are told for its number
+-- the type of a variable: the declared one; a foreach variable is a point, of the number of dimensions that `dims` gives it
 abbrev pub used_type : (ℕ → ℕ) → ℕ → Declaration → ValueType
 used_type dims number (Typed is_single type) = type
 used_type dims number Foreach = t.Pt (dims number)
 
 -- ---- operators
 
--- an int beside a long becomes one, and a rectangular domain beside any a domain
+-- the common type of two operands: an int with a long is a long, a rectangular domain with any domain is a domain
 abbrev pub joined_type : ValueType → ValueType → ValueType
 joined_type t.Int t.Long = t.Long
 joined_type (t.Rc n) y = t.Dm n
 joined_type x y = x
 
--- two rectangular domains meet in one
+-- the type of a product: the intersection of two rectangular domains is rectangular
 abbrev pub product_type : ValueType → ValueType → ValueType
 product_type (t.Rc n) (t.Rc m) = t.Rc n
 product_type x y = joined_type x y
 
--- what an operator gives: a shift the type of its left operand, a comparison a boolean
+-- the result type of an operator: of a shift, that of its left operand; of a comparison, boolean
 abbrev pub operator_type : BinaryOperator → ValueType → ValueType → ValueType
 operator_type op.Add x y = joined_type x y
 operator_type op.Subtract x y = joined_type x y
@@ -52,23 +52,23 @@ operator_type o x y = t.Boolean
 
 -- ---- parts and members
 
--- the field of this name in an object, global where the object is
+-- the type of the field of this name, read from an object; global if the reference is
 abbrev pub field_seen : NumberedProgram → ℕ → ValueType → ValueType
 field_seen program name (t.Class class is_local) = option_map_or (read_through is_local) (named_field_type program class name) t.Void
 field_seen program name type = t.Void
 
--- what an index gives: a coordinate of a point, or an element of a grid, global where the grid is
+-- the type of an index expression: a coordinate of a point, or an element of a grid, global if the reference is
 abbrev pub element_seen : ValueType → ValueType
 element_seen (t.Pt n) = t.Int
 element_seen (t.Grid element n is_local) = read_through is_local element
 element_seen type = t.Void
 
--- a slice of a grid has one dimension less
+-- the type of a slice of a grid, which has one dimension less
 abbrev pub sliced : ValueType → ValueType
 sliced (t.Grid element n is_local) = t.Grid element (n - 1) is_local
 sliced type = type
 
--- what a member of the language gives, for a receiver of a type
+-- the type of a built-in member, from the type of its receiver
 abbrev pub built_in_type : Option BuiltIn → ValueType → ValueType
 built_in_type (Some Size) x = t.Int
 built_in_type (Some Min) x = t.Pt (dim_of_type x)
@@ -80,21 +80,21 @@ built_in_type (Some Translate) x = x
 built_in_type (Some Slice) x = sliced x
 built_in_type _ x = t.Void
 
--- behind an object there is a method, behind another value a member of the language
+-- the type of `x.f(..)`: on an object of a method, on any other value of a built-in member
 abbrev pub member_seen : NumberedProgram → ℕ → ValueType → ValueType
 member_seen program name (t.Class class is_local) = option_map_or result_type (instance_method program class name) t.Void
 member_seen program name x = built_in_type (built_in program name) x
 
 -- ---- expressions
 
--- how many expressions there are
+-- the number of expressions
 abbrev pub how_many : NumberedExps → ℕ
 how_many e.NoExp = 0
 how_many (e.MoreExp x xs) = how_many xs + 1
 
 module _ (program : NumberedProgram) (this : Option ℕ) (dims : ℕ → ℕ) where
   abbrev mutual
-    -- the type of an expression in a method with `this` of a class, or with none, where foreach variables have so many dimensions
+    -- the type of an expression in a method with `this` of a class, or with none, given the dimensions of foreach variables
     pub type_at : NumberedExp → ValueType
     type_at (e.Int at n) = t.Int
     type_at (e.Long at n) = t.Long
@@ -116,30 +116,30 @@ module _ (program : NumberedProgram) (this : Option ℕ) (dims : ℕ → ℕ) wh
     type_at (e.Member at x name args) = member_seen program name (type_at x)
     type_at (e.Index at x parts) = element_seen (type_at x)
 
-    -- a range of numbers has one dimension, one of points as many as these
+    -- the dimensions of a range: one for a range of numbers, those of the points for a range of points
     pub dims_of_range : NumberedRange → ℕ
     dims_of_range (e.Plain low high) = dim_of_type (type_at low)
     dims_of_range (e.Stepped low high step) = dim_of_type (type_at low)
 
-    -- the dimensions of a literal with these ranges: a single one tells them itself, several are of numbers, one each
+    -- the dimensions of a literal with these ranges: a single range determines them; of several, which are of numbers, each counts one
     pub dims_of_ranges : NumberedRanges → ℕ
     dims_of_ranges (e.MoreRange r e.NoRange) = dims_of_range r
     dims_of_ranges rs = range_count rs
 
--- The type of an expression wherever it stands. Of foreach variables no dimensions are known here and 1 is taken: no class, no field,
--- no element and no form of a node hangs on them.
+-- The static type of an expression independently of its scope. The dimensions of foreach variables aren't known here and are taken to
+-- be 1: no class, field, element type or form of a node depends on them.
 abbrev pub type_in_text : NumberedProgram → Option ℕ → NumberedExp → ValueType
 type_in_text program this x = type_at program this (λ number. 1) x
 
--- a foreach variable that is in a scope is a point there, of the dimensions that are told for its number
+-- if a foreach variable is in scope, `dims` gives its number of dimensions there
 abbrev pub IsDimOf : ScopeContents → (ℕ → ℕ) → ℕ → Declaration → Type 0
 IsDimOf s dims number (Typed is_single type) = Unit {0}
 IsDimOf s dims number Foreach = (type : ValueType) → declared_type s number Foreach ≡ Some type → type ≡ t.Pt (dims number)
 
 module _ (s : ScopeContents) (dims : ℕ → ℕ) where
   abbrev mutual
-    -- the dimensions are those that a scope says of the foreach variables of an expression; on those in arguments, indices, coordinates
-    -- and casts its type doesn't hang
+    -- for the foreach variables on which the type of an expression depends, `dims` gives their dimensions in the scope; it doesn't depend
+    -- on those in arguments, indices, coordinates and casts
     pub AreDims : NumberedExp → Type 0
     AreDims (e.Variable at v) = IsDimOf s dims v.number v.declared
     AreDims (e.Rect at ranges) = AreRangesDims ranges
@@ -150,7 +150,7 @@ module _ (s : ScopeContents) (dims : ℕ → ℕ) where
     AreDims (e.Index at x parts) = AreDims x
     AreDims x = Unit {0}
 
-    -- the same of the lower bound of a range, which tells its dimensions
+    -- `dims` is right for the lower bound of a range, which determines the dimensions of the range
     pub IsRangeDims : NumberedRange → Type 0
     IsRangeDims (e.Plain low high) = AreDims low
     IsRangeDims (e.Stepped low high step) = AreDims low

@@ -1,4 +1,5 @@
-// What holds of the heap of every history whose entries are answered by those before them.
+// Theorems about the heap. Those that need it are stated for histories in which each entry has the answer that the entries before it
+// determine.
 ghost use Rattle.std.specs.Prelude.{◌≡◌, ◌≢◌, ◌∷◌, ℕ, false, true, Some, None};
 ghost use Rattle.ti_base.specs.declared.point.Point.{Point};
 ghost use Rattle.ti_base.specs.declared.value.Id.{Id};
@@ -12,8 +13,8 @@ ghost use Rattle.ti_lang.specs.Meaning.RegionsOf.{is_gone};
 ghost use Rattle.ti_lang.specs.Meaning.HeapOf.{made_by, IsMade, grid_of, zero_of, written_by, cell_value};
 ghost use Rattle.ti_lang.specs.Meaning.HeapAnswers.{IsAnswered};
 
-/// A write changes one cell, to what it writes, and nothing else; what writes nothing and makes
-/// nothing changes no cell.
+/// A write changes the cell that it writes, to the value written, and no other; an action that neither writes nor creates anything
+/// changes no cell.
 pub fn writes()
     ensures written { (program : NumberedProgram) (h : History) (e : Entry) (cell : Cell) (zero value : Value) → zero_of program cell h ≡ Some zero
         → written_by e.act h ≡ Some (cell, value) → cell_value program cell (e ∷ h) ≡ Some value }
@@ -23,7 +24,7 @@ pub fn writes()
         → cell_value program cell (e ∷ h) ≡ cell_value program cell h }
 {}
 
-/// A new thing changes no cell that was there.
+/// Creating an object, a grid or a view changes no cell that existed before.
 pub fn makings()
     ensures { (program : NumberedProgram) (h : History) (e : Entry) (cell : Cell) (zero : Value) → IsAnswered program (e ∷ h) → is_making e.act ≡ true
         → zero_of program cell h ≡ Some zero → cell_value program cell (e ∷ h) ≡ cell_value program cell h }
@@ -35,13 +36,13 @@ pub fn cells_differ()
         → IsPoint p → IsPoint q → p.dim ≡ g.domain.dim → q.dim ≡ g.domain.dim → cell_of g p ≡ cell_of g q → p ≡ q }
 {}
 
-/// A thing is made once: no two entries make one.
+/// Names of objects, grids and views are unique: no two entries create the same one.
 pub fn made_once()
     ensures { (program : NumberedProgram) (h : History) (e : Entry) (id : Id) → IsAnswered program (e ∷ h) → made_by e.act e.answer ≡ Some id
         → IsMade id h → ⊥ }
 {}
 
-/// A region that is gone stays so.
+/// A region that has been deleted stays deleted.
 pub fn gone_stays()
     ensures { (r : ℕ) (h : History) (e : Entry) → is_gone r h ≡ true → is_gone r (e ∷ h) ≡ true }
 {}

@@ -1,4 +1,4 @@
-// What holds of the types that expressions have in the text.
+// Theorems about static types.
 ghost use Rattle.std.specs.Prelude.{◌≡◌, ℕ, Bool, Option, Some};
 ghost use Rattle.ti_lang.specs.Program.Types.{ValueType};
 ghost use Rattle.ti_lang.specs.Program.Expressions.{NumberedExp};
@@ -8,8 +8,7 @@ ghost use Rattle.ti_lang.specs.Program.Scope.{ScopeContents};
 ghost use Rattle.ti_lang.specs.Typing.Expressions.{typed};
 ghost use Rattle.ti_lang.specs.Typing.TextTypes.{element_seen, type_at, AreDims};
 
-/// Whether an expression is a point, of which class it is and of what type its elements are hangs
-/// on no number of dimensions of a foreach variable.
+/// Whether an expression is a point, its class and its element type don't depend on the dimensions of foreach variables.
 pub fn forms_have_no_dimensions()
     ensures points { (program : NumberedProgram) (this : Option ℕ) (dims other : ℕ → ℕ) (x : NumberedExp)
         → is_point (type_at program this dims x) ≡ is_point (type_at program this other x) }
@@ -19,8 +18,8 @@ pub fn forms_have_no_dimensions()
         → element_seen (type_at program this dims x) ≡ element_seen (type_at program this other x) }
 {}
 
-/// Where the rules give an expression a type in a scope, it is the one that it has in the text, with the
-/// dimensions that the scope says of its foreach variables.
+/// If the typing rules give an expression a type in a scope, it is its static type, with the dimensions that the scope gives the
+/// foreach variables.
 pub fn types_agree()
     ensures { (program : NumberedProgram) (s : ScopeContents) (dims : ℕ → ℕ) (x : NumberedExp) (type : ValueType) → AreDims s dims x
         → typed program s x ≡ Some type → type_at program s.this_class dims x ≡ type }

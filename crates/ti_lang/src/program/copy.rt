@@ -1,4 +1,4 @@
-// Copies of programs, in room of their own.
+// Deep copies of programs.
 
 ghost use Rattle.std.specs.Prelude.{◌≡◌, map, IfOk};
 ghost use Rattle.ti_syntax.specs.Trees.Views.{grid_of, maybe_of};
@@ -14,17 +14,17 @@ use ti_base::Memory;
 use ti_syntax::Spelled;
 use ti_syntax::tree::Brackets;
 
-/// What can be copied into room of its own.
+/// Types that can be copied deeply.
 pub trait Copied: Drop {
-    /// When two of them are the same, wherever they lie.
+    /// When two values are equal as trees, wherever they are allocated.
     ghost same: { Self → Self → Type 0 };
 
-    /// The same, in room of its own.
+    /// A deep copy.
     fn copy(&self, alloc: Global) -> Result<Self, Memory>
         ensures { IfOk result (λ x. same x self.now) };
 }
 
-/// The same elements, in room of their own.
+/// Deep copies of all elements.
 pub fn copy_all<T: Copied>(alloc: Global, xs: &[T]) -> Result<Vec<T>, Memory>
     ensures { IfOk result (λ v. AreSame T.same v.items xs.now) }
 {
@@ -55,7 +55,7 @@ impl Copied for Brackets {
 }
 
 impl Ty {
-    /// The same type.
+    /// A deep copy.
     pub fn copy(&self, alloc: Global) -> Result<Ty, Memory>
         ensures { IfOk result (λ t. view.value_type_of t ≡ view.value_type_of self.now) }
     {
@@ -86,7 +86,7 @@ impl Ty {
 }
 
 impl TypeUse {
-    /// The same type with the same words.
+    /// A deep copy.
     #[tactic(auto, using(crate::proofs::Copies::copies))]
     pub fn copy(&self, alloc: Global) -> Result<TypeUse, Memory>
         ensures { IfOk result (λ t. view.type_use_of t ≡ view.type_use_of self.now) }
@@ -101,7 +101,7 @@ impl TypeUse {
 }
 
 impl Variable {
-    /// The same variable.
+    /// A deep copy.
     pub fn copy(&self, alloc: Global) -> Result<Variable, Memory>
         ensures { IfOk result (λ v. view.variable_of v ≡ view.variable_of self.now) }
     {
@@ -168,7 +168,7 @@ impl Range {
 }
 
 impl Expr {
-    /// The same expression.
+    /// A deep copy.
     #[cycle(copy_expr)]
     #[tactic(auto, using(crate::proofs::ProgramBridges::program_bridges))]
     pub fn copy(&self, alloc: Global) -> Result<Expr, Memory>
@@ -354,7 +354,7 @@ fn copy_inner(alloc: Global, x: &Stmt) -> Result<Box<Stmt>, Memory>
 }
 
 impl Stmt {
-    /// The same statement.
+    /// A deep copy.
     #[cycle(copy_stmt)]
     #[tactic(auto, using(crate::proofs::ProgramBridges::program_bridges))]
     pub fn copy(&self, alloc: Global) -> Result<Stmt, Memory>
@@ -554,7 +554,7 @@ impl Copied for Method {
 }
 
 impl Parts {
-    /// The same parts.
+    /// A deep copy.
     #[tactic(auto, using(crate::proofs::Copies::copies))]
     pub fn copy(&self, alloc: Global) -> Result<Parts, Memory>
         ensures { IfOk result (λ p. view.program_of p ≡ view.program_of self.now) }

@@ -1,4 +1,4 @@
-// Numbers by class and name.
+// Lookup tables from a class and a name to the number of the first field or method of that name in the class.
 ghost use Rattle.std.specs.Prelude.{◌≡◌, [], IfOk, OnOk};
 ghost use Rattle.std.specs.Map.{lookup};
 ghost use Rattle.ti_lang.specs.Mirrors.Indices.{same_key, with_first, with_firsts, numbered_fields, field_rows, method_rows};
@@ -9,7 +9,7 @@ use std::alloc::Global;
 use std::marker::Model;
 use ti_base::Memory;
 
-/// Numbers by the number of a class and that of a name, the first for each pair.
+/// A table from a class number and a name number to the number of the first declaration; later ones are ignored.
 #[derive(Drop)]
 pub struct Firsts {
     map: IndexMap<(usize, u32), usize>,
@@ -32,14 +32,14 @@ impl Firsts {
         }
     }
 
-    /// The number of a class and a name.
+    /// The number of the first declaration with this class and name; None if there is none.
     pub fn get(&self, class: usize, name: u32) -> Option<usize>
         ensures { result ≡ lookup (same_key (class, name)) self.now }
     {
         self.map.get(&(class, name)).copied()
     }
 
-    // Adds a number, if there is none of the class and the name.
+    // Adds a row, unless there is one with this class and name.
     fn add(&mut self, class: usize, name: u32, number: usize) -> Result<(), Memory>
         ensures { OnOk result (self.new ≡ with_first self.old (class, name) number) }
     {
@@ -53,7 +53,7 @@ impl Firsts {
         Ok(())
     }
 
-    // Adds the fields of the class of a number.
+    // Adds the fields of a class.
     fn add_fields(&mut self, class: usize, fields: &[Field]) -> Result<(), Memory>
         ensures { OnOk result (self.new ≡ with_firsts self.old (numbered_fields class 0 fields.now)) }
     {
@@ -64,7 +64,7 @@ impl Firsts {
     }
 }
 
-/// The fields of these classes, by the numbers of their classes and names.
+/// The table of the fields of these classes, which are numbered from 0; fields are numbered within their class.
 pub fn first_fields(alloc: Global, classes: &[Class]) -> Result<Firsts, Memory>
     ensures { IfOk result (λ f. f ≡ with_firsts [] (field_rows 0 classes.now)) }
 {
@@ -75,7 +75,7 @@ pub fn first_fields(alloc: Global, classes: &[Class]) -> Result<Firsts, Memory>
     Ok(found)
 }
 
-/// The methods among these, by the numbers of their classes and names.
+/// The table of these methods, which are numbered from 0.
 pub fn first_methods(alloc: Global, methods: &[Method]) -> Result<Firsts, Memory>
     ensures { IfOk result (λ f. f ≡ with_firsts [] (method_rows 0 methods.now)) }
 {

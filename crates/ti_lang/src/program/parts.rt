@@ -1,4 +1,4 @@
-// The parts of a program, with what is found by its name.
+// Construction of programs, and lookup of their fields and methods by name.
 ghost use Rattle.std.specs.Prelude.{◌≡◌, ◌==◌, ◌&&◌, map, position, IfOk};
 ghost use Rattle.ti_lang.specs.Program.Classes.{NumberedMethod};
 ghost use Rattle.ti_lang.specs.Program.Views.{numbered_class_of, numbered_method_of, program_of};
@@ -11,7 +11,7 @@ use ti_base::Memory;
 use ti_syntax::Spelled;
 
 impl Parts {
-    /// The parts of a program with these classes, methods, number of `main`, names of members and string literals.
+    /// The program with these classes, methods, number of `main`, names of members and string literals. Builds the lookup tables.
     pub fn of(
         alloc: Global,
         classes: Vec<Class>,
@@ -41,14 +41,14 @@ impl Parts {
         })
     }
 
-    /// The number in its class of the first field of a class and a name.
+    /// The number, within its class, of the first field of this name in a class.
     pub fn first_field(&self, class: u32, name: u32) -> Option<usize>
         ensures { result ≡ field_numbered (program_of self.now) name class }
     {
         self.first_fields.get(class as usize, name)
     }
 
-    /// The number of the first method of a class and a name.
+    /// The number of the first method of this name in a class.
     pub fn first_method(&self, class: u32, name: u32) -> Option<usize>
         ensures { result ≡ position (λ (m : NumberedMethod). (m.class == class) && (m.name == name)) (program_of self.now).methods }
     {

@@ -1,8 +1,8 @@
-// Types, and variables as they are used.
+// Types, and uses of variables.
 
 use ti_syntax::tree::{Brackets, Qualifier};
 
-/// A type. It tells nothing of `single`.
+/// A type, without `single`.
 #[derive(Drop)]
 #[cycle(ty)]
 pub enum Ty {
@@ -17,38 +17,38 @@ pub enum Ty {
     Dm(u8),
     /// `SharedRegion`
     Region,
-    /// The class of a number, local or global.
+    /// An object of the class of this number.
     Class { class: u32, local: bool },
     /// `T [Nd]`, local or global.
     Grid { elem: Box<Ty>, dim: u8, local: bool },
-    /// That of `null`.
+    /// The type of `null`.
     Null,
-    /// That of a call without a result.
+    /// The type of a call of a method without a result.
     Void,
 }
 
-/// A type where it is written, with the words that qualify its parts.
+/// A type as it is written, with its qualifiers.
 #[derive(Drop)]
 pub struct TypeUse {
     pub ty: Ty,
-    /// Whether what has this type is single. At first it is where the word stands; it may be set and cleared.
+    /// Whether what has this type is single: initially, whether it is written `single`; inference of annotations changes it.
     pub single: bool,
-    /// Those behind the base.
+    /// The qualifiers of the base, which follow it.
     pub qualifiers: Vec<Qualifier>,
-    /// The brackets from the outermost grid on, with those behind each.
+    /// The brackets, from the outermost grid on, each with the qualifiers that follow it.
     pub grids: Vec<Brackets>,
 }
 
-/// What is written where a variable is declared.
+/// The declaration of a variable.
 #[derive(Drop)]
 pub enum Declared {
     /// Its type, and whether it is single.
     Typed { single: bool, ty: Ty },
-    /// Nothing but its name: it runs over the points of a domain.
+    /// A foreach variable, which is declared by its name only; it iterates over the points of a domain.
     Foreach,
 }
 
-/// A variable where it is used: its number in its method, and what is written where it is declared.
+/// A use of a variable: its number in its method, and its declaration.
 #[derive(Drop)]
 pub struct Variable {
     pub number: u32,

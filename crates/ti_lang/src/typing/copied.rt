@@ -1,4 +1,4 @@
-// A type that is seen, in room of its own.
+// Borrowed types turned into owned ones.
 ghost use Rattle.std.specs.Prelude.{◌≡◌, IfOk};
 ghost use Rattle.ti_lang.specs.Program.Views.{value_type_of};
 ghost use Rattle.ti_lang.specs.Typing.Alike.{one_dim};
@@ -9,7 +9,7 @@ use crate::program::Ty;
 use std::alloc::Global;
 use ti_base::Memory;
 
-/// A number of dimensions; one that no type can hold is a want of memory.
+/// A number of dimensions as it is stored in a type. One above 255 is reported as out of memory; no type of a program has one.
 fn small(dim: usize) -> Result<u8, Memory>
     ensures { IfOk result (λ n. n ≡ dim) }
 {
@@ -19,7 +19,7 @@ fn small(dim: usize) -> Result<u8, Memory>
     }
 }
 
-/// The same type with 1 for each number of dimensions.
+/// A copy of the type in which each number of dimensions is 1.
 fn copy_ones(alloc: Global, ty: &Ty) -> Result<Ty, Memory>
     ensures { IfOk result (λ t. value_type_of t ≡ one_dim (value_type_of ty.now)) }
 {
@@ -52,7 +52,7 @@ fn copy_ones(alloc: Global, ty: &Ty) -> Result<Ty, Memory>
     }
 }
 
-/// The type of elements, in room of its own.
+/// A copy of an element type; in it, each number of dimensions is 1 if `any_dim` holds.
 fn copy_elements(alloc: Global, ty: &Ty, any_dim: bool) -> Result<Ty, Memory>
     ensures { IfOk result (λ t. value_type_of t ≡ erased any_dim (value_type_of ty.now)) }
 {
@@ -64,7 +64,7 @@ fn copy_elements(alloc: Global, ty: &Ty, any_dim: bool) -> Result<Ty, Memory>
 }
 
 impl<'p> Seen<'p> {
-    /// The type, in room of its own. No type of a program has more than 255 dimensions; one that had would be a want of memory.
+    /// An owned copy. A number of dimensions above 255 is reported as out of memory; no type of a program has one.
     pub fn copy(self, alloc: Global) -> Result<Ty, Memory>
         ensures { IfOk result (λ t. value_type_of t ≡ seen self.entry) }
     {

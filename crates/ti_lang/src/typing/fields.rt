@@ -1,4 +1,4 @@
-// Which field a name means, and what new fields and elements hold.
+// Lookup of a selected field, and the initial values of fields and elements.
 
 ghost use Rattle.std.specs.Prelude.{◌≡◌};
 ghost use Rattle.std.specs.Option.{option_and_then};
@@ -12,7 +12,7 @@ use super::seen::Seen;
 use crate::program::{Parts, Ty};
 use ti_base::Zero;
 
-/// The number in its class of the field that `x.f` means where `x` has this type, by the number of its name, if there is one.
+/// The number, within its class, of the field that `x.f` selects if `x` has type `t`, by the number of the name; None if there is none.
 pub fn field_number(program: &Parts, t: Seen, name: u32) -> Option<usize>
     ensures { result ≡ option_and_then (field_numbered_spec (program_of program.now) name) (class_of_type (seen t.entry)) }
 {
@@ -22,7 +22,7 @@ pub fn field_number(program: &Parts, t: Seen, name: u32) -> Option<usize>
     }
 }
 
-/// What a new field or a new element of the type holds.
+/// The initial value of a field or an element of the type.
 pub fn zero_of_type(ty: &Ty) -> Zero
     ensures { result ≡ zero_of_type (value_type_of ty.now) }
 {

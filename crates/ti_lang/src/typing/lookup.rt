@@ -1,4 +1,4 @@
-// The fields and methods of a program, and the variables in scope.
+// Lookup of the fields and methods of a program and of the variables in scope, by number or by name.
 ghost use Rattle.std.specs.Prelude.{◌≡◌, ◌==◌, ◌&&◌, false, not, map, find, slice_get};
 ghost use Rattle.std.specs.Option.{option_map, option_and_then};
 ghost use Rattle.ti_lang.specs.Members.{only_if};
@@ -15,7 +15,7 @@ ghost use Rattle.ti_lang.specs.Typing.Seen.{seen};
 use super::seen::Seen;
 use crate::program::{Class, Declared, Field, InScope, Method, Parts, Scope, Variable, has_static};
 
-/// The variable of a number.
+/// The variable in scope of this number.
 fn scoped<'a>(scope: &'a Scope, number: u32) -> Option<&'a InScope>
     ensures { option_map (λ v. in_scope_of v.now) result ≡ in_scope (contents_of scope.now) number }
 {
@@ -27,7 +27,7 @@ fn scoped<'a>(scope: &'a Scope, number: u32) -> Option<&'a InScope>
     None
 }
 
-/// The type of a variable.
+/// The type of a variable: the declared one; for a foreach variable, that in the scope, and None if it isn't in scope.
 pub fn variable_type<'a>(scope: &'a Scope, v: &'a Variable) -> Option<Seen<'a>>
     ensures { option_map seen result ≡ variable_type (contents_of scope.now) (variable_of v.now) }
 {
@@ -40,7 +40,7 @@ pub fn variable_type<'a>(scope: &'a Scope, v: &'a Variable) -> Option<Seen<'a>>
     }
 }
 
-/// The type of `this`, which is of a class where there is one.
+/// The type of `this`, which is a global reference; None if there is no `this`.
 pub fn this_type<'a>(this: Option<u32>) -> Option<Seen<'a>>
     ensures { option_map seen result ≡ option_map (λ c. ClassType c false) this }
 {
@@ -64,7 +64,7 @@ fn class_at(classes: &[Class], number: usize) -> Option<&Class>
     }
 }
 
-/// The fields of the class of a number.
+/// The fields of a class; none if there is no such class.
 fn fields_of(program: &Parts, class: u32) -> &[Field]
     ensures { map numbered_field_of result.now ≡ fields_of_class (program_of program.now) class }
 {
@@ -85,7 +85,7 @@ fn field_at(fields: &[Field], number: usize) -> Option<&Field>
     }
 }
 
-/// The first field of a class and a name.
+/// The first field of this name in a class.
 fn field_named(program: &Parts, class: u32, name: u32) -> Option<&Field>
     ensures { option_map (λ f. numbered_field_of f.now) result ≡ find (λ (f : NumberedField). f.name == name)
         (fields_of_class (program_of program.now) class) }
@@ -96,7 +96,7 @@ fn field_named(program: &Parts, class: u32, name: u32) -> Option<&Field>
     }
 }
 
-/// The declared type of the field of a number, in the class of one.
+/// The declared type of a field, by the number of its class and its own.
 pub fn field_type<'a>(program: &'a Parts, class: u32, field: u32) -> Option<Seen<'a>>
     ensures { option_map seen result ≡ field_type (program_of program.now) class field }
 {
@@ -106,7 +106,7 @@ pub fn field_type<'a>(program: &'a Parts, class: u32, field: u32) -> Option<Seen
     }
 }
 
-/// The type of a field of `this`, which is global, by its number.
+/// The type of a field of `this`, by its number; it is global, since `this` is a global reference.
 pub fn own_field_type<'a>(program: &'a Parts, this: Option<u32>, field: u32) -> Option<Seen<'a>>
     ensures { option_map seen result ≡ option_map as_global (option_and_then (λ c. field_type (program_of program.now) c field) this) }
 {
@@ -119,7 +119,7 @@ pub fn own_field_type<'a>(program: &'a Parts, this: Option<u32>, field: u32) -> 
     }
 }
 
-/// The type of the first field of a name.
+/// The declared type of the first field of this name in a class.
 #[tactic(auto, unfolding(crate::specs::Typing::Declared::named_field_type))]
 pub fn named_field_type<'a>(program: &'a Parts, class: u32, name: u32) -> Option<Seen<'a>>
     ensures { option_map seen result ≡ named_field_type (program_of program.now) class name }
@@ -130,7 +130,7 @@ pub fn named_field_type<'a>(program: &'a Parts, class: u32, name: u32) -> Option
     }
 }
 
-/// The type of a field of what is seen.
+/// The type of `x.f`, from the type of `x`; None if `x` isn't an object of a class with this field.
 pub fn select_type<'a>(program: &'a Parts, t: Seen<'a>, name: u32) -> Option<Seen<'a>>
     ensures { option_map seen result ≡ select_type (program_of program.now) (seen t.entry) name }
 {
@@ -154,14 +154,14 @@ fn method_at(methods: &[Method], number: usize) -> Option<&Method>
     }
 }
 
-/// The method of a number.
+/// The method of this number.
 pub fn method(program: &Parts, number: u32) -> Option<&Method>
     ensures { option_map (λ m. numbered_method_of m.now) result ≡ slice_get (program_of program.now).methods number }
 {
     method_at(&program.methods, number as usize)
 }
 
-/// The first method of a class and a name.
+/// The first method of this name in a class.
 fn method_named(program: &Parts, class: u32, name: u32) -> Option<&Method>
     ensures { option_map (λ m. numbered_method_of m.now) result ≡ find (λ (m : NumberedMethod). (m.class == class) && (m.name == name))
         (program_of program.now).methods }
@@ -178,7 +178,7 @@ fn is_instance(m: &Method) -> bool
     !has_static(&m.modifiers)
 }
 
-/// The same, where it's an instance method.
+/// The method, if it is an instance method.
 fn only_instance(m: Option<&Method>) -> Option<&Method>
     ensures { option_map (λ m. numbered_method_of m.now) result ≡ only_if (λ (m : NumberedMethod). not (is_static_method m))
         (option_map (λ m. numbered_method_of m.now) m.entry) }
@@ -189,7 +189,7 @@ fn only_instance(m: Option<&Method>) -> Option<&Method>
     }
 }
 
-/// The first method of a class and a name, where it's an instance method.
+/// The first method of this name in a class, if that is an instance method.
 #[tactic(auto, unfolding(crate::specs::Typing::Declared::instance_method))]
 pub fn instance_method(program: &Parts, class: u32, name: u32) -> Option<&Method>
     ensures { option_map (λ m. numbered_method_of m.now) result ≡ instance_method (program_of program.now) class name }
@@ -197,7 +197,7 @@ pub fn instance_method(program: &Parts, class: u32, name: u32) -> Option<&Method
     only_instance(method_named(program, class, name))
 }
 
-/// The instance method of a name, behind an object.
+/// The instance method of this name on a receiver of type `t`; None if that is no object.
 pub fn method_behind<'a>(program: &'a Parts, t: Seen<'a>, name: u32) -> Option<&'a Method>
     ensures { option_map (λ m. numbered_method_of m.now) result ≡ method_behind (program_of program.now) (seen t.entry) name }
 {

@@ -1,4 +1,4 @@
-// The members that the language gives to domains, grids and regions.
+// The built-in members of domains, grids and regions.
 ghost use Rattle.std.specs.Prelude.{◌≡◌, bytes_eq};
 ghost use Rattle.std.specs.Option.{option_map};
 ghost use Rattle.ti_lang.specs.Program.Views.{program_of};
@@ -8,7 +8,7 @@ ghost use Rattle.ti_lang.specs.Typing.Seen.{built_in_of};
 use crate::program::Parts;
 use ti_syntax::Spelled;
 
-/// A member of the language.
+/// A built-in member.
 #[derive(Clone, Copy)]
 pub enum BuiltIn {
     Size,
@@ -30,7 +30,7 @@ fn is_spelled(name: &Spelled, text: &[u8]) -> bool
     name.as_bytes() == text
 }
 
-/// The member of a spelling.
+/// The built-in member of this name.
 fn spelled(name: &Spelled) -> Option<BuiltIn>
     ensures { option_map built_in_of result ≡ spelled name.now }
 {
@@ -61,7 +61,7 @@ fn spelled(name: &Spelled) -> Option<BuiltIn>
     }
 }
 
-/// The member of a number among the names of a program.
+/// The built-in member whose name has this number in the program.
 #[tactic(auto, unfolding(crate::specs::Typing::BuiltIn::built_in), using(crate::proofs::Names::name_lookups))]
 pub fn built_in(program: &Parts, name: u32) -> Option<BuiltIn>
     ensures { option_map built_in_of result ≡ built_in (program_of program.now) name }

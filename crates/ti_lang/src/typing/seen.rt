@@ -1,4 +1,4 @@
-// Types as the checker sees them: it borrows the types of elements, so that typing takes no memory.
+// Types as views that borrow element types from the program, so that typing doesn't allocate.
 ghost use Rattle.std.specs.Prelude.{◌≡◌, if◌then◌else◌};
 ghost use Rattle.ti_lang.specs.Program.Views.{value_type_of};
 ghost use Rattle.ti_lang.specs.Typing.Kinds.{same_type, is_whole, is_null, is_void, is_reference, is_object, is_local, as_global, read_through, domain_dim};
@@ -7,7 +7,7 @@ ghost use Rattle.ti_lang.specs.Typing.Seen.{seen, erased};
 
 use crate::program::Ty;
 
-/// A type. That of a grid's elements is borrowed; where `any_dim` holds, each number of dimensions in it counts as 1.
+/// A type. The element type of a grid is borrowed; if `any_dim` holds, each number of dimensions in it counts as 1.
 #[derive(Clone, Copy)]
 pub enum Seen<'p> {
     Int,
@@ -31,7 +31,8 @@ pub enum Seen<'p> {
     Void,
 }
 
-/// Whether two types are the same, each with its numbers of dimensions or with 1 for each.
+/// Whether two element types are equal, with each number of dimensions in the first counted as 1 if `t_any` holds, and in the second if
+/// `u_any` does.
 pub fn same_elements(t: &Ty, t_any: bool, u: &Ty, u_any: bool) -> bool
     ensures { result ≡ same_type (erased t_any (value_type_of t.now)) (erased u_any (value_type_of u.now)) }
 {
@@ -70,7 +71,7 @@ fn dim(n: u8, any: bool) -> usize
 }
 
 impl<'p> Seen<'p> {
-    /// A type of a program, each number of dimensions counted as it is or as 1.
+    /// The view of a type; if `any_dim` holds, each number of dimensions counts as 1.
     pub fn of(ty: &'p Ty, any_dim: bool) -> Seen<'p>
         ensures { seen result ≡ erased any_dim (value_type_of ty.now) }
     {
@@ -101,7 +102,7 @@ impl<'p> Seen<'p> {
         }
     }
 
-    /// Whether two types are the same.
+    /// Whether two types are equal.
     pub fn same(self, other: Seen<'p>) -> bool
         ensures { result ≡ same_type (seen self.entry) (seen other.entry) }
     {
@@ -135,7 +136,7 @@ impl<'p> Seen<'p> {
         }
     }
 
-    /// `int` or `long`
+    /// Whether this is `int` or `long`.
     pub fn is_whole(self) -> bool
         ensures { result ≡ is_whole (seen self.entry) }
     {
@@ -149,14 +150,14 @@ impl<'p> Seen<'p> {
         matches!(self, Seen::Null)
     }
 
-    /// Whether this is the type of what gives nothing.
+    /// Whether this is the type of a call without a result.
     pub fn is_void(self) -> bool
         ensures { result ≡ is_void (seen self.entry) }
     {
         matches!(self, Seen::Void)
     }
 
-    /// A class or a grid.
+    /// Whether this is a class or a grid.
     pub fn is_reference(self) -> bool
         ensures { result ≡ is_reference (seen self.entry) }
     {
@@ -172,7 +173,7 @@ impl<'p> Seen<'p> {
         }
     }
 
-    /// An object of a class.
+    /// Whether this is an object of a class.
     pub fn is_object(self) -> bool
         ensures { result ≡ is_object (seen self.entry) }
     {
@@ -182,7 +183,7 @@ impl<'p> Seen<'p> {
         }
     }
 
-    /// A local reference.
+    /// Whether this is a local reference.
     pub fn is_local(self) -> bool
         ensures { result ≡ is_local (seen self.entry) }
     {
@@ -193,14 +194,14 @@ impl<'p> Seen<'p> {
         }
     }
 
-    /// The type of a field or an element that is read through a reference, which is local or not.
+    /// The type of a field or an element of this type, read through a reference: through a global one, it is global.
     pub fn read_through(self, local: bool) -> Seen<'p>
         ensures { seen result ≡ read_through local (seen self.entry) }
     {
         if local { self } else { self.with_local(false) }
     }
 
-    /// The same reference, local or global; another type as it is.
+    /// The type with the reference itself made local or global; a type that is no reference is unchanged.
     pub fn with_local(self, local: bool) -> Seen<'p>
         ensures { seen result ≡ (if local then as_local (seen self.entry) else as_global (seen self.entry)) }
     {
@@ -245,7 +246,7 @@ impl<'p> Seen<'p> {
         }
     }
 
-    /// The dimension of a domain.
+    /// The dimension of a domain; None for other types.
     pub fn domain_dim(self) -> Option<usize>
         ensures { result ≡ domain_dim (seen self.entry) }
     {

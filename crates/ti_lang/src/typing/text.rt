@@ -1,4 +1,4 @@
-// The type of an expression in the text, whether or not a rule of types is broken in it.
+// Static types of expressions without checking: meaningful only in a program that breaks no typing rule.
 ghost use Rattle.std.specs.Prelude.{◌≡◌, map, reverse};
 ghost use Rattle.std.specs.Option.{option_map, option_map_or, unwrap_or};
 ghost use Rattle.ti_lang.specs.Program.Types.{Void};
@@ -28,7 +28,7 @@ pub struct ForeachDims {
     pub dims: usize,
 }
 
-// The number of dimensions of a foreach variable: the last that is listed for it, or 1.
+// The number of dimensions of a foreach variable, by its last entry in the list; 1 if it has none.
 fn dims_among(dims: &[ForeachDims], variable: u32) -> usize
     ensures { result ≡ dims_in (reverse dims.now) variable }
 {
@@ -41,7 +41,7 @@ fn dims_among(dims: &[ForeachDims], variable: u32) -> usize
     found
 }
 
-// The declared type of a variable; that of a foreach is a point.
+// The type of a variable: the declared one; that of a foreach variable is a point.
 fn used_type<'p>(variable: &'p Variable, dims: &[ForeachDims]) -> Seen<'p>
     ensures { seen result ≡ used_type (dims_in (reverse dims.now)) (variable_of variable.now).number (variable_of variable.now).declared }
 {
@@ -51,7 +51,7 @@ fn used_type<'p>(variable: &'p Variable, dims: &[ForeachDims]) -> Seen<'p>
     }
 }
 
-// A type, where there is one.
+// The type, or `Void` if there is none.
 fn or_void<'p>(t: Option<Seen<'p>>) -> Seen<'p>
     ensures { seen result ≡ unwrap_or (option_map seen t.entry) Void }
 {
@@ -61,7 +61,7 @@ fn or_void<'p>(t: Option<Seen<'p>>) -> Seen<'p>
     }
 }
 
-// What a call of a method gives, if there is one.
+// The result type of a method; `Void` if there is none.
 fn result_of<'p>(m: Option<&'p Method>) -> Seen<'p>
     ensures { seen result ≡ option_map_or result_type (option_map (λ m. numbered_method_of m.now) m.entry) Void }
 {
@@ -76,7 +76,7 @@ fn result_of<'p>(m: Option<&'p Method>) -> Seen<'p>
 
 // ---- operators
 
-// An int beside a long becomes one, and a rectangular domain beside any a domain.
+// The common type of two operands: an int with a long is a long, a rectangular domain with any domain is a domain.
 fn joined<'p>(x: Seen<'p>, y: Seen<'p>) -> Seen<'p>
     ensures { seen result ≡ joined_type (seen x.entry) (seen y.entry) }
 {
@@ -87,7 +87,7 @@ fn joined<'p>(x: Seen<'p>, y: Seen<'p>) -> Seen<'p>
     }
 }
 
-// Two rectangular domains meet in one.
+// The type of a product: the intersection of two rectangular domains is rectangular.
 fn product<'p>(x: Seen<'p>, y: Seen<'p>) -> Seen<'p>
     ensures { seen result ≡ product_type (seen x.entry) (seen y.entry) }
 {
@@ -97,8 +97,8 @@ fn product<'p>(x: Seen<'p>, y: Seen<'p>) -> Seen<'p>
     }
 }
 
-/// What an operator gives between operands of these types, whether or not it takes them: a shift the type of its left operand, a
-/// comparison a boolean.
+/// The result type of an operator on operands of these types, without checking them: of a shift, the type of its left operand; of a
+/// comparison, boolean.
 pub fn operator_type<'p>(operator: BinaryOperator, x: Seen<'p>, y: Seen<'p>) -> Seen<'p>
     ensures { seen result ≡ operator_type operator (seen x.entry) (seen y.entry) }
 {
@@ -120,7 +120,7 @@ pub fn operator_type<'p>(operator: BinaryOperator, x: Seen<'p>, y: Seen<'p>) -> 
 
 // ---- parts and members
 
-/// What `x.f` gives where `x` has this type: the type of the field of that name, global where the object is; nothing where there is none.
+/// The type of `x.f`, from the type of `x`: that of the field of this name, global if the reference is; `Void` if there is no such field.
 pub fn field_seen<'p>(program: &'p Parts, name: u32, t: Seen<'p>) -> Seen<'p>
     ensures { seen result ≡ field_seen (program_of program.now) name (seen t.entry) }
 {
@@ -133,7 +133,7 @@ pub fn field_seen<'p>(program: &'p Parts, name: u32, t: Seen<'p>) -> Seen<'p>
     }
 }
 
-/// What an index gives behind a value of this type: a coordinate of a point, or an element of a grid, global where the grid is.
+/// The type of `x[..]`, from the type of `x`: a coordinate of a point, or an element of a grid, global if the reference is.
 pub fn element_seen<'p>(t: Seen<'p>) -> Seen<'p>
     ensures { seen result ≡ element_seen (seen t.entry) }
 {
@@ -149,7 +149,7 @@ pub fn element_seen<'p>(t: Seen<'p>) -> Seen<'p>
     }
 }
 
-// A slice of a grid has one dimension less.
+// The type of a slice of a grid, which has one dimension less.
 fn sliced<'p>(t: Seen<'p>) -> Seen<'p>
     ensures { seen result ≡ sliced (seen t.entry) }
 {
@@ -169,7 +169,7 @@ fn sliced<'p>(t: Seen<'p>) -> Seen<'p>
     }
 }
 
-/// How many dimensions a type has; 1 for one without.
+/// The number of dimensions of a type; 1 if it has none.
 pub fn dims_of(t: Seen) -> usize
     ensures { result ≡ dim_of_type (seen t.entry) }
 {
@@ -180,7 +180,7 @@ pub fn dims_of(t: Seen) -> usize
     }
 }
 
-// What a member of the language gives, for a receiver of a type.
+// The type of a built-in member, from the type of its receiver.
 fn member_gives<'p>(b: BuiltIn, t: Seen<'p>) -> Seen<'p>
     ensures { seen result ≡ built_in_type (Some (built_in_of b)) (seen t.entry) }
 {
@@ -195,7 +195,7 @@ fn member_gives<'p>(b: BuiltIn, t: Seen<'p>) -> Seen<'p>
     }
 }
 
-// The same, where it is one.
+// The type of a built-in member, from the type of its receiver; `Void` if there is no member.
 fn built_in_type<'p>(b: Option<BuiltIn>, t: Seen<'p>) -> Seen<'p>
     ensures { seen result ≡ built_in_type (option_map built_in_of b) (seen t.entry) }
 {
@@ -205,8 +205,8 @@ fn built_in_type<'p>(b: Option<BuiltIn>, t: Seen<'p>) -> Seen<'p>
     }
 }
 
-/// What a member call gives behind a value of this type: behind an object there is a method, behind another value a member of the
-/// language.
+/// The type of `x.f(..)`, from the type of `x`: on an object of a method, on any other value of a built-in member; `Void` if there is
+/// none.
 pub fn member_seen<'p>(program: &'p Parts, name: u32, t: Seen<'p>) -> Seen<'p>
     ensures { seen result ≡ member_seen (program_of program.now) name (seen t.entry) }
 {
@@ -218,7 +218,7 @@ pub fn member_seen<'p>(program: &'p Parts, name: u32, t: Seen<'p>) -> Seen<'p>
 
 // ---- expressions
 
-// How many expressions there are.
+// The number of expressions.
 #[tactic(auto, using(crate::proofs::RangeDims::many_arguments))]
 fn how_many(xs: &[Expr]) -> usize
     ensures { result ≡ how_many (numbered_exps (map expression_of xs.now)) }
@@ -226,7 +226,7 @@ fn how_many(xs: &[Expr]) -> usize
     xs.len()
 }
 
-// A range of numbers has one dimension, one of points as many as these.
+// The dimensions of a range: one for a range of numbers, those of the points for a range of points.
 #[cycle(text)]
 fn dims_of_range(program: &Parts, this: Option<u32>, dims: &[ForeachDims], range: &Range) -> usize
     ensures { result ≡ dims_of_range (program_of program.now) this (dims_in (reverse dims.now)) (bound_of range.now) }
@@ -237,7 +237,7 @@ fn dims_of_range(program: &Parts, this: Option<u32>, dims: &[ForeachDims], range
     }
 }
 
-// The dimensions of a literal with these ranges: a single one tells them itself, several are one each.
+// The dimensions of a literal with these ranges: a single range determines them; of several, each counts one.
 #[cycle(text)]
 #[tactic(auto, using(crate::proofs::RangeDims::range_dims))]
 fn dims_of_ranges(
@@ -256,9 +256,9 @@ fn dims_of_ranges(
     }
 }
 
-/// The type that an expression has in a method with `this` of a class, or with none, where foreach
-/// variables have the dimensions that are listed, the last listed of a variable and 1 for one that isn't.
-/// No operand is judged: it means nothing where a rule of types is broken.
+/// The static type of an expression in a method with `this` of a class, or with none, without checking its operands. The number of
+/// dimensions of a foreach variable is that of its last entry in `dims`, and 1 if it has none. The type is meaningful only if no typing
+/// rule is broken.
 #[cycle(text)]
 #[tactic(auto, using(crate::proofs::ProgramBridges::program_bridges))]
 pub fn type_over<'p>(
@@ -305,8 +305,8 @@ pub fn type_over<'p>(
     }
 }
 
-/// The same where no dimensions of foreach variables are told, so that each counts as a point of one
-/// dimension: no class, no field, no element and no form of a node hangs on that.
+/// The static type of an expression, with foreach variables taken as points of one dimension: no class, field, element type or form of
+/// a node depends on their dimensions.
 pub fn type_in_text<'p>(program: &'p Parts, this: Option<u32>, e: &'p Expr) -> Seen<'p>
     ensures { seen result ≡ type_in_text (program_of program.now) this (expression_of e.now) }
 {
@@ -315,8 +315,7 @@ pub fn type_in_text<'p>(program: &'p Parts, this: Option<u32>, e: &'p Expr) -> S
 
 // ---- calls
 
-/// The declared method that an expression calls, if it is such a call: `x.f(..)` is one where `x` is an
-/// object.
+/// The declared method that an expression calls; None if it calls none. `x.f(..)` calls one only if `x` is an object.
 #[tactic(auto, using(crate::proofs::ProgramBridges::program_bridges))]
 pub fn called_method<'p>(program: &'p Parts, this: Option<u32>, e: &'p Expr) -> Option<&'p Method>
     ensures { option_map (λ m. numbered_method_of m.now) result ≡ called_method (program_of program.now) this (expression_of e.now) }
@@ -331,7 +330,7 @@ pub fn called_method<'p>(program: &'p Parts, this: Option<u32>, e: &'p Expr) -> 
     }
 }
 
-/// The member of the language that a name means behind an expression; behind an object it means none.
+/// The built-in member that a name denotes on a receiver; None on an object.
 pub fn member_called(
     program: &Parts,
     this: Option<u32>,

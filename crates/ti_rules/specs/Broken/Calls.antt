@@ -1,4 +1,4 @@
--- What is wrong with a call whose receiver and arguments have types.
+-- The errors of a call whose receiver and arguments have types.
 use Rattle.std.specs.Prelude.{ℕ, Bool, true, false, not, ◌&&◌, ◌||◌, ◌==◌, nat_lt, if◌then◌else◌, List, [], ◌∷◌, ◌++◌, map, length, Option, Some, None, is_some}
 use Rattle.ti_base.specs.declared.place.Place.{Place}
 use Rattle.ti_lang.specs.Program.Types.{ValueType, Rc, Region, Class, Grid}
@@ -16,32 +16,32 @@ use Rattle.ti_rules.specs.Broken.Refused.{refused, mistaken, misfit}
 
 -- ---- declared methods
 
--- arguments at their places that don't fit their parameters
+-- the errors of arguments that don't fit their parameters, at the positions of the arguments
 abbrev pub misfits : List Place → List ValueType → List ValueType → List Refusal
 misfits (at ∷ places) (t ∷ ts) (u ∷ us) = misfit at t u ++ misfits places ts us
 misfits _ _ _ = []
 
--- the first argument is refused, whatever it is
+-- the error of the first argument, whatever its type
 abbrev pub first_misfit : List Place → List Refusal
 first_misfit [] = []
 first_misfit (at ∷ places) = refused Y2 at
 
--- another number of arguments than of parameters breaks Y4; the parameter `String[] x` of `main` is one, which no value fits
+-- a wrong number of arguments breaks Y4; the `String[] x` of `main` counts as one parameter, which no value fits
 abbrev pub params_refusals : Place → List Place → NumberedParams → List ValueType → List Refusal
 params_refusals at places Words ts = if length ts == 1 then first_misfit places else refused Y4 at
 params_refusals at places (Params params) ts = if length ts == length params then misfits places ts (types_of params) else refused Y4 at
 
--- a call of the method, at its name, with arguments of these types at these places
+-- the errors of a call of the method, at its name, with arguments of these types at these positions
 abbrev pub call_refusals : Place → List Place → Option NumberedMethod → List ValueType → List Refusal
 call_refusals at places None ts = []
 call_refusals at places (Some m) ts = params_refusals at places m.params ts
 
--- the same behind an object; a name that is none of an instance method of its class is no member
+-- the errors of a call of an instance method on an object; the name must be that of one of its class
 abbrev pub instance_refusals : Place → List Place → Option NumberedMethod → List ValueType → List Refusal
 instance_refusals at places None ts = refused Y1 at
 instance_refusals at places (Some m) ts = params_refusals at places m.params ts
 
--- ---- members that the language gives
+-- ---- built-in members
 
 -- values of this type have the member
 abbrev pub has_member : BuiltIn → ValueType → Bool
@@ -58,7 +58,7 @@ has_member Exchange (Grid t n local) = true
 has_member Delete Region = true
 has_member _ _ = false
 
--- how many arguments the member takes
+-- the number of arguments of the member
 abbrev pub arity : BuiltIn → ℕ
 arity Contains = 1
 arity Restrict = 1
@@ -68,37 +68,37 @@ arity Copy = 1
 arity Exchange = 1
 arity _ = 0
 
--- a grid is copied from another of the same elements and dimension; elements of local type only where both grids are local
+-- a grid is copied from one with the same element type and dimension; if the elements are local references, both grids must be local
 abbrev pub copy_refusals : Place → ValueType → List ValueType → List Refusal
 copy_refusals at t (u ∷ []) =
     if same_grids t u then refused_if (not (can_copy t u)) Q2 at else mistaken at false (same_grids (one_dim t) (one_dim u))
 copy_refusals at t _ = []
 
--- the elements of a one-dimensional grid would take the value as a local reference
+-- the elements of the one-dimensional grid would accept the value if it were a local reference
 abbrev pub takes_local : ValueType → ValueType → Bool
 takes_local (Grid t n local) u = (n == 1) && fits (as_local u) t
 takes_local _ _ = false
 
--- a value is exchanged through a one-dimensional grid whose elements take it, and never into elements of local type; a value that
--- these would take but for its `local` breaks nothing else
+-- a value is exchanged through a one-dimensional grid whose elements accept it, and never into elements of local type; for a value that
+-- these would accept but for its `local`, only the latter is reported
 abbrev pub exchange_refusals : Place → ValueType → List ValueType → List Refusal
 exchange_refusals at t (u ∷ []) =
     mistaken at (can_exchange t u || takes_local t u) (can_exchange (one_dim t) (one_dim u)) ++ refused_if (has_local_elements t) Q3 at
 exchange_refusals at t _ = []
 
--- a one-dimensional grid has no slices; of others the coordinate and its value are ints
+-- a one-dimensional grid has no slices; for others, both arguments, the coordinate and its value, are ints
 abbrev pub slice_refusals : Place → ValueType → List ValueType → List Refusal
 slice_refusals at (Grid t n local) ts = if nat_lt 1 n then mistaken at (all_ints ts) false else refused Y5 at
 slice_refusals at _ ts = []
 
--- what is wrong with the arguments of a member, of which there are as many as it takes
+-- the errors of the arguments of a member, if their number is right
 abbrev pub argument_refusals : Place → BuiltIn → ValueType → List ValueType → List Refusal
 argument_refusals at Slice t ts = slice_refusals at t ts
 argument_refusals at Copy t ts = copy_refusals at t ts
 argument_refusals at Exchange t ts = exchange_refusals at t ts
 argument_refusals at b t ts = mistaken at (is_some (member_type b t ts)) (is_some (member_type b (one_dim t) (map one_dim ts)))
 
--- a name that is no member of the receiver breaks Y1, another number of arguments Y4
+-- a name that is no member of the receiver breaks Y1, a wrong number of arguments Y4
 abbrev pub built_in_refusals : Place → Option BuiltIn → ValueType → List ValueType → List Refusal
 built_in_refusals at None t ts = refused Y1 at
 built_in_refusals at (Some b) t ts =
@@ -106,9 +106,9 @@ built_in_refusals at (Some b) t ts =
     if not (length ts == arity b) then refused Y4 at else
     argument_refusals at b t ts
 
--- ---- both
+-- ---- both kinds of calls
 
--- behind an object there is a call of an instance method, behind another value a member that the language gives
+-- the errors of `x.f(..)`: on an object a call of an instance method, on any other value a built-in member
 abbrev pub member_refusals : NumberedProgram → Place → List Place → ℕ → ValueType → List ValueType → List Refusal
 member_refusals p at places name (Class c local) ts = instance_refusals at places (instance_method p c name) ts
 member_refusals p at places name t ts = built_in_refusals at (built_in p name) t ts

@@ -1,4 +1,4 @@
--- Calls that stand where none can.
+-- Calls where none is allowed, and void values.
 use Rattle.std.specs.Prelude.{Bool, false, ◌||◌, List, [], ◌++◌, Option}
 use Rattle.std.specs.Option.{option_map_or}
 use Rattle.ti_base.specs.declared.place.Place.{Place}
@@ -13,29 +13,29 @@ use Rattle.ti_rules.specs.declared.rule.Rule.TheVariants.{Y6}
 use Rattle.ti_rules.specs.declared.refusal.Refusal.{Refusal}
 use Rattle.ti_rules.specs.Refusals.{refused_if}
 
--- what has this type, if any, gives nothing
+-- the type, if any, is that of a call without a result
 abbrev pub gives_nothing : Option ValueType → Bool
 gives_nothing t = option_map_or is_void t false
 
--- inside something else an expression of which this is known is a call of a declared method, or gives nothing
+-- the error of an operand with this typing: it must not be a call of a declared method, and not void
 abbrev pub misplaced_at : Place → Typed → List Refusal
 misplaced_at at t = refused_if (t.is_call || gives_nothing t.type) Y6 at
 
--- an expression that can't stand inside something else
+-- the error of an expression as an operand
 abbrev pub misplaced : NumberedProgram → ScopeContents → NumberedExp → List Refusal
 misplaced p s e = misplaced_at (place_of_numbered e) (known p s e)
 
--- those of all of these that can't
+-- the errors of a list of expressions as operands
 abbrev pub all_misplaced : NumberedProgram → ScopeContents → NumberedExps → List Refusal
 all_misplaced p s x.NoExp = []
 all_misplaced p s (x.MoreExp e rest) = misplaced p s e ++ all_misplaced p s rest
 
--- those of the bounds and the step of a range
+-- the errors of the bounds and the stride of a range as operands
 abbrev pub bound_misplaced : NumberedProgram → ScopeContents → NumberedRange → List Refusal
 bound_misplaced p s (x.Plain low high) = misplaced p s low ++ misplaced p s high
 bound_misplaced p s (x.Stepped low high step) = (misplaced p s low ++ misplaced p s high) ++ misplaced p s step
 
--- those of all ranges
+-- the errors of the bounds and strides of ranges as operands
 abbrev pub bounds_misplaced : NumberedProgram → ScopeContents → NumberedRanges → List Refusal
 bounds_misplaced p s x.NoRange = []
 bounds_misplaced p s (x.MoreRange r rest) = bound_misplaced p s r ++ bounds_misplaced p s rest

@@ -1,4 +1,4 @@
--- What is wrong with a whole right side, and with an expression inside a statement.
+-- The errors of right sides, and of expressions inside statements.
 use Rattle.std.specs.Prelude.{false, List, [], ◌++◌, map, flat_map, Option, is_some}
 use Rattle.std.specs.Option.{option_map_or}
 use Rattle.ti_lang.specs.Program.Expressions.{NumberedExp, place_of_numbered, numbered_ranges}
@@ -18,42 +18,42 @@ use Rattle.ti_rules.specs.Broken.Words.{type_word_refusals}
 use Rattle.ti_rules.specs.Broken.Misplaced.{gives_nothing, misplaced, bounds_misplaced}
 use Rattle.ti_rules.specs.Broken.Expressions.{refusals_at, exp_refusals}
 
--- an expression where no call can stand
+-- the errors of an expression where no call is allowed
 abbrev pub inner_refusals : NumberedProgram → ScopeContents → NumberedExp → List Refusal
 inner_refusals p s e = exp_refusals p s e ++ misplaced p s e
 
--- an expression that is a whole right side, where a call can stand that gives something
+-- the errors of an expression that is a whole right side: a call with a result is allowed
 abbrev pub value_refusals : NumberedProgram → ScopeContents → NumberedExp → List Refusal
 value_refusals p s e = exp_refusals p s e ++ refused_if (gives_nothing (typed p s e)) Y6 (place_of_numbered e)
 
--- the region of a `new`, if it has one
+-- the errors of the region of a `new`, if it has one
 abbrev pub region_refusals : NumberedProgram → ScopeContents → Option NumberedExp → List Refusal
 region_refusals p s region = option_map_or (inner_refusals p s) region []
 
--- what a new grid spreads over; its ranges are read as in a literal
+-- the errors of the domain of a new grid; ranges are checked as in a literal
 abbrev pub dims_refusals : NumberedProgram → ScopeContents → NumberedDims → List Refusal
 dims_refusals p s (st.Domain e) = inner_refusals p s e
 dims_refusals p s (st.Ranges ranges) =
     flat_map (refusals_at p s) (parts_of_ranges (numbered_ranges ranges)) ++ bounds_misplaced p s (numbered_ranges ranges)
 
--- the same spread but for its numbers of dimensions
+-- the domain with each number of dimensions replaced by 1
 abbrev pub one_dim_spread : Spread → Spread
 one_dim_spread (Over t) = Over (one_dim t)
 one_dim_spread (Ranged ranges ts) = Ranged ranges (map one_dim ts)
 
--- what is wrong with a whole right side
+-- the errors of a whole right side
 abbrev pub initial_refusals : NumberedProgram → ScopeContents → NumberedInit → List Refusal
 initial_refusals p s (st.Value e) = value_refusals p s e
 initial_refusals p s (st.NewRegion at) = []
--- an object is placed in a region
+-- the region of a new object is a region
 initial_refusals p s (st.NewObject at region class) =
     region_refusals p s region ++ judged (region_type p s region) (λ r. mistaken at (is_region r) false)
--- a grid is placed in a region and spreads over a rectangular domain; its elements aren't single
+-- the region of a new grid is a region, its domain is rectangular, and its elements aren't single
 initial_refusals p s (st.NewGrid at region element dims_at dims) =
     ((region_refusals p s region ++ type_word_refusals false element) ++ dims_refusals p s dims)
     ++ both_judged (region_type p s region) (spread p s dims) (λ r d. mistaken at (is_some (new_grid_type element.type r d))
     (is_some (new_grid_type element.type r (one_dim_spread d))))
--- the root of a broadcast is an int, and its value can be sent
+-- the root of a broadcast is an int, and the type of its value can be broadcast
 initial_refusals p s (st.Broadcast at e root) =
     (inner_refusals p s e ++ inner_refusals p s root) ++ both_judged (operand_type p s e) (operand_type p s root)
     (λ t r. mistaken at (is_some (broadcast_type t r)) false)

@@ -1,4 +1,4 @@
--- What is wrong with a statement by the rules of types, apart from what is wrong with the statements in it.
+-- The errors of statements by the typing rules, apart from those of nested statements.
 use Rattle.std.specs.Prelude.{Bool, true, false, not, if◌then◌else◌, List, [], ◌++◌, Option, Some, None, is_some, is_none}
 use Rattle.std.specs.Option.{option_map_or}
 use Rattle.ti_base.specs.declared.place.Place.{Place}
@@ -28,41 +28,41 @@ use Rattle.ti_rules.specs.Broken.Expressions.{exp_refusals}
 use Rattle.ti_rules.specs.Broken.RightSides.{inner_refusals, value_refusals, initial_refusals}
 use Rattle.ti_rules.specs.Broken.Targets.{write_refusals}
 
--- ---- assignments with an operator
+-- ---- compound assignments
 
--- a long goes into an int there
+-- a compound assignment narrows a long to an int
 abbrev pub narrows : ValueType → ValueType → Bool
 narrows Long Int = true
 narrows _ _ = false
 
--- what the operator gives goes into the target
+-- the result of the operator fits the target, or is narrowed to it
 abbrev pub result_refusals : Place → ValueType → ValueType → List Refusal
 result_refusals at r t = if narrows r t then [] else misfit at r t
 
--- the operator takes a target and a value of these types, and what it gives goes into the target
+-- the operator accepts a target and a value of these types, and its result fits the target
 abbrev pub update_refusals : Place → BinaryOperator → ValueType → ValueType → List Refusal
 update_refusals at op t u =
     mistaken at (is_some (binary_type op t u)) (is_some (binary_type op (one_dim t) (one_dim u)))
     ++ judged (binary_type op t u) (λ r. result_refusals at r t)
 
--- `t++` is `t += 1`, and `t--` is `t -= 1`
+-- `t++` is typed as `t += 1`, and `t--` as `t -= 1`
 abbrev pub operator_of : StepOperator → BinaryOperator
 operator_of Increment = Add
 operator_of Decrement = Subtract
 
 -- ---- conditions and prints
 
--- a boolean
+-- the type is boolean
 abbrev pub is_boolean : ValueType → Bool
 is_boolean Boolean = true
 is_boolean _ = false
 
--- a condition
+-- the errors of a condition
 abbrev pub condition_refusals : NumberedProgram → ScopeContents → NumberedExp → List Refusal
 condition_refusals p s c =
     inner_refusals p s c ++ judged (operand_type p s c) (λ t. refused_if (not (is_boolean t)) Y3 (place_of_numbered c))
 
--- the condition of a `for`, if it has one
+-- the errors of the condition of a `for`, if it has one
 abbrev pub maybe_condition_refusals : NumberedProgram → ScopeContents → Option NumberedExp → List Refusal
 maybe_condition_refusals p s c = option_map_or (condition_refusals p s) c []
 
@@ -72,11 +72,11 @@ is_printed Boolean = true
 is_printed (Pt n) = true
 is_printed t = is_whole t
 
--- a value that is printed
+-- the errors of a printed value
 abbrev pub printed_refusals : NumberedProgram → ScopeContents → Place → NumberedExp → List Refusal
 printed_refusals p s at e = inner_refusals p s e ++ judged (operand_type p s e) (λ t. mistaken at (is_printed t) false)
 
--- what a print writes
+-- the errors of the operand of a print
 abbrev pub print_refusals : NumberedProgram → ScopeContents → Place → NumberedPrint → List Refusal
 print_refusals p s at st.Nothing = []
 print_refusals p s at (st.Text literal) = []
@@ -85,18 +85,18 @@ print_refusals p s at (st.TextAndExpression literal e) = printed_refusals p s at
 
 -- ---- results
 
--- a value of this type goes back where the method has a result, and fits it
+-- a value of this type is returned: the method has a result, and the value fits it
 abbrev pub given_back : Place → ValueType → ValueType → List Refusal
 given_back at result t = if is_void result then refused Y6 at else misfit at t result
 
--- a `return` of a method with this result has a value exactly where there is a result
+-- the errors of a `return`: it has a value exactly if the method has a result
 abbrev pub return_refusals : NumberedProgram → ScopeContents → Place → ValueType → Option NumberedExp → List Refusal
 return_refusals p s at result None = refused_if (not (is_void result)) Y6 at
 return_refusals p s at result (Some e) = inner_refusals p s e ++ judged (operand_type p s e) (λ t. given_back at result t)
 
 -- ---- statements
 
--- what is wrong with a statement that has this around it, apart from what is wrong with the statements in it
+-- the errors of a statement in this context, apart from those of nested statements
 abbrev pub statement_refusals : NumberedProgram → Around → NumberedStm → List Refusal
 statement_refusals p around (st.Declare at type variable value) =
     (type_word_refusals true type ++ initial_refusals p (scope_of around) value)
@@ -119,17 +119,17 @@ statement_refusals p around (st.If at c a) = condition_refusals p (scope_of arou
 statement_refusals p around (st.IfElse at c a b) = condition_refusals p (scope_of around) c
 statement_refusals p around (st.While at c body) = condition_refusals p (scope_of around) c
 statement_refusals p around (st.For at first c update body) = maybe_condition_refusals p (scope_of around) c
--- a foreach runs over a domain
+-- a foreach iterates over a domain
 statement_refusals p around (st.Foreach at number domain body) =
     inner_refusals p (scope_of around) domain ++ judged (operand_type p (scope_of around) domain)
     (λ t. mistaken at (is_some (domain_dim t)) false)
--- a jump stands in a loop
+-- a jump is in a loop
 statement_refusals p around (st.Break at) = refused_if (is_none around.jump_has) Y8 at
 statement_refusals p around (st.Continue at) = refused_if (is_none around.jump_has) Y8 at
 statement_refusals p around (st.Return at value) = return_refusals p (scope_of around) at (result_type around.method) value
--- a block, a barrier and a lone `;` break no rule
+-- a block, a barrier and an empty statement break no rule themselves
 statement_refusals p around x = []
 
--- what is wrong with a statement where it stands
+-- the errors of a statement in its context
 abbrev pub standing_refusals : NumberedProgram → Standing → List Refusal
 standing_refusals p x = statement_refusals p x.around x.statement

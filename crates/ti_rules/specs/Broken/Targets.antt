@@ -1,4 +1,4 @@
--- What can be written, and what is wrong with writing it.
+-- The errors of storing into the target of an assignment.
 use Rattle.std.specs.Prelude.{ℕ, Bool, true, false, not, ◌&&◌, if◌then◌else◌, List, ◌++◌, Option, Some, option_and_then}
 use Rattle.std.specs.Option.{option_map_or}
 use Rattle.ti_base.specs.declared.place.Place.{Place}
@@ -15,7 +15,7 @@ use Rattle.ti_rules.specs.declared.refusal.Refusal.{Refusal}
 use Rattle.ti_rules.specs.Refusals.{refused_if}
 use Rattle.ti_rules.specs.Broken.Refused.{refused}
 
--- a variable that a foreach declares
+-- the declaration is that of a foreach variable
 abbrev pub is_foreach_use : Declaration → Bool
 is_foreach_use (Typed is_single type) = false
 is_foreach_use Foreach = true
@@ -30,28 +30,28 @@ abbrev pub is_coordinate : NumberedProgram → ScopeContents → NumberedExp →
 is_coordinate p s (x.Index at a parts) = option_map_or is_point (operand_type p s a) false
 is_coordinate p s e = false
 
--- a declared type, if there is one, that is local
+-- the declared type, if there is one, is local
 abbrev pub maybe_local : Option ValueType → Bool
 maybe_local t = option_map_or is_local t false
 
--- the field of this name is of local type, and the object in which it is has this type and is global
+-- the field of this name has a local type, and the object, of this type, is a global reference
 abbrev pub hidden_field : NumberedProgram → Option ValueType → ℕ → Bool
 hidden_field p (Some (Class c local)) name = maybe_local (named_field_type p c name) && not local
 hidden_field p _ name = false
 
--- the elements are of local type, and their grid has this type and is global
+-- the elements have a local type, and the grid, of this type, is a global reference
 abbrev pub hidden_element : Option ValueType → Bool
 hidden_element (Some (Grid t n local)) = is_local t && not local
 hidden_element _ = false
 
--- a field or an element of local type that is reached through a global reference; `this` is one
+-- a field or an element of local type that is reached through a global reference; `this` is a global reference
 abbrev pub is_hidden_local : NumberedProgram → ScopeContents → NumberedExp → Bool
 is_hidden_local p s (x.OwnField at field) = maybe_local (option_and_then (λ c. field_type p c field) s.this_class)
 is_hidden_local p s (x.Select at a name) = hidden_field p (operand_type p s a) name
 is_hidden_local p s (x.Index at a parts) = hidden_element (operand_type p s a)
 is_hidden_local p s e = false
 
--- what is wrong with writing this target at an assignment, beside what is wrong with the value; a coordinate can't be written at all
+-- the errors of storing into this target, given the errors of the value; a coordinate can't be stored into at all
 abbrev pub write_refusals : NumberedProgram → ScopeContents → Place → NumberedExp → List Refusal → List Refusal
 write_refusals p s at target value =
     if is_coordinate p s target then refused Y1 at else

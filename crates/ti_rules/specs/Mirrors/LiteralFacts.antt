@@ -1,4 +1,4 @@
--- That numbers are within their ranges is a fact: there is only one way in which it holds.
+-- That the literals of a program are in range is a proposition: any two proofs of it are equal.
 use Rattle.std.specs.Prelude.{List, [], ◌∷◌, Option, Some, None}
 use Rattle.std.proofs.Props.{props}
 use Rattle.ti_lang.specs.Program.Expressions.{NumberedExp, numbered_ranges, NumberedExps, NumberedRange, NumberedRanges}

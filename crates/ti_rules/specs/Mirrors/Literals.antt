@@ -1,4 +1,4 @@
--- The numbers that are written in a program are within the ranges of their types.
+-- The literals of a program are in the ranges of their types.
 use Rattle.std.specs.Prelude.{List, [], ◌∷◌, Option, Some, None}
 use Rattle.std.specs.Int.{w32, w64}
 use Rattle.ti_base.specs.WholeNumbers.{Fits}
@@ -11,7 +11,7 @@ use Rattle.ti_lang.specs.Program.Statements as st
 -- ---- expressions
 
 abbrev mutual
-  -- each `int` that is written has 32 bits, and each `long` 64
+  -- each `int` literal in an expression has 32 bits, and each `long` literal 64
   pub InExp : NumberedExp → Type 0
   InExp (e.Int at n) = Fits w32 n
   InExp (e.Long at n) = Fits w64 n
@@ -39,19 +39,19 @@ abbrev mutual
   InRanges e.NoRange = Unit {0}
   InRanges (e.MoreRange r rest) = InRange r × InRanges rest
 
--- an expression, if there is one
+-- the literals of an optional expression are in range
 abbrev pub InOption : Option NumberedExp → Type 0
 InOption None = Unit {0}
 InOption (Some x) = InExp x
 
 -- ---- statements
 
--- what a new grid spreads over
+-- the literals in the domain of a new grid are in range
 abbrev pub InDims : NumberedDims → Type 0
 InDims (st.Domain x) = InExp x
 InDims (st.Ranges ranges) = InRanges (numbered_ranges ranges)
 
--- a right side
+-- the literals of a right side are in range
 abbrev pub InInit : NumberedInit → Type 0
 InInit (st.Value x) = InExp x
 InInit (st.NewRegion at) = Unit {0}
@@ -59,14 +59,14 @@ InInit (st.NewObject at region class) = InOption region
 InInit (st.NewGrid at region element dims_at dims) = InOption region × InDims dims
 InInit (st.Broadcast at x root) = InExp x × InExp root
 
--- what is printed
+-- the literals in the operand of a print are in range
 abbrev pub InPrint : NumberedPrint → Type 0
 InPrint (st.Expression x) = InExp x
 InPrint (st.TextAndExpression literal x) = InExp x
 InPrint what = Unit {0}
 
 abbrev mutual
-  -- a statement, with all that stands in it
+  -- the literals of a statement, including nested statements, are in range
   pub InStm : NumberedStm → Type 0
   InStm (st.Declare at type variable value) = InInit value
   InStm (st.Assign at target value) = InExp target × InInit value
@@ -93,11 +93,11 @@ abbrev mutual
 
 -- ---- programs
 
--- the statements of all of these methods
+-- the literals of methods are in range
 abbrev pub InMethods : List NumberedMethod → Type 0
 InMethods [] = Unit {0}
 InMethods (m ∷ ms) = InStms (numbered_stms m.body) × InMethods ms
 
--- all numbers that are written in the program
+-- all literals of a program are in range
 abbrev pub LiteralsFit : NumberedProgram → Type 0
 LiteralsFit p = InMethods p.methods
