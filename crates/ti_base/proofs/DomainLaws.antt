@@ -1,4 +1,4 @@
--- Meet, difference and union of domains.
+-- The lists `meet`, `minus` and `union` are proved to be those of the intersection, difference and union of domains.
 use Rattle.std.proofs.Common.{◌≡◌, ◌⊎◌, inl, inr, ⊎_elim, ◌↔◌, ℕ, ◌==◌, ℤ, ◌≤ℤ◌, ◌<ℤ◌, Bool, true, false, cond, not, ◌&&◌, ◌||◌, if◌then◌else◌, List, [], ◌∷◌, filter, refl, sym, ap, subst, ◌∙◌, arith}
 use Rattle.std.specs.Int.RustNames.{int_lt, int_le}
 use Rattle.std.proofs.lemmas.Bool.{eqb-true, eq-eqb}

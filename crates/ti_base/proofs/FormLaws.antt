@@ -1,4 +1,4 @@
--- The tests for forms tell the forms.
+-- The tests for canonical form are proved to decide it, for points and rectangles.
 use Rattle.std.proofs.Common.{◌≡◌, ℕ, ◌*◌, ◌<◌, ◌≤◌, ◌/◌, nat_lt, nat_le, leb-true, le-leb, ◌==◌, ℤ, pos, ◌+ℤ◌, ◌-ℤ◌, length, Bool, true, false, not, ◌&&◌, ◌||◌, refl, ap, ap₂, sym, subst, ◌∙◌, arith}
 use Rattle.std.specs.Bool.{Decides}
 use Rattle.std.proofs.lemmas.Bool.Decides.{Decides-eqb, Decides-ltb, Decides-like, Decides-and, Decides-or}

@@ -1,4 +1,4 @@
--- The points of rectangles in lists, and lists of points.
+-- The size of a rectangle is proved to be the length of its point list, and an increasing list to be determined by its points.
 use Rattle.std.proofs.Common.{◌≡◌, inl, inr, ◌↔◌, ℕ, zero, suc, ◌*◌, ℤ, pos, ◌+ℤ◌, List, [], ◌∷◌, map, length, refl, sym, ap, subst, ◌∙◌, arith, length-append}
 use Rattle.std.specs.List.{flat_map}
 use Rattle.std.proofs.lemmas.Int.{ints}

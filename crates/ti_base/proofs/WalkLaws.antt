@@ -1,4 +1,4 @@
--- Going down the list of a domain.
+-- Iterating over a set of points from each to the next one is proved to traverse its increasing list.
 use Rattle.std.proofs.Common.{◌≡◌, ◌⊎◌, inl, inr, ⊎_elim, List, [], ◌∷◌, ◌++◌, Option, Some, None, refl, sym, subst, arith}
 use Rattle.std.proofs.lemmas.Int.{ints}
 use Rattle.ti_base.specs.declared.point.Point.{Point}

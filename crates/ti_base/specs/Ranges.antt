@@ -1,4 +1,4 @@
--- Ranges: the numbers from one on to another, by steps.
+-- Strided ranges of integers.
 use Rattle.std.specs.Prelude.{◌≡◌, ◌⊎◌, ℕ, zero, suc, ◌*◌, ◌/◌, ◌<◌, Bool, ◌&&◌, ◌==◌, ℤ, pos, negsuc, ◌+ℤ◌, ◌-ℤ◌, ◌≤ℤ◌, ◌<ℤ◌, int_lt, int_le, List, [], ◌∷◌, filter}
 use Rattle.ti_base.specs.WholeNumbers.{modulo}
 
@@ -13,42 +13,42 @@ pub record IsOn (r : Range) (x : ℤ) : Type 0 where
   pub reached : x ≡ r.low +ℤ pos (steps * r.step)
   pub within : x ≤ℤ r.high
 
--- the same as a test, where the step is at least 1
+-- the decidable test of IsOn, for a step of at least 1
 abbrev pub is_on : Range → ℤ → Bool
 is_on r x = int_le r.low x && int_le x r.high && modulo (x -ℤ r.low) r.step == 0
 
--- the number, or 0 where it is negative
+-- the number, or 0 if it is negative
 abbrev pub natural : ℤ → ℕ
 natural (pos n) = n
 natural (negsuc n) = 0
 
--- how many numbers are on the range, where the step is at least 1
+-- the number of integers on the range, for a step of at least 1
 abbrev pub count_on : Range → ℕ
 count_on r = natural ((r.high -ℤ r.low) +ℤ pos r.step) / r.step
 
--- so many numbers from one on, by steps
+-- n integers from `low` on, by steps
 abbrev pub numbers_from : ℤ → ℕ → ℕ → List ℤ
 numbers_from low step zero = []
 numbers_from low step (suc n) = low ∷ numbers_from (low +ℤ pos step) step n
 
--- the numbers on the range, rising
+-- the integers on the range, in increasing order
 abbrev pub numbers_on : Range → List ℤ
 numbers_on r = numbers_from r.low r.step (count_on r)
 
--- ---- the one form of a range
+-- ---- canonical ranges
 
--- a range with numbers ends with one, and its step is 1 where there is but one
+-- a canonical range: its high end is on it, and its step is 1 if it has only one integer
 pub record IsRange (r : Range) : Type 0 where
   pub steps : ℕ
   pub reached : r.high ≡ r.low +ℤ pos (steps * r.step)
   pub forward : 0 < r.step
   pub single : steps ≡ 0 → r.step ≡ 1
 
--- the range without numbers
+-- the empty range
 abbrev pub no_range : Range
 no_range = record { low = pos 1; high = pos 0; step = 1 }
 
--- the range of a coordinate that is not used: 0 alone
+-- the range of a coordinate that isn't used: just 0
 abbrev pub unused : Range
 unused = record { low = pos 0; high = pos 0; step = 1 }
 
@@ -56,7 +56,7 @@ abbrev pub last_of : ℤ → List ℤ → ℤ
 last_of x [] = x
 last_of x (y ∷ rest) = last_of y rest
 
--- the range of numbers that rise by equal steps
+-- the canonical range of integers that increase by equal steps
 abbrev pub range_of : List ℤ → Range
 range_of [] = no_range
 range_of (x ∷ []) = record { low = x; high = x; step = 1 }
@@ -65,23 +65,23 @@ range_of (x ∷ y ∷ rest) = record { low = x; high = last_of y rest; step = na
 abbrev pub is_empty_range : Range → Bool
 is_empty_range r = int_lt r.high r.low
 
--- the range of the same numbers in that form
+-- the canonical range of the same integers
 abbrev pub tidy : Range → Range
 tidy r = range_of (numbers_on r)
 
--- the range of the numbers that are on both
+-- the intersection of two ranges
 abbrev pub both : Range → Range → Range
 both r s = range_of (filter (is_on s) (numbers_on r))
 
--- the range of the numbers of this one, each greater by x
+-- the range shifted by x
 abbrev pub shifted : ℤ → Range → Range
 shifted x r = record r { low = r.low +ℤ x; high = r.high +ℤ x }
 
--- in that form, or without numbers
+-- a range that is canonical or empty
 abbrev pub IsTidy : Range → Type 0
 IsTidy r = (r.high <ℤ r.low) ⊎ IsRange r
 
--- the first number of the range above x
+-- y is the least integer of the range above x
 pub record IsNextOn (r : Range) (x y : ℤ) : Type 0 where
   pub on : IsOn r y
   pub above : x <ℤ y

@@ -1,4 +1,4 @@
--- Rectangular domains: in each coordinate a range.
+-- Rectangular domains: a range in each coordinate.
 use Rattle.std.specs.Prelude.{◌≡◌, ℕ, ◌-◌, ◌*◌, ◌≤◌, ◌<ℤ◌, ◌⊎◌, Bool, ◌&&◌, ◌||◌, ◌==◌, nat_le, if◌then◌else◌, pos, List, [], ◌∷◌, map, flat_map, length, slice_index}
 use Rattle.ti_base.specs.declared.point.Point.{Point}
 use Rattle.ti_base.specs.declared.point.Rect.{Rect}
@@ -16,20 +16,20 @@ second_range r = record { low = r.lo.x2; high = r.hi.x2; step = slice_index r.st
 abbrev pub third_range : Rect → Range
 third_range r = record { low = r.lo.x3; high = r.hi.x3; step = slice_index r.step 2 }
 
--- ---- its points
+-- ---- the points of a rectangle
 
--- each coordinate of a point is on a range
+-- each coordinate of the point is on its range
 pub record IsWithin (dim : ℕ) (a b c : Range) (p : Point) : Type 0 where
   pub one_dim : p.dim ≡ dim
   pub first : IsOn a p.x1
   pub second : IsOn b p.x2
   pub third : IsOn c p.x3
 
--- a point is in the rectangle
+-- the point is in the rectangle
 abbrev pub IsIn : Rect → Point → Type 0
 IsIn r p = IsWithin r.dim (first_range r) (second_range r) (third_range r) p
 
--- the same as a test
+-- the decidable test of IsIn
 abbrev pub is_in : Rect → Point → Bool
 is_in r p = p.dim == r.dim && is_on (first_range r) p.x1 && is_on (second_range r) p.x2 && is_on (third_range r) p.x3
 
@@ -39,13 +39,13 @@ points_of r =
     flat_map (λ x. flat_map (λ y. map (λ z. record { dim = r.dim; x1 = x; x2 = y; x3 = z }) (numbers_on (third_range r)))
     (numbers_on (second_range r))) (numbers_on (first_range r))
 
--- how many points it has
+-- the number of points
 abbrev pub size_of : Rect → ℕ
 size_of r = count_on (first_range r) * count_on (second_range r) * count_on (third_range r)
 
 -- ---- canonical form
 
--- the rectangle without points
+-- the empty rectangle
 abbrev pub empty_rect : ℕ → Rect
 empty_rect dim = record {
   dim = dim;
@@ -54,7 +54,7 @@ empty_rect dim = record {
   step = 1 ∷ 1 ∷ 1 ∷ [];
 }
 
--- a rectangle with points
+-- a canonical rectangle that isn't empty
 pub record HasPoints (r : Rect) : Type 0 where
   pub low : IsPoint r.lo
   pub low_dim : r.lo.dim ≡ r.dim
@@ -83,30 +83,30 @@ of_ranges dim a b c =
       step = a.step ∷ b.step ∷ c.step ∷ [];
     }
 
--- ---- the points from one to another, by steps
+-- ---- rectangles by bounds and steps
 
 -- a used step is below 1
 abbrev pub HasBadStride : Point → Type 0
 HasBadStride step = (step.x1 <ℤ pos 1) ⊎ ((2 ≤ step.dim) × (step.x2 <ℤ pos 1)) ⊎ ((3 ≤ step.dim) × (step.x3 <ℤ pos 1))
 
--- the point is from lo to hi by steps in each coordinate; in those that are not used all are 0
+-- the point is from lo to hi, by steps in each coordinate; in unused coordinates all are 0
 abbrev pub IsSpanned : Point → Point → Point → Point → Type 0
 IsSpanned lo hi step p =
     IsWithin lo.dim (record { low = lo.x1; high = hi.x1; step = natural step.x1 })
     (record { low = lo.x2; high = hi.x2; step = natural step.x2 })
     (record { low = lo.x3; high = hi.x3; step = natural step.x3 }) p
 
--- some point of the rectangle has no coordinates of 32 bits where it is moved
+-- some point of the rectangle, shifted, doesn't fit in 32 bits
 abbrev pub LeavesRange : Rect → Point → Type 0
 LeavesRange r by = (p : Point) × IsIn r p × (HasCoordinates (moved p by) → ⊥)
 
--- ---- rectangles from others
+-- ---- operations on rectangles
 
--- the range of a coordinate, where the dimension has it
+-- the canonical range of coordinate k, or the one for unused coordinates
 abbrev pub used : ℕ → ℕ → Range → Range
 used dim k r = if nat_le k dim then tidy r else unused
 
--- the points from lo to hi by steps in each coordinate
+-- the rectangle from lo to hi, by steps in each coordinate
 abbrev pub made : Point → Point → Point → Rect
 made lo hi step =
     of_ranges lo.dim
@@ -114,17 +114,17 @@ made lo hi step =
     (used lo.dim 2 (record { low = lo.x2; high = hi.x2; step = natural step.x2 }))
     (used lo.dim 3 (record { low = lo.x3; high = hi.x3; step = natural step.x3 }))
 
--- the points of both
+-- the intersection
 abbrev pub meet : Rect → Rect → Rect
 meet r s =
     of_ranges r.dim (both (first_range r) (first_range s)) (both (second_range r) (second_range s)) (both (third_range r) (third_range s))
 
--- the points, each moved by the coordinates of p
+-- the rectangle shifted by p
 abbrev pub translated : Rect → Point → Rect
 translated r p =
     if is_empty r then r else of_ranges r.dim (shifted p.x1 (first_range r)) (shifted p.x2 (second_range r)) (shifted p.x3 (third_range r))
 
--- the points without their coordinate k, counted from 1
+-- the rectangle without coordinate k, counted from 1
 abbrev pub without : ℕ → Rect → Rect
 without k r =
     if k == 1 then of_ranges (r.dim - 1) (second_range r) (third_range r) unused

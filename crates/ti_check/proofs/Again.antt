@@ -1,4 +1,4 @@
--- Modifiers that stand twice, by which of the words were met.
+-- The check for repeated modifiers is proved to depend only on which modifiers occurred before.
 use Rattle.std.proofs.Common.{◌≡◌, ℕ, Bool, false, ◌||◌, ◌+◌, ◌<◌, ◌≤◌, List, [], ◌∷◌, ◌++◌, drop, length, get_or, Option, None, refl, ap, sym, ◌∙◌}
 use Rattle.std.specs.List.{list_any}
 use Rattle.std.proofs.lemmas.List.{drop_all}

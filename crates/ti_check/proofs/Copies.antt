@@ -1,4 +1,4 @@
--- Variables in scope that are the same.
+-- Variables that the code compares as equal are proved equal in the model, and a copy with a shared prefix equal to the original.
 use Rattle.std.proofs.Common.{◌≡◌, ◌≤◌, ℕ, ◌-◌, Bool, true, false, not, ◌&&◌, ◌==◌, List, ◌++◌, map, length, take, drop, refl, ap, sym, subst, arith, ◌∙◌, true≢false}
 use Rattle.std.proofs.Math.Bool.{beq}
 use Rattle.std.proofs.lemmas.List.{map-append, take_all, take-append-drop, length-drop}

@@ -1,4 +1,4 @@
--- The last statement of a list.
+-- The test of the last statement is proved to agree with the specification.
 use Rattle.std.proofs.Common.{◌≡◌, suc, ◌-◌, ◌<◌, List, [], ◌∷◌, map, length, get_or, refl, ap, sym, ◌∙◌, arith}
 use Rattle.ti_lang.specs.declared.program.stmts.Stmt.{Stmt}
 use Rattle.ti_lang.specs.Program.Views.{statement_of}

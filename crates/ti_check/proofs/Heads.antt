@@ -1,4 +1,4 @@
--- What is found of a method, from what is found of its head and its body.
+-- The first errors of a method are proved to be those of its head and its body.
 use Rattle.std.proofs.Common.{◌≡◌, List, ◌++◌, flat_map, Option, sym, ap, ◌∙◌}
 use Rattle.ti_lang.specs.Program.Classes.{NumberedMethod, NumberedProgram}
 use Rattle.ti_rules.specs.declared.refusal.Refusal.{Refusal}

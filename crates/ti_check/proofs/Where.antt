@@ -1,4 +1,4 @@
--- What is found of statements before it is known what a jump out of the loop around them does.
+-- The results for both cases of a jump out of the enclosing loop are proved correct.
 use Rattle.std.proofs.Common.{◌≡◌, Bool, true, false, ◌&&◌, ◌||◌, not, is_none, unwrap_or, ℕ, ◌+◌, ◌<◌, ◌≤◌, List, [], ◌++◌, map, length, get_or, Option, Some, None, refl, ap, sym, ◌∙◌, subst, append-nil, true≢false}
 use Rattle.std.specs.declared.boxed.Box.{Box}
 use Rattle.std.specs.declared.alloc.Global.{Global}

@@ -1,4 +1,4 @@
--- What counts of what is wrong with writing a target, by what counts of what is wrong with the value.
+-- The first error of an assignment is proved to follow from the first error of its value.
 use Rattle.std.proofs.Common.{◌≡◌, Bool, true, false, List, ◌++◌, if◌then◌else◌, refl, sym}
 use Rattle.ti_base.specs.declared.place.Place.{Place}
 use Rattle.ti_lang.specs.Program.Expressions.{NumberedExp}

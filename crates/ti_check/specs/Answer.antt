@@ -1,4 +1,4 @@
--- What `check` and `check_types` answer.
+-- What `check` and `check_types` return, as their public contracts state it.
 use Rattle.std.specs.Prelude.{◌≡◌, [], Contains, Result, Ok, Err}
 use Rattle.ti_lang.specs.declared.program.numbered.Program.{Program}
 use Rattle.ti_lang.specs.Program.Classes.{NumberedProgram}
@@ -10,13 +10,13 @@ use Rattle.ti_rules.specs.ProgramRefusals.{IsProgramRefusal, BreaksNothing}
 use Rattle.ti_check.specs.declared.error.CheckErr.{CheckErr}
 use Rattle.ti_check.specs.declared.error.CheckErr.TheVariants.{Refused, Memory}
 
--- the same program where it breaks no rule, its first refusal where it does, and memory may be wanting at any time
+-- the same program if it breaks no rule, else its first error; out of memory is always possible
 abbrev pub GivesChecked : Program → Result Checked CheckErr → Type 0
 GivesChecked p (Ok checked) = (checked.program ≡ p) × BreaksNothing (program_of p.parts)
 GivesChecked p (Err (Refused refusal)) = IsProgramRefusal (program_of p.parts) refusal
 GivesChecked p (Err Memory) = Unit {0}
 
--- no rule of types and qualifiers is broken, or the first refusal by them; memory may be wanting at any time
+-- success if no rule of types and qualifiers is broken, else the first broken one; out of memory is always possible
 abbrev pub GivesTyped : {T : Type 0} → NumberedProgram → Result T CheckErr → Type 0
 GivesTyped p (Ok nothing) = type_refusals p ≡ []
 GivesTyped p (Err (Refused refusal)) = IsFirstRefusal (Contains (type_refusals p)) refusal

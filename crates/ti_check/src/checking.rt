@@ -1,4 +1,4 @@
-// Whole programs.
+// The public entry points to the checker.
 ghost use Rattle.std.specs.Prelude.{◌≡◌, ◌<◌, ◌≤◌, ◌^◌, map, flat_map, length, slice_get, IfOk, IfErr};
 ghost use Rattle.ti_lang.specs.Program.Views.{program_of, numbered_method_of};
 ghost use Rattle.ti_rules.specs.TypeRules.{method_refusals, type_refusals};
@@ -17,7 +17,7 @@ use ti_base::Memory;
 use ti_lang::program::{Method, Program};
 use ti_rules::{Checked, Refusal, first_counts, sooner};
 
-// The number as one of 32 bits; out of memory exactly where it doesn't fit.
+// The index as 32 bits; Memory if and only if it doesn't fit.
 fn numbered(i: usize) -> Result<u32, Memory>
     ensures value { IfOk result (λ n. n ≡ i) }
     ensures large { IfErr result (λ _. 2 ^ 32 ≤ i) }
@@ -35,7 +35,7 @@ fn method_of(methods: &[Method], i: usize) -> &Method
     &methods[i]
 }
 
-// The method of a number.
+// The method with this number.
 fn method_at(p: &Program, i: usize) -> &Method
     requires { i < length p.now.parts.methods.items }
     ensures { slice_get (program_of p.now.parts).methods i ≡ Some (numbered_method_of result.now) }
@@ -57,7 +57,7 @@ fn methods(alloc: Global, p: &Program) -> Result<Found, Memory>
     Ok(found)
 }
 
-// What counts of the rules of types and qualifiers, and what counts of those of single values.
+// The first broken rule of types and qualifiers in the program, and the first one of single values.
 fn broken(alloc: Global, p: &Program) -> Result<Found, Memory>
     ensures types { IfOk result (λ f. f.types ≡ first_of (type_refusals (program_of p.now.parts))) }
     ensures single { IfOk result (λ f. f.single ≡ first_of (single_refusals (program_of p.now.parts))) }
@@ -69,7 +69,7 @@ fn broken(alloc: Global, p: &Program) -> Result<Found, Memory>
     })
 }
 
-// What the program is refused for, if it is.
+// The program's first error. Errors of types and qualifiers take precedence over those of single values.
 fn refusal(alloc: Global, p: &Program) -> Result<Option<Refusal>, Memory>
     ensures { IfOk result (λ r. r ≡ program_refusal (program_of p.now.parts)) }
 {
@@ -80,14 +80,13 @@ fn refusal(alloc: Global, p: &Program) -> Result<Option<Refusal>, Memory>
     }
 }
 
-/// A program that breaks no rule of types, qualifiers and single values, as one that is checked.
+/// Checks a program, and returns it as a checked one.
 ///
-/// A program that breaks rules is refused for the one that counts. Rules of types and qualifiers count before those of single values;
-/// of several, the one at the least place counts, and at one place the one listed first. A refused program is dropped, and so it is where
-/// memory is wanting. What statements do is looked at once for the `return`s of their method. Then each statement is judged
-/// once, and what it does is handed up to the `if`s and loops around it; the update of a `for`, a
-/// simple statement, is looked at once more. Within a statement an expression may be typed more than
-/// once: the receiver of a target such as `a[i]` is typed up to three times.
+/// Error: the program's first error, or Memory; the program is then dropped. Rules of types and qualifiers take precedence over those
+/// of single values; among these, the first is at the least position, and at one position the one that is listed first. Each method is
+/// walked twice: first for its effect summary, which says whether a `return` counts as a global effect, then to check each statement
+/// and pass its summary up to the enclosing statements. Within a statement an expression may be typed more than once: the receiver of
+/// a target as `a[i]` up to three times.
 pub fn check(alloc: Global, p: Program) -> Result<Checked, CheckErr>
     ensures { GivesChecked p result }
 {
@@ -98,8 +97,8 @@ pub fn check(alloc: Global, p: Program) -> Result<Checked, CheckErr>
     }
 }
 
-/// Whether a program breaks no rule of types and qualifiers, whatever its marks of single values are. Where it breaks some, the error is the
-/// refusal that counts: the one at the least place, and at one place the one listed first.
+/// Checks a program only against the rules of types and qualifiers, not those of single values. Error: the first broken rule by
+/// position, and at one position by the order in which the rules are listed; or Memory.
 pub fn check_types(alloc: Global, p: &Program) -> Result<(), CheckErr>
     ensures { GivesTyped (program_of p.now.parts) result }
 {

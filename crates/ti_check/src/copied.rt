@@ -1,4 +1,4 @@
-// Variables in scope, in room of their own.
+// Copies of the variables in scope, made in recycled vectors.
 ghost use Rattle.std.specs.Prelude.{◌≡◌, ◌≤◌, ◌++◌, map, take, length, true, IfOk};
 ghost use Rattle.ti_lang.specs.Program.Scope.{in_scope_of};
 
@@ -7,7 +7,7 @@ use ti_base::Memory;
 use ti_lang::program::InScope;
 use ti_lang::typing::same_elements;
 
-/// Lists of variables that are out of use. Most of what a foreach has in scope is what an earlier one had, so it takes over its list.
+/// A free list of vectors. The scope of a foreach shares most of its variables with an earlier one, so it recycles that one's vector.
 #[derive(Drop)]
 pub(crate) struct Unused {
     alloc: Global,
@@ -15,7 +15,7 @@ pub(crate) struct Unused {
 }
 
 impl Unused {
-    /// No lists.
+    /// An empty free list.
     pub(crate) fn none(alloc: Global) -> Unused {
         Unused {
             alloc,
@@ -23,7 +23,7 @@ impl Unused {
         }
     }
 
-    /// The list that was kept last, or an empty one.
+    /// The vector that was released last, or an empty one.
     pub(crate) fn take(&mut self) -> Vec<InScope> {
         match self.lists.pop() {
             Some(list) => list,
@@ -31,13 +31,13 @@ impl Unused {
         }
     }
 
-    /// Keeps a list.
+    /// Releases a vector, with its contents.
     pub(crate) fn keep(&mut self, list: Vec<InScope>) -> Result<(), Memory> {
         Ok(self.lists.push(list)?)
     }
 }
 
-// Whether both are the same in all that is known of them.
+// Whether both variables are equal in number, type and singleness.
 fn is_same(a: &InScope, b: &InScope) -> bool
     ensures { result ≡ true → in_scope_of a.now ≡ in_scope_of b.now }
 {
@@ -47,7 +47,7 @@ fn is_same(a: &InScope, b: &InScope) -> bool
     same_elements(&a.ty, false, &b.ty, false)
 }
 
-// How many at the front are the same.
+// The length of the common prefix.
 fn same_front(a: &[InScope], b: &[InScope]) -> usize
     ensures within_first { result ≤ length a.now }
     ensures within_second { result ≤ length b.now }
@@ -62,7 +62,7 @@ fn same_front(a: &[InScope], b: &[InScope]) -> usize
     most
 }
 
-// The variables, and behind them others.
+// Appends copies of these variables.
 fn with_others(
     alloc: Global,
     variables: Vec<InScope>,
@@ -81,7 +81,7 @@ fn with_others(
     Ok(found)
 }
 
-/// The same variables, in the room of some that are out of use. Of these the ones at the front stay that are the same.
+/// Copies variables into a recycled vector. A common prefix isn't copied again.
 pub fn copied(
     alloc: Global,
     unused: Vec<InScope>,

@@ -1,4 +1,4 @@
-// The words of classes, fields and the heads of methods.
+// Modifiers and qualifiers of classes, fields, and the heads of methods.
 ghost use Rattle.std.specs.Prelude.{◌≡◌, map, flat_map, true, false};
 ghost use Rattle.ti_lang.specs.Program.Classes.{NumberedParam};
 ghost use Rattle.ti_lang.specs.Program.Views.{type_use_of, numbered_field_of, numbered_class_of, numbered_param_of, numbered_params_of, numbered_result_of, numbered_method_of};
@@ -41,7 +41,7 @@ fn class(c: &Class) -> Option<Refusal>
     sooner(repeated_modifiers(&c.modifiers), fields(&c.fields))
 }
 
-/// What counts of what is wrong with the words of classes and their fields.
+/// The first error in the modifiers and qualifiers of classes and their fields.
 pub fn classes(classes: &[Class]) -> Option<Refusal>
     ensures { result ≡ first_of (flat_map class_refusals (map numbered_class_of classes.now)) }
 {
@@ -91,7 +91,7 @@ fn params_words(may_be_single: bool, params: &Params) -> Option<Refusal>
     }
 }
 
-/// What counts of what is wrong with the words of a method before its body.
+/// The first error in a method's modifiers and in the qualifiers of its result and parameters.
 #[tactic(auto, using(ti_rules::proofs::Lemmas::firsts))]
 pub fn head(m: &Method) -> Option<Refusal>
     ensures { result ≡ first_of (head_refusals (numbered_method_of m.now)) }

@@ -1,13 +1,13 @@
-// Why a program isn't accepted.
+// Errors of the checker.
 
 use thiserror::Error;
 use ti_base::Memory;
 use ti_rules::Refusal;
 
-/// Why a program isn't accepted.
+/// Why `check` or `check_types` fails.
 #[derive(Debug, Drop, Error)]
 pub enum CheckErr {
-    /// The program breaks a rule of types, qualifiers or single values, and where.
+    /// The program breaks a rule of types, qualifiers or single values: the rule and the position.
     #[error("the text is refused")]
     Refused(Refusal),
     /// Out of memory.

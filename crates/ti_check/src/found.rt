@@ -1,4 +1,4 @@
-// What counts of the rules that are broken somewhere.
+// The errors found so far, by group of rules.
 ghost use Rattle.std.specs.Prelude.{◌≡◌, false, [], None};
 ghost use Rattle.ti_lang.specs.Typing.Effects.{together};
 ghost use Rattle.ti_rules.specs.Mirrors.First.{sooner as sooner_of};
@@ -9,15 +9,17 @@ ghost use Rattle.ti_check.specs.Mirrors.Walked.{doing, single_where, found_where
 use ti_rules::{Refusal, sooner};
 use ti_single::Doings;
 
-/// What counts of the rules of types and qualifiers, and what counts of those of single values.
+/// The first error of each group of rules.
 #[derive(Clone, Copy)]
 pub struct Found {
+    /// The first broken rule of types and qualifiers.
     pub types: Option<Refusal>,
+    /// The first broken rule of single values.
     pub single: Option<Refusal>,
 }
 
 impl Found {
-    /// Nothing is broken.
+    /// No errors.
     #[tactic(auto, unfolding(ti_rules::specs::Mirrors::First::first_of))]
     pub fn nothing() -> Found
         ensures first { IsFirst [] [] result }
@@ -29,7 +31,7 @@ impl Found {
         }
     }
 
-    /// What counts of both.
+    /// The first errors of both.
     pub fn and(self, other: Found) -> Found
         ensures types { result.types ≡ sooner_of self.types other.types }
         ensures single { result.single ≡ sooner_of self.single other.single }
@@ -41,21 +43,22 @@ impl Found {
     }
 }
 
-/// What is found of statements on the walk over them, before it is known what a jump out of the loop around them does, and what they do.
+/// The errors and the effect summary of a statement. Whether a `break` or `continue` counts as a global effect is known only after the
+/// body of the enclosing loop, so the errors of single values are found for both cases.
 #[derive(Clone, Copy)]
 pub struct Walked {
-    /// What counts of the rules of types and qualifiers.
+    /// The first broken rule of types and qualifiers.
     pub types: Option<Refusal>,
-    /// What counts of those of single values, where a jump out of the innermost loop around has no effect.
+    /// The first broken rule of single values, if a jump out of the innermost enclosing loop is no global effect.
     pub single: Option<Refusal>,
-    /// What counts of these, where it has one.
+    /// The first broken rule of single values, if it is one.
     pub jumping: Option<Refusal>,
-    /// What they do.
+    /// The effect summary.
     pub doings: Doings,
 }
 
 impl Walked {
-    /// Nothing is broken by what does so much.
+    /// No errors, with this effect summary.
     pub fn doing(doings: Doings) -> Walked
         ensures { result ≡ doing doings }
     {
@@ -67,7 +70,7 @@ impl Walked {
         }
     }
 
-    /// What is found of both.
+    /// The errors and effects of two statements.
     pub fn and(self, other: Walked) -> Walked
         ensures types { result.types ≡ sooner_of self.types other.types }
         ensures single { result.single ≡ sooner_of self.single other.single }
@@ -82,14 +85,14 @@ impl Walked {
         }
     }
 
-    /// What counts of the rules of single values, where a jump out of the innermost loop around has an effect or has none.
+    /// The first broken rule of single values, given whether a jump out of the innermost enclosing loop counts as a global effect.
     pub fn single_where(self, jump_has: bool) -> Option<Refusal>
         ensures { result ≡ single_where self jump_has }
     {
         if jump_has { self.jumping } else { self.single }
     }
 
-    /// What is found where such a jump has none, or there is no loop around.
+    /// The first errors of statements that are in no loop.
     pub fn outside(self) -> Found
         ensures { result ≡ found_where self false }
     {

@@ -1,4 +1,4 @@
-//! The rules of types, qualifiers and single values over whole programs.
+//! The checker: applies the rules of types, qualifiers and single values to a whole program.
 #![tactic(auto)]
 
 mod checking;

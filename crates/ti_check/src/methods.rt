@@ -1,4 +1,4 @@
-// Methods: what stands before their bodies, and their bodies.
+// The check of a method: its head, its end, and its body.
 ghost use Rattle.std.specs.Prelude.{◌≡◌, ◌<◌, map, flat_map, length, slice_get, IfOk};
 ghost use Rattle.ti_lang.specs.Program.Views.{program_of, statement_of, numbered_result_of, numbered_method_of};
 ghost use Rattle.ti_lang.specs.Typing.Effects.{doings_of_method, return_acts};
@@ -21,7 +21,7 @@ use ti_single::{Doings, has_global_effects, listed_statements, return_acts};
 use ti_syntax::tree::{Qualifier, QualifierWord};
 use ti_types::result_type;
 
-// ---- by the rules of types
+// ---- rules of types
 
 fn is_return(x: &Stmt) -> bool
     ensures { result ≡ is_return (statement_of x.now) }
@@ -29,7 +29,7 @@ fn is_return(x: &Stmt) -> bool
     matches!(x, Stmt::Return(_, _))
 }
 
-// The last statement is a `return`.
+// Whether the last statement is a `return`.
 fn ends_with_return(body: &[Stmt]) -> bool
     ensures { result ≡ ends_with_return (map statement_of body.now) }
 {
@@ -41,7 +41,7 @@ fn ends_with_return(body: &[Stmt]) -> bool
     is_return(&body[last])
 }
 
-// A method with a result ends with a `return`.
+// Y6 if the method has a result and doesn't end with a `return`.
 fn end(m: &Method) -> Option<Refusal>
     ensures { result ≡ first_of (end_refusals (numbered_method_of m.now)) }
 {
@@ -49,7 +49,7 @@ fn end(m: &Method) -> Option<Refusal>
     refused_if(missing, Rule::Y6, m.place)
 }
 
-// ---- by the rules of single values
+// ---- rules of single values
 
 fn single_word(q: Qualifier) -> Option<Refusal>
     ensures { result ≡ first_of (word_refusals q) }
@@ -67,7 +67,7 @@ fn single_words(words: &[Qualifier]) -> Option<Refusal>
     found
 }
 
-// The words `single` among those of the result of a method that isn't single.
+// S9 at the first `single` in the result type of a method that isn't single.
 #[tactic(auto, unfolding(ti_rules::specs::Mirrors::First::first_of))]
 fn single_result(is_single: bool, result_type: &ResultType) -> Option<Refusal>
     ensures { result ≡ first_of (result_refusals is_single (numbered_result_of result_type.now)) }
@@ -84,20 +84,21 @@ fn single_result(is_single: bool, result_type: &ResultType) -> Option<Refusal>
     }
 }
 
-// Global effects in a method that isn't single.
+// S6 if the method has global effects and isn't single.
 fn effects(p: &Program, m: &Method, return_has: bool, body: Doings) -> Option<Refusal>
     requires return_has { return_has ≡ return_acts (program_of p.now.parts) (numbered_method_of m.now) }
     requires body { doings_of body ≡ doings_of_method (program_of p.now.parts) (numbered_method_of m.now) }
     ensures { result ≡ first_of (effect_refusals (program_of p.now.parts) (numbered_method_of m.now)) }
 {
+    // For the prover: only the contract uses `p`.
     let _ = p;
     let acts = has_global_effects(return_has, false, body);
     refused_if(acts && !m.single, Rule::S6, m.place)
 }
 
-// ---- both
+// ---- all rules
 
-/// What counts of the rules that a method breaks, which is that of a number.
+/// The first errors of a method, which is the one with this number.
 pub fn method(alloc: Global, p: &Program, number: u32, m: &Method) -> Result<Found, Memory>
     requires within { number < length (program_of p.now.parts).methods }
     requires is_method { slice_get (program_of p.now.parts).methods number ≡ Some (numbered_method_of m.now) }

@@ -1,4 +1,4 @@
-// Modifiers that can't stand where they do.
+// Modifiers that aren't allowed where they are.
 ghost use Rattle.std.specs.Prelude.{◌≡◌, false, [], flat_map};
 ghost use Rattle.ti_lang.specs.Members.{is_single_word, is_static_word};
 ghost use Rattle.ti_rules.specs.Mirrors.First.{first_of};
@@ -8,7 +8,7 @@ ghost use Rattle.ti_check.specs.Mirrors.Modifiers.{met_again, has_met, meeting, 
 use ti_rules::{Refusal, Rule, refused_if, sooner};
 use ti_syntax::tree::{Modifier, ModifierWord};
 
-/// Which words stand among some modifiers.
+/// The set of modifiers seen so far.
 #[derive(Clone, Copy)]
 pub struct Met {
     pub with_public: bool,
@@ -81,7 +81,7 @@ fn again(words: &[Modifier]) -> Option<Refusal>
     found
 }
 
-/// Modifiers whose word stands before them.
+/// Y7 at the first repeated modifier.
 pub fn repeated_modifiers(words: &[Modifier]) -> Option<Refusal>
     ensures { result ≡ first_of (repeated_modifiers [] words.now) }
 {
@@ -106,7 +106,7 @@ fn field_modifier(m: Modifier) -> Option<Refusal>
     refused_if(is_single(m.word) || is_static(m.word), Rule::Y7, m.place)
 }
 
-/// The modifiers of a field: it is neither single nor static.
+/// The first modifier that a field can't have: `single` or `static`.
 pub fn field_modifiers(words: &[Modifier]) -> Option<Refusal>
     ensures { result ≡ first_of (flat_map field_modifier_refusals words.now) }
 {
@@ -123,7 +123,7 @@ fn method_modifier(is_static: bool, m: Modifier) -> Option<Refusal>
     refused_if(is_single(m.word) && !is_static, Rule::Y7, m.place)
 }
 
-/// The modifiers of a method: one that isn't static isn't single.
+/// The first modifier that a method can't have: `single`, if the method isn't static.
 pub fn method_modifiers(is_static: bool, words: &[Modifier]) -> Option<Refusal>
     ensures { result ≡ first_of (flat_map (method_modifier_refusals is_static) words.now) }
 {

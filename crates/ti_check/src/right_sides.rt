@@ -1,4 +1,4 @@
-// Whole right sides of declarations and assignments, by the rules of types.
+// Typing of initializers.
 ghost use Rattle.std.specs.Prelude.{◌≡◌, ◌++◌, map, is_some, false};
 ghost use Rattle.std.specs.Option.{option_map, option_map_or, option_and_then};
 ghost use Rattle.ti_syntax.specs.Trees.Views.{maybe_of};
@@ -34,7 +34,7 @@ fn can_broadcast(t: Seen) -> bool
     }
 }
 
-// What a broadcast gives of a value and a root of these types.
+// The type of a broadcast, if a value of type `t` can be broadcast from a root of type `root`.
 fn broadcast_type<'a>(t: Seen<'a>, root: Seen<'a>) -> Option<Seen<'a>>
     ensures { option_map seen result ≡ broadcast_type (seen t.entry) (seen root.entry) }
 {
@@ -77,7 +77,7 @@ fn is_region(t: Seen) -> bool
     matches!(t, Seen::Region)
 }
 
-// A new object of a class, in what has this type.
+// The type of a new object of a class, if `region` is the type of a region.
 fn object_type<'a>(class: u32, region: Option<Seen<'a>>) -> Option<Seen<'a>>
     ensures { option_map seen result ≡ option_and_then (object_type class) (option_map seen region.entry) }
 {
@@ -105,10 +105,12 @@ fn region_mistaken(place: Place, region: Option<Seen>) -> Option<Refusal>
 
 // ---- grids
 
-// What is known of what a new grid spreads over.
+// The typing result of a new grid's domain.
 #[derive(Clone, Copy)]
 struct Spread<'a> {
+    /// The first type error in it.
     first: Option<Refusal>,
+    /// Its type; None if a part of it has no type.
     types: Option<Literal<'a>>,
 }
 
@@ -187,10 +189,10 @@ fn grid_refusal<'a>(
     }
 }
 
-// ---- right sides
+// ---- initializers
 
 impl<'a> Site<'a> {
-    /// The region of a `new`; where none is said, a region all the same.
+    /// The region of `new`. If none is given, it counts as a valid one.
     #[tactic(auto, unfolding(ti_rules::specs::Mirrors::First::first_of))]
     fn region(self, region: &'a Option<Expr>) -> Value<'a>
         ensures ty { option_map seen result.ty ≡ region_type (program_at self.entry) (scope_at self.entry)
@@ -258,6 +260,7 @@ impl<'a> Site<'a> {
         ensures first { result.first ≡ first_of (initial_refusals (program_at self.entry) (scope_at self.entry)
             (st.NewGrid place (maybe_of expression_of region.now) (type_use_of element.now) bracket (extent_of dims.now))) }
     {
+        // For the prover: only the contract uses `bracket`.
         let _ = bracket;
         let region = self.region(region);
         let spread = self.spread(dims);
@@ -285,7 +288,7 @@ impl<'a> Site<'a> {
         }
     }
 
-    /// A whole right side.
+    /// The typing result of an initializer.
     #[tactic(auto, unfolding(ti_rules::specs::Mirrors::First::first_of))]
     pub fn initial(self, value: &'a Init) -> Value<'a>
         ensures ty { option_map seen result.ty ≡ initial_type (program_at self.entry) (scope_at self.entry) (initial_of value.now) }

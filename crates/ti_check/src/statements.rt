@@ -1,4 +1,4 @@
-// Statements by the rules of types, apart from the statements in them.
+// The rules of types for one statement by itself, without the statements in it.
 ghost use Rattle.std.specs.Prelude.{◌≡◌, ◌++◌, not, is_some, is_none, false};
 ghost use Rattle.std.specs.Option.{option_map};
 ghost use Rattle.ti_syntax.specs.Trees.Views.{maybe_of};
@@ -27,9 +27,9 @@ use ti_single::boxed_initial;
 use ti_syntax::tree::{BinaryOperator, StepOperator};
 use ti_types::{binary_type, misfit, mistaken, result_type, type_words};
 
-// ---- values and what is to hold them
+// ---- values and their targets
 
-// A value that doesn't fit its variable.
+// The error of a value that can't be assigned to a variable of the type `wanted`.
 #[tactic(auto, unfolding(ti_rules::specs::Mirrors::First::first_of))]
 fn value_misfit<'a>(place: Place, t: Option<Seen<'a>>, wanted: &'a Ty) -> Option<Refusal>
     ensures { result ≡ first_of (judged (option_map seen t.entry) (λ t. misfit_at place t (value_type_of wanted.now))) }
@@ -40,14 +40,14 @@ fn value_misfit<'a>(place: Place, t: Option<Seen<'a>>, wanted: &'a Ty) -> Option
     }
 }
 
-// A long goes into an int at an assignment with an operator.
+// Whether a compound assignment narrows its result: a long to an int.
 fn narrows(t: Seen, u: Seen) -> bool
     ensures { result ≡ narrows (seen t.entry) (seen u.entry) }
 {
     matches!((t, u), (Seen::Long, Seen::Int))
 }
 
-// What the operator gives, if anything, goes into the target.
+// The error if the operator's result can't be assigned to the target.
 #[tactic(auto, unfolding(ti_rules::specs::Mirrors::First::first_of))]
 fn result_refusal<'a>(place: Place, given: Option<Seen<'a>>, t: Seen<'a>) -> Option<Refusal>
     ensures { result ≡ first_of (judged (option_map seen given.entry) (λ r. result_refusals place r (seen t.entry))) }
@@ -64,7 +64,7 @@ fn result_refusal<'a>(place: Place, given: Option<Seen<'a>>, t: Seen<'a>) -> Opt
     }
 }
 
-// The operator takes a target and a value of these types, and what it gives goes into the target.
+// The first error of a compound assignment, by the types of target and value.
 #[tactic(auto, using(ti_rules::proofs::Lemmas::firsts))]
 fn update_refusal<'a>(place: Place, op: BinaryOperator, t: Seen<'a>, u: Seen<'a>) -> Option<Refusal>
     ensures { result ≡ first_of (update_refusals place op (seen t.entry) (seen u.entry)) }
@@ -77,7 +77,7 @@ fn update_refusal<'a>(place: Place, op: BinaryOperator, t: Seen<'a>, u: Seen<'a>
     )
 }
 
-// `t++` is `t += 1`, and `t--` is `t -= 1`.
+// The operator of the equivalent compound assignment: `t++` is `t += 1`, and `t--` is `t -= 1`.
 fn operator_of(op: StepOperator) -> BinaryOperator
     ensures { result ≡ operator_of op }
 {
@@ -162,13 +162,14 @@ impl<'a> Site<'a> {
         ensures { result ≡ first_of (statement_refusals (program_at self.entry) (around_of self.entry)
             (st.Declare place (type_use_of ty.now) variable (initial_of value.now))) }
     {
+        // For the prover: only the contract uses `variable`.
         let _ = variable;
         let value = self.initial(value);
         let parts = sooner(type_words(true, ty), value.first);
         sooner(parts, value_misfit(place, value.ty, &ty.ty))
     }
 
-    // What counts of what is wrong with writing a value of this type, where target and value have types.
+    // The first error of an assignment of a value of type `u` to a target of type `t`; none if one of them has no type.
     #[tactic(auto, unfolding(ti_rules::specs::Mirrors::First::first_of), using(crate::proofs::Written::written_laws))]
     fn write_value(
         self,
@@ -198,7 +199,7 @@ impl<'a> Site<'a> {
         sooner(parts, self.write_value(place, target, t.ty, u.ty))
     }
 
-    // The same with an operator.
+    // The first error of a compound assignment of a value of type `u` to a target of type `t`; none if one of them has no type.
     #[tactic(auto, unfolding(ti_rules::specs::Mirrors::First::first_of), using(crate::proofs::Written::written_laws))]
     fn write_updated(
         self,
@@ -235,7 +236,7 @@ impl<'a> Site<'a> {
         sooner(parts, self.write_updated(place, op, target, t.ty, u.ty))
     }
 
-    // The same with 1.
+    // The first error of a step of a target of type `t`; none if it has no type.
     #[tactic(auto, unfolding(ti_rules::specs::Mirrors::First::first_of), using(crate::proofs::Written::written_laws))]
     fn write_stepped(
         self,
@@ -336,7 +337,7 @@ impl<'a> Site<'a> {
         refused_if(!self.has_loop, Rule::Y8, place)
     }
 
-    /// What counts of the rules of types that a statement breaks, apart from those that the statements in it break.
+    /// The first rule of types that a statement breaks by itself, without the statements in it.
     #[tactic(auto, unfolding(ti_rules::specs::Mirrors::First::first_of), using(ti_lang::proofs::Lemmas::program_bridges))]
     pub fn types(self, x: &'a Stmt) -> Option<Refusal>
         ensures { result ≡ first_of (statement_refusals (program_at self.entry) (around_of self.entry) (statement_of x.now)) }

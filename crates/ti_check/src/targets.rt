@@ -1,4 +1,4 @@
-// What can be written.
+// Targets of assignments: what can't be assigned to.
 ghost use Rattle.std.specs.Prelude.{◌≡◌, false};
 ghost use Rattle.std.specs.Option.{option_map, option_map_or, option_and_then};
 ghost use Rattle.ti_lang.specs.Program.Views.{program_of, expression_of};
@@ -16,7 +16,7 @@ use ti_lang::typing::{Seen, field_type, named_field_type};
 use ti_rules::{Refusal, Rule, refused_if, sooner};
 use ti_single::boxed_expression;
 
-/// Whether this is a variable that a foreach declares.
+/// Whether the target is a foreach variable.
 #[tactic(auto, using(ti_lang::proofs::Lemmas::program_bridges))]
 fn is_foreach_variable(target: &Expr) -> bool
     ensures { result ≡ is_foreach_variable (expression_of target.now) }
@@ -45,7 +45,7 @@ fn is_local(t: Option<Seen>) -> bool
     }
 }
 
-// A field of `this` that is of local type; `this` is global.
+// Whether a field of `this` has a local type; `this` is a global reference.
 fn is_own_local(program: &Parts, this: Option<u32>, field: u32) -> bool
     ensures { result ≡ maybe_local (option_and_then (λ c. field_type (program_of program.now) c field) this) }
 {
@@ -55,7 +55,7 @@ fn is_own_local(program: &Parts, this: Option<u32>, field: u32) -> bool
     }
 }
 
-// A field of local type in a global object.
+// Whether the field of an object has a local type and the object is reached through a global reference.
 fn hidden_field(program: &Parts, t: Option<Seen>, name: u32) -> bool
     ensures { result ≡ hidden_field (program_of program.now) (option_map seen t.entry) name }
 {
@@ -67,7 +67,7 @@ fn hidden_field(program: &Parts, t: Option<Seen>, name: u32) -> bool
     }
 }
 
-// Elements of local type in a global grid.
+// Whether a grid's elements have a local type and the grid is reached through a global reference.
 fn hidden_element(t: Option<Seen>) -> bool
     ensures { result ≡ hidden_element (option_map seen t.entry) }
 {
@@ -85,7 +85,7 @@ fn hidden_element(t: Option<Seen>) -> bool
 }
 
 impl<'a> Site<'a> {
-    // A coordinate of a point.
+    // Whether the target is a coordinate of a point.
     #[tactic(auto, using(ti_lang::proofs::Lemmas::program_bridges))]
     fn is_coordinate(self, target: &'a Expr) -> bool
         ensures { result ≡ is_coordinate (program_at self.entry) (scope_at self.entry) (expression_of target.now) }
@@ -96,7 +96,7 @@ impl<'a> Site<'a> {
         }
     }
 
-    // A field or an element of local type that is reached through a global reference.
+    // Whether the target is a field or an element of a local type that is reached through a global reference.
     #[tactic(auto, using(ti_lang::proofs::Lemmas::program_bridges))]
     fn is_hidden_local(self, target: &'a Expr) -> bool
         ensures { result ≡ is_hidden_local (program_at self.entry) (scope_at self.entry) (expression_of target.now) }
@@ -114,7 +114,8 @@ impl<'a> Site<'a> {
         }
     }
 
-    /// What counts of what is wrong with writing a target at an assignment, by what counts of what is wrong with the value.
+    /// The first error of an assignment to a target; `value` is the first error of the value. A coordinate of a point can't be assigned to
+    /// (Y1), a foreach variable neither (Y2), nor a local field or element through a global reference (Q2).
     #[tactic(auto, using(ti_rules::proofs::Lemmas::firsts))]
     pub fn write(self, place: Place, target: &'a Expr, value: Option<Refusal>) -> Option<Refusal>
         ensures { result ≡ written (program_at self.entry) (scope_at self.entry) place (expression_of target.now) value }

@@ -1,4 +1,4 @@
-// Expressions of a statement, and what the rules of single values say of it.
+// Typing of a statement's expressions, and the connection to the rules of single values.
 ghost use Rattle.std.specs.Prelude.{◌≡◌, ◌++◌, map, flat_map, not};
 ghost use Rattle.std.specs.Option.{option_map};
 ghost use Rattle.ti_lang.specs.Members.{only_if};
@@ -31,14 +31,14 @@ use ti_rules::{Refusal, Rule, refused_if, sooner};
 use ti_single::{Doings, SingleSite};
 use ti_types::{Judge, Judged, Ranges};
 
-/// A value: its type, where it has one, and what counts of the rules of types that are broken in it.
+/// The typing result of an expression in a statement: its type, if it has one, and its first type error.
 #[derive(Clone, Copy)]
 pub struct Value<'a> {
     pub ty: Option<Seen<'a>>,
     pub first: Option<Refusal>,
 }
 
-/// Whether this is the type of what gives nothing.
+/// Whether the type is that of an expression without a value.
 fn gives_nothing(t: Option<Seen>) -> bool
     ensures { result ≡ gives_nothing (option_map seen t.entry) }
 {
@@ -48,7 +48,7 @@ fn gives_nothing(t: Option<Seen>) -> bool
     }
 }
 
-/// The type, where something is given.
+/// The type, unless it is that of an expression without a value.
 fn given<'a>(t: Option<Seen<'a>>) -> Option<Seen<'a>>
     ensures { option_map seen result ≡ only_if (λ u. not (is_void u)) (option_map seen t.entry) }
 {
@@ -58,7 +58,7 @@ fn given<'a>(t: Option<Seen<'a>>) -> Option<Seen<'a>>
     }
 }
 
-// Where there is a loop, whether a jump out of the innermost one has an effect.
+// Whether a jump out of the innermost enclosing loop counts as a global effect; None if there is no loop.
 fn jump_in(has_loop: bool, jump_has: bool) -> Option<bool>
     ensures { result ≡ jump_in has_loop jump_has }
 {
@@ -66,7 +66,7 @@ fn jump_in(has_loop: bool, jump_has: bool) -> Option<bool>
 }
 
 impl<'a> Site<'a> {
-    /// What is known of an expression.
+    /// The typing result of an expression.
     pub fn exp(self, e: &'a Expr) -> Judged<'a>
         ensures { IsJudged (program_at self.entry) (scope_at self.entry) (expression_of e.now) result }
     {
@@ -76,7 +76,7 @@ impl<'a> Site<'a> {
         judge.exp(self.scope, e)
     }
 
-    /// What is known of ranges that stand as in a literal.
+    /// The typing result of ranges as in a domain literal.
     pub fn literal(self, ranges: &'a [Range]) -> Ranges<'a>
         ensures first { result.first ≡ first_of (flat_map (refusals_at (program_at self.entry) (scope_at self.entry))
             (parts_of_ranges (numbered_ranges (map bound_of ranges.now)))
@@ -90,7 +90,7 @@ impl<'a> Site<'a> {
         judge.literal(self.scope, ranges)
     }
 
-    /// An expression where no call can stand.
+    /// An expression as an operand: it can't be a call of a declared method (Y6).
     #[tactic(auto, using(ti_rules::proofs::Lemmas::firsts))]
     pub fn inner(self, e: &'a Expr) -> Value<'a>
         ensures ty { option_map seen result.ty ≡ operand_type (program_at self.entry) (scope_at self.entry) (expression_of e.now) }
@@ -103,7 +103,7 @@ impl<'a> Site<'a> {
         }
     }
 
-    /// An expression that is a whole right side: a call that gives something can stand there.
+    /// An expression as an initializer: it can be a call, but it must have a value (Y6).
     #[tactic(auto, using(ti_rules::proofs::Lemmas::firsts))]
     pub fn value(self, e: &'a Expr) -> Value<'a>
         ensures ty { option_map seen result.ty ≡ value_type (program_at self.entry) (scope_at self.entry) (expression_of e.now) }
@@ -117,7 +117,7 @@ impl<'a> Site<'a> {
         }
     }
 
-    /// A target: its type, and what counts of the rules that are broken in it apart from those of writing.
+    /// An expression as a target: its type, and its first type error apart from the rules on assignment.
     pub fn target(self, e: &'a Expr) -> Value<'a>
         ensures ty { option_map seen result.ty ≡ operand_type (program_at self.entry) (scope_at self.entry) (expression_of e.now) }
         ensures first { result.first ≡ first_of (exp_refusals (program_at self.entry) (scope_at self.entry) (expression_of e.now)) }
@@ -129,14 +129,14 @@ impl<'a> Site<'a> {
         }
     }
 
-    /// The class of `this`, where there is one.
+    /// The class of `this`, if there is one.
     pub fn this(self) -> Option<u32>
         ensures { result ≡ this_of (around_of self.entry).method }
     {
         self.scope.this
     }
 
-    // The same for the rules of single values, where a jump out of the innermost loop around has an effect or has none.
+    // The context for the rules of single values, given whether a jump out of the innermost enclosing loop counts as a global effect.
     fn single_site(self, jump_has: bool) -> SingleSite<'a>
         ensures program { single.program_at result ≡ program_at self.entry }
         ensures around { single.around_of result ≡ around_where self.entry jump_has }
@@ -150,7 +150,7 @@ impl<'a> Site<'a> {
         }
     }
 
-    /// Whether an expression inside another one, or a condition, is single.
+    /// Whether an expression is single as a part of another one, or as a condition.
     pub fn is_single_inside(self, e: &Expr) -> bool
         ensures { result ≡ is_single_part (program_at self.entry) (this_of (around_of self.entry).method) (singles_in (scope_at self.entry))
             (expression_of e.now) }
@@ -158,9 +158,9 @@ impl<'a> Site<'a> {
         self.single_site(false).is_single_inside(e)
     }
 
-    /// What counts of the rules of single values that a statement breaks, apart from those that the statements in it break, where a
-    /// jump out of the innermost loop around has an effect or has none. What it does is known, and so is what its update and its body
-    /// do where it is a loop.
+    /// The first rule of single values that a statement breaks by itself, without the statements in it, given whether a jump out of the
+    /// innermost enclosing loop counts as a global effect. `own` is the statement's effect summary, and `inside` that of its update and
+    /// body if it is a loop.
     pub fn single(self, x: &Stmt, jump_has: bool, own: Doings, inside: Doings) -> Option<Refusal>
         requires own { doings_of own ≡ doings (program_at self) (this_of (around_of self).method) (statement_of x.now) }
         requires inside { doings_of inside ≡ doings_in_loop (program_at self) (around_of self).method (statement_of x.now) }

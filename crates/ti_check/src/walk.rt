@@ -1,4 +1,4 @@
-// The statements of a method, each where it stands.
+// The traversal of a method's statements, each in its context.
 ghost use Rattle.std.specs.Prelude.{◌≡◌, map, true, Some, IfOk};
 ghost use Rattle.std.specs.Option.{option_map, option_and_then};
 ghost use Rattle.ti_lang.specs.Program.Scope.{in_scope_of, contents_of, this_of};
@@ -29,7 +29,7 @@ use ti_single::{Doings, boxed_statement, doings_of_statement, jump_acts, listed_
 
 // ---- scopes
 
-// The variables with that of a foreach over a domain of so many dimensions; over what is no domain there is none.
+// The variables in scope with that of a foreach over a domain of `dim` dimensions. None means that it isn't a domain: no variable then.
 fn with_point(
     alloc: Global,
     unused: Vec<InScope>,
@@ -55,7 +55,7 @@ fn with_point(
 }
 
 impl<'a> Site<'a> {
-    // What is in scope in the body of a foreach.
+    // The scope of a foreach's body.
     fn inside_foreach(
         self,
         alloc: Global,
@@ -78,7 +78,7 @@ impl<'a> Site<'a> {
         })
     }
 
-    // In the body of a loop.
+    // The context inside of a loop.
     fn in_loop(self) -> Site<'a>
         ensures program { program_at result ≡ program_at self.entry }
         ensures around { around_where result ≡ (λ jump_has. record (around_of self.entry) { jump_has = Some jump_has }) }
@@ -93,7 +93,7 @@ impl<'a> Site<'a> {
         }
     }
 
-    // With other variables in scope.
+    // The context with other variables in scope.
     fn with_scope(self, scope: &'a Scope) -> Site<'a>
         requires { scope.now.this ≡ self.scope.now.this }
         ensures program { program_at result ≡ program_at self.entry }
@@ -109,7 +109,8 @@ impl<'a> Site<'a> {
         }
     }
 
-    // The same as `single` where a jump out of the innermost loop around has an effect: another only where the statement has a jump.
+    // The first broken rule of single values if a jump out of the innermost enclosing loop counts as a global effect; `single` is the one
+    // if it doesn't. The two differ only if the statement contains a jump.
     fn single_jumping(
         self,
         x: &'a Stmt,
@@ -129,8 +130,8 @@ impl<'a> Site<'a> {
         }
     }
 
-    // What is found of a statement, from what is found below it, which does as much as itself, and from what its update and its body do
-    // where it is a loop.
+    // The result for a statement, given that of the statements in it, whose effect summary is also its own. `inside` is the effect
+    // summary of its update and body if it is a loop.
     fn whole(self, x: &'a Stmt, below: Walked, inside: Doings) -> Walked
         requires below { IsWalked (program_at self) (λ jump_has. below_one (program_at self) (around_where self jump_has)
             (statement_of x.now)) below }
@@ -151,7 +152,7 @@ impl<'a> Site<'a> {
         own.and(below)
     }
 
-    // What is found of a statement with none in it.
+    // The result for a statement without statements in it.
     fn simple(self, x: &'a Stmt) -> Walked
         requires { is_simple (statement_of x.now) ≡ true }
         ensures found { IsWalked (program_at self.entry) (λ jump_has. inside_one (program_at self.entry) (around_where self.entry jump_has)
@@ -169,7 +170,7 @@ impl<'a> Site<'a> {
         }
     }
 
-    // What is found of the update and the body of a loop, which keeps their jumps.
+    // The result for a loop's update and body. Jumps don't leave the loop.
     fn looped(self, update: Walked, body: Walked) -> Walked
         ensures types { result.types ≡ sooner_of update.types body.types }
         ensures single { result.single ≡ sooner_of update.single (single_where body (jump_acts_inside self.entry update body)) }
@@ -198,7 +199,7 @@ fn domain_dim(t: Option<Seen>) -> Option<usize>
 
 // ---- statements
 
-/// What is found of statements, with all statements in them.
+/// The result for a sequence of statements, with all statements in them.
 #[cycle(walk)]
 pub fn statements<'a>(
     alloc: Global,
@@ -219,7 +220,7 @@ pub fn statements<'a>(
     Ok(found)
 }
 
-// The same of one statement, if there is one.
+// The result for an optional statement.
 #[cycle(walk)]
 fn maybe<'a>(
     alloc: Global,
@@ -238,7 +239,7 @@ fn maybe<'a>(
     }
 }
 
-// Whether no statement stands in a statement.
+// Whether the statement is of a form without statements in it.
 #[tactic(auto, using(ti_lang::proofs::Lemmas::program_bridges))]
 fn is_simple(x: &Stmt) -> bool
     ensures { result ≡ is_simple (statement_of x.now) }
@@ -253,7 +254,7 @@ fn is_simple(x: &Stmt) -> bool
     }
 }
 
-// The same of one statement. Most have none in them, and need not pay for what the walk over the others wants.
+// The result for a statement. Simple statements skip the large stack frame of `compound`.
 #[cycle(walk)]
 fn statement<'a>(
     alloc: Global,
@@ -272,7 +273,7 @@ fn statement<'a>(
     compound(alloc, unused, site, x)
 }
 
-// The same of one statement of any form.
+// The result for a statement of any form.
 #[cycle(walk)]
 fn compound<'a>(
     alloc: Global,

@@ -1,4 +1,4 @@
--- The classes of bytes.
+-- The code's byte classes are proved to be those of the lexical syntax.
 use Rattle.std.proofs.Common.{◌≡◌, ◌≢◌, ℕ, ◌==◌, true, false, refl, arith}
 use Rattle.std.proofs.lemmas.Bool.{cond_both}
 use Rattle.std.proofs.lemmas.Bool.Decides.{nat_tests}

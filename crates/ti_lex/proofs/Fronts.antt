@@ -1,4 +1,4 @@
--- What a reading says of the front of a list.
+-- What a reading at the start of a list implies about prefixes of the list is proved.
 use Rattle.std.proofs.Common.{◌≡◌, ◌⊎◌, inl, inr, ℕ, ◌+◌, ◌<◌, ◌≤◌, List, ◌++◌, length, refl, arith}
 use Rattle.std.proofs.lemmas.Bool.{cases_lt}
 use Rattle.ti_syntax.specs.Tokenizing.{Piece, IsPiece, Flaw, HasFlaw}

@@ -1,4 +1,4 @@
--- What is read at the front of a list is the longest piece there.
+-- The lexical element that the model reads at the start of a list is proved to be the longest one there.
 use Rattle.std.proofs.Common.{◌≡◌, ℕ, ◌+◌, ◌≤◌, ◌<◌, ◌==◌, true, false, ◌&&◌, ◌||◌, Option, Some, None, List, [], ◌∷◌, ◌++◌, length, take, drop, codes, pos, inl, inr, refl, sym, ap, ◌∙◌, subst, arith, take-append-drop, length-append, length-take}
 use Rattle.std.proofs.Math.Seq.{take-append_seam, drop-append_seam}
 use Rattle.std.proofs.lemmas.Bool.{cond_both, and_parts, eqb-true}

@@ -1,4 +1,4 @@
--- The rest of a string, item by item.
+-- The model's reading of a string's items is proved correct for the lexical syntax.
 use Rattle.std.proofs.Common.{◌≡◌, ℕ, ◌+◌, Bool, true, false, if◌then◌else◌, ◌==◌, ◌||◌, Option, Some, None, is_some, unwrap_or, Ok, Err, List, [], ◌∷◌, ◌++◌, drop, refl, sym, ap, ◌∙◌, subst}
 use Rattle.std.proofs.lemmas.List.{drop-drop}
 use Rattle.std.specs.Option.{option_map_or}

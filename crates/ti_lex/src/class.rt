@@ -1,13 +1,14 @@
-// Kinds of bytes.
+// Byte classes: which lexical elements a byte can begin, and which it can be part of.
 ghost use Rattle.std.specs.Prelude.{◌≡◌};
 ghost use Rattle.ti_syntax.specs.Tokenizing.{is_blank, is_name_byte, is_long_letter, is_plain, escaped};
 ghost use Rattle.ti_lex.specs.Mirrors.Reading.{class_of};
 
-/// What kind of piece can begin with a byte.
+/// The class of a byte, by which the lexer dispatches.
 #[derive(Clone, Copy, Debug)]
 pub enum Class {
+    /// A space, a tab, a line feed, a carriage return or a form feed.
     Blank,
-    /// Also an underscore and a dollar sign.
+    /// An ASCII letter, an underscore or a dollar sign.
     Letter,
     Digit,
     Quote,
@@ -34,14 +35,14 @@ pub fn is_name_byte(byte: u8) -> bool
     byte.is_ascii_alphanumeric() || byte == b'_' || byte == b'$'
 }
 
-/// Whether a byte makes the digits before it a long number.
+/// Whether the byte is the suffix of a long literal.
 pub fn is_long_letter(byte: u8) -> bool
     ensures { result ≡ is_long_letter byte }
 {
     byte == b'L' || byte == b'l'
 }
 
-/// Whether a byte stands for itself in a string.
+/// Whether the byte represents itself in a string literal.
 pub fn is_plain(byte: u8) -> bool
     ensures { result ≡ is_plain byte }
 {
@@ -52,7 +53,7 @@ pub fn is_plain(byte: u8) -> bool
     }
 }
 
-/// What a byte stands for behind a backslash.
+/// The value of the escape that a backslash and this byte make, or None if they make none.
 pub fn escaped(byte: u8) -> Option<u8>
     ensures { result ≡ escaped byte }
 {

@@ -1,4 +1,4 @@
-// Comments, and what else begins with a slash.
+// Comments and operators that begin with a slash.
 ghost use Rattle.std.specs.Prelude.{◌≡◌, ◌+◌, ◌≤◌, ◌<◌, ◌++◌, List, ℕ, codes, length, drop, false};
 ghost use Rattle.ti_syntax.specs.Tokenizing.{Space};
 ghost use Rattle.ti_lex.specs.Mirrors.Answers.{Reads};
@@ -11,7 +11,7 @@ use crate::piece::Piece;
 use ti_rules::Rule;
 
 impl Cursor<'_> {
-    /// What is left of the line, without the byte that ends it.
+    /// Skips the rest of the line, up to its line feed.
     fn line(&mut self) -> Result<Piece, LexErr>
         ensures { Reads (Takes Space (self.old.at + line_left (rest self.old))) self.old self.new result }
     {
@@ -24,7 +24,7 @@ impl Cursor<'_> {
         Ok(Piece::Space)
     }
 
-    /// A comment, from its `/*` to its `*/`.
+    /// Skips a comment from its `/*` to its `*/`. Error: X2 at the `/*` if it isn't closed.
     fn block_comment(&mut self) -> Result<Piece, LexErr>
         requires { 2 ≤ length (rest self.old) }
         ensures { Reads (comment_from self.old.at false (self.old.at + 2) (drop 1 (drop 1 (rest self.old)))) self.old self.new result }
@@ -43,7 +43,7 @@ impl Cursor<'_> {
         Err(refused(Rule::X2, slash))
     }
 
-    /// The comment or the operator that begins with a slash.
+    /// Reads the comment or the operator that begins with a slash.
     pub fn slash(&mut self) -> Result<Piece, LexErr>
         requires { 0 < length (rest self.old) }
         ensures { Reads (slash self.old.at (rest self.old)) self.old self.new result }

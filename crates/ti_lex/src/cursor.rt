@@ -1,4 +1,4 @@
-// Where a text is being read.
+// The lexer's input.
 ghost use Rattle.std.specs.Prelude.{◌≡◌, ◌≤◌, ◌<◌, ◌∷◌, [], length, drop, MatchOption};
 ghost use Rattle.ti_base.specs.Places.{place_of};
 ghost use Rattle.ti_rules.specs.LexicalRefusals.{most_bytes};
@@ -7,7 +7,7 @@ ghost use Rattle.ti_lex.specs.Mirrors.Cursor.{rest, moved};
 use std::marker::Model;
 use ti_base::Place;
 
-/// A text that is read once, byte by byte, with the place of the next byte.
+/// A forward-only cursor over the bytes of a source. It tracks the line and column of the next byte.
 #[derive(Debug, Drop)]
 pub struct Cursor<'a> {
     text: &'a [u8],
@@ -29,7 +29,7 @@ impl<'a> Model for Cursor<'a> {
 }
 
 impl<'a> Cursor<'a> {
-    /// The front of a text that isn't too long.
+    /// A cursor at the first byte of a source.
     pub fn new(text: &'a [u8]) -> Self
         requires { length text.now ≤ most_bytes }
         ensures { result ≡ record { text = text.now; at = 0 } }
@@ -41,28 +41,28 @@ impl<'a> Cursor<'a> {
         }
     }
 
-    /// The place of the next byte, or the end place.
+    /// The position of the next byte; at the end of the source, the position just after the last byte.
     pub fn place(&self) -> Place
         ensures { result ≡ place_of self.now.text self.now.at }
     {
         self.place
     }
 
-    /// What is left to read.
+    /// The bytes that aren't read yet.
     pub fn rest(&self) -> &'a [u8]
         ensures { result.now ≡ rest self.now }
     {
         &self.text[self.at..]
     }
 
-    /// The next byte, where there is one.
+    /// The next byte, or None at the end of the source.
     pub fn peek(&self) -> Option<u8>
         ensures { MatchOption result (rest self.now ≡ []) (λ byte. rest self.now ≡ byte ∷ drop 1 (rest self.now)) }
     {
         self.rest().first().copied()
     }
 
-    /// Reads the next byte.
+    /// Skips the next byte.
     pub fn advance(&mut self)
         requires { 0 < length (rest self.old) }
         ensures moves { self.new ≡ moved 1 self.old }

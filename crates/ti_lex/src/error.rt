@@ -1,4 +1,4 @@
-// Why a text has no tokens.
+// Errors of the lexer.
 ghost use Rattle.std.specs.Prelude.{◌≡◌};
 
 use std::alloc::{AllocError, AllocFailed};
@@ -6,10 +6,10 @@ use thiserror::Error;
 use ti_base::Place;
 use ti_rules::{Refusal, Rule};
 
-/// Why a text was not turned into tokens.
+/// Why `lex` fails.
 #[derive(Debug, Drop, Error)]
 pub enum LexErr {
-    /// The text has no tokens: the rule that it breaks, and where.
+    /// A lexical error: the rule that the source breaks, and the position.
     #[error("the text is refused")]
     Refused(Refusal),
     /// Out of memory.
@@ -39,7 +39,7 @@ impl<T: Drop> From<AllocFailed<T>> for LexErr {
     }
 }
 
-/// The refusal of a text that breaks a rule at a place.
+/// A lexical error of this rule at this position.
 pub fn refused(rule: Rule, place: Place) -> LexErr
     ensures { result ≡ LexErr.Refused (record { rule = rule; place = place }) }
 {

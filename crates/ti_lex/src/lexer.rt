@@ -1,4 +1,4 @@
-// Texts become tokens.
+// The lexer's main loop.
 ghost use Rattle.std.specs.Prelude.{◌≡◌, ◌⊎◌, ◌≤◌, ◌∷◌, ℕ, List, length, drop};
 ghost use Rattle.ti_syntax.specs.declared.token.Token.{Token};
 ghost use Rattle.ti_syntax.specs.Tokenizing.{IsTokenized};
@@ -18,11 +18,11 @@ use ti_base::Place;
 use ti_rules::Rule;
 use ti_syntax::{Token, TokenKind};
 
-/// How many bytes a text may have.
+/// The limit on the size of a source, in bytes.
 const MOST_BYTES: usize = 1048576;
 
 impl Cursor<'_> {
-    /// The piece at the front, which begins with this byte.
+    /// Reads the lexical element that begins with `byte`, the next byte.
     #[tactic(auto, unfolding(crate::specs::Mirrors::Reading::first))]
     fn piece(&mut self, alloc: Global, byte: u8) -> Result<Piece, LexErr>
         requires { rest self.old ≡ byte ∷ drop 1 (rest self.old) }
@@ -41,7 +41,7 @@ impl Cursor<'_> {
         }
     }
 
-    /// The tokens of a text, read from its front.
+    /// Reads all tokens of a source. The cursor is at its first byte.
     fn tokens(&mut self, alloc: Global) -> Result<Vec<Token>, LexErr>
         requires front { self.old.at ≡ 0 }
         requires short { length self.old.text ≤ most_bytes }
@@ -64,12 +64,12 @@ impl Cursor<'_> {
     }
 }
 
-/// The tokens of a text with their places, the last of which is its end.
+/// Splits a source into tokens with their positions; the last token is End.
 ///
-/// A text that has none is refused for what is wrong with it.
+/// Errors: the source's lexical error (X1 to X5), or Memory.
 pub fn lex(alloc: Global, text: &[u8]) -> Result<Vec<Token>, LexErr>
     ensures answer { Lexes text.now result }
-    // Nothing else is answered to a text that has tokens, or a refusal.
+    // The result is unique: a source with a token list gets only this list, one with a lexical error only this error, up to Memory.
     ensures only_tokens { (tokens : List Token) → length text.now ≤ most_bytes → IsTokenized text.now tokens → GivesOnly result tokens }
     ensures only_refusal { (refusal : Refusal) → IsLexicalRefusal text.now refusal → RefusesOnly result refusal }
 {
@@ -79,7 +79,7 @@ pub fn lex(alloc: Global, text: &[u8]) -> Result<Vec<Token>, LexErr>
     Cursor::new(text).tokens(alloc)
 }
 
-/// That each text is read in one way: it has one list of tokens or one refusal, and never both.
+/// Theorem: each source has one token list or one lexical error, and never both.
 pub fn one_reading()
     ensures some { (text : List ℕ) → ((tokens : List Token) × (length text ≤ most_bytes) × IsTokenized text tokens)
         ⊎ ((refusal : Refusal) × IsLexicalRefusal text refusal) }

@@ -1,4 +1,4 @@
-//! Texts become tokens.
+//! The lexer: splits the bytes of a source into tokens, by longest match.
 #![tactic(auto)]
 
 mod class;

@@ -1,4 +1,4 @@
-// Whole numbers and dimensions.
+// Number literals and dimensions. Values saturate at TOO_LARGE while digits are read, so that a literal of any length is handled.
 ghost use Rattle.std.specs.Prelude.{◌≡◌, ◌+◌, ◌≤◌, length};
 ghost use Rattle.std.specs.List.{prefix_len};
 ghost use Rattle.std.specs.Char.{is_ascii_digit};
@@ -14,16 +14,16 @@ use crate::piece::Piece;
 use ti_rules::Rule;
 use ti_syntax::TokenKind;
 
-/// The largest whole number of 32 bits.
+/// The largest value of an int literal.
 const MOST_INT: u64 = 2147483647;
 
-/// The largest whole number of 64 bits.
+/// The largest value of a long literal.
 const MOST_LONG: u64 = 9223372036854775807;
 
-/// One more than the largest long number.
+/// One more than the largest value of a long literal.
 const TOO_LARGE: u128 = 9223372036854775808;
 
-/// The number before the `d`, where a dimension stands at the front.
+/// The number of dimensions, if `rest` begins with a dimension.
 fn dimension(rest: &[u8]) -> Option<u8>
     ensures { result ≡ dimension rest.now }
 {
@@ -34,14 +34,14 @@ fn dimension(rest: &[u8]) -> Option<u8>
     }
 }
 
-/// The largest number with these letters.
+/// The largest value of a literal, with (`long`) or without the suffix.
 fn most_of(long: bool) -> u64
     ensures { result ≡ most_of long }
 {
     if long { MOST_LONG } else { MOST_INT }
 }
 
-/// What a number is that is at most the largest.
+/// The token kind of a literal whose value is within its limit.
 fn kind_of_number(long: bool, value: u64) -> TokenKind
     requires { value ≤ most_of long }
     ensures { result ≡ kind_of_number long value }
@@ -54,7 +54,7 @@ fn kind_of_number(long: bool, value: u64) -> TokenKind
 }
 
 impl Cursor<'_> {
-    /// The number that the digits at the front write, or `TOO_LARGE` where it is larger.
+    /// Reads the digits here and returns their value, at most `TOO_LARGE`.
     fn value(&mut self) -> u64
         ensures value { result ≡ value_from 0 (rest self.old) }
         ensures fits { result ≤ too_large }
@@ -71,7 +71,7 @@ impl Cursor<'_> {
         value as u64
     }
 
-    /// Whether the letter of a long number is at the front; it is read.
+    /// Reads the suffix of a long literal, if it is next, and returns whether it was.
     fn letter(&mut self) -> bool
         ensures letter { result ≡ first_passes is_long_letter (rest self.old) }
         ensures moves { self.new ≡ moved (letters result) self.old }
@@ -88,7 +88,7 @@ impl Cursor<'_> {
         }
     }
 
-    /// The whole number at the front.
+    /// Reads a number literal. Error: X4 at its first digit if it has a leading 0 or is too large.
     fn digits(&mut self) -> Result<Piece, LexErr>
         ensures { Reads (digits self.old.at (rest self.old)) self.old self.new result }
     {
@@ -104,7 +104,7 @@ impl Cursor<'_> {
         Ok(Piece::Token(kind_of_number(long, value)))
     }
 
-    /// The dimension or the whole number at the front.
+    /// Reads a dimension or a number literal.
     pub fn number(&mut self) -> Result<Piece, LexErr>
         ensures { Reads (number self.old.at (rest self.old)) self.old self.new result }
     {

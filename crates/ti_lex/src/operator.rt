@@ -1,4 +1,4 @@
-// Operators and marks.
+// Operators and punctuation marks, by longest match.
 ghost use Rattle.std.specs.Prelude.{◌≡◌, ◌<◌, length};
 ghost use Rattle.ti_lex.specs.Mirrors.Cursor.{rest};
 ghost use Rattle.ti_lex.specs.Mirrors.Reading.{first_sign, longer_sign, sign};
@@ -10,7 +10,7 @@ use crate::piece::Piece;
 use ti_rules::Rule;
 use ti_syntax::TokenKind;
 
-/// The operator or mark of one byte.
+/// The operator or punctuation mark of one byte.
 fn first_sign(byte: u8) -> Option<TokenKind>
     ensures { result ≡ first_sign byte }
 {
@@ -42,7 +42,7 @@ fn first_sign(byte: u8) -> Option<TokenKind>
     }
 }
 
-/// The operator that an operator and one more byte make.
+/// The operator that extends `kind` by one byte, if there is one.
 fn longer_sign(kind: &TokenKind, byte: u8) -> Option<TokenKind>
     ensures { result ≡ longer_sign kind.now byte }
 {
@@ -74,7 +74,7 @@ fn longer_sign(kind: &TokenKind, byte: u8) -> Option<TokenKind>
 }
 
 impl Cursor<'_> {
-    /// The longest operator or mark at the front.
+    /// Reads the longest operator or punctuation mark here. Error: X1 if the byte begins none.
     pub fn sign(&mut self) -> Result<Piece, LexErr>
         requires { 0 < length (rest self.old) }
         ensures { Reads (sign self.old.at (rest self.old)) self.old self.new result }

@@ -1,11 +1,11 @@
-// Pieces of a text.
+// Lexical elements.
 
 use ti_syntax::TokenKind;
 
-/// A piece of a text.
+/// A lexical element.
 #[derive(Debug, Drop)]
 pub enum Piece {
-    /// A blank or a comment.
+    /// A whitespace byte or a comment.
     Space,
     Token(TokenKind),
 }

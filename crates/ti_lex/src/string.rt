@@ -14,7 +14,9 @@ use ti_rules::Rule;
 use ti_syntax::{Spelled, TokenKind};
 
 impl Cursor<'_> {
-    /// The byte that the next item of a string stands for, or `None` at the closing quote.
+    /// Reads the next item of a string and returns its value, or reads the closing quote and returns None.
+    ///
+    /// Errors: X3 at the opening quote if the line or the source ends, X1 at any other byte that isn't allowed.
     fn item(&mut self, quote: Place) -> Result<Option<u8>, LexErr>
         ensures { ReadsItem (item (rest self.old)) quote self.old self.new result }
     {
@@ -42,7 +44,7 @@ impl Cursor<'_> {
         }
     }
 
-    /// The string at the front, which begins with its quote.
+    /// Reads the string literal here, from its opening quote.
     pub fn string(&mut self, alloc: Global) -> Result<Piece, LexErr>
         requires { 0 < length (rest self.old) }
         ensures { Reads (string_from self.old.at [] (self.old.at + 1) (drop 1 (rest self.old))) self.old self.new result }

@@ -1,4 +1,4 @@
-// Names and reserved words.
+// Names and reserved words. The table of reserved words is in alphabetical order, regardless of case, and is indexed by the first byte.
 ghost use Rattle.std.specs.Prelude.{◌≡◌, ◌<◌, ◌≤◌, ℕ, List, ◌∷◌, drop, Some, None, slice_get, take};
 ghost use Rattle.std.specs.List.{prefix_len};
 ghost use Rattle.std.specs.Map.{lookup};
@@ -15,10 +15,10 @@ use crate::piece::Piece;
 use std::alloc::Global;
 use ti_syntax::{Spelled, TokenKind};
 
-/// How many words are reserved.
+/// The number of reserved words.
 const RESERVED: usize = 34;
 
-/// A reserved word by its number: how it is spelled, and its kind.
+/// An entry of the table of reserved words: the spelling and the token kind.
 #[tactic(auto, unfolding(crate::specs::Mirrors::Reading::reserved))]
 fn reserved_at(number: usize) -> (&'static [u8], TokenKind)
     requires { number < RESERVED }
@@ -62,7 +62,7 @@ fn reserved_at(number: usize) -> (&'static [u8], TokenKind)
     }
 }
 
-/// Which reserved words begin with a byte: the number of the first, and the number behind the last.
+/// The range of table indices, end exclusive, that has all reserved words that begin with `first`.
 #[tactic(auto, unfolding(crate::specs::Mirrors::Reading::reserved))]
 fn reserved_with(first: u8) -> (usize, usize)
     ensures order { result.0 ≤ result.1 }
@@ -94,7 +94,7 @@ fn reserved_with(first: u8) -> (usize, usize)
     }
 }
 
-/// The kind of a word, where it is reserved.
+/// The token kind of a reserved word, or None if the word isn't reserved.
 fn reserved_word(word: &[u8]) -> Option<TokenKind>
     ensures { result ≡ lookup (bytes_eq word.now) reserved }
 {
@@ -112,7 +112,7 @@ fn reserved_word(word: &[u8]) -> Option<TokenKind>
 }
 
 impl<'a> Cursor<'a> {
-    /// The bytes of a name at the front.
+    /// Reads all bytes here that can continue a name.
     fn name(&mut self) -> &'a [u8]
         ensures bytes { result.now ≡ take (prefix_len is_name_byte (rest self.old)) (rest self.old) }
         ensures moves { self.new ≡ moved (prefix_len is_name_byte (rest self.old)) self.old }
@@ -129,7 +129,7 @@ impl<'a> Cursor<'a> {
         &rest[..size]
     }
 
-    /// The name or the reserved word at the front.
+    /// Reads a name or a reserved word.
     pub fn word(&mut self, alloc: Global) -> Result<Piece, LexErr>
         ensures { Reads (word self.old.at (rest self.old)) self.old self.new result }
     {

@@ -1,4 +1,4 @@
--- At the nodes of a text that is some program nothing is broken.
+-- At the nodes of a tree that has a resolved program, no naming rule is proved to be broken.
 use Rattle.std.proofs.Common.{◌≡◌, ℕ, ◌==◌, true, false, not, nat_le, List, [], ◌∷◌, length, Option, Some, ap, ◌∙◌, arith}
 use Rattle.std.proofs.lemmas.Bool.Decides.{nat_tests}
 use Rattle.ti_base.specs.declared.place.Place.{Place}

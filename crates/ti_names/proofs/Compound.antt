@@ -1,4 +1,4 @@
--- What compound statements mean, from what their parts mean, each with its site.
+-- The resolution of compound statements is proved correct, given that of their parts.
 use Rattle.std.proofs.Common.{◌≡◌, Option, ap, sym, ◌∙◌}
 use Rattle.ti_base.specs.declared.place.Place.{Place}
 use Rattle.ti_syntax.specs.Trees.Expressions.{Exp}

@@ -1,4 +1,4 @@
--- What a table of names shows of the entries of its map.
+-- Lemmas on a symbol table and the entries of the map that it is made of.
 use Rattle.std.proofs.Common.{◌≡◌, ℕ, zero, suc, Bool, true, false, cond, List, [], ◌∷◌, ◌++◌, map, take, Option, Some, None, is_some, if◌then◌else◌, Bor, refl, ap, sym, ◌∙◌, true≢false}
 use Rattle.std.specs.Map.{lookup}
 use Rattle.std.specs.Str.{bytes_eq}

@@ -1,4 +1,4 @@
--- There is a program of a text exactly where it breaks no rule of names, and only one; where it breaks one, there is a refusal.
+-- A tree is proved to have one resolved program if it breaks no naming rule, and a first broken rule otherwise.
 use Rattle.std.proofs.Common.{◌≡◌, ◌⊎◌, inl, inr, [], ◌++◌, flat_map, Contains, Option, None, Some, refl, sym, subst, ◌∙◌, arith}
 use Rattle.ti_syntax.specs.Trees.Classes.{TextTree}
 use Rattle.ti_lang.specs.Program.Classes.{NumberedProgram}

@@ -1,4 +1,4 @@
--- Lists inside nodes, and scopes.
+-- Lemmas on lists inside nodes, and on scopes.
 use Rattle.std.proofs.Common.{◌≡◌, ℕ, Bool, true, false, cond, if◌then◌else◌, List, [], ◌∷◌, ◌++◌, map, take, length, Option, Some, None, is_some, bytes_eq, Bor, refl, ap, sym, ◌∙◌}
 use Rattle.std.proofs.lemmas.List.{take-map, length-map}
 use Rattle.std.specs.Map.{lookup}

@@ -1,4 +1,4 @@
--- A text has its `main` exactly where nothing is wrong with it.
+-- A tree is proved to have a `main` of the required form exactly if no rule on `main` is broken.
 use Rattle.std.proofs.Common.{◌≡◌, ℕ, zero, suc, ◌+◌, ◌==◌, Bool, true, false, cond, not, ◌&&◌, ◌||◌, List, [], ◌∷◌, ◌++◌, map, length, Option, Some, None, slice_get, position, bytes_eq, codes, refl, ap, sym, ◌∙◌, subst, arith}
 use Rattle.std.specs.List.{list_any, position_from}
 use Rattle.std.specs.Option.{option_map_or, option_and_then, unwrap_or}

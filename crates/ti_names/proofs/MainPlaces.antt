@@ -1,4 +1,4 @@
--- What is wrong with the form of `main`, by what stands in lists that are seen.
+-- Lemmas on the broken rules on `main`, by the entries of the lists of classes and methods.
 use Rattle.std.proofs.Common.{◌≡◌, ℕ, zero, suc, ◌<◌, ◌≤◌, true, not, List, [], ◌∷◌, map, length, get_or, Option, Some, None, slice_get, refl, ap, sym, ◌∙◌, arith}
 use Rattle.std.specs.Option.{option_map_or}
 use Rattle.ti_syntax.specs.declared.tree.classes.Class.{Class}

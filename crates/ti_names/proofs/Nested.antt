@@ -1,4 +1,4 @@
--- Expressions that hold a list, numbered.
+-- The resolution of expressions that contain lists is proved correct.
 use Rattle.std.proofs.Common.{◌≡◌, map, refl, ap, sym, ◌∙◌}
 use Rattle.std.specs.declared.vec.Vec.{Vec}
 use Rattle.std.specs.declared.alloc.Global.{Global}

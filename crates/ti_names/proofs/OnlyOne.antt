@@ -1,4 +1,4 @@
--- A text is no other program than that of the function.
+-- A tree is proved to have no resolved program other than that of the model.
 use Rattle.std.proofs.Common.{◌≡◌, ℕ, List, [], ◌∷◌, map, Option, Some, codes, refl, ap, sym, ◌∙◌}
 use Rattle.std.specs.Option.{unwrap_or, option_and_then}
 use Rattle.ti_syntax.specs.Trees.Types.{TypeTree}

@@ -1,4 +1,4 @@
--- Sites behind statements whose variables have left.
+-- Lemmas on the context after statements whose scope has ended.
 use Rattle.std.proofs.Common.{◌≡◌, ℕ, Bool, true, false, if◌then◌else◌, List, [], ◌∷◌, ◌++◌, length, take, is_some, bytes_eq, refl, ap, sym, ◌∙◌, append_assoc}
 use Rattle.std.specs.Map.{lookup}
 use Rattle.ti_syntax.specs.Trees.Statements.{Stm, MaybeStm, Stms}

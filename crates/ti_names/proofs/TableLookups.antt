@@ -1,4 +1,4 @@
--- What the tables of a text say of a name is what the text says.
+-- Lookups in the symbol tables are proved to agree with the specification.
 use Rattle.std.proofs.Common.{◌≡◌, ℕ, zero, suc, ◌+◌, ◌<◌, ◌==◌, Bool, true, false, cond, not, ◌&&◌, ◌||◌, if◌then◌else◌, List, [], ◌∷◌, ◌++◌, map, length, Option, Some, None, is_some, slice_get, position, bytes_eq, refl, ap, sym, ◌∙◌, true≢false, arith}
 use Rattle.std.specs.Map.{lookup}
 use Rattle.std.specs.List.{list_any, position_from, position_or_len}

@@ -1,4 +1,4 @@
--- Where nothing is broken, the function gives a program that the text is.
+-- If no naming rule is broken in an expression, the model is proved to resolve it as specified.
 use Rattle.std.proofs.Common.{◌≡◌, ℕ, Bool, true, false, ◌&&◌, if◌then◌else◌, List, [], ◌++◌, Option, Some, None, is_some, is_none, refl}
 use Rattle.ti_base.specs.declared.place.Place.{Place}
 use Rattle.ti_syntax.specs.declared.tree.types.Base.{Base}

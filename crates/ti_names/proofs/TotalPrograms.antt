@@ -1,4 +1,4 @@
--- Where nothing is broken, the function gives the program that the text is.
+-- If no naming rule is broken in a tree, the model is proved to resolve it as specified.
 use Rattle.std.proofs.Common.{◌≡◌, ℕ, ◌+◌, ◌==◌, Bool, true, false, not, List, [], ◌∷◌, ◌++◌, length, Option, Some, None, refl, ap, arith}
 use Rattle.std.proofs.lemmas.Bool.Decides.{nat_tests}
 use Rattle.std.specs.Option.{unwrap_or}

@@ -1,4 +1,4 @@
--- Where nothing is broken, the function gives statements that those of the text are.
+-- If no naming rule is broken in statements, the model is proved to resolve them as specified.
 use Rattle.std.proofs.Common.{◌≡◌, ℕ, Bool, true, false, nat_le, List, [], ◌∷◌, ◌++◌, length, Option, Some, None, is_some, refl, ap, sym, ◌∙◌, arith}
 use Rattle.std.proofs.lemmas.Bool.Decides.{nat_tests}
 use Rattle.std.specs.Option.{unwrap_or}

@@ -1,4 +1,4 @@
--- One element more of a list that is walked.
+-- Lemmas on one more iteration over a list.
 use Rattle.std.proofs.Common.{◌≡◌, ℕ, suc, ◌+◌, ◌<◌, List, [], ◌∷◌, ◌++◌, map, drop, length, get_or, Option, None, refl, ap, sym, ◌∙◌, add-one}
 use Rattle.std.proofs.Math.Seq.{drop-cons}
 use Rattle.ti_base.specs.declared.place.Place.{Place}

@@ -1,4 +1,4 @@
--- What counts of all that is wrong at some nodes.
+-- The first broken rule among some nodes.
 use Rattle.std.specs.Prelude.{List, flat_map, Option}
 use Rattle.ti_lang.specs.Nodes.{Node}
 use Rattle.ti_rules.specs.declared.refusal.Refusal.{Refusal}

@@ -1,4 +1,4 @@
--- What clauses see of the methods of a text.
+-- The model of a program's methods.
 use Rattle.ti_syntax.specs.Trees.Views.{method_of}
 use Rattle.ti_lang.specs.Members.{OwnMethod}
 use Rattle.ti_names.specs.declared.own.Own.{Own}

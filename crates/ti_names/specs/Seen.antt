@@ -1,4 +1,4 @@
--- What clauses see of the tables of a text and of the places where its parts are walked.
+-- The models of the symbol tables and of the context of name resolution.
 use Rattle.std.specs.Prelude.{ℕ, List, map, Option, Some, None}
 use Rattle.std.specs.declared.alloc.Global.{Global}
 use Rattle.std.specs.declared.boxed.Box.{Box}
@@ -18,14 +18,14 @@ use Rattle.ti_lang.specs.Scopes as scopes
 use Rattle.ti_names.specs.declared.tables.Tables.{Tables}
 use Rattle.ti_names.specs.declared.site.Site.{Site}
 
--- the text that the tables are of
+-- the program that the tables are of
 abbrev pub text_of : Tables → TextTree
 text_of tables = tree_of tables.tree.now
 
 abbrev pub scope_of : List (List ℕ × Variable) → List Known
 scope_of names = map (λ e. (e.0, variable_of e.1)) names
 
--- a place in a text
+-- the model of a context
 abbrev pub site_of : Site → scopes.Site
 site_of a = record {
   text = text_of a.tables.now;
@@ -36,7 +36,7 @@ site_of a = record {
   literals = a.literals;
 }
 
--- ---- statements that may be left out
+-- ---- optional statements
 
 abbrev pub tree_maybe : Option (Box Stmt Global) → MaybeStm
 tree_maybe None = s.NoStm

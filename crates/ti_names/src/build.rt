@@ -1,4 +1,4 @@
-// The tables of a text, filled.
+// Building the symbol tables: classes, fields, methods and member names, each by its name.
 ghost use Rattle.std.specs.Prelude.{◌≡◌, ◌+◌, [], map, fold, length, IfOk};
 ghost use Rattle.ti_syntax.specs.Trees.Text.{tree_of};
 ghost use Rattle.ti_syntax.specs.Trees.Views.{member_of};
@@ -12,7 +12,7 @@ use std::alloc::Global;
 use ti_base::Memory;
 use ti_syntax::tree::{Member, Tree};
 
-/// The classes.
+/// The number of each class by name. Classes are numbered in source order; of classes with one name, the first is in the table.
 fn class_table<'a>(alloc: Global, tree: &'a Tree) -> Result<Names<'a, u32>, Memory>
     ensures { IfOk result (λ t. t ≡ class_table (tree_of tree.now)) }
 {
@@ -25,7 +25,7 @@ fn class_table<'a>(alloc: Global, tree: &'a Tree) -> Result<Names<'a, u32>, Memo
     Ok(found)
 }
 
-/// The fields among members.
+/// The number of each field of a class by name. Fields are numbered from 0 in source order; of fields with one name, the first counts.
 fn field_table<'a>(alloc: Global, members: &'a [Member]) -> Result<Names<'a, u32>, Memory>
     ensures { IfOk result (λ t. t ≡ with_numbered [] 0 (field_names (fields_in (map member_of members.now)))) }
 {
@@ -43,7 +43,7 @@ fn field_table<'a>(alloc: Global, members: &'a [Member]) -> Result<Names<'a, u32
     Ok(found)
 }
 
-/// The fields of each class.
+/// The field table of each class.
 fn field_tables<'a>(alloc: Global, tree: &'a Tree) -> Result<Vec<Names<'a, u32>>, Memory>
     ensures { IfOk result (λ v. v.items ≡ field_tables (tree_of tree.now)) }
 {
@@ -54,14 +54,16 @@ fn field_tables<'a>(alloc: Global, tree: &'a Tree) -> Result<Vec<Names<'a, u32>>
     Ok(found)
 }
 
-/// Methods by name, and the number behind the last.
+/// The methods of a class by name, and the first method number that isn't used.
 #[derive(Drop)]
 struct MethodTable<'a> {
+    /// The number of each method.
     names: Names<'a, u32>,
+    /// One more than the number of the last method.
     behind: u32,
 }
 
-/// The methods among members, from a number on.
+/// The method table of a class whose methods are numbered from `first` on.
 fn method_table<'a>(
     alloc: Global,
     first: u32,
@@ -84,7 +86,7 @@ fn method_table<'a>(
     Ok(MethodTable { names, behind })
 }
 
-/// The methods of each class.
+/// The method table of each class. Methods are numbered throughout the program.
 fn method_tables<'a>(alloc: Global, tree: &'a Tree) -> Result<Vec<Names<'a, u32>>, Memory>
     ensures { IfOk result (λ v. v.items ≡ method_tables 0 (tree_of tree.now)) }
 {
@@ -98,7 +100,7 @@ fn method_tables<'a>(alloc: Global, tree: &'a Tree) -> Result<Vec<Names<'a, u32>
     Ok(found)
 }
 
-/// The classes of a text by name, and the fields and the methods of each.
+/// The classes of a program by name, and the fields and methods of each.
 #[derive(Drop)]
 pub struct ByName<'a> {
     pub classes: Names<'a, u32>,
@@ -106,7 +108,7 @@ pub struct ByName<'a> {
     pub methods: Vec<Names<'a, u32>>,
 }
 
-/// The classes, fields and methods of a text by name.
+/// Builds the tables of a program.
 pub fn by_name<'a>(alloc: Global, tree: &'a Tree) -> Result<ByName<'a>, Memory>
     ensures classes { IfOk result (λ t. t.classes ≡ class_table (tree_of tree.now)) }
     ensures fields { IfOk result (λ t. t.fields.items ≡ field_tables (tree_of tree.now)) }
@@ -119,7 +121,7 @@ pub fn by_name<'a>(alloc: Global, tree: &'a Tree) -> Result<ByName<'a>, Memory>
     })
 }
 
-/// The names with those of members.
+/// Adds the names of a class's members to the table of names.
 fn with_members<'a>(
     alloc: Global,
     names: NameTable<'a>,
@@ -139,7 +141,7 @@ fn with_members<'a>(
     Ok(names)
 }
 
-/// The names of members.
+/// The interned names of all members, after the built-in ones.
 pub fn name_table<'a>(alloc: Global, tree: &'a Tree) -> Result<NameTable<'a>, Memory>
     ensures { IfOk result (λ t. t.spelled.items ≡ names_of (tree_of tree.now)) }
 {

@@ -1,4 +1,4 @@
-// What is wrong with the names in types and expressions.
+// Diagnostics: the first broken naming rule in types, expressions and initializers. Resolution itself (exprs.rt) reports nothing.
 
 ghost use Rattle.std.specs.Prelude.{◌≡◌, ◌&&◌, ◌∷◌, [], if◌then◌else◌, map, is_none, is_some};
 ghost use Rattle.ti_syntax.specs.Trees.Views.{exp_of, range_of, type_of, dims_of, init_of, maybe_of};
@@ -18,10 +18,10 @@ use ti_base::Place;
 use ti_rules::{Refusal, Rule, refused_if, sooner};
 use ti_syntax::{Spelled, tree};
 
-/// How many variables may be in scope.
+/// The limit on the number of variables in scope.
 const MOST_VARIABLES: usize = 200;
 
-/// Whether what was looked up isn't of a number.
+/// Whether a lookup found nothing or another number: then the declaration with this number isn't the first of its name.
 pub fn is_another(found: Option<u32>, number: u32) -> bool
     ensures { result ≡ is_another found number }
 {
@@ -34,7 +34,7 @@ pub fn is_another(found: Option<u32>, number: u32) -> bool
 impl<'t, 'a> Site<'t, 'a> {
     // ---- names
 
-    /// The name of a class.
+    /// The use of a class name. Error: N1 if there is no such class.
     #[tactic(auto, using(crate::proofs::Firsts::in_nodes))]
     pub fn check_class_use(&self, place: Place, name: &Spelled) -> Option<Refusal>
         ensures { result ≡ first_in (node (site_of self.now) (ClassUse place name.now) ∷ []) }
@@ -58,7 +58,7 @@ impl<'t, 'a> Site<'t, 'a> {
         refused_if(method.is_none(), Rule::N1, place)
     }
 
-    /// The name of a method behind that of a class, if there is one.
+    /// A static call: the method name after the class name. Error: N1 if the class has no such static method.
     fn check_static(&self, place: Place, class: Option<u32>, name: &[u8]) -> Option<Refusal>
         ensures { result ≡ first_of (refused_where (lacks_method (site_of self.now) class name.now) N1 place) }
     {
@@ -69,7 +69,7 @@ impl<'t, 'a> Site<'t, 'a> {
         refused_if(lacks, Rule::N1, place)
     }
 
-    /// The declaration of a variable.
+    /// The declaration of a variable. Errors: N2 if the name is in scope already, N4 if too many variables are in scope.
     #[tactic(auto, using(crate::proofs::Firsts::in_nodes, crate::proofs::Lists::scopes, ti_rules::proofs::Lemmas::firsts))]
     pub fn check_variable(&self, place: Place, name: &Spelled) -> Option<Refusal>
         ensures { result ≡ first_in (node (site_of self.now) (VariableName place name.now) ∷ []) }
@@ -100,7 +100,7 @@ impl<'t, 'a> Site<'t, 'a> {
         }
     }
 
-    /// A type.
+    /// The class name in a type.
     pub fn check_type(&self, ty: &tree::TypeName) -> Option<Refusal>
         ensures { result ≡ first_in (type_nodes (site_of self.now) (type_of ty.now)) }
     {
@@ -147,7 +147,7 @@ impl<'t, 'a> Site<'t, 'a> {
         found
     }
 
-    /// What stands before a `.`; the name of a class is no expression.
+    /// The expression before a `.`; a class name there is no expression and isn't checked.
     #[cycle(check_expr)]
     #[tactic(auto, using(crate::proofs::Firsts::in_nodes))]
     fn check_receiver(&self, x: &tree::Expr) -> Option<Refusal>
@@ -161,7 +161,7 @@ impl<'t, 'a> Site<'t, 'a> {
         }
     }
 
-    /// An expression.
+    /// The names in an expression.
     #[cycle(check_expr)]
     #[tactic(auto, using(ti_syntax::proofs::Lemmas::bridges, crate::proofs::Firsts::in_nodes, crate::proofs::Firsts::in_expressions))]
     pub fn check_exp(&self, x: &tree::Expr) -> Option<Refusal>
@@ -217,7 +217,7 @@ impl<'t, 'a> Site<'t, 'a> {
         }
     }
 
-    /// An expression that may be left out.
+    /// The names in an optional expression.
     #[tactic(auto, using(crate::proofs::Firsts::in_nodes))]
     pub fn check_maybe(&self, x: &Option<tree::Expr>) -> Option<Refusal>
         ensures { result ≡ first_in (maybe_nodes (site_of self.now) (maybe_of exp_of x.now)) }
@@ -237,7 +237,7 @@ impl<'t, 'a> Site<'t, 'a> {
         }
     }
 
-    /// The right side of a declaration or an assignment.
+    /// The names in an initializer.
     #[tactic(auto, using(crate::proofs::Firsts::in_nodes))]
     pub fn check_init(&self, value: &tree::Init) -> Option<Refusal>
         ensures { result ≡ first_in (init_nodes (site_of self.now) (init_of value.now)) }

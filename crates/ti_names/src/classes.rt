@@ -1,4 +1,4 @@
-// Classes and fields.
+// Classes and fields: their resolution, and the naming rules for them.
 
 ghost use Rattle.std.specs.Prelude.{◌≡◌, ◌∷◌, [], ◌++◌, map, IfOk};
 ghost use Rattle.ti_syntax.specs.Trees.Views.{class_of, member_of, field_of, type_of};
@@ -65,7 +65,7 @@ impl<'t, 'a> Site<'t, 'a> {
         Ok(done)
     }
 
-    // ---- what is wrong
+    // ---- diagnostics
 
     #[tactic(auto, using(crate::proofs::Firsts::in_nodes))]
     fn check_field(&self, number: u32, field: &tree::Field) -> Option<Refusal>
@@ -106,7 +106,7 @@ impl<'t, 'a> Site<'t, 'a> {
     }
 }
 
-/// The classes of a text.
+/// Resolves the classes of a program, without their methods.
 pub fn classes(
     alloc: Global,
     tables: &Tables<'_>,
@@ -117,7 +117,7 @@ pub fn classes(
     class_site(alloc, tables, 0).classes(classes)
 }
 
-/// What is wrong with the class of a number.
+/// The first broken naming rule in a class and its fields.
 fn check_class(
     alloc: Global,
     tables: &Tables<'_>,
@@ -130,7 +130,7 @@ fn check_class(
     class_site(alloc, tables, number).check_class(class)
 }
 
-/// What is wrong with the classes of a text, without their methods.
+/// The first broken naming rule in the classes and fields of a program, without the methods.
 #[tactic(auto, using(crate::proofs::Firsts::none_sooner))]
 pub fn check_classes(
     alloc: Global,

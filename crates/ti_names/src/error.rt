@@ -1,14 +1,14 @@
-// Why a tree has no program.
+// Errors of name resolution.
 ghost use Rattle.std.specs.Prelude.{◌≡◌};
 
 use thiserror::Error;
 use ti_base::Memory;
 use ti_rules::Refusal;
 
-/// Why a tree was not turned into a program.
+/// Why `resolve` fails.
 #[derive(Debug, Drop, Error)]
 pub enum NameErr {
-    /// The tree breaks a rule of names, and where.
+    /// The program breaks a naming rule: the rule and the position.
     #[error("the text is refused")]
     Refused(Refusal),
     /// Out of memory.

@@ -1,4 +1,5 @@
-// Expressions, with a number in place of each name. What names nothing becomes some program all the same.
+// Resolution of expressions: names become numbers. A name that can't be resolved becomes a placeholder (as `null`, or number 0), since
+// checks.rt reports it.
 
 ghost use Rattle.std.specs.Prelude.{◌≡◌, map, IfOk};
 ghost use Rattle.ti_syntax.specs.Trees.Views.{exp_of, type_of, range_of, dims_of, init_of, maybe_of};
@@ -18,7 +19,7 @@ use ti_base::{Memory, Place};
 use ti_lang::program::{Dims, Expr, Init, Range};
 use ti_syntax::tree;
 
-/// A call of a method of a class that is named, if there is one.
+/// A static call of `method`; a placeholder if there is none.
 #[tactic(auto, using(ti_lang::proofs::Lemmas::program_bridges))]
 fn class_called(place: Place, method: Option<u32>, args: Vec<Expr>) -> Expr
     ensures { expression_of result ≡ class_called place method (numbered_exps (map expression_of args.items)) }
@@ -46,7 +47,7 @@ impl<'t, 'a> Site<'t, 'a> {
         }
     }
 
-    /// A call of a method of the own class, if there is one.
+    /// A call of a method of the enclosing class; a placeholder if there is none.
     #[tactic(auto, using(ti_lang::proofs::Lemmas::program_bridges))]
     fn called(&self, place: Place, method: Option<u32>, args: Vec<Expr>) -> Expr
         ensures { expression_of result ≡ called (text_of self.now.tables.now) place method (numbered_exps (map expression_of args.items)) }
@@ -96,7 +97,7 @@ impl<'t, 'a> Site<'t, 'a> {
         })
     }
 
-    /// A call behind the name of a class.
+    /// A static call by class name.
     #[cycle(number_expr)]
     #[tactic(auto, using(crate::proofs::Lists::lists))]
     fn class_call(
@@ -150,7 +151,7 @@ impl<'t, 'a> Site<'t, 'a> {
         }
     }
 
-    /// Ranges.
+    /// Resolves ranges.
     #[cycle(number_expr)]
     pub fn ranges(&self, ranges: &[tree::Range]) -> Result<Vec<Range>, Memory>
         ensures { IfOk result (λ rs. map bound_of rs.items ≡ map (number_range (site_of self.now)) (map range_of ranges.now)) }
@@ -162,7 +163,7 @@ impl<'t, 'a> Site<'t, 'a> {
         Ok(found)
     }
 
-    /// An expression.
+    /// Resolves an expression.
     #[cycle(number_expr)]
     #[tactic(auto, using(ti_syntax::proofs::Lemmas::bridges, ti_lang::proofs::Lemmas::program_bridges, crate::proofs::Lists::lists))]
     pub fn exp(&self, x: &tree::Expr) -> Result<Expr, Memory>
@@ -236,7 +237,7 @@ impl<'t, 'a> Site<'t, 'a> {
         }
     }
 
-    /// Two expressions.
+    /// Resolves two expressions.
     pub fn two(&self, x: &tree::Expr, y: &tree::Expr) -> Result<(Expr, Expr), Memory>
         ensures first { IfOk result (λ p. expression_of p.0 ≡ number_exp (site_of self.now) (exp_of x.now)) }
         ensures second { IfOk result (λ p. expression_of p.1 ≡ number_exp (site_of self.now) (exp_of y.now)) }
@@ -245,7 +246,7 @@ impl<'t, 'a> Site<'t, 'a> {
         Ok((x, self.exp(y)?))
     }
 
-    /// An expression that may be left out.
+    /// Resolves an optional expression.
     pub fn maybe(&self, x: &Option<tree::Expr>) -> Result<Option<Expr>, Memory>
         ensures { IfOk result (λ y. maybe_of expression_of y ≡ number_maybe (site_of self.now) (maybe_of exp_of x.now)) }
     {
@@ -264,7 +265,7 @@ impl<'t, 'a> Site<'t, 'a> {
         }
     }
 
-    /// The number of a class, or some number where there is none.
+    /// The number of a class; 0 as a placeholder if there is none.
     fn class_number(&self, name: &[u8]) -> u32
         ensures { result ≡ unwrap_or (class_named (text_of self.now.tables.now) name.now) 0 }
     {
@@ -294,7 +295,7 @@ impl<'t, 'a> Site<'t, 'a> {
         })
     }
 
-    /// The right side of a declaration or an assignment.
+    /// Resolves an initializer.
     pub fn init(&self, value: &tree::Init) -> Result<Init, Memory>
         ensures { IfOk result (λ v. initial_of v ≡ number_init (site_of self.now) (init_of value.now)) }
     {

@@ -1,4 +1,4 @@
-//! Trees become programs: every name is resolved, or the rule of names that is broken is found.
+//! Name resolution: turns a tree into a program in which names are numbers, or finds the first broken naming rule.
 #![tactic(auto)]
 
 mod build;

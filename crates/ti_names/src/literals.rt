@@ -1,4 +1,4 @@
-// The string literals of a method, in the order of the text.
+// The string literals of a method, in source order.
 
 ghost use Rattle.std.specs.Prelude.{◌≡◌, ◌++◌, ◌∷◌, [], map, OnOk};
 ghost use Rattle.ti_syntax.specs.Trees.Views.{stm_of, print_of};
@@ -11,7 +11,7 @@ use ti_base::Memory;
 use ti_syntax::Spelled;
 use ti_syntax::tree::{Printed, Stmt};
 
-/// String literals, in the order of the text.
+/// A collector of string literals, in source order.
 #[derive(Drop)]
 pub struct Literals {
     pub alloc: Global,
@@ -88,7 +88,7 @@ impl Literals {
         }
     }
 
-    /// Those of statements, behind those before.
+    /// Appends the literals of these statements.
     #[cycle(literals)]
     pub fn body(&mut self, xs: &[Stmt]) -> Result<(), Memory>
         ensures { OnOk result (self.new.texts.items ≡ self.old.texts.items ++ literals_in (stms (map stm_of xs.now))) }

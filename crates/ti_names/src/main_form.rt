@@ -1,4 +1,4 @@
-// The form of `main`.
+// The main method: that it exists and is declared as required, and that no other method has the parameter `String[] x`.
 
 ghost use Rattle.std.specs.Prelude.{◌≡◌, ◌&&◌, map, IfOk};
 ghost use Rattle.ti_syntax.specs.Trees.Text.{tree_of};
@@ -49,7 +49,7 @@ fn is_words(params: &Params) -> bool
     }
 }
 
-/// Whether a method reads `public static single void .. (String[] x)`.
+/// Whether the method is declared `public static single void .. (String[] x)`, with the modifiers in any order.
 fn has_main_form(method: &Method) -> bool
     ensures { result ≡ has_main_form (method_of method.now) }
 {
@@ -59,7 +59,7 @@ fn has_main_form(method: &Method) -> bool
         && (is_void(&method.result) && is_words(&method.params))
 }
 
-/// The number of `main`.
+/// The number of method `main` of class `Main`.
 pub fn main_method(tables: &Tables<'_>) -> Option<u32>
     ensures { result ≡ main_method (text_of tables.now) }
 {
@@ -69,7 +69,7 @@ pub fn main_method(tables: &Tables<'_>) -> Option<u32>
     }
 }
 
-/// Whether there is a `main`, of the required form.
+/// N3 if there is no `main` or it isn't declared as required: at the method, else at class `Main`, else at the start of the source.
 #[tactic(auto, using(ti_rules::proofs::Lemmas::first_nil))]
 fn check_form(
     tree: &Tree,
@@ -95,14 +95,14 @@ fn check_form(
     }
 }
 
-/// Whether the method of a number has a parameter `String[] x` and is another than `main`.
+/// Whether method `number` has a parameter `String[] x` and isn't `main`.
 fn is_words_elsewhere(own: Own<'_>, main: Option<u32>, number: u32) -> bool
     ensures { result ≡ (is_words (own_of own.entry).method.params && is_another main number) }
 {
     is_words(&own.method.params) && is_another(main, number)
 }
 
-/// Whether another method than `main` has a parameter `String[] x`.
+/// N3 at each method other than `main` that has a parameter `String[] x`; the first by position.
 #[tactic(auto, using(crate::proofs::Firsts::none_sooner))]
 fn check_words(methods: &[Own<'_>], main: Option<u32>) -> Result<Option<Refusal>, Memory>
     ensures { IfOk result (λ r. r ≡ first_of (words_refusals main 0 (map own_of methods.now))) }
@@ -117,7 +117,7 @@ fn check_words(methods: &[Own<'_>], main: Option<u32>) -> Result<Option<Refusal>
     Ok(found)
 }
 
-/// What is wrong with `main`.
+/// The first broken rule on `main`.
 #[tactic(auto, using(ti_rules::proofs::Lemmas::firsts))]
 pub fn check_main(
     tree: &Tree,

@@ -1,4 +1,4 @@
-// Methods.
+// Resolution of methods, together with the naming rules for them.
 
 ghost use Rattle.std.specs.Prelude.{◌≡◌, ◌++◌, ◌∷◌, [], map, flat_map, IfOk, OnOk};
 ghost use Rattle.ti_syntax.specs.Trees.Statements.{stms};
@@ -25,7 +25,7 @@ use ti_lang::program::{Method, Param, Params, ResultType, is_single};
 use ti_rules::{Refusal, Rule, refused_if, sooner};
 use ti_syntax::tree;
 
-/// Methods with the string literals in them, and what counts of all that is wrong with their names.
+/// The resolved methods of a program, their string literals, and the first broken naming rule in them.
 #[derive(Drop)]
 pub struct AllMethods {
     pub methods: Vec<Method>,
@@ -116,7 +116,7 @@ impl<'t, 'a> Site<'t, 'a> {
         }
     }
 
-    /// The name and the result of the method of a number.
+    /// The first broken naming rule in a method's name and result type.
     #[tactic(auto, using(crate::proofs::Firsts::in_nodes))]
     fn check_head(&self, number: u32, own: Own<'a>) -> Option<Refusal>
         ensures { result ≡ first_in (node (site_of self.now) (MethodName number (own_of own.entry)) ∷ result_nodes (site_of self.now)
@@ -127,7 +127,7 @@ impl<'t, 'a> Site<'t, 'a> {
         sooner(twice, self.check_result(&own.method.result))
     }
 
-    /// The method of a number, from its first parameter on.
+    /// Resolves method `number`. The context is at its first parameter.
     #[tactic(auto, using(crate::proofs::Firsts::in_nodes))]
     fn method(&mut self, number: u32, own: Own<'a>) -> Result<Resolved<Method>, Memory>
         ensures part { IfOk result (λ r. numbered_method_of r.part ≡ number_method (site_of self.old) (own_of own.entry)) }
@@ -155,7 +155,7 @@ impl<'t, 'a> Site<'t, 'a> {
     }
 }
 
-/// The method of a number, with so many string literals before.
+/// Resolves method `number`, before which there are `before` string literals in the source.
 fn method<'a>(
     alloc: Global,
     tables: &Tables<'a>,
@@ -172,7 +172,7 @@ fn method<'a>(
     site.method(number, own)
 }
 
-/// The methods of a text.
+/// Resolves the methods of a program.
 #[tactic(auto, using(crate::proofs::Firsts::none_sooner))]
 pub fn methods<'a>(
     alloc: Global,

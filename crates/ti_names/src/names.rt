@@ -1,4 +1,4 @@
-// Tables of names.
+// Symbol tables.
 ghost use Rattle.std.specs.Prelude.{◌≡◌, ◌≤◌, [], length, take, OnOk, OnErr};
 ghost use Rattle.std.specs.Map.{lookup};
 ghost use Rattle.std.specs.Option.{option_map, option_copied};
@@ -10,7 +10,7 @@ use std::alloc::Global;
 use std::marker::Model;
 use ti_base::Memory;
 
-/// Names with what each means, in the order in which they were added.
+/// A symbol table: names with their values, in order of insertion.
 #[derive(Drop)]
 pub struct Names<'a, V: Drop> {
     map: IndexMap<&'a [u8], V>,
@@ -25,7 +25,7 @@ impl<'a, V: Drop> Model for Names<'a, V> {
 }
 
 impl<'a, V: Drop> Names<'a, V> {
-    /// No names.
+    /// An empty table.
     pub fn new(alloc: Global) -> Self
         ensures { result ≡ [] }
     {
@@ -34,21 +34,21 @@ impl<'a, V: Drop> Names<'a, V> {
         }
     }
 
-    /// How many names there are.
+    /// The number of names.
     pub fn len(&self) -> usize
         ensures { result ≡ length self.now }
     {
         self.map.len()
     }
 
-    /// What a name means.
+    /// The value of a name.
     pub fn get(&self, name: &[u8]) -> Option<&V>
         ensures { option_copied result ≡ lookup (bytes_eq name.now) self.now }
     {
         self.map.get(name)
     }
 
-    /// Adds a name, if it isn't there.
+    /// Adds a name with its value; does nothing if the name is in the table already.
     pub fn add(&mut self, name: &'a [u8], value: V) -> Result<(), Memory>
         ensures { OnOk result (self.new ≡ with_first self.old name.now value) }
     {
@@ -61,7 +61,7 @@ impl<'a, V: Drop> Names<'a, V> {
         }
     }
 
-    /// Keeps the first names.
+    /// Removes all but the first `len` names.
     pub fn truncate(&mut self, len: usize)
         ensures { self.new ≡ take len self.old }
     {

@@ -1,9 +1,9 @@
-// Numbers that have an end.
+// Checked arithmetic on the 32-bit numbers of names: overflow is reported as Memory.
 ghost use Rattle.std.specs.Prelude.{◌≡◌, ◌+◌, IfOk};
 
 use ti_base::Memory;
 
-/// The next number, if it has room.
+/// `number + 1`; Memory if it overflows.
 pub fn next(number: u32) -> Result<u32, Memory>
     ensures { IfOk result (λ n. n ≡ number + 1) }
 {
@@ -13,7 +13,7 @@ pub fn next(number: u32) -> Result<u32, Memory>
     }
 }
 
-/// The same number, if it has room.
+/// `number` as 32 bits; Memory if it is too large.
 pub fn narrow(number: usize) -> Result<u32, Memory>
     ensures { IfOk result (λ n. n ≡ number) }
 {

@@ -1,4 +1,4 @@
-// The methods of a text.
+// The methods of a program, in the order of their numbers.
 ghost use Rattle.std.specs.Prelude.{◌≡◌, ◌++◌, map, IfOk};
 ghost use Rattle.ti_syntax.specs.Trees.Text.{tree_of};
 ghost use Rattle.ti_syntax.specs.Trees.Views.{member_of};
@@ -12,14 +12,14 @@ use ti_base::Memory;
 use ti_lang::program::has_static;
 use ti_syntax::tree::{Member, Method, Tree};
 
-/// A method with the number of its class.
+/// A method declaration, with the number of its class.
 #[derive(Clone, Copy)]
 pub struct Own<'a> {
     pub class: u32,
     pub method: &'a Method,
 }
 
-/// These methods, and behind them those among the members of a class.
+/// Appends the methods of a class.
 fn with_methods<'a>(
     found: Vec<Own<'a>>,
     class: u32,
@@ -37,7 +37,7 @@ fn with_methods<'a>(
     Ok(found)
 }
 
-/// The methods of a text.
+/// All methods of a program; the index is the method's number.
 pub fn own_methods<'a>(alloc: Global, tree: &'a Tree) -> Result<Vec<Own<'a>>, Memory>
     ensures { IfOk result (λ v. map own_of v.items ≡ methods_of (tree_of tree.now)) }
 {
@@ -50,7 +50,7 @@ pub fn own_methods<'a>(alloc: Global, tree: &'a Tree) -> Result<Vec<Own<'a>>, Me
     Ok(found)
 }
 
-/// Whether each method is static.
+/// For each method, whether it is static.
 pub fn statics(alloc: Global, methods: &[Own<'_>]) -> Result<Vec<bool>, Memory>
     ensures { IfOk result (λ v. v.items ≡ static_table (map own_of methods.now)) }
 {

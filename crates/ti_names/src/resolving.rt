@@ -1,4 +1,4 @@
-// Trees become programs.
+// The public entry point to name resolution.
 ghost use Rattle.std.specs.Prelude.{◌≡◌, ◌⊎◌, map, IfOk};
 ghost use Rattle.std.specs.Option.{unwrap_or};
 ghost use Rattle.ti_syntax.specs.Trees.Classes.{TextTree};
@@ -33,7 +33,7 @@ use ti_rules::sooner;
 use ti_syntax::Spelled;
 use ti_syntax::tree::Tree;
 
-/// The number of `main`, or some number where there is none.
+/// The number of `main`; 0 as a placeholder if there is none.
 fn main_number(tables: &Tables<'_>) -> u32
     ensures { result ≡ unwrap_or (main_of (text_of tables.now)) 0 }
 {
@@ -43,7 +43,7 @@ fn main_number(tables: &Tables<'_>) -> u32
     }
 }
 
-/// The program of a text, if nothing is wrong with its names, and what counts of all that is.
+/// Resolves a program, and finds its first broken naming rule. If there is one, the resolved program has placeholders.
 fn walk(alloc: Global, tree: &Tree) -> Result<Resolved<Parts>, Memory>
     ensures part { IfOk result (λ r. program_of r.part ≡ number_program (tree_of tree.now)) }
     ensures refusal { IfOk result (λ r. r.refusal ≡ first_of (name_refusals (tree_of tree.now))) }
@@ -54,7 +54,7 @@ fn walk(alloc: Global, tree: &Tree) -> Result<Resolved<Parts>, Memory>
     parts(alloc, tree, &tables, &own, spelled)
 }
 
-/// The same from the tables of the text.
+/// Resolves a program, given its symbol tables.
 fn parts<'a>(
     alloc: Global,
     tree: &'a Tree,
@@ -84,10 +84,9 @@ fn parts<'a>(
     })
 }
 
-/// The program of a text, with a number in place of each name.
+/// Resolves the names of a program.
 ///
-/// A text that breaks rules of names is refused for the one that counts: that of the least place, and at one place the one
-/// listed first.
+/// Error: the first broken naming rule, by position, and at one position by the order in which the rules are listed; or Memory.
 pub fn resolve(alloc: Global, tree: &Tree) -> Result<Program, NameErr>
     ensures resolves { Resolves (tree_of tree.now) result }
     ensures accepted { (program : NumberedProgram) → Numbers (tree_of tree.now) program → GivesOnly result program }
@@ -100,7 +99,7 @@ pub fn resolve(alloc: Global, tree: &Tree) -> Result<Program, NameErr>
     }
 }
 
-/// That each text has a program or a refusal by the rules of names: a program exactly where it breaks none of them, and only one.
+/// Theorem: each tree has one resolved program or a broken naming rule, and never both.
 pub fn one_program()
     ensures some { (text : TextTree) → ((program : NumberedProgram) × Numbers text program)
         ⊎ ((refusal : RefusalSeen) × IsFirstRefusal (BreaksNames text) refusal) }

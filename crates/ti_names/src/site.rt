@@ -1,4 +1,4 @@
-// A place in a text, and what names mean there.
+// The context of name resolution, and the meaning of names in it.
 
 ghost use Rattle.std.specs.Prelude.{◌≡◌, ◌+◌, take, IfOk, OnOk};
 ghost use Rattle.std.specs.Option.{option_map};
@@ -17,24 +17,26 @@ use ti_base::Memory;
 use ti_lang::program::{Declared, Variable, has_static};
 use ti_syntax::{Spelled, tree};
 
-/// A place in a text, with what stands around it.
+/// The context of name resolution at a point of a program.
 #[derive(Drop)]
 pub struct Site<'t, 'a> {
+    /// The allocator of the resolved program.
     pub alloc: Global,
+    /// The symbol tables of the program.
     pub tables: &'t Tables<'a>,
-    /// The number of the class around it.
+    /// The number of the enclosing class.
     pub class: u32,
-    /// There is no `this`.
+    /// Whether there is no `this`: in a static method, or outside of methods.
     pub is_static: bool,
-    /// The variables in scope.
+    /// The variables in scope, outermost first.
     pub scope: Names<'a, Variable>,
-    /// How many variables the method has declared before.
+    /// The number of variables that the method has declared so far; the next one gets it as its number.
     pub variables: u32,
-    /// How many string literals stand before it in the text.
+    /// The number of string literals before this point in the source; the next one gets it as its number.
     pub literals: u32,
 }
 
-/// A place in a class that stands in no method.
+/// The context in a class, outside of methods.
 pub fn class_site<'t, 'a>(alloc: Global, tables: &'t Tables<'a>, class: u32) -> Site<'t, 'a>
     ensures { site_of result ≡ class_site (text_of tables.now) class }
 {
@@ -49,7 +51,7 @@ pub fn class_site<'t, 'a>(alloc: Global, tables: &'t Tables<'a>, class: u32) -> 
     }
 }
 
-/// At the first parameter of a method, with so many string literals before.
+/// The context at a method's first parameter, with `before` string literals before it.
 pub fn method_site<'t, 'a>(
     alloc: Global,
     tables: &'t Tables<'a>,
@@ -70,16 +72,16 @@ pub fn method_site<'t, 'a>(
 }
 
 impl<'t, 'a> Site<'t, 'a> {
-    // ---- what names mean
+    // ---- lookups
 
-    /// The variable of a name.
+    /// The variable in scope with this name.
     pub fn variable(&self, name: &[u8]) -> Option<&Variable>
         ensures { option_map (λ v. variable_of v.now) result ≡ variable_named (site_of self.now) name.now }
     {
         self.scope.get(name)
     }
 
-    /// The field of `this` with a name.
+    /// The field of `this` with this name; None in a static context.
     pub fn own_field(&self, name: &[u8]) -> Option<u32>
         ensures { result ≡ own_field_named (site_of self.now) name.now }
     {
@@ -90,7 +92,7 @@ impl<'t, 'a> Site<'t, 'a> {
         }
     }
 
-    /// The method that a call of a bare name means.
+    /// The method that a call by a simple name refers to. In a static context, only static methods are found.
     pub fn own_method(&self, name: &[u8]) -> Option<u32>
         ensures { result ≡ own_method_named (site_of self.now) name.now }
     {
@@ -106,7 +108,7 @@ impl<'t, 'a> Site<'t, 'a> {
         }
     }
 
-    /// The method that a call behind the name of a class means.
+    /// The static method of a class that `C.m(..)` refers to.
     pub fn static_method(&self, class: u32, name: &[u8]) -> Option<u32>
         ensures { result ≡ static_method_named (site_of self.now) class name.now }
     {
@@ -122,7 +124,7 @@ impl<'t, 'a> Site<'t, 'a> {
         }
     }
 
-    /// The class that an expression before a `.` means.
+    /// The class that an expression before a `.` refers to: a name that is neither a variable nor a field.
     pub fn class_before_dot(&self, x: &tree::Expr) -> Option<u32>
         ensures { result ≡ class_before_dot (site_of self.now) (exp_of x.now) }
     {
@@ -154,9 +156,9 @@ impl<'t, 'a> Site<'t, 'a> {
         }
     }
 
-    // ---- on to the next place
+    // ---- updates of the context
 
-    /// Puts a variable in scope, and gives its number.
+    /// Puts a variable in scope and returns its number.
     #[tactic(auto, using(crate::proofs::Lists::scopes))]
     pub fn declare(&mut self, name: &'a Spelled, declared: Declared) -> Result<u32, Memory>
         ensures number { IfOk result (λ n. n ≡ self.old.variables) }
@@ -170,7 +172,7 @@ impl<'t, 'a> Site<'t, 'a> {
         Ok(number)
     }
 
-    /// Takes the variables out of scope that were declared since there were so many.
+    /// Ends a scope: removes all but the first `len` variables.
     #[tactic(auto, using(crate::proofs::Lists::scopes))]
     pub fn cut(&mut self, len: usize)
         ensures { site_of self.new ≡ record (site_of self.old) { scope = take len (site_of self.old).scope } }
@@ -178,7 +180,7 @@ impl<'t, 'a> Site<'t, 'a> {
         self.scope.truncate(len);
     }
 
-    /// Passes a string literal, and gives its number.
+    /// Counts a string literal and returns its number.
     pub fn literal(&mut self) -> Result<u32, Memory>
         ensures number { IfOk result (λ n. n ≡ self.old.literals) }
         ensures site { OnOk result (site_of self.new ≡ record (site_of self.old) { literals = self.old.literals + 1 }) }

@@ -1,4 +1,4 @@
-// The table of the names of members.
+// The interned names of members.
 ghost use Rattle.std.specs.Prelude.{◌≡◌};
 ghost use Rattle.ti_names.specs.Mirrors.Tables.{numbered};
 
@@ -8,7 +8,7 @@ use std::alloc::Global;
 use ti_base::Memory;
 use ti_syntax::Spelled;
 
-/// The names of members, with the number of each.
+/// Interned member names: `spelled` by number, and `numbers` by name.
 #[derive(Drop)]
 pub struct NameTable<'a> {
     pub spelled: Vec<Spelled>,
@@ -20,7 +20,7 @@ impl<'a> NameTable<'a> {
     ghost use Rattle.std.specs.Prelude.{IfOk};
     ghost use Rattle.ti_lang.specs.Members.{with_name, built_in};
 
-    /// The names with one more, if it isn't one of them.
+    /// Interns a name.
     pub fn with(self, alloc: Global, name: &'a [u8]) -> Result<NameTable<'a>, Memory>
         ensures { IfOk result (λ t. t.spelled.items ≡ with_name self.entry.spelled.items name.now) }
     {
@@ -36,7 +36,7 @@ impl<'a> NameTable<'a> {
         Ok(NameTable { spelled, numbers })
     }
 
-    /// The members that the language gives.
+    /// The names of the built-in members.
     pub fn built_in(alloc: Global) -> Result<NameTable<'a>, Memory>
         ensures { IfOk result (λ t. t.spelled.items ≡ built_in) }
     {

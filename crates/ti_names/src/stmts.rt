@@ -1,4 +1,4 @@
-// Statements.
+// Resolution of statements, together with the naming rules for them. One pass resolves and checks, since both need the scope.
 
 ghost use Rattle.std.specs.Prelude.{◌≡◌, ◌+◌, ◌++◌, map, length, None, IfOk, OnOk};
 ghost use Rattle.ti_syntax.specs.Trees.Views.{exp_of, type_of, init_of, print_of, maybe_of, stm_of};
@@ -20,14 +20,14 @@ use ti_rules::{Refusal, sooner};
 use ti_syntax::tree::{BinaryOperator, StepOperator};
 use ti_syntax::{Spelled, tree};
 
-/// A part of a program, and what counts of all that is wrong with its names.
+/// A resolved part of a program, and the first broken naming rule in it.
 #[derive(Drop)]
 pub struct Resolved<T: Drop> {
     pub part: T,
     pub refusal: Option<Refusal>,
 }
 
-/// A condition with the statement behind it.
+/// A condition and the statement that it guards.
 #[derive(Drop)]
 struct Guarded {
     condition: Expr,
@@ -35,7 +35,7 @@ struct Guarded {
 }
 
 impl<T: Drop> Resolved<T> {
-    /// A part with nothing wrong in it.
+    /// A part that breaks no naming rule.
     pub fn clean(part: T) -> Resolved<T>
         ensures part { result.part ≡ part }
         ensures refusal { result.refusal ≡ None }
@@ -48,7 +48,7 @@ impl<T: Drop> Resolved<T> {
 }
 
 impl<'t, 'a> Site<'t, 'a> {
-    // ---- statements that hold no statement
+    // ---- simple statements
 
     #[tactic(auto, using(crate::proofs::Firsts::in_nodes))]
     fn check_print(&self, what: &tree::Printed) -> Option<Refusal>
@@ -210,9 +210,9 @@ impl<'t, 'a> Site<'t, 'a> {
         })
     }
 
-    // ---- statements that hold others
+    // ---- compound statements
 
-    /// A statement whose variables leave behind it.
+    /// Resolves a statement in a scope of its own.
     #[cycle(walk_stmt)]
     fn inner(&mut self, x: &'a tree::Stmt) -> Result<Resolved<Box<Stmt>>, Memory>
         ensures part { IfOk result (λ r. statement_of r.part.value ≡ number_stm (site_of self.old) (stm_of x.now)) }
@@ -228,7 +228,7 @@ impl<'t, 'a> Site<'t, 'a> {
         })
     }
 
-    /// A statement that may be left out.
+    /// Resolves an optional statement, whose variables stay in scope.
     #[cycle(walk_stmt)]
     #[tactic(auto, using(crate::proofs::Firsts::in_nodes))]
     fn maybe_stm(
@@ -251,7 +251,7 @@ impl<'t, 'a> Site<'t, 'a> {
         }
     }
 
-    /// A statement that may be left out, whose variables leave behind it.
+    /// Resolves an optional statement in a scope of its own.
     #[cycle(walk_stmt)]
     #[tactic(auto, using(crate::proofs::Firsts::in_nodes))]
     fn maybe_inner(
@@ -274,7 +274,7 @@ impl<'t, 'a> Site<'t, 'a> {
         }
     }
 
-    /// Statements, behind which their variables are still in scope.
+    /// Resolves statements in order. Their variables stay in scope.
     #[cycle(walk_stmt)]
     #[tactic(auto, using(crate::proofs::Firsts::none_sooner))]
     pub fn stms(&mut self, xs: &'a [tree::Stmt]) -> Result<Resolved<Vec<Stmt>>, Memory>
@@ -307,7 +307,7 @@ impl<'t, 'a> Site<'t, 'a> {
         })
     }
 
-    /// A condition with the statement behind it.
+    /// Resolves a condition and the statement that it guards, the latter in a scope of its own.
     #[cycle(walk_stmt)]
     fn guarded(
         &mut self,
@@ -332,7 +332,7 @@ impl<'t, 'a> Site<'t, 'a> {
         })
     }
 
-    /// An `if` from its condition and its first branch.
+    /// Resolves an `if`, given its condition and first branch.
     #[cycle(walk_stmt)]
     fn choice(
         &mut self,
@@ -392,7 +392,7 @@ impl<'t, 'a> Site<'t, 'a> {
         })
     }
 
-    /// A statement. The commonest need not pay for what the others want.
+    /// Resolves a statement. The most frequent forms skip the large stack frame of `any_stm`.
     #[cycle(walk_stmt)]
     pub fn stm(&mut self, x: &'a tree::Stmt) -> Result<Resolved<Stmt>, Memory>
         ensures part { IfOk result (λ r. statement_of r.part ≡ number_stm (site_of self.old) (stm_of x.now)) }
@@ -411,7 +411,7 @@ impl<'t, 'a> Site<'t, 'a> {
         }
     }
 
-    /// A statement of any form.
+    /// Resolves a statement of any form.
     #[cycle(walk_stmt)]
     fn any_stm(&mut self, x: &'a tree::Stmt) -> Result<Resolved<Stmt>, Memory>
         ensures part { IfOk result (λ r. statement_of r.part ≡ number_stm (site_of self.old) (stm_of x.now)) }

@@ -1,4 +1,4 @@
-// The classes, fields and methods of a text by name.
+// The symbol tables of a program.
 ghost use Rattle.std.specs.Prelude.{◌≡◌, ℕ, List, false, slice_get};
 ghost use Rattle.std.specs.Map.{lookup};
 ghost use Rattle.std.specs.Option.{unwrap_or};
@@ -17,16 +17,21 @@ use ti_base::Memory;
 use ti_syntax::Spelled;
 use ti_syntax::tree::Tree;
 
-/// What the names of a text mean.
+/// The symbol tables of a program. The ghost fields say that lookups agree with the specification.
 #[derive(Drop)]
 pub struct Tables<'a> {
     pub tree: &'a Tree,
+    /// The number of each class.
     classes: Names<'a, u32>,
+    /// For each class, the number of each field within the class.
     fields: Vec<Names<'a, u32>>,
+    /// For each class, the program-wide number of each method.
     methods: Vec<Names<'a, u32>>,
+    /// For each method, whether it is static.
     statics: Vec<bool>,
+    /// The number of each interned member name.
     names: Names<'a, u32>,
-    /// The number of a name of no member.
+    /// The number for names that no member has: one more than the last interned one.
     unknown: u32,
     ghost classes_told: { (name : List ℕ) → lookup (bytes_eq name) classes ≡ class_named (tree_of tree.now) name },
     ghost fields_told: { (class : ℕ) (name : List ℕ) → found_in fields.items class name ≡ field_named (tree_of tree.now) class name },
@@ -41,7 +46,7 @@ impl<'a> Tables<'a> {
     ghost use Rattle.ti_names.specs.Own.{own_of};
     ghost use Rattle.ti_names.specs.Seen.{text_of};
 
-    /// The tables of a text, from its methods and the names of its members.
+    /// Builds the tables, given the program's methods and interned names.
     pub fn of(
         alloc: Global,
         tree: &'a Tree,
@@ -72,35 +77,35 @@ impl<'a> Tables<'a> {
         })
     }
 
-    /// The class of a name.
+    /// The number of a class.
     pub fn class(&self, name: &[u8]) -> Option<u32>
         ensures { result ≡ class_named (text_of self.now) name.now }
     {
         self.classes.get(name).copied()
     }
 
-    /// The field of a class with a name.
+    /// The number of a field of a class.
     pub fn field(&self, class: u32, name: &[u8]) -> Option<u32>
         ensures { result ≡ field_named (text_of self.now) class name.now }
     {
         found(&self.fields, class, name)
     }
 
-    /// The method of a class with a name.
+    /// The number of a method of a class.
     pub fn method(&self, class: u32, name: &[u8]) -> Option<u32>
         ensures { result ≡ method_named (text_of self.now) class name.now }
     {
         found(&self.methods, class, name)
     }
 
-    /// Whether the method of a number is static.
+    /// Whether a method is static; false if there is no such method.
     pub fn is_static(&self, number: u32) -> bool
         ensures { result ≡ is_static_method (text_of self.now) number }
     {
         flag(&self.statics, number)
     }
 
-    /// The number of the name of a member.
+    /// The number of a member name.
     pub fn name(&self, name: &[u8]) -> u32
         ensures { result ≡ name_number (text_of self.now) name.now }
     {
@@ -111,7 +116,7 @@ impl<'a> Tables<'a> {
     }
 }
 
-/// What a name means in the table of a class.
+/// Looks a name up in the table of a class.
 fn found(tables: &[Names<'_, u32>], class: u32, name: &[u8]) -> Option<u32>
     ensures { result ≡ found_in tables.now class name.now }
 {
@@ -121,7 +126,7 @@ fn found(tables: &[Names<'_, u32>], class: u32, name: &[u8]) -> Option<u32>
     }
 }
 
-/// Whether the flag of a number is set; there is none beyond the last.
+/// The flag at an index; false beyond the end.
 fn flag(flags: &[bool], number: u32) -> bool
     ensures { result ≡ unwrap_or (slice_get flags.now number) false }
 {

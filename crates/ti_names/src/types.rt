@@ -1,4 +1,4 @@
-// Types.
+// Resolution of types.
 
 ghost use Rattle.std.specs.Prelude.{◌≡◌, map, IfOk};
 ghost use Rattle.ti_syntax.specs.Trees.Views.{type_of, grid_of};
@@ -49,7 +49,7 @@ impl<'t, 'a> Site<'t, 'a> {
         Ok(ty)
     }
 
-    /// A type.
+    /// Resolves a type.
     #[tactic(auto, using(ti_lang::proofs::Lemmas::copies))]
     pub fn type_use(&self, ty: &TypeName) -> Result<TypeUse, Memory>
         ensures { IfOk result (λ t. type_use_of t ≡ numbered_type (text_of self.now.tables.now) (type_of ty.now)) }
@@ -63,7 +63,7 @@ impl<'t, 'a> Site<'t, 'a> {
         })
     }
 
-    /// What is written where a variable of a type is declared.
+    /// What a declaration with this type says of the variable: its type, and whether it is single.
     pub fn declared(&self, ty: &TypeName) -> Result<Declared, Memory>
         ensures { IfOk result (λ d. declared_of d ≡ typed_as (text_of self.now.tables.now) (type_of ty.now)) }
     {

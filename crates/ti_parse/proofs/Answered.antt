@@ -1,4 +1,4 @@
--- What reading a text answers is what the grammar says of the list.
+-- The parser's result for a program is proved to be the grammar's verdict on its tokens.
 use Rattle.std.proofs.Common.{◌≡◌, ℕ, suc, ◌+◌, ◌<◌, ◌≤◌, true, List, [], ◌∷◌, ◌++◌, length, Option, Some, None, Ok, Err, refl, sym, ap, ◌∙◌, subst, append_assoc, arith, length-append}
 use Rattle.std.proofs.lemmas.Bool.{false≢true}
 use Rattle.ti_base.specs.declared.place.Place.{Place}

@@ -1,4 +1,4 @@
--- What is read behind the target of a change, by its first token.
+-- Lemmas on parsing a change after its target, by the next token.
 use Rattle.std.proofs.Common.{◌≡◌, ℕ, List, Some, None, Ok, Err, true, false, refl, sym, ap, ◌∙◌}
 use Rattle.std.proofs.lemmas.Bool.{false≢true}
 use Rattle.ti_syntax.specs.declared.token.Token.{Token}

@@ -1,4 +1,4 @@
--- What reading a text answers decides what the list of tokens is.
+-- The parser's result is proved to determine whether the token list has a tree or an error.
 use Rattle.std.proofs.Common.{◌≡◌, ℕ, ◌+◌, ◌<◌, ◌≤◌, List, [], ◌++◌, length, Option, Some, Ok, Err, arith}
 use Rattle.ti_base.specs.declared.place.Place.{Place}
 use Rattle.ti_syntax.specs.declared.token.Token.{Token}

@@ -1,4 +1,4 @@
--- Steps that a function of its own reads: what reads them first and goes on behind them is what reads them one by one.
+-- A parser whose steps are grouped into functions is proved equal to the one that does them one by one.
 use Rattle.std.proofs.Common.{◌≡◌, ℕ, List, [], Option, Ok, Err, refl, ◌∙◌}
 use Rattle.ti_base.specs.declared.place.Place.{Place}
 use Rattle.ti_syntax.specs.declared.token.Token.{Token}

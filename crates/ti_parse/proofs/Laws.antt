@@ -1,4 +1,4 @@
--- What a reader says of a language in which something can be read, where what follows may hang on the value; step by step.
+-- What holds of a parser for a nonempty language is proved to be preserved by steps that may depend on the values of earlier ones.
 use Rattle.std.proofs.Common.{◌≡◌, ℕ, zero, suc, ◌+◌, ◌<◌, ◌≤◌, List, [], ◌∷◌, ◌++◌, length, Ok, Err, refl, sym, ◌∙◌, subst, arith, true, false, Bool, if◌then◌else◌}
 use Rattle.ti_base.specs.declared.place.Place.{Place}
 use Rattle.ti_syntax.specs.declared.token.Token.{Token}

@@ -1,4 +1,4 @@
--- Each token of what is spelled has a load.
+-- The lists of loads are proved as long as the token lists of their phrases.
 use Rattle.std.proofs.Common.{◌≡◌, ℕ, suc, List, [], ◌∷◌, ◌++◌, length, Option, refl, ap, arith, length-append, Bool}
 use Rattle.std.proofs.lemmas.List.{length-map}
 use Rattle.ti_syntax.specs.declared.token.Token.{Token}

@@ -1,4 +1,4 @@
--- Reading within the limits stops at the first token whose load is above its limit.
+-- Parsing with limits is proved to stop at the first token whose load is above its limit.
 use Rattle.std.proofs.Common.{◌≡◌, ℕ, zero, suc, ◌<◌, ◌≤◌, Bool, true, false, if◌then◌else◌, List, [], ◌∷◌, ◌++◌, length, Some, Ok, Err, refl, ap, arith, length-append, slice_get}
 use borrow.Author.Tests.{ltb-true, ltb-false}
 use Rattle.ti_syntax.specs.declared.token.Token.{Token}

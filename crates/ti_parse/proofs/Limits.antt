@@ -1,4 +1,4 @@
--- What is spelled is read, up to the first token whose load is above its limit; step by step.
+-- Completeness with limits is proved to be preserved by each parsing step: a phrase is parsed up to its first token above a limit.
 use Rattle.std.proofs.Common.{◌≡◌, ℕ, ◌<◌, List, [], ◌∷◌, ◌++◌, length, Ok, Err, refl, sym, ap, ◌∙◌, subst, append_assoc, arith, length-append, true, false, Bool, if◌then◌else◌}
 use Rattle.std.specs.Str.{bytes_eq}
 use Rattle.std.proofs.lemmas.Bool.{eq-eqb}

@@ -1,4 +1,4 @@
--- Reading the classes of a text looks no further than the token that it refuses.
+-- The parser of classes is proved not to read beyond the token at which it fails.
 use Rattle.std.proofs.Common.{ℕ, zero, suc, ◌≤◌, List, [], refl, arith}
 use Rattle.ti_base.specs.declared.place.Place.{Place}
 use Rattle.ti_syntax.specs.declared.token.Token.{Token}

@@ -1,4 +1,4 @@
--- A list of tokens is at most one tree: both of two trees are what is read up to limits that no load of theirs is above.
+-- A token list is proved to have at most one tree: two trees are both what the parser returns with limits that neither exceeds.
 use Rattle.std.proofs.Common.{◌≡◌, ℕ, suc, ◌+◌, ◌<◌, ◌≤◌, List, [], ◌∷◌, ◌++◌, length, nat_lt, if◌then◌else◌, Ok, Err, refl, sym, ap, ◌∙◌, arith}
 use Rattle.std.proofs.lemmas.Bool.{le-ltb}
 use Rattle.ti_syntax.specs.declared.token.Token.{Token}

@@ -1,4 +1,4 @@
--- Right sides, heads and prints that are spelled are read, up to the first token whose load is above its limit.
+-- The parser is proved complete for initializers, heads and prints, up to the first token above a limit.
 use Rattle.std.proofs.Common.{◌≡◌, ℕ, zero, suc, ◌≤◌, List, [], ◌∷◌, ◌++◌, length, Option, Some, None, Ok, refl, ap, append_assoc, arith, true, false, Bool, codes}
 use Rattle.std.proofs.lemmas.Option.{none-some}
 use Rattle.ti_base.specs.declared.place.Place.{Place}

@@ -1,4 +1,4 @@
--- What statements begin with: operands and types that are spelled are read, up to the first token whose load is above its limit.
+-- The parser is proved complete for the operands and types at the start of statements, up to the first token above a limit.
 use Rattle.std.proofs.Common.{◌≡◌, ℕ, ◌<◌, List, [], ◌∷◌, ◌++◌, length, Some, None, Ok, Err, refl, sym, ap, ◌∙◌, subst, append_assoc, arith, true, false, Bool}
 use Rattle.std.proofs.lemmas.Bool.{false≢true}
 use Rattle.std.proofs.lemmas.Option.{none-some}

@@ -1,4 +1,4 @@
--- Statements that are spelled are read, up to the first token whose load is above its limit.
+-- The parser is proved complete for statements, up to the first token above a limit.
 use Rattle.std.proofs.Common.{◌≡◌, ℕ, zero, suc, ◌+◌, ◌<◌, List, [], ◌∷◌, ◌++◌, length, Option, Ok, refl, sym, ap, ◌∙◌, append_assoc, arith, length-append, true, false, Bool, ◌&&◌, codes}
 use Rattle.std.proofs.lemmas.Bool.{le-ltb, lt-ltb, false≢true}
 use Rattle.ti_base.specs.declared.place.Place.{Place}

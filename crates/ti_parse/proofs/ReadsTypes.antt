@@ -1,4 +1,4 @@
--- Types that are spelled are read.
+-- The parser is proved complete for types.
 use Rattle.std.proofs.Common.{◌≡◌, ℕ, ◌<◌, ◌≤◌, List, [], ◌∷◌, ◌++◌, length, Some, None, Ok, refl, ap, ◌∙◌, append_assoc, arith, length-append, true, false, Bool}
 use Rattle.std.proofs.lemmas.Option.{none-some}
 use Rattle.ti_base.specs.declared.place.Place.{Place}

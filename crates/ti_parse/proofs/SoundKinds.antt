@@ -1,4 +1,4 @@
--- A token that is of a kind by its number is that token: those of statements and classes.
+-- A token kind with the index of a variant is proved to be that variant, for the kinds of statements and classes.
 use Rattle.std.proofs.Common.{◌≡◌, true, refl}
 use Rattle.std.proofs.lemmas.Bool.{false≢true}
 use Rattle.ti_syntax.specs.declared.token.TokenKind.{TokenKind}

@@ -1,4 +1,4 @@
--- What the code reads, function by function. Nobody has to believe it: the contracts of `parse` and `one_text` cite `Answer` alone.
+-- For proofs only: a functional model of the code. The public contracts of `parse` and `one_text` depend only on `Answer`.
 pub mod Way
 pub mod Parts
 pub mod Statements

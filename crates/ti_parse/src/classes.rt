@@ -1,4 +1,4 @@
-// Classes and their members.
+// Parsing of classes and their members.
 
 ghost use Rattle.std.specs.Prelude.{[], ◌≡◌};
 ghost use Rattle.ti_syntax.specs.Trees.Views.{class_of, member_of, params_of, result_of, type_of};
@@ -18,7 +18,7 @@ use ti_syntax::tree::{
 };
 use ti_syntax::{Spelled, TokenKind};
 
-/// The items of a method, with the place of the brace behind them.
+/// A method body, with the position of its closing brace.
 #[derive(Drop)]
 pub struct Braced {
     pub body: Vec<Stmt>,
@@ -47,7 +47,7 @@ impl Reader {
         Err(Stop::Spent)
     }
 
-    /// The one parameter that begins with `String`, after that word.
+    /// The parameter `String[] x`, after `String`.
     #[tactic(auto, unfolding(crate::specs::Mirrors::Classes::words))]
     fn words(self, tokens: &mut Tokens<'_>) -> Result<Params, Stop>
         ensures { ReadsAs params_of (spec.words plain self.turns tokens.old) result tokens.new }
@@ -59,7 +59,7 @@ impl Reader {
         Ok(Params::Words(place, name))
     }
 
-    /// What stands between the parentheses of a method.
+    /// A method's parameter list, without its parentheses.
     #[tactic(auto, unfolding(crate::specs::Mirrors::Classes::params))]
     fn params(self, tokens: &mut Tokens<'_>) -> Result<Params, Stop>
         ensures { ReadsAs params_of (spec.params plain self.turns tokens.old) result tokens.new }
@@ -74,7 +74,7 @@ impl Reader {
         }
     }
 
-    /// The parameters of a method, with their parentheses.
+    /// A method's parameter list, with its parentheses.
     #[tactic(auto, unfolding(crate::specs::Mirrors::Pieces::signature))]
     fn signature(self, tokens: &mut Tokens<'_>) -> Result<Params, Stop>
         ensures { ReadsAs params_of (pieces.signature plain self.turns tokens.old) result tokens.new }
@@ -84,7 +84,7 @@ impl Reader {
         followed(tokens, TokenKind::RightParen, params)
     }
 
-    /// The items of a method, in their braces.
+    /// A method body in its braces.
     #[tactic(auto, unfolding(crate::specs::Mirrors::Pieces::braced))]
     fn braced(self, tokens: &mut Tokens<'_>) -> Result<Braced, Stop>
         ensures { ReadsAs braced_of (pieces.braced plain self.turns tokens.old) result tokens.new }
@@ -96,7 +96,7 @@ impl Reader {
         Ok(Braced { body, end })
     }
 
-    /// A method, after its name.
+    /// A method, after its name. Its modifiers, result, name and the name's position are passed in.
     #[tactic(auto, unfolding(crate::specs::Mirrors::Classes::method))]
     fn method(
         self,
@@ -124,7 +124,7 @@ impl Reader {
 
     // ---- members
 
-    /// A method, after its result.
+    /// A method, after its result type.
     #[tactic(auto, unfolding(crate::specs::Mirrors::Classes::method_named))]
     fn method_named(
         self,
@@ -186,7 +186,7 @@ impl Reader {
         }
     }
 
-    /// As many modifiers as there are.
+    /// All modifiers that follow, as allowed on a class or a member.
     #[tactic(auto, unfolding(crate::specs::Mirrors::Classes::modifiers))]
     fn modifiers(self, tokens: &mut Tokens<'_>, modified: Modified) -> Result<Vec<Modifier>, Stop>
         ensures { ReadsAs modifiers_of (spec.modifiers plain self.turns (word_of modified) self.turns [] tokens.old) result tokens.new }
@@ -211,7 +211,7 @@ impl Reader {
         self.member_from(tokens, modifiers)
     }
 
-    /// As many members as there are in front of a `}`.
+    /// All members up to the `}` of the class, which isn't consumed.
     #[tactic(auto, unfolding(crate::specs::Mirrors::Classes::members))]
     fn members(self, tokens: &mut Tokens<'_>) -> Result<Vec<Member>, Stop>
         ensures { ReadsAs members_of (spec.members plain self.turns self.turns [] tokens.old) result tokens.new }
@@ -257,7 +257,7 @@ impl Reader {
         self.class_from(tokens, modifiers)
     }
 
-    /// As many classes as there are in front of the end.
+    /// All classes up to End, which isn't consumed.
     #[tactic(auto, unfolding(crate::specs::Mirrors::Classes::classes))]
     pub fn classes(self, tokens: &mut Tokens<'_>) -> Result<Vec<Class>, Stop>
         ensures { ReadsAs classes_of (spec.classes plain self.turns self.turns [] tokens.old) result tokens.new }

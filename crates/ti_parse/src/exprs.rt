@@ -1,4 +1,4 @@
-// Full expressions, and the right sides of declarations and assignments.
+// Parsing of full expressions and of initializers (the right-hand sides of declarations and assignments).
 
 ghost use Rattle.std.specs.Prelude.{[], ◌∷◌, ◌≡◌};
 ghost use Rattle.ti_syntax.specs.Trees.Views.{dims_of, exp_of, init_of, maybe_of, range_of, ranges_of};
@@ -17,12 +17,14 @@ use ti_parse_expr::{Form, Stop, Tokens};
 use ti_syntax::tree::{Base, Brackets, Dims, Expr, Init, Range, TypeName};
 use ti_syntax::{Spelled, TokenKind};
 
-/// The brackets of a new grid, and what stands behind them.
+/// The bracketed part of `new T [D] ..`: the domain, and the grid brackets after it.
 #[derive(Drop)]
 pub struct Sizes {
-    /// The place of the opening bracket.
+    /// The position of the opening bracket.
     pub bracket: Place,
+    /// The domain of the new grid.
     pub dims: Dims,
+    /// The grid brackets of its element type.
     pub grids: Vec<Brackets>,
 }
 
@@ -34,7 +36,7 @@ impl Reader {
         full(self.alloc, tokens, Form::Whole)
     }
 
-    /// A range, after its lower bound.
+    /// The rest of a range, after its lower bound.
     #[tactic(auto, unfolding(crate::specs::Mirrors::Parts::range_from))]
     fn range_from(self, tokens: &mut Tokens<'_>, low: Expr) -> Result<Range, Stop>
         ensures { ReadsAs range_of (spec.range_from plain self.turns (exp_of low) tokens.old) result tokens.new }
@@ -44,7 +46,7 @@ impl Reader {
         self.range_behind(tokens, low, high)
     }
 
-    /// A range, after both bounds.
+    /// The rest of a range, after both bounds.
     fn range_behind(self, tokens: &mut Tokens<'_>, low: Expr, high: Expr) -> Result<Range, Stop>
         ensures { ReadsAs range_of (spec.range_behind plain self.turns (exp_of low) (exp_of high) tokens.old) result tokens.new }
     {
@@ -56,7 +58,7 @@ impl Reader {
         Ok(Range::Stepped { low, high, step })
     }
 
-    /// At most so many more ranges.
+    /// At most `room` more ranges, added to `found`.
     #[tactic(auto, unfolding(crate::specs::Mirrors::Parts::more_ranges))]
     fn more_ranges(
         self,
@@ -78,7 +80,7 @@ impl Reader {
         Ok(found)
     }
 
-    /// A domain, or one to three ranges.
+    /// A domain expression, or one to three ranges.
     #[tactic(auto, unfolding(crate::specs::Mirrors::Parts::dims))]
     fn dims(self, tokens: &mut Tokens<'_>) -> Result<Dims, Stop>
         ensures { ReadsAs dims_of (spec.dims plain self.turns tokens.old) result tokens.new }
@@ -92,7 +94,7 @@ impl Reader {
         Ok(Dims::Ranges(self.more_ranges(tokens, 2, found)?))
     }
 
-    /// The region of `new`.
+    /// The optional `(r)` after `new`.
     #[tactic(auto, unfolding(crate::specs::Mirrors::Parts::region))]
     fn region(self, tokens: &mut Tokens<'_>) -> Result<Option<Expr>, Stop>
         ensures { ReadsAs (maybe_of exp_of) (spec.region plain self.turns tokens.old) result tokens.new }
@@ -105,7 +107,7 @@ impl Reader {
         Ok(Some(followed(tokens, TokenKind::RightParen, region)?))
     }
 
-    /// The brackets of a new grid, with its dimensions, and the grids that are its elements.
+    /// The domain of a new grid in its brackets, and the grid brackets of its element type.
     #[tactic(auto, unfolding(crate::specs::Mirrors::Pieces::sizes))]
     fn sizes(self, tokens: &mut Tokens<'_>) -> Result<Sizes, Stop>
         ensures { ReadsAs sizes_of (pieces.sizes plain self.turns tokens.old) result tokens.new }
@@ -122,7 +124,7 @@ impl Reader {
         })
     }
 
-    /// A new grid, after the base of its elements.
+    /// A new grid, after the base of its element type.
     #[tactic(auto, unfolding(crate::specs::Mirrors::Parts::new_grid))]
     fn new_grid(
         self,
@@ -149,7 +151,7 @@ impl Reader {
         })
     }
 
-    /// A new object or grid, after the name of a class.
+    /// A new object, or a new grid of a class, after the class name.
     #[tactic(auto, unfolding(crate::specs::Mirrors::Parts::new_named))]
     fn new_named(
         self,
@@ -175,7 +177,7 @@ impl Reader {
         })
     }
 
-    /// A new object or grid, after its region.
+    /// A new object or grid, after `new` and the optional region.
     #[tactic(auto, unfolding(crate::specs::Mirrors::Parts::made))]
     fn made(self, tokens: &mut Tokens<'_>, place: Place, region: Option<Expr>) -> Result<Init, Stop>
         ensures { ReadsAs init_of (spec.made plain self.turns place (maybe_of exp_of region) tokens.old) result tokens.new }
@@ -194,7 +196,7 @@ impl Reader {
         }
     }
 
-    /// What stands behind `new`.
+    /// A new region, object or grid, after `new`.
     #[tactic(auto, unfolding(crate::specs::Mirrors::Parts::new_thing))]
     fn new_thing(self, tokens: &mut Tokens<'_>, place: Place) -> Result<Init, Stop>
         ensures { ReadsAs init_of (spec.new_thing plain self.turns place tokens.old) result tokens.new }
@@ -213,7 +215,7 @@ impl Reader {
         }
     }
 
-    /// What stands behind `broadcast`.
+    /// A broadcast, after its keyword.
     #[tactic(auto, unfolding(crate::specs::Mirrors::Parts::broadcast))]
     fn broadcast(self, tokens: &mut Tokens<'_>, place: Place) -> Result<Init, Stop>
         ensures { ReadsAs init_of (spec.broadcast plain self.turns place tokens.old) result tokens.new }
@@ -224,21 +226,21 @@ impl Reader {
         Ok(Init::Broadcast { place, value, root })
     }
 
-    /// A new thing, after its `new`, on the heap.
+    /// For the prover: a new region, object or grid, after `new`, in a box.
     fn boxed_new(self, tokens: &mut Tokens<'_>, place: Place) -> Result<Box<Init>, Stop>
         ensures { ReadsAs boxed_init (spec.new_thing plain self.turns place tokens.old) result tokens.new }
     {
         Ok(Box::new(self.alloc, self.new_thing(tokens, place)?)?)
     }
 
-    /// A broadcast, after its word, on the heap.
+    /// For the prover: a broadcast, after its keyword, in a box.
     fn boxed_broadcast(self, tokens: &mut Tokens<'_>, place: Place) -> Result<Box<Init>, Stop>
         ensures { ReadsAs boxed_init (spec.broadcast plain self.turns place tokens.old) result tokens.new }
     {
         Ok(Box::new(self.alloc, self.broadcast(tokens, place)?)?)
     }
 
-    /// A right side, on the heap.
+    /// An initializer, in a box.
     #[tactic(auto, unfolding(crate::specs::Mirrors::Parts::initial))]
     pub fn boxed_initial(self, tokens: &mut Tokens<'_>) -> Result<Box<Init>, Stop>
         ensures { ReadsAs boxed_init (spec.initial plain self.turns tokens.old) result tokens.new }

@@ -1,4 +1,4 @@
-//! The trees of texts.
+//! The parser: recursive descent from a token list to the tree of a program, with limits on nesting and on the weight of expressions.
 #![tactic(auto)]
 
 mod classes;

@@ -1,4 +1,4 @@
-// What texts are read with.
+// The parser's context, and a helper for closing tokens.
 
 ghost use Rattle.std.specs.Prelude.{◌≡◌};
 ghost use Rattle.ti_parse.specs.Mirrors.Seen.{Keeps};
@@ -8,15 +8,16 @@ use std::alloc::Global;
 use ti_parse_expr::{Stop, Tokens};
 use ti_syntax::TokenKind;
 
-/// What texts are read with; its methods are the rules.
+/// The parser's context: allocator and fuel. Its methods are the grammar rules.
 #[derive(Clone, Copy)]
 pub struct Reader {
+    /// The allocator of the tree's boxes, vectors and names.
     pub alloc: Global,
-    /// How many turns a loop may make.
+    /// Fuel: a bound on the iterations of each loop. It suffices if it is more than the number of tokens.
     pub turns: usize,
 }
 
-/// What was read, if a token of this kind follows it.
+/// Consumes a token of this kind and returns `read`.
 pub fn followed<T: Drop>(tokens: &mut Tokens<'_>, kind: TokenKind, read: T) -> Result<T, Stop>
     ensures { Keeps read (expect kind tokens.old) result tokens.new }
 {

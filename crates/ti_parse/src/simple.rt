@@ -1,4 +1,4 @@
-// Statements with no others in them.
+// Parsing of simple statements: those without statements in them.
 
 ghost use Rattle.std.specs.Prelude.{◌≡◌, false};
 ghost use Rattle.ti_syntax.specs.Trees.Views.{exp_of, print_of, type_of};
@@ -20,19 +20,19 @@ use ti_parse_expr::{Ending, Form, Operand, Stop, Tokens};
 use ti_syntax::tree::{Base, BinaryOperator, Expr, Printed, Stmt, TypeName};
 use ti_syntax::{Spelled, TokenKind};
 
-/// What begins with a name.
+/// The start of a statement that begins with a name.
 #[derive(Drop)]
 pub enum Begun {
-    /// A declaration of this type.
+    /// The type of a declaration.
     Declares(TypeName),
-    /// A change or a call.
+    /// The Postfix of an assignment or a call.
     Starts(Operand),
 }
 
 impl Reader {
     // ---- declarations, changes and calls
 
-    /// A declaration, after its type.
+    /// A declaration without its semicolon, after its type.
     #[tactic(auto, unfolding(crate::specs::Mirrors::Parts::declared))]
     pub fn declared(self, tokens: &mut Tokens<'_>, ty: TypeName) -> Result<Box<Stmt>, Stop>
         ensures { ReadsAs boxed_stm (spec.declared plain self.turns (type_of ty) tokens.old) result tokens.new }
@@ -76,7 +76,7 @@ impl Reader {
         Ok(Box::new(self.alloc, whole)?)
     }
 
-    /// An update, after its operator.
+    /// A compound assignment, after its operator.
     fn updated(
         self,
         tokens: &mut Tokens<'_>,
@@ -96,7 +96,7 @@ impl Reader {
         Ok(Box::new(self.alloc, whole)?)
     }
 
-    /// A change, after its target.
+    /// An assignment, a compound assignment or a step, after its target.
     fn changed_target(self, tokens: &mut Tokens<'_>, target: Expr) -> Result<Box<Stmt>, Stop>
         ensures { ReadsAs boxed_stm (spec.changed_if plain self.turns (exp_of target) Target tokens.old) result tokens.new }
     {
@@ -123,7 +123,7 @@ impl Reader {
         }
     }
 
-    /// A change, after the operand that it begins with.
+    /// A change (an assignment, a compound assignment or a step), after its Postfix, which must be a valid target.
     #[tactic(auto, unfolding(crate::specs::Mirrors::Parts::changed))]
     pub fn changed(self, tokens: &mut Tokens<'_>, operand: Operand) -> Result<Box<Stmt>, Stop>
         ensures { ReadsAs boxed_stm (spec.changed plain self.turns (operand_of operand) tokens.old) result tokens.new }
@@ -134,7 +134,7 @@ impl Reader {
         }
     }
 
-    /// A change with its semicolon, after the operand that it begins with.
+    /// A change with its semicolon, after its Postfix.
     fn changed_alone(self, tokens: &mut Tokens<'_>, operand: Operand) -> Result<Box<Stmt>, Stop>
         ensures { ReadsAs boxed_stm (spec.simple_if plain self.turns (operand_of operand) false tokens.old) result tokens.new }
     {
@@ -142,7 +142,7 @@ impl Reader {
         followed(tokens, TokenKind::Semicolon, changed)
     }
 
-    /// A call or a change with its semicolon, after the operand that it begins with.
+    /// A call or a change with its semicolon, after its Postfix.
     #[tactic(auto, unfolding(crate::specs::Mirrors::Parts::simple))]
     pub fn simple(self, tokens: &mut Tokens<'_>, operand: Operand) -> Result<Box<Stmt>, Stop>
         ensures { ReadsAs boxed_stm (spec.simple plain self.turns (operand_of operand) tokens.old) result tokens.new }
@@ -166,9 +166,9 @@ impl Reader {
         self.changed(tokens, operand)
     }
 
-    // ---- what begins with a name
+    // ---- statements that begin with a name
 
-    /// What begins with a name and a `[`, after both.
+    /// The start of a statement, after its name and `[`: a type if a dimension follows, else a Postfix.
     #[tactic(auto, unfolding(crate::specs::Mirrors::Parts::begun_bracket))]
     fn begun_bracket(
         self,
@@ -193,7 +193,7 @@ impl Reader {
         }))
     }
 
-    /// What begins with a name, after it.
+    /// The start of a statement, after its name.
     #[tactic(auto, unfolding(crate::specs::Mirrors::Parts::begun))]
     pub fn begun(self, tokens: &mut Tokens<'_>, place: Place, name: Spelled) -> Result<Begun, Stop>
         ensures { ReadsAs begun_of (spec.begun plain self.turns place name tokens.old) result tokens.new }
@@ -223,7 +223,7 @@ impl Reader {
 
     // ---- prints and barriers
 
-    /// `println`, with its place.
+    /// Reads `println` and returns its position.
     fn println(self, tokens: &mut Tokens<'_>) -> Result<Place, Stop>
         ensures { Reads (spec.printer_by plain self.turns KeywordPrintln tokens.old) result tokens.new }
     {
@@ -232,7 +232,7 @@ impl Reader {
         Ok(place)
     }
 
-    /// The place of `println`, which may stand behind `System.out.`.
+    /// Reads `println` or `System.out.println` and returns the position of `println`.
     #[tactic(auto, unfolding(crate::specs::Mirrors::Parts::printer))]
     fn printer(self, tokens: &mut Tokens<'_>) -> Result<Place, Stop>
         ensures { Reads (spec.printer plain self.turns tokens.old) result tokens.new }
@@ -249,7 +249,7 @@ impl Reader {
         }
     }
 
-    /// What is printed, after a string literal.
+    /// The argument of a print, after its string literal.
     #[tactic(auto, unfolding(crate::specs::Mirrors::Parts::printed_text))]
     fn printed_text(self, tokens: &mut Tokens<'_>, text: Spelled) -> Result<Printed, Stop>
         ensures { ReadsAs print_of (spec.printed_text plain self.turns text tokens.old) result tokens.new }
@@ -262,7 +262,7 @@ impl Reader {
         Ok(Printed::TextAndValue(text, value))
     }
 
-    /// What stands between the parentheses of a print.
+    /// The argument of a print, without its parentheses.
     #[tactic(auto, unfolding(crate::specs::Mirrors::Parts::printed))]
     fn printed(self, tokens: &mut Tokens<'_>) -> Result<Printed, Stop>
         ensures { ReadsAs print_of (spec.printed plain self.turns tokens.old) result tokens.new }
@@ -278,7 +278,7 @@ impl Reader {
         }
     }
 
-    /// A print.
+    /// A print statement.
     #[tactic(auto, unfolding(crate::specs::Mirrors::Parts::print))]
     pub fn print(self, tokens: &mut Tokens<'_>) -> Result<Box<Stmt>, Stop>
         ensures { ReadsAs boxed_stm (spec.print plain self.turns tokens.old) result tokens.new }
@@ -291,7 +291,7 @@ impl Reader {
         Ok(Box::new(self.alloc, Stmt::Print(place, printed))?)
     }
 
-    /// A barrier, after `Ti`.
+    /// A barrier statement, after `Ti`.
     #[tactic(auto, unfolding(crate::specs::Mirrors::Parts::barrier))]
     pub fn barrier(self, tokens: &mut Tokens<'_>) -> Result<Box<Stmt>, Stop>
         ensures { ReadsAs boxed_stm (spec.barrier plain self.turns tokens.old) result tokens.new }
@@ -305,7 +305,7 @@ impl Reader {
         Ok(Box::new(self.alloc, Stmt::Barrier(place))?)
     }
 
-    // ---- jumps, from their words on
+    // ---- jumps, from their keywords on
 
     /// `break;`
     #[tactic(auto, unfolding(crate::specs::Mirrors::Parts::break_out))]

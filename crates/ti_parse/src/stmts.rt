@@ -1,4 +1,4 @@
-// Statements. The rules take the reader of the statements inside as a parameter, so that each is proved by itself.
+// Parsing of statements. The grammar rules take the recursive parser as a parameter, so that each rule is proved by itself.
 
 ghost use Rattle.std.specs.Prelude.{[], ◌≡◌};
 ghost use Rattle.ti_syntax.specs.Trees.Views.{exp_of, maybe_of, stms_of};
@@ -20,7 +20,7 @@ use ti_parse_expr::{Stop, Tokens};
 use ti_syntax::TokenKind;
 use ti_syntax::tree::{Expr, Stmt};
 
-/// The most levels of compound statements.
+/// The limit on the nesting of compound statements.
 pub const MOST_LEVELS: u32 = 64;
 
 /// The head of a `for`.
@@ -31,12 +31,13 @@ pub struct ForHead {
     pub update: Option<Box<Stmt>>,
 }
 
-/// The rules of statements, with a reader of the statements inside.
+/// The grammar rules of statements, over a parser of nested statements.
 #[derive(Clone, Copy)]
 pub struct Statements<F> {
     pub reader: Reader,
-    /// How many levels of compound statements may still begin in them.
+    /// How many more levels of compound statements may be nested.
     pub levels: u32,
+    /// The parser of nested statements: context, input, levels.
     pub stmt: F,
 }
 
@@ -50,7 +51,7 @@ impl<F: Fn(Reader, &mut Tokens<'_>, u32) -> Result<Box<Stmt>, Stop>> Statements<
 
     // ---- items
 
-    /// An item, after what it begins with.
+    /// An item that begins with a name, after its start.
     fn named_item(&self, tokens: &mut Tokens<'_>, begun: Begun) -> Result<Box<Stmt>, Stop>
         requires { Nests self.now.reader self.now.levels (F.pre self.now.stmt) (F.post self.now.stmt) }
         ensures { ReadsAs boxed_stm (spec.named_item plain self.now.reader.turns (spec.stmt plain self.now.reader.turns self.now.levels)
@@ -62,7 +63,7 @@ impl<F: Fn(Reader, &mut Tokens<'_>, u32) -> Result<Box<Stmt>, Stop>> Statements<
         }
     }
 
-    /// A declaration or a statement.
+    /// An item: a declaration or a statement.
     #[tactic(auto, unfolding(crate::specs::Mirrors::Statements::item))]
     fn item(&self, tokens: &mut Tokens<'_>) -> Result<Box<Stmt>, Stop>
         requires { Nests self.now.reader self.now.levels (F.pre self.now.stmt) (F.post self.now.stmt) }
@@ -87,7 +88,7 @@ impl<F: Fn(Reader, &mut Tokens<'_>, u32) -> Result<Box<Stmt>, Stop>> Statements<
         }
     }
 
-    /// As many items as there are.
+    /// All items up to a `}`, which isn't consumed.
     #[tactic(auto, unfolding(crate::specs::Mirrors::Statements::items))]
     pub fn items(&self, tokens: &mut Tokens<'_>) -> Result<Vec<Stmt>, Stop>
         requires { Nests self.now.reader self.now.levels (F.pre self.now.stmt) (F.post self.now.stmt) }
@@ -122,7 +123,7 @@ impl<F: Fn(Reader, &mut Tokens<'_>, u32) -> Result<Box<Stmt>, Stop>> Statements<
         Ok(Box::new(self.reader.alloc, Stmt::Block(body))?)
     }
 
-    /// What stands behind `if`.
+    /// An `if`, after its keyword.
     #[tactic(auto, unfolding(crate::specs::Mirrors::Statements::conditional))]
     fn conditional(&self, tokens: &mut Tokens<'_>, place: Place) -> Result<Box<Stmt>, Stop>
         requires { Nests self.now.reader self.now.levels (F.pre self.now.stmt) (F.post self.now.stmt) }
@@ -134,7 +135,7 @@ impl<F: Fn(Reader, &mut Tokens<'_>, u32) -> Result<Box<Stmt>, Stop>> Statements<
         self.conditional_behind(tokens, place, condition, then)
     }
 
-    /// An `if`, after its first statement.
+    /// An `if`, after its first branch.
     fn conditional_behind(
         &self,
         tokens: &mut Tokens<'_>,
@@ -167,7 +168,7 @@ impl<F: Fn(Reader, &mut Tokens<'_>, u32) -> Result<Box<Stmt>, Stop>> Statements<
         Ok(Box::new(self.reader.alloc, choice)?)
     }
 
-    /// What stands behind `while`.
+    /// A `while`, after its keyword.
     #[tactic(auto, unfolding(crate::specs::Mirrors::Statements::while_loop))]
     fn while_loop(&self, tokens: &mut Tokens<'_>, place: Place) -> Result<Box<Stmt>, Stop>
         requires { Nests self.now.reader self.now.levels (F.pre self.now.stmt) (F.post self.now.stmt) }
@@ -184,7 +185,7 @@ impl<F: Fn(Reader, &mut Tokens<'_>, u32) -> Result<Box<Stmt>, Stop>> Statements<
         Ok(Box::new(self.reader.alloc, whole)?)
     }
 
-    /// What stands behind `for`.
+    /// A `for`, after its keyword.
     #[tactic(auto, unfolding(crate::specs::Mirrors::Statements::for_loop))]
     fn for_loop(&self, tokens: &mut Tokens<'_>, place: Place) -> Result<Box<Stmt>, Stop>
         requires { Nests self.now.reader self.now.levels (F.pre self.now.stmt) (F.post self.now.stmt) }
@@ -203,7 +204,7 @@ impl<F: Fn(Reader, &mut Tokens<'_>, u32) -> Result<Box<Stmt>, Stop>> Statements<
         Ok(Box::new(self.reader.alloc, whole)?)
     }
 
-    /// What stands behind `foreach`.
+    /// A `foreach`, after its keyword.
     #[tactic(auto, unfolding(crate::specs::Mirrors::Statements::foreach_loop))]
     fn foreach_loop(&self, tokens: &mut Tokens<'_>, place: Place) -> Result<Box<Stmt>, Stop>
         requires { Nests self.now.reader self.now.levels (F.pre self.now.stmt) (F.post self.now.stmt) }
@@ -227,7 +228,7 @@ impl<F: Fn(Reader, &mut Tokens<'_>, u32) -> Result<Box<Stmt>, Stop>> Statements<
         Ok(Box::new(self.reader.alloc, whole)?)
     }
 
-    /// A compound statement, after its first token.
+    /// A compound statement, after its first token, which is of this kind.
     fn compound(
         &self,
         tokens: &mut Tokens<'_>,
@@ -261,7 +262,7 @@ impl Reader {
         followed(tokens, TokenKind::RightParen, condition)
     }
 
-    /// A declaration or a change, after what it begins with.
+    /// The first part of a `for` head that begins with a name, after its start.
     fn first_of(self, tokens: &mut Tokens<'_>, begun: Begun) -> Result<Box<Stmt>, Stop>
         ensures { ReadsAs boxed_stm (parts.first_of plain self.turns (begun_of begun) tokens.old) result tokens.new }
     {
@@ -271,7 +272,7 @@ impl Reader {
         }
     }
 
-    /// What the head of a `for` begins with.
+    /// The first part of a `for` head: empty, a declaration or a change.
     #[tactic(auto, unfolding(crate::specs::Mirrors::Parts::first))]
     pub fn first(self, tokens: &mut Tokens<'_>) -> Result<Option<Box<Stmt>>, Stop>
         ensures { ReadsAs maybe_stm (parts.first plain self.turns tokens.old) result tokens.new }
@@ -297,7 +298,7 @@ impl Reader {
         Ok(Some(first))
     }
 
-    /// An expression, or none in front of a semicolon.
+    /// An expression, or None if a semicolon is next.
     #[tactic(auto, unfolding(crate::specs::Mirrors::Parts::optional))]
     pub fn optional(self, tokens: &mut Tokens<'_>) -> Result<Option<Expr>, Stop>
         ensures { ReadsAs (maybe_of exp_of) (parts.optional plain self.turns tokens.old) result tokens.new }
@@ -308,7 +309,7 @@ impl Reader {
         Ok(Some(self.expr(tokens)?))
     }
 
-    /// The update of a `for`.
+    /// The update of a `for` head: empty or a change.
     #[tactic(auto, unfolding(crate::specs::Mirrors::Parts::update))]
     pub fn update(self, tokens: &mut Tokens<'_>) -> Result<Option<Box<Stmt>>, Stop>
         ensures { ReadsAs maybe_stm (parts.update plain self.turns tokens.old) result tokens.new }
@@ -319,7 +320,7 @@ impl Reader {
         Ok(Some(self.change(tokens)?))
     }
 
-    /// The head of a `for`.
+    /// The head of a `for`, with its parentheses.
     #[tactic(auto, unfolding(crate::specs::Mirrors::Pieces::for_head))]
     fn for_head(self, tokens: &mut Tokens<'_>) -> Result<ForHead, Stop>
         ensures { ReadsAs for_head_of (pieces.for_head plain self.turns tokens.old) result tokens.new }
@@ -368,7 +369,7 @@ impl Reader {
         }
     }
 
-    /// The items of a method.
+    /// The items of a method body, without its braces.
     pub fn body(self, tokens: &mut Tokens<'_>) -> Result<Vec<Stmt>, Stop>
         ensures { ReadsAs stms_of (spec.body plain self.turns tokens.old) result tokens.new }
     {
@@ -381,7 +382,7 @@ impl Reader {
     }
 }
 
-/// A statement where so many levels of compound ones may still begin.
+/// A statement. `levels` is how many more levels of compound statements may be nested; a compound one at 0 is an error (TooDeep).
 #[tactic(auto, unfolding(crate::specs::Mirrors::Statements::stmt))]
 pub fn stmt(reader: Reader, tokens: &mut Tokens<'_>, levels: u32) -> Result<Box<Stmt>, Stop>
     ensures { ReadsAs boxed_stm (spec.stmt plain reader.turns levels tokens.old) result tokens.new }

@@ -1,4 +1,4 @@
-// The tree of a text.
+// The public entry point to the parser.
 
 ghost use Rattle.std.specs.Prelude.{◌≡◌, List, Option, Some};
 ghost use Rattle.ti_base.specs.declared.place.Place.{Place as PlaceSeen};
@@ -20,7 +20,7 @@ use ti_rules::{Refusal, Rule};
 use ti_syntax::tree::{Class, Tree};
 use ti_syntax::{Token, TokenKind};
 
-/// The classes up to the end, which nothing follows.
+/// Parses all classes, and checks that nothing follows End.
 #[tactic(auto, unfolding(crate::specs::Mirrors::Classes::text))]
 fn read_text(alloc: Global, tokens: &mut Tokens<'_>, turns: usize) -> Result<Vec<Class>, Stop>
     ensures { ReadsAs text_tree_of (spec.text plain turns tokens.old) result tokens.new }
@@ -39,7 +39,7 @@ fn refused(rule: Rule, place: Place) -> ParseErr
     ParseErr::Refused(Refusal { rule, place })
 }
 
-/// What `parse` answers.
+/// For the prover: `parse` with only its first postcondition.
 fn read_tree(alloc: Global, toks: &[Token]) -> Result<Tree, ParseErr>
     requires { EndsAtEnd toks.now }
     ensures { Parsed toks.now result }
@@ -55,14 +55,14 @@ fn read_tree(alloc: Global, toks: &[Token]) -> Result<Tree, ParseErr>
     }
 }
 
-/// The tree that a list of tokens spells.
+/// Parses a program's tokens into its tree. The last token must be End.
 ///
-/// Refused with G1 at the first token such that the tokens up to and including it begin no text, or with G2 at the first
-/// token before that whose level or weight is above its limit. Otherwise it may only be out of memory.
+/// Errors: G1 at the first token such that the tokens up to and including it are no viable prefix, or G2 at an earlier token whose
+/// nesting level or weight is above its limit; or Memory.
 pub fn parse(alloc: Global, toks: &[Token]) -> Result<Tree, ParseErr>
     requires { EndsAtEnd toks.now }
     ensures answer { Parsed toks.now result }
-    // Nothing else is answered to tokens that have a tree, or a refusal.
+    // The result is unique: tokens with a tree get only this tree, tokens with an error only this error, up to Memory.
     ensures only_tree { (tree : TextTree) → Spells toks.now tree → IsShallow toks.now → GivesOnly result tree }
     ensures only_refusal { (misfit : Misfit) (place : PlaceSeen) → IsGrammarRefusal toks.now (Some (misfit, place))
         → RefusesOnly result misfit place }
@@ -70,8 +70,8 @@ pub fn parse(alloc: Global, toks: &[Token]) -> Result<Tree, ParseErr>
     read_tree(alloc, toks)
 }
 
-/// That a list of tokens is at most one tree, and that each list that ends with the end token has one answer on what is
-/// wrong with it.
+/// Theorem: a token list parses to at most one tree, and each list that ends with End has exactly one verdict: no error, or one error
+/// at one position.
 pub fn one_text()
     ensures one_tree { (list : List TokenSeen) (a b : TextTree) → Spells list a → Spells list b → a ≡ b }
     ensures some { (list : List TokenSeen) → EndsAtEnd list → (a : Option (Misfit × PlaceSeen)) × IsGrammarRefusal list a }

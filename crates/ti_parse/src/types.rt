@@ -1,4 +1,4 @@
-// Types, with one token of lookahead.
+// Parsing of types, with one token of lookahead.
 
 ghost use Rattle.std.specs.Prelude.{[], ◌≡◌};
 ghost use Rattle.ti_syntax.specs.Trees.Views.{type_of};
@@ -14,7 +14,7 @@ use ti_syntax::TokenKind;
 use ti_syntax::tree::{Base, TypeName};
 
 impl Reader {
-    /// A type that no field and no element has.
+    /// A domain or region type: types that fields and elements can't have.
     #[tactic(auto, unfolding(crate::specs::Mirrors::Parts::wide))]
     pub fn wide(self, tokens: &mut Tokens<'_>) -> Result<TypeName, Stop>
         ensures { ReadsAs type_of (spec.wide plain self.turns tokens.old) result tokens.new }

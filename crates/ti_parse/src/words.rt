@@ -1,4 +1,4 @@
-// What tokens stand for, and what may begin with them.
+// Operators and modifiers by token, and the tokens that can begin each kind of phrase.
 
 ghost use Rattle.std.specs.Prelude.{◌≡◌};
 ghost use Rattle.ti_syntax.specs.Spelling.Operators as operators;
@@ -11,7 +11,7 @@ ghost use Rattle.ti_parse_expr.specs.Mirrors.Exprs.{is_dim as is_dim_spec};
 use ti_syntax::TokenKind;
 use ti_syntax::tree::{BinaryOperator, ModifierWord, StepOperator};
 
-/// The operator of `t op= e`.
+/// The operator of the compound assignment `t op= e` that the token denotes.
 pub fn update_of(kind: &TokenKind) -> Option<BinaryOperator>
     ensures { result ≡ operators.update_of kind.now }
 {
@@ -31,7 +31,7 @@ pub fn update_of(kind: &TokenKind) -> Option<BinaryOperator>
     }
 }
 
-/// `++` and `--`.
+/// The step operator that the token denotes: `++` or `--`.
 pub fn step_of(kind: &TokenKind) -> Option<StepOperator>
     ensures { result ≡ operators.step_of kind.now }
 {
@@ -42,14 +42,14 @@ pub fn step_of(kind: &TokenKind) -> Option<StepOperator>
     }
 }
 
-/// What modifiers stand in front of.
+/// What is modified: classes and members allow different modifiers.
 #[derive(Clone, Copy)]
 pub enum Modified {
     Class,
     Member,
 }
 
-/// The words that may stand in front of a class or a member.
+/// The modifier that the token denotes, if it is allowed on a class or member.
 pub fn modifier_of(modified: Modified, kind: &TokenKind) -> Option<ModifierWord>
     ensures { result ≡ word_of modified kind.now }
 {
@@ -83,7 +83,7 @@ fn member_modifier_of(kind: &TokenKind) -> Option<ModifierWord>
     }
 }
 
-/// Whether it is a word of the types that no field and no element has.
+/// Whether the token begins a type that fields and elements can't have.
 pub fn is_wide(kind: &TokenKind) -> bool
     ensures { result ≡ parts.is_wide kind.now }
 {
@@ -93,7 +93,7 @@ pub fn is_wide(kind: &TokenKind) -> bool
     )
 }
 
-/// Whether it is a word that a declaration can begin with.
+/// Whether the token is a keyword that can begin a declaration.
 pub fn begins_declaration(kind: &TokenKind) -> bool
     ensures { result ≡ parts.begins_declaration kind.now }
 {
@@ -104,7 +104,7 @@ pub fn begins_declaration(kind: &TokenKind) -> bool
     }
 }
 
-/// Whether a Postfix at the start of a statement can begin with it.
+/// Whether the token can begin a Postfix at the start of a statement.
 pub fn starts(kind: &TokenKind) -> bool
     ensures { result ≡ starts_spec kind.now }
 {
@@ -114,14 +114,14 @@ pub fn starts(kind: &TokenKind) -> bool
     )
 }
 
-/// Whether it is a number of dimensions.
+/// Whether the token is a dimension, as `1d`.
 pub fn is_dim(kind: &TokenKind) -> bool
     ensures { result ≡ is_dim_spec kind.now }
 {
     matches!(kind, TokenKind::Dim(_))
 }
 
-/// Whether a compound statement begins with it.
+/// Whether the token begins a compound statement.
 pub fn is_compound(kind: &TokenKind) -> bool
     ensures { result ≡ statements.is_compound kind.now }
 {

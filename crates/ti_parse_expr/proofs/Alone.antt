@@ -1,4 +1,4 @@
--- An operand of one token is read at once where the next token doesn't go on with it.
+-- The shortcut for an operand of one token is proved to be what the parser does, if the next token can't continue the operand.
 use Rattle.std.proofs.Common.{◌≡◌, ℕ, suc, ◌+◌, ◌-◌, true, List, [], ◌∷◌, length, take, Ok, refl, sym, ap, ◌∙◌, arith, true≢false, ◌≤◌, if◌then◌else◌}
 use Rattle.ti_base.specs.declared.place.Place.{Place}
 use Rattle.ti_syntax.specs.declared.token.Token.{Token}

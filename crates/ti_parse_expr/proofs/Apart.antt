@@ -1,4 +1,4 @@
--- One list taken apart in two ways.
+-- Two ways to split one list are proved to be related: one part is a prefix of the other.
 use Rattle.std.proofs.Common.{◌≡◌, ◌⊎◌, inl, inr, List, [], ◌∷◌, ◌++◌, refl, sym, ap, ◌∙◌}
 use Rattle.ti_syntax.specs.declared.token.Token.{Token}
 

@@ -1,4 +1,4 @@
--- What is answered for a list from an answer for its front is what the reader within the limit gives.
+-- The result for a list that is computed from the result for its prefix is proved to be that of the parser with the weight limit.
 use Rattle.std.proofs.Common.{◌≡◌, ℕ, suc, ◌+◌, ◌-◌, ◌<◌, List, length, drop, Result, Ok, Err, refl, sym, ap, ◌∙◌, subst, true, false, Bool, if◌then◌else◌}
 use denote.Ref.{MutBor}
 use Rattle.ti_syntax.specs.declared.token.Token.{Token}

@@ -1,4 +1,4 @@
--- What the grammar spells is read, whatever follows it that can't go on with it.
+-- The parser is proved complete for expressions: it parses each derivation of the grammar, if the token after it can't continue it.
 use Rattle.std.proofs.Common.{◌≡◌, ℕ, zero, suc, ◌+◌, ◌<◌, ◌≤◌, List, [], ◌∷◌, ◌++◌, length, Option, Some, None, is_some, Ok, Err, refl, sym, ap, ◌∙◌, subst, append_assoc, arith, length-append, true, false, Bool, nat_lt, if◌then◌else◌, codes}
 use Rattle.std.proofs.lemmas.Bool.{le-ltb, lt-ltb}
 use Rattle.ti_base.specs.declared.place.Place.{Place}

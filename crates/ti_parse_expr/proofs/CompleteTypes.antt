@@ -1,4 +1,4 @@
--- What the grammar spells as a type is read, whatever follows it that can't go on with it.
+-- The parser is proved complete for types: it parses each derivation of the grammar, if the token after it can't continue it.
 use Rattle.std.proofs.Common.{◌≡◌, ℕ, zero, suc, pos, ◌<◌, ◌≤◌, List, [], ◌∷◌, ◌++◌, length, Some, None, Ok, refl, sym, ap, ◌∙◌, append_assoc, arith, length-append, true, false}
 use Rattle.std.proofs.lemmas.Bool.{le-leb}
 use Rattle.ti_syntax.specs.declared.token.Token.{Token}

@@ -1,4 +1,4 @@
--- No token of an expression ends it.
+-- No token of an expression is proved to be one of the tokens that end expressions.
 use Rattle.std.proofs.Common.{◌≡◌, ℕ, ◌+◌, List, [], ◌∷◌, ◌++◌, Some, refl, ap, arith, if◌then◌else◌}
 use Rattle.ti_syntax.specs.declared.token.Token.{Token}
 use Rattle.ti_syntax.specs.declared.token.TokenKind.{TokenKind}

@@ -1,4 +1,4 @@
--- Where reading comes to an end, more turns change nothing.
+-- Once the fuel suffices, more fuel is proved not to change the parser's result.
 use Rattle.std.proofs.Common.{◌≡◌, ℕ, suc, zero, ◌≤◌, List, Ok, Err, refl, ap, ◌∙◌, arith}
 use Rattle.ti_syntax.specs.declared.token.Token.{Token}
 use Rattle.ti_parse_expr.specs.Mirrors.Input.{At, Over, Spent, Outcome, Parser, and_then, kind, place, take_token}

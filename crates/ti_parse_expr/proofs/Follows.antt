@@ -1,4 +1,4 @@
--- Steps that are known to go on, and what follows a phrase that ends.
+-- Lemmas on parsing steps that are known to continue, and on what follows a phrase that ends.
 use Rattle.std.proofs.Common.{◌≡◌, ℕ, ◌<◌, ◌≤◌, List, [], ◌∷◌, ◌++◌, Some, Ok, Err, refl, ap, ◌∙◌, arith, true, false, Bool, if◌then◌else◌}
 use Rattle.ti_syntax.specs.declared.token.Token.{Token}
 use Rattle.ti_syntax.specs.declared.token.TokenKind.{TokenKind}

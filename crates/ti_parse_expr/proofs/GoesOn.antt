@@ -1,4 +1,4 @@
--- A phrase goes on with the token behind it, or it can end there.
+-- After a phrase, the next token is proved either to continue the phrase or to leave it complete.
 use Rattle.std.proofs.Common.{◌≡◌, ◌⊎◌, inl, inr, ℕ, ◌+◌, ◌<◌, ◌≤◌, List, [], ◌∷◌, ◌++◌, length, Option, Some, None, pos, refl, sym, ap, ◌∙◌, subst, append_assoc, arith, true, false, Bool, nat_lt}
 use borrow.Author.Tests.{ltb-true, ltb-false}
 use Rattle.ti_syntax.specs.declared.token.Token.{Token}

@@ -1,4 +1,4 @@
--- What a reader says of a language: soundness, completions at refusals, and that turns suffice; step by step.
+-- What holds of a parser for a language (soundness, viable prefixes at errors, sufficient fuel) is proved to be preserved by each step.
 use Rattle.std.proofs.Common.{◌≡◌, ℕ, zero, suc, ◌+◌, ◌≤◌, List, [], ◌∷◌, ◌++◌, length, Ok, Err, refl, sym, ap, ◌∙◌, subst, append_assoc, arith, length-append, true, false, Bool, if◌then◌else◌}
 use Rattle.ti_syntax.specs.declared.token.Token.{Token}
 use Rattle.ti_syntax.specs.declared.token.TokenKind.{TokenKind}

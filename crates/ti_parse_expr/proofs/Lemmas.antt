@@ -1,4 +1,4 @@
--- The lemmas of this crate that other crates may cite; no other module of its proofs is seen outside.
+-- The lemmas that this crate exports; its other proofs are private.
 pub use Rattle.ti_parse_expr.proofs.Answered.{inside}
 pub use Rattle.ti_parse_expr.proofs.Apart.{Apart, apart}
 pub use Rattle.ti_parse_expr.proofs.CompleteTypes.{EndsType, arity_reads, base_reads, field_type_reads, grid_reads, gridded_front}

@@ -1,4 +1,4 @@
--- The first token of a list that weighs too much.
+-- Lemmas on the first token of a list whose weight is above the limit.
 use Rattle.std.proofs.Common.{◌≡◌, ℕ, zero, suc, ◌+◌, ◌<◌, ◌≤◌, List, [], ◌∷◌, ◌++◌, length, Ok, Err, refl, ap, ◌∙◌, arith, true, false, Bool, nat_lt, if◌then◌else◌}
 use borrow.Author.Tests.{ltb-true, ltb-false}
 use Rattle.std.proofs.lemmas.Bool.{le-ltb, lt-ltb}

@@ -1,4 +1,4 @@
--- Reading looks no further than the token that it refuses: what stands behind that token doesn't matter, nor do more turns.
+-- The parser's result is proved not to depend on tokens after the one at which it fails, nor on more fuel.
 use Rattle.std.proofs.Common.{◌≡◌, ℕ, zero, suc, ◌≤◌, List, [], ◌∷◌, ◌++◌, length, Ok, Err, refl, sym, ap, ◌∙◌, subst, append_assoc, arith, length-append}
 use Rattle.ti_syntax.specs.declared.token.Token.{Token}
 use Rattle.ti_parse_expr.specs.Mirrors.Input.{At, Over, Spent, Outcome, Parser, and_then, kind, place, take_token}

@@ -1,4 +1,4 @@
--- Phrases of the grammar with their closing brackets, and what they are made of.
+-- Lemmas on phrases of the grammar with their closing brackets, and on their parts.
 use Rattle.std.proofs.Common.{◌≡◌, ℕ, ◌<◌, ◌≤◌, List, [], ◌∷◌, ◌++◌, length, Option, Some, None, sym, ap, subst, append_assoc, arith, length-append, true}
 use Rattle.std.specs.Cmp.Lexicographic.{same_text}
 use Rattle.ti_syntax.specs.declared.token.Token.{Token}

@@ -1,4 +1,4 @@
--- A relation between parsers that the steps keep holds between two ways to read expressions.
+-- A relation between parsers that each parsing step preserves is proved to hold between two expression parsers.
 use Rattle.std.proofs.Common.{◌≡◌, ℕ, zero, suc, pos, ◌+◌, List, [], ◌∷◌, ◌++◌, Option, Some, None, is_some, Ok, Err, refl, true, false, Bool, nat_lt, if◌then◌else◌, codes}
 use Rattle.ti_base.specs.declared.place.Place.{Place}
 use Rattle.ti_syntax.specs.declared.token.TokenKind.{TokenKind}

@@ -1,4 +1,4 @@
--- Reading an expression alone never finds a token too deep.
+-- The expression parser without a weight limit is proved never to fail with TooDeep.
 use Rattle.std.proofs.Common.{◌≡◌, ℕ, zero, suc, List, Ok, Err, refl, arith}
 use Rattle.ti_syntax.specs.declared.token.Token.{Token}
 use Rattle.ti_parse_expr.specs.declared.parse.Form.{Form}

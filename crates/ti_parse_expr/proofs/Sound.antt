@@ -1,4 +1,4 @@
--- What reading an expression says of the grammar: soundness, completions, and that turns suffice.
+-- The expression parser is proved sound; at errors the tokens before are proved a viable prefix, and the fuel is proved sufficient.
 use Rattle.std.proofs.Common.{◌≡◌, ℕ, zero, suc, pos, ◌+◌, ◌<◌, ◌≤◌, List, [], ◌∷◌, ◌++◌, length, Option, Some, None, is_some, Ok, Err, refl, sym, ap, ◌∙◌, subst, append_assoc, arith, length-append, true, false, Bool, nat_lt, if◌then◌else◌, codes}
 use borrow.Author.Tests.{ltb-true, ltb-false}
 use Rattle.ti_base.specs.declared.place.Place.{Place}

@@ -1,4 +1,4 @@
--- What reading a type says of the grammar.
+-- The type parser is proved sound, and its errors viable-prefix errors.
 use Rattle.std.proofs.Common.{◌≡◌, ℕ, zero, suc, ℤ, pos, negsuc, ◌<◌, ◌≤◌, List, [], ◌∷◌, ◌++◌, length, Option, Some, None, Ok, refl, sym, ap, ◌∙◌, subst, append_assoc, arith, true, false, Bool, nat_le}
 use Rattle.std.proofs.lemmas.Bool.{leb-true}
 use Rattle.ti_syntax.specs.declared.token.Token.{Token}

@@ -1,4 +1,4 @@
--- A token that is of a kind by its number is that token.
+-- A token kind with the index of a variant is proved to be that variant.
 use Rattle.std.proofs.Common.{◌≡◌, true, refl}
 use Rattle.ti_syntax.specs.declared.token.TokenKind.{TokenKind}
 use Rattle.ti_syntax.specs.declared.token.TokenKind.TheVariants as k

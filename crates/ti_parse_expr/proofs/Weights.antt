@@ -1,4 +1,4 @@
--- Weights of fronts, and where a list is cut.
+-- Lemmas on the weights of prefixes, and on the prefix to which a token list is cut.
 use Rattle.std.proofs.Common.{◌≡◌, ◌⊎◌, inl, inr, ℕ, zero, suc, ◌+◌, ◌-◌, ◌<◌, ◌≤◌, List, [], ◌∷◌, ◌++◌, length, refl, sym, ap, ◌∙◌, subst, arith, length-append, true, false, Bool, if◌then◌else◌, take, drop, append_assoc}
 use Rattle.std.proofs.Math.Seq.{take-append_seam}
 use Rattle.std.proofs.lemmas.List.{take_all, length-drop}

@@ -1,4 +1,4 @@
--- Readers within the limit on weights: what they say, how far they look, and that the front of a list is enough for them.
+-- The parsers with the weight limit are proved sound, and a prefix of the token list is proved to be all that they read.
 use Rattle.std.proofs.Common.{◌≡◌, ◌⊎◌, inl, inr, ℕ, suc, ◌+◌, ◌-◌, ◌<◌, ◌≤◌, List, [], ◌∷◌, ◌++◌, length, take, drop, Ok, Err, refl, sym, ap, ◌∙◌, subst, append_assoc, arith, length-append, true, false, Bool, nat_lt, ◌&&◌, if◌then◌else◌}
 use Rattle.std.proofs.Math.Seq.{drop-append_seam}
 use borrow.Author.Tests.{ltb-true, ltb-false}

@@ -1,4 +1,4 @@
--- What the code reads, function by function. Nobody has to believe it: the contracts of `parse_expr` and `one_tree` cite `Answers` alone.
+-- For proofs only: a functional model of the code. The public contracts of `parse_expr` and `one_tree` depend only on `Answers`.
 pub mod Input
 pub mod Seen
 pub mod Types

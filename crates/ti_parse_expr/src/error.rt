@@ -1,9 +1,9 @@
-// Why tokens have no tree.
+// Errors of the public expression parser.
 
 use thiserror::Error;
 use ti_rules::Refusal;
 
-/// Why a list of tokens was not turned into a tree.
+/// Why `parse_expr` fails: a syntax error of the program, or out of memory.
 #[derive(Debug, Drop, Error)]
 pub enum ParseErr {
     #[error("the text is refused")]

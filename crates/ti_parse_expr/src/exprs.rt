@@ -1,5 +1,5 @@
-// Expressions, with one token of lookahead. The rules take the reader of expressions as a parameter, so that each is proved
-// by itself.
+// The expression parser: recursive descent with precedence climbing, and one token of lookahead. The grammar rules take the recursive
+// parser as a parameter, so that each rule is proved by itself.
 
 ghost use Rattle.std.specs.Prelude.{[], ◌∷◌, ◌++◌, ◌≡◌, ◌+◌, ◌<◌, ◌^◌, IfOk};
 ghost use Rattle.ti_syntax.specs.Trees.Views.{exp_of, exps_of, range_of, ranges_of, type_of};
@@ -18,12 +18,13 @@ use ti_base::Place;
 use ti_syntax::tree::{Base, BinaryOperator, Expr, Range, TypeName, UnaryOperator};
 use ti_syntax::{Spelled, TokenKind};
 
-/// The rules, with a reader of the expressions inside.
+/// The grammar rules, over a parser of nested expressions.
 #[derive(Clone, Copy)]
 pub struct Grammar<F> {
     pub alloc: Global,
-    /// How many turns a loop may make, and how deep expressions may still nest.
+    /// Fuel: a bound on the iterations of a loop and on the depth of recursion.
     pub turns: usize,
+    /// The parser of nested expressions: allocator, input, fuel, lowest precedence level.
     pub expr: F,
 }
 
@@ -176,7 +177,7 @@ impl<F: Fn(Global, &mut Tokens<'_>, usize, u8) -> Result<Expr, Stop>> Grammar<F>
         }
     }
 
-    /// What begins with a name, after the name.
+    /// A name or a call, after the name.
     #[tactic(auto, unfolding(crate::specs::Mirrors::Exprs::named), using(ti_syntax::proofs::Lemmas::bridges))]
     pub fn named(
         &self,
@@ -232,7 +233,7 @@ impl<F: Fn(Global, &mut Tokens<'_>, usize, u8) -> Result<Expr, Stop>> Grammar<F>
         })
     }
 
-    /// An index, after its `[`.
+    /// An index, after its `[`. `place` is the position of the `[`.
     #[tactic(auto, unfolding(crate::specs::Mirrors::Exprs::index), using(ti_syntax::proofs::Lemmas::bridges))]
     pub fn index(&self, tokens: &mut Tokens<'_>, place: Place, left: Expr) -> Result<Operand, Stop>
         requires { Nests self.now.turns (F.pre self.now.expr) (F.post self.now.expr) }
@@ -251,7 +252,7 @@ impl<F: Fn(Global, &mut Tokens<'_>, usize, u8) -> Result<Expr, Stop>> Grammar<F>
         })
     }
 
-    /// What stands behind an operand, in at most so many turns.
+    /// The postfix parts that follow an operand, at most `turns` of them.
     #[tactic(auto, unfolding(crate::specs::Mirrors::Exprs::postfix))]
     pub fn postfix(
         &self,
@@ -298,7 +299,7 @@ impl<F: Fn(Global, &mut Tokens<'_>, usize, u8) -> Result<Expr, Stop>> Grammar<F>
         )
     }
 
-    /// A Postfix.
+    /// A Postfix: a primary expression with its postfix parts.
     #[tactic(auto, unfolding(crate::specs::Mirrors::Exprs::operand))]
     pub fn operand(&self, tokens: &mut Tokens<'_>) -> Result<Operand, Stop>
         requires { Nests self.now.turns (F.pre self.now.expr) (F.post self.now.expr) }
@@ -570,7 +571,7 @@ impl<F: Fn(Global, &mut Tokens<'_>, usize, u8) -> Result<Expr, Stop>> Grammar<F>
     }
 }
 
-/// `Ti.thisProc()` or `Ti.numProcs()`, after `Ti`.
+/// The rest of `Ti.thisProc()` or `Ti.numProcs()`, after `Ti`.
 #[tactic(auto, unfolding(crate::specs::Mirrors::Exprs::process))]
 fn process(tokens: &mut Tokens<'_>, place: Place) -> Result<Expr, Stop>
     ensures { ReadsAs exp_of (spec.process place tokens.old) result tokens.new }
@@ -586,7 +587,7 @@ fn process(tokens: &mut Tokens<'_>, place: Place) -> Result<Expr, Stop>
     }
 }
 
-/// Whether the name is `thisProc`, or else `numProcs`.
+/// Reads `thisProc` (true) or `numProcs` (false).
 #[tactic(auto, unfolding(crate::specs::Mirrors::Exprs::process_name))]
 fn process_name(tokens: &mut Tokens<'_>) -> Result<bool, Stop>
     ensures { Reads (spec.process_name tokens.old) result tokens.new }
@@ -602,7 +603,7 @@ fn process_name(tokens: &mut Tokens<'_>) -> Result<bool, Stop>
     Err(Stop::Refused)
 }
 
-/// An expression that goes on with operators that bind as tightly as `least` or more.
+/// An expression whose operators have at least precedence level `least`.
 #[tactic(auto, unfolding(crate::specs::Mirrors::Exprs::expr))]
 pub fn expr(alloc: Global, tokens: &mut Tokens<'_>, turns: usize, least: u8) -> Result<Expr, Stop>
     ensures { ReadsAs exp_of (spec.expr turns least tokens.old) result tokens.new }
@@ -618,7 +619,7 @@ pub fn expr(alloc: Global, tokens: &mut Tokens<'_>, turns: usize, least: u8) -> 
     .level(tokens, least)
 }
 
-/// A Postfix, with what it ends with.
+/// A Postfix, with its ending.
 pub fn operand(alloc: Global, tokens: &mut Tokens<'_>, turns: usize) -> Result<Operand, Stop>
     ensures { ReadsAs operand_of (spec.operand turns (spec.expr turns) tokens.old) result tokens.new }
 {
@@ -641,7 +642,7 @@ pub fn behind_name(
     grammar.postfix(tokens, turns, first)
 }
 
-/// A Postfix, after its first name and a `[`, with so many turns behind its index.
+/// A Postfix, after its first name and `[`. `turns` is the fuel for the postfix parts after the index.
 #[tactic(auto, unfolding(crate::specs::Mirrors::Exprs::behind_bracket))]
 pub fn behind_bracket(
     alloc: Global,

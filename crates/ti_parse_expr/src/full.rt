@@ -1,4 +1,5 @@
-// Full expressions, which stand in no other one: no token of them weighs too much.
+// Full expressions: those that aren't part of another one. Their weight is limited: only a prefix of the tokens is parsed, up to the
+// first token that is above the limit or can't be in an expression, and the result is then extended to the whole list.
 
 ghost use Rattle.std.specs.Prelude.{ℕ, ◌≡◌, ◌+◌, ◌<◌, ◌≤◌, ◌^◌, true};
 ghost use Rattle.ti_syntax.specs.Trees.Views.{exp_of};
@@ -21,7 +22,7 @@ use ti_base::Place;
 use ti_syntax::tree::Expr;
 use ti_syntax::{Spelled, Token, TokenKind};
 
-/// Whether an answer says nothing of the tokens.
+/// Whether the result says nothing about the tokens: out of memory or out of fuel.
 fn is_final<T>(answer: &Result<T, Stop>) -> bool
     ensures { result ≡ is_final_spec answer.now }
 {
@@ -32,7 +33,7 @@ fn is_final<T>(answer: &Result<T, Stop>) -> bool
     }
 }
 
-/// Whether reading left no token of a front, and its last token weighs too much.
+/// Whether all of the prefix was consumed and its last token is above the weight limit. `left` is the number of its tokens that are left.
 fn passed(weight: u32, front: &[Token], left: usize) -> bool
     requires { weight + weigh_spec front.now < 2 ^ 32 }
     ensures { result ≡ spec.passed weight front.now left }
@@ -40,7 +41,7 @@ fn passed(weight: u32, front: &[Token], left: usize) -> bool
     left < 1 && MOST_WEIGHT < weight + weigh(front)
 }
 
-/// Reads a front of the tokens, and answers for all of them.
+/// Parses with `read` within the weight limit: TooDeep at the first token above it. Weights are counted from `weight` on.
 fn within<T: Drop, F: FnOnce(&mut Tokens<'_>, usize) -> Result<T, Stop>>(
     tokens: &mut Tokens<'_>,
     weight: u32,
@@ -64,7 +65,7 @@ fn within<T: Drop, F: FnOnce(&mut Tokens<'_>, usize) -> Result<T, Stop>>(
     answer
 }
 
-/// Whether no operand goes on with a token of this kind.
+/// Whether the token is one that can't continue an operand. Only frequent ones are listed.
 fn ends_operand(kind: &TokenKind) -> bool
     ensures { result ≡ ends_operand_spec kind.now }
 {
@@ -75,7 +76,7 @@ fn ends_operand(kind: &TokenKind) -> bool
     }
 }
 
-/// Whether the next token is a name behind which an expression ends.
+/// Whether the next token is a name and the whole expression.
 fn is_name_alone(tokens: &Tokens<'_>) -> bool
     ensures { result ≡ name_alone_spec tokens.now }
 {
@@ -88,14 +89,14 @@ fn is_name_alone(tokens: &Tokens<'_>) -> bool
     }
 }
 
-/// An expression of a form, whatever it is.
+/// A full expression of this form, without the shortcut for a name.
 fn full_phrase(alloc: Global, tokens: &mut Tokens<'_>, form: Form) -> Result<Expr, Stop>
     ensures { ReadsAs exp_of (spec.full form tokens.old) result tokens.new }
 {
     within(tokens, 0, |front, turns| phrase(alloc, front, turns, form))
 }
 
-/// An expression that is a name alone.
+/// A full expression that is just a name.
 fn name_alone(alloc: Global, tokens: &mut Tokens<'_>, form: Form) -> Result<Expr, Stop>
     requires { name_alone_spec tokens.old ≡ true }
     ensures { ReadsAs exp_of (spec.full form tokens.old) result tokens.new }
@@ -111,7 +112,7 @@ fn name_alone(alloc: Global, tokens: &mut Tokens<'_>, form: Form) -> Result<Expr
     }
 }
 
-/// A full expression of a form.
+/// A full expression of this form.
 pub fn full(alloc: Global, tokens: &mut Tokens<'_>, form: Form) -> Result<Expr, Stop>
     ensures { ReadsAs exp_of (spec.full form tokens.old) result tokens.new }
 {
@@ -122,7 +123,7 @@ pub fn full(alloc: Global, tokens: &mut Tokens<'_>, form: Form) -> Result<Expr, 
     }
 }
 
-/// A full Postfix, with what it ends with.
+/// A full Postfix, with its ending.
 pub fn full_operand(alloc: Global, tokens: &mut Tokens<'_>) -> Result<Operand, Stop>
     ensures { ReadsAs operand_of (spec.full_operand tokens.old) result tokens.new }
 {
@@ -151,7 +152,7 @@ pub fn full_behind_name(
     behind_name_phrase(alloc, tokens, place, name)
 }
 
-/// The same, whatever stands behind the name.
+/// A full Postfix, after its first name, without the shortcut for a name.
 fn behind_name_phrase(
     alloc: Global,
     tokens: &mut Tokens<'_>,
@@ -165,7 +166,7 @@ fn behind_name_phrase(
     })
 }
 
-/// A full Postfix, after its first name and a `[`.
+/// A full Postfix, after its first name and `[`, which has weight 1.
 pub fn full_behind_bracket(
     alloc: Global,
     tokens: &mut Tokens<'_>,

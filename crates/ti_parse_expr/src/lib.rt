@@ -1,4 +1,4 @@
-//! The trees of expressions.
+//! The parser of expressions and of the types in them.
 #![tactic(auto)]
 
 pub mod error;

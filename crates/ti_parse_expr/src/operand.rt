@@ -1,18 +1,19 @@
-// A Postfix.
+// Postfix expressions.
 
 use ti_syntax::tree::Expr;
 
-/// What a Postfix ends with.
+/// The last part of a Postfix, which determines how the Postfix may be used.
 #[derive(Clone, Copy)]
 pub enum Ending {
-    /// It is one name, or ends with a member's name or an index, so that it can be assigned to.
+    /// A simple name, a member's name or an index: it can be assigned to.
     Target,
-    /// An argument list, so that it can stand alone.
+    /// An argument list: it can be a statement.
     Call,
+    /// Anything else.
     Other,
 }
 
-/// A Postfix, with what it ends with.
+/// A Postfix, with its ending.
 #[derive(Drop)]
 pub struct Operand {
     pub expr: Expr,

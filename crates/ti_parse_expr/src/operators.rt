@@ -1,4 +1,4 @@
-// What tokens stand for.
+// Operators and qualifiers by token, and the weights of tokens.
 
 ghost use Rattle.std.specs.Prelude.{◌≡◌};
 ghost use Rattle.ti_syntax.specs.Spelling.Operators as spec;
@@ -7,7 +7,7 @@ ghost use Rattle.ti_syntax.specs.Spelling.Weights.{counts as counts_spec, arity_
 use ti_syntax::TokenKind;
 use ti_syntax::tree::{BinaryOperator, QualifierWord, UnaryOperator};
 
-/// The operators of one operand.
+/// The unary operator that the token denotes.
 pub fn prefix_of(kind: &TokenKind) -> Option<UnaryOperator>
     ensures { result ≡ spec.prefix_of kind.now }
 {
@@ -20,7 +20,7 @@ pub fn prefix_of(kind: &TokenKind) -> Option<UnaryOperator>
     }
 }
 
-/// The operators of two operands.
+/// The binary operator that the token denotes.
 pub fn infix_of(kind: &TokenKind) -> Option<BinaryOperator>
     ensures { result ≡ spec.infix_of kind.now }
 {
@@ -48,7 +48,7 @@ pub fn infix_of(kind: &TokenKind) -> Option<BinaryOperator>
     }
 }
 
-/// How tightly an operator binds, from 1 to 10.
+/// The precedence level of a binary operator, from 1 (loosest) to 10.
 pub fn strength(op: BinaryOperator) -> u8
     ensures { result ≡ spec.strength op }
 {
@@ -75,7 +75,7 @@ pub fn strength(op: BinaryOperator) -> u8
     }
 }
 
-/// The words that qualify a type.
+/// The type qualifier that the token denotes.
 pub fn qualifier_of(kind: &TokenKind) -> Option<QualifierWord>
     ensures { result ≡ spec.qualifier_of kind.now }
 {
@@ -86,7 +86,7 @@ pub fn qualifier_of(kind: &TokenKind) -> Option<QualifierWord>
     }
 }
 
-/// Whether a token counts in the weight of those behind it.
+/// Whether the token is counted in weights: `(`, `[`, `.` and the operators.
 pub fn counts(kind: &TokenKind) -> bool
     ensures { result ≡ counts_spec kind.now }
 {
@@ -97,7 +97,7 @@ pub fn counts(kind: &TokenKind) -> bool
     }
 }
 
-/// How many tokens of an arity stand behind a token.
+/// The number of tokens after this one that are an arity.
 pub fn arity_behind(kind: &TokenKind) -> u32
     ensures { result ≡ arity_behind_spec kind.now }
 {

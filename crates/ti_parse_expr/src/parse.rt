@@ -1,4 +1,4 @@
-// The tree of an expression.
+// The public entry point to the expression parser, and the forms of expressions.
 
 ghost use Rattle.std.specs.Prelude.{[], ◌∷◌, ◌++◌, ◌≡◌, ◌<◌, ◌+◌, ℕ, List, length, drop};
 ghost use Rattle.ti_base.specs.declared.place.Place.{Place as PlaceSeen};
@@ -22,18 +22,18 @@ use ti_rules::{Refusal, Rule};
 use ti_syntax::tree::Expr;
 use ti_syntax::{Token, TokenKind};
 
-/// Which part of the grammar an expression is.
+/// The nonterminal of the grammar to parse.
 #[derive(Clone, Copy)]
 pub enum Form {
     /// Any expression.
     Whole,
     /// Operands with `*`, `/` and `%` between them.
     Mul,
-    /// An operand with what stands behind it.
+    /// A primary expression with its postfix parts.
     Postfix,
 }
 
-/// An expression of a form.
+/// Parses a phrase of this form, with fuel `turns`.
 pub fn phrase(
     alloc: Global,
     tokens: &mut Tokens<'_>,
@@ -49,7 +49,7 @@ pub fn phrase(
     }
 }
 
-/// The place of the last token.
+/// The position of the last token.
 fn last_place(list: &[Token]) -> Place
     requires { 0 < length list.now }
     ensures { (front : List TokenSeen) (last : TokenSeen) → list.now ≡ front ++ last ∷ [] → result ≡ last.place }
@@ -63,7 +63,7 @@ fn refused(rule: Rule, place: Place) -> ParseErr
     ParseErr::Refused(Refusal { rule, place })
 }
 
-/// The refusal of the last token of a front, which weighs too much.
+/// The G2 error at the last token of a prefix, which is above the weight limit.
 fn too_heavy(front: &[Token]) -> ParseErr
     requires { 0 < length front.now }
     ensures { (before : List TokenSeen) (last : TokenSeen) → front.now ≡ before ++ last ∷ [] → result
@@ -72,7 +72,7 @@ fn too_heavy(front: &[Token]) -> ParseErr
     refused(Rule::G2, last_place(front))
 }
 
-/// What `parse_expr` answers.
+/// For the prover: `parse_expr` with only its first postcondition.
 fn read_phrase(
     alloc: Global,
     toks: &[Token],
@@ -109,10 +109,10 @@ fn read_phrase(
     }
 }
 
-/// The tree of the longest run of tokens from `at` that begins a phrase of the form.
+/// Parses the longest run of tokens from index `at` that is a viable prefix of a phrase of this form.
 ///
-/// It answers the tree, the place in the list behind the run, and the weight used, where weights are counted on from
-/// `weight`. The refusal of a token that weighs too much counts before that of the token behind the run.
+/// Returns the tree, the index after the run, and the weight used, where weights are counted from `weight` on. Errors: G2 at the
+/// first token of the run that is above the weight limit; else G1 at the token after the run if the run is no phrase; or Memory.
 pub fn parse_expr(
     alloc: Global,
     toks: &[Token],
@@ -123,7 +123,7 @@ pub fn parse_expr(
     requires below { at < length toks.now }
     requires ended { EndsAtEnd toks.now }
     ensures answer { Answers toks.now at form weight result }
-    // Nothing else is answered to tokens that have a tree, or a refusal.
+    // The result is unique: tokens with a tree get only this tree, tokens with an error only this error, up to Memory.
     ensures only_tree { (tree : Exp) (size used : ℕ) → IsPhrase form weight (drop at toks.now) tree size used
         → GivesOnly result tree (at + size) used }
     ensures only_refusal { (rule : RuleSeen) (place : PlaceSeen) → Refuses form weight (drop at toks.now) rule place
@@ -132,7 +132,7 @@ pub fn parse_expr(
     read_phrase(alloc, toks, at, form, weight)
 }
 
-/// That a list of tokens is at most one tree of a form.
+/// Theorem: a token list parses to at most one tree of a form.
 pub fn one_tree()
     ensures { (form : FormSeen) (list : List TokenSeen) (a b : Exp) → Phrase form list a → Phrase form list b → a ≡ b }
 {}

@@ -1,4 +1,4 @@
-// How far a list of tokens is read.
+// How much of a token list is parsed: up to the first token that is above the weight limit or can't be in an expression.
 
 ghost use Rattle.std.specs.Prelude.{◌≡◌, ◌≤◌, ◌<◌, ◌+◌, ◌^◌, length};
 ghost use Rattle.ti_syntax.specs.Spelling.Weights.{weigh as weigh_spec};
@@ -11,10 +11,10 @@ ghost use Rattle.ti_parse_expr.specs.Mirrors.Full as full;
 use crate::operators::{arity_behind, counts};
 use ti_syntax::{Token, TokenKind};
 
-/// The most that a token may weigh.
+/// The limit on the weight of an expression's tokens.
 pub const MOST_WEIGHT: u32 = 256;
 
-/// Whether a token stands in no expression.
+/// Whether the token can't be in an expression.
 fn ends_expression(kind: &TokenKind) -> bool
     ensures { result ≡ spec.ends_expression kind.now }
 {
@@ -24,7 +24,7 @@ fn ends_expression(kind: &TokenKind) -> bool
     )
 }
 
-/// Behind a token, how many tokens of an arity are left and how much may still be weighed.
+/// The state after a token: the number of arity tokens that follow, and the weight still available; None if the token is above the limit.
 fn onward(kind: &TokenKind, arity: u32, left: u32) -> Option<(u32, u32)>
     ensures { result ≡ spec.onward kind.now arity left }
 {
@@ -40,7 +40,7 @@ fn onward(kind: &TokenKind, arity: u32, left: u32) -> Option<(u32, u32)>
     Some((arity_behind(kind), left - 1))
 }
 
-/// How many tokens there are up to and including the first that weighs more than the limit or stands in no expression.
+/// The length of the prefix that ends with the first token that weighs more than `limit` or can't be in an expression.
 #[tactic(auto, unfolding(crate::specs::Mirrors::Reach::reach))]
 pub fn reach(list: &[Token], limit: u32) -> usize
     ensures value { result ≡ spec.reach 0 limit list.now }
@@ -65,8 +65,8 @@ pub fn reach(list: &[Token], limit: u32) -> usize
     list.len()
 }
 
-/// The tokens up to and including the first that weighs too much, where the weight is counted on from a number, or
-/// stands in no expression.
+/// The prefix that ends with the first token that is above the weight limit or can't be in an expression; weights are counted from
+/// `weight` on.
 pub fn front_of(list: &[Token], weight: u32) -> &[Token]
     requires { weight ≤ most_weight }
     ensures front { result.now ≡ full.front_of weight list.now }
@@ -75,7 +75,7 @@ pub fn front_of(list: &[Token], weight: u32) -> &[Token]
     &list[..reach(list, MOST_WEIGHT - weight)]
 }
 
-/// The same for a list that ends with the end of the text, where the weight may be above the limit from the start.
+/// Like `front_of`, for a list that ends with End, and with a `weight` that may itself be above the limit: then it is the first token.
 pub fn cut(list: &[Token], weight: u32) -> &[Token]
     requires { EndsAtEnd list.now }
     ensures { IsCut weight list.now result.now }
@@ -86,7 +86,7 @@ pub fn cut(list: &[Token], weight: u32) -> &[Token]
     front_of(list, weight)
 }
 
-/// The weight of the last token.
+/// The weight of the last token of the list.
 pub fn weigh(list: &[Token]) -> u32
     requires { weigh_spec list.now < 2 ^ 32 }
     ensures { result ≡ weigh_spec list.now }

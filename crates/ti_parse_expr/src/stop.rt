@@ -1,17 +1,17 @@
-// Why reading stops.
+// Why a parsing function stops.
 
 use std::alloc::{AllocError, AllocFailed};
 use ti_base::Memory;
 
-/// Why reading stops.
+/// The internal error type of parsing functions. On Refused and TooDeep, the failing token is the next token of the input.
 #[derive(Clone, Copy)]
 pub enum Stop {
     Memory,
-    /// The next token can't stand here.
+    /// The next token is unexpected.
     Refused,
-    /// The next token is nested too deeply.
+    /// The next token is above a limit on nesting or weight.
     TooDeep,
-    /// No turns are left.
+    /// Out of fuel. It never happens if the fuel is more than the number of tokens.
     Spent,
 }
 

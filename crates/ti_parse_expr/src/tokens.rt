@@ -1,4 +1,4 @@
-// A cursor over a list of tokens.
+// The parser's input.
 
 ghost use Rattle.std.specs.Prelude.{◌≡◌, ◌≤◌, length, drop};
 ghost use Rattle.ti_parse_expr.specs.Mirrors.Input as spec;
@@ -11,9 +11,9 @@ use std::marker::Model;
 use ti_base::Place;
 use ti_syntax::{Spelled, Token, TokenKind};
 
-/// A cursor over a list of tokens. Contracts see the tokens that are left.
+/// A cursor over a token list. Its model in contracts is the list of the tokens that are left.
 ///
-/// Behind the last token the next one is the end of the text, which taking doesn't change.
+/// After the last token, the next token is End; consuming it changes nothing.
 #[derive(Drop)]
 pub struct Tokens<'a> {
     list: &'a [Token],
@@ -33,7 +33,7 @@ impl<'a> Model for Tokens<'a> {
 }
 
 impl<'a> Tokens<'a> {
-    /// At the first token of a list; `end` is the kind of the end.
+    /// A cursor at the first token of the list. `end` must be End; it is borrowed as the kind of the token past the list.
     pub fn new(list: &'a [Token], end: &'a TokenKind) -> Tokens<'a>
         requires { end.now ≡ End }
         ensures { result ≡ list.now }
@@ -41,7 +41,7 @@ impl<'a> Tokens<'a> {
         Tokens { list, end }
     }
 
-    /// The kind of the end.
+    /// End, borrowed as long as the list.
     pub fn end(&self) -> &'a TokenKind
         ensures { result.now ≡ End }
     {
@@ -58,7 +58,7 @@ impl<'a> Tokens<'a> {
         }
     }
 
-    /// The place of the next token.
+    /// The position of the next token; line 0 and column 0 after the last one.
     pub fn place(&self) -> Place
         ensures { result ≡ spec.place self.now }
     {
@@ -68,7 +68,7 @@ impl<'a> Tokens<'a> {
         }
     }
 
-    /// Takes the next token.
+    /// Consumes the next token.
     pub fn take(&mut self)
         ensures { self.new ≡ spec.next self.old }
     {
@@ -85,7 +85,7 @@ impl<'a> Tokens<'a> {
         self.peek().same_kind(&kind)
     }
 
-    /// Takes a token of this kind.
+    /// Consumes the next token, which must be of this kind.
     pub fn expect(&mut self, kind: TokenKind) -> Result<(), Stop>
         ensures { Reads (spec.expect kind self.old) result self.new }
     {
@@ -106,7 +106,7 @@ impl<'a> Tokens<'a> {
         }
     }
 
-    /// Takes this name.
+    /// Consumes the next token, which must be this name.
     pub fn expect_word(&mut self, word: &[u8]) -> Result<(), Stop>
         ensures { Reads (spec.expect_word word.now self.old) result self.new }
     {
@@ -117,7 +117,7 @@ impl<'a> Tokens<'a> {
         Ok(())
     }
 
-    /// Takes a name.
+    /// Consumes a name and returns a copy of it.
     pub fn name(&mut self, alloc: Global) -> Result<Spelled, Stop>
         ensures { Reads (spec.any_name self.old) result self.new }
     {
@@ -131,21 +131,21 @@ impl<'a> Tokens<'a> {
         }
     }
 
-    /// How many tokens are left.
+    /// The number of tokens left.
     pub fn left(&self) -> usize
         ensures { result ≡ length self.now }
     {
         self.list.len()
     }
 
-    /// The tokens that are left.
+    /// The tokens left.
     pub fn as_slice(&self) -> &'a [Token]
         ensures { result.now ≡ self.now }
     {
         self.list
     }
 
-    /// Takes so many tokens.
+    /// Consumes `count` tokens.
     pub fn skip(&mut self, count: usize)
         requires { count ≤ length self.old }
         ensures { self.new ≡ drop count self.old }

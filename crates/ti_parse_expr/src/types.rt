@@ -1,4 +1,4 @@
-// Types, with one token of lookahead.
+// The type parser, with one token of lookahead.
 
 ghost use Rattle.std.specs.Prelude.{[], ◌∷◌, ◌++◌, ◌≡◌, ◌≤◌};
 ghost use Rattle.ti_syntax.specs.Trees.Views.{grid_of, type_of};
@@ -13,7 +13,7 @@ use std::alloc::Global;
 use ti_syntax::TokenKind;
 use ti_syntax::tree::{Base, Brackets, Qualifier, TypeName};
 
-/// A number of dimensions, from 1 to 3.
+/// The number of dimensions, if it is from 1 to 3.
 fn dim_of(n: i32) -> Option<u8>
     ensures { result ≡ spec.dim_of n }
 {
@@ -24,7 +24,7 @@ fn dim_of(n: i32) -> Option<u8>
     }
 }
 
-/// Takes the next token, which is a number, if it is one of dimensions.
+/// Consumes the next token if its number of dimensions is valid.
 fn dimension_if(tokens: &mut Tokens<'_>, dim: Option<u8>) -> Result<u8, Stop>
     ensures { Reads (spec.dimension_if dim tokens.old) result tokens.new }
 {
@@ -46,7 +46,7 @@ fn dimension(tokens: &mut Tokens<'_>) -> Result<u8, Stop>
     }
 }
 
-/// `<` n `>`
+/// An arity: `<` n `>`.
 #[tactic(auto, unfolding(crate::specs::Mirrors::Types::arity))]
 pub fn arity(tokens: &mut Tokens<'_>) -> Result<u8, Stop>
     ensures { Reads (spec.arity tokens.old) result tokens.new }
@@ -57,7 +57,7 @@ pub fn arity(tokens: &mut Tokens<'_>) -> Result<u8, Stop>
     Ok(dim)
 }
 
-/// What the type of a field begins with.
+/// The base of a field's type.
 #[tactic(auto, unfolding(crate::specs::Mirrors::Types::base))]
 pub fn base(alloc: Global, tokens: &mut Tokens<'_>) -> Result<Base, Stop>
     ensures { Reads (spec.base tokens.old) result tokens.new }
@@ -93,7 +93,7 @@ pub fn base(alloc: Global, tokens: &mut Tokens<'_>) -> Result<Base, Stop>
     }
 }
 
-/// As many qualifiers as there are.
+/// All qualifiers that follow. `turns` is fuel.
 #[tactic(auto, unfolding(crate::specs::Mirrors::Types::qualifiers))]
 pub fn qualifiers(
     alloc: Global,
@@ -114,7 +114,7 @@ pub fn qualifiers(
     Err(Stop::Spent)
 }
 
-/// How many dimensions a grid has.
+/// The number of dimensions of a grid.
 fn grid_dimension(tokens: &mut Tokens<'_>) -> Result<u8, Stop>
     ensures { Reads (spec.grid_dimension tokens.old) result tokens.new }
 {
@@ -124,7 +124,7 @@ fn grid_dimension(tokens: &mut Tokens<'_>) -> Result<u8, Stop>
     }
 }
 
-/// The brackets of a grid after the opening one, and what qualifies the grid.
+/// Grid brackets with their qualifiers, after the `[`.
 #[tactic(auto, unfolding(crate::specs::Mirrors::Types::grid))]
 pub fn grid(alloc: Global, tokens: &mut Tokens<'_>, turns: usize) -> Result<Brackets, Stop>
     ensures { ReadsAs grid_of (spec.grid turns tokens.old) result tokens.new }
@@ -135,7 +135,7 @@ pub fn grid(alloc: Global, tokens: &mut Tokens<'_>, turns: usize) -> Result<Brac
     Ok(Brackets { dim, qualifiers })
 }
 
-/// At most so many more brackets of grids.
+/// At most `room` more grid brackets, added to `found`.
 #[tactic(auto, unfolding(crate::specs::Mirrors::Types::grids))]
 pub fn grids(
     alloc: Global,
@@ -157,7 +157,7 @@ pub fn grids(
     Ok(found)
 }
 
-/// The type of a field, after what it begins with.
+/// The type of a field, after its base.
 #[tactic(auto, unfolding(crate::specs::Mirrors::Types::field_type))]
 pub fn field_type(
     alloc: Global,

@@ -1,4 +1,4 @@
--- Arguments and the parameters that they are for, one after the other.
+-- The check of arguments against their parameters, one pair after the other, is proved to find the first broken rule.
 use Rattle.std.proofs.Common.{◌≡◌, ℕ, ◌+◌, ◌<◌, ◌≤◌, ◌&&◌, List, [], ◌∷◌, ◌++◌, map, drop, length, get_or, Option, None, refl, ap, sym, ◌∙◌}
 use Rattle.std.proofs.lemmas.List.{drop_all}
 use Rattle.ti_lang.specs.declared.program.exprs.Expr.{Expr}

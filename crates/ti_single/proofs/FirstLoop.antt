@@ -1,4 +1,4 @@
--- The loop at a place that is looked for in the statements is the first of all statements that is one.
+-- The lookup of a loop by position is proved to find the first loop there among all statements of the method.
 use Rattle.std.proofs.Common.{◌≡◌, List, ◌++◌, map, Option, refl, ap, ◌∙◌, if◌then◌else◌, Some}
 use Rattle.std.specs.List.{find}
 use Rattle.std.specs.Option.{option_or}

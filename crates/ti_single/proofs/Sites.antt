@@ -1,4 +1,4 @@
--- What is in scope where a statement stands.
+-- The model of a context is proved to have the variables of its scope.
 use Rattle.std.proofs.Common.{◌≡◌}
 use Rattle.ti_lang.specs.Program.Scope.{contents_of}
 use Rattle.ti_single.specs.declared.site.SingleSite.{SingleSite}

@@ -1,4 +1,4 @@
--- What statements one after the other do.
+-- Lemmas on the effect summary of a sequence of statements.
 use Rattle.std.proofs.Common.{◌≡◌, ℕ, Bool, true, false, ◌||◌, map, ◌+◌, ◌<◌, ◌≤◌, List, ◌∷◌, drop, length, get_or, slice_get, Option, Some, refl, ap, sym, ◌∙◌, add-one}
 use Rattle.std.specs.Option.{option_map_or}
 use Rattle.std.proofs.Math.Seq.{drop-cons}

@@ -1,4 +1,4 @@
--- Whether a statement has global effects at a place of a program.
+-- Whether a statement has global effects, given only its method and the position of the innermost loop.
 use Rattle.std.specs.Prelude.{Bool, false, List, map, Option, Some, None, find, slice_get}
 use Rattle.std.specs.Option.{option_map_or}
 use Rattle.ti_base.specs.declared.place.Place.{Place}
@@ -10,9 +10,9 @@ use Rattle.ti_lang.specs.Typing.Effects.{Doings, nothing, doings, return_acts, j
 use Rattle.ti_base.specs.Places.{same_place}
 use Rattle.ti_rules.specs.Standing.{Standing, doings_of_loop, standing_in_method}
 
--- ---- the loop at a place
+-- ---- the loop at a position
 
--- a loop whose word stands at this place
+-- a loop whose keyword is at this position
 abbrev pub is_loop_at : Place → NumberedStm → Bool
 is_loop_at at (st.While place c body) = same_place at place
 is_loop_at at (st.For place first c update body) = same_place at place
@@ -23,27 +23,27 @@ is_loop_at at x = false
 abbrev pub statements_in : NumberedProgram → NumberedMethod → List NumberedStm
 statements_in p m = map (λ (x : Standing). x.statement) (standing_in_method p m)
 
--- the loop of a method at this place; a place that is no loop's word is that of none
+-- the first loop of a method at this position; None if no loop's keyword is there
 abbrev pub loop_at : NumberedProgram → NumberedMethod → Place → Option NumberedStm
 loop_at p m at = find (is_loop_at at) (statements_in p m)
 
--- ---- its jumps
+-- ---- jumps out of the loop
 
--- what the update and the body of a loop of a method do
+-- the effect summary of a loop's update and body
 abbrev pub doings_in_loop : NumberedProgram → NumberedMethod → NumberedStm → Doings
 doings_in_loop p m (st.While place c body) = doings_of_loop p m st.NoStm body
 doings_in_loop p m (st.For place first c update body) = doings_of_loop p m update body
 doings_in_loop p m (st.Foreach place variable domain body) = doings_of_loop p m st.NoStm body
 doings_in_loop p m x = nothing
 
--- a jump out of the loop at this place, if there is one, has an effect
+-- whether a jump out of the loop at this position counts as a global effect; false if there is no loop
 abbrev pub jump_acts_at : NumberedProgram → NumberedMethod → Option Place → Bool
 jump_acts_at p m None = false
 jump_acts_at p m (Some at) = option_map_or (λ (x : NumberedStm). jump_acts (return_acts p m) (doings_in_loop p m x)) (loop_at p m at) false
 
 -- ---- statements
 
--- a statement has global effects where it is in a method and, perhaps, in a loop of it; in no method it has none
+-- whether a statement has global effects here; false outside of methods
 abbrev pub has_effects_at : NumberedProgram → Whereabouts → NumberedStm → Bool
 has_effects_at p at x =
     option_map_or (λ (m : NumberedMethod). has_global_effects (return_acts p m) (jump_acts_at p m at.innermost_loop)

@@ -1,3 +1,3 @@
--- Nobody has to believe what stands here: it mirrors the code, and only contracts of private functions speak of it.
+-- For proofs only: a functional model of the code. No public contract depends on it.
 pub mod Loops
 pub mod Maybe

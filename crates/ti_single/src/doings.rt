@@ -1,4 +1,4 @@
-// What statements do: whether they act together with all other processes, return or jump.
+// Effect summaries of statements: whether they contain a collective or another global effect, a `return`, or a jump.
 ghost use Rattle.std.specs.Prelude.{◌≡◌, map, true, false};
 ghost use Rattle.std.specs.Option.{option_map, option_map_or};
 ghost use Rattle.ti_lang.specs.Program.Classes.{NumberedMethod};
@@ -15,19 +15,19 @@ use crate::singleness::is_single_target;
 use ti_lang::program::{Expr, Init, Method, Program, ResultType, Stmt, has_static};
 use ti_lang::typing::{BuiltIn, called_method, member_called};
 
-/// What a statement does, with all statements in it.
+/// The effect summary of a statement, with all statements in it.
 #[derive(Clone, Copy, Debug, PartialEq, Eq)]
 pub struct Doings {
-    /// It declares or changes a single variable, performs a collective, or calls a method declared single.
+    /// Whether it declares or assigns a single variable, performs a collective, or calls a method declared single.
     pub acts: bool,
-    /// It returns from the method.
+    /// Whether it contains a `return`.
     pub returns: bool,
-    /// It leaves or goes on with the loop around it.
+    /// Whether it contains a `break` or `continue` of the enclosing loop.
     pub jumps: bool,
 }
 
 impl Doings {
-    /// None of these.
+    /// The summary of a statement without effects.
     pub fn none() -> Doings
         ensures { doings_of result ≡ nothing }
     {
@@ -68,7 +68,7 @@ impl Doings {
         }
     }
 
-    /// What either does.
+    /// The summary of two statements.
     pub fn together(self, other: Doings) -> Doings
         ensures { doings_of result ≡ together (doings_of self) (doings_of other) }
     {
@@ -79,7 +79,7 @@ impl Doings {
         }
     }
 
-    /// What a loop does whose body does so much: it keeps the jumps.
+    /// The summary of a loop with this body: jumps don't leave the loop.
     pub fn kept_in_loop(self) -> Doings
         ensures { doings_of result ≡ kept_in_loop (doings_of self) }
     {
@@ -91,7 +91,7 @@ impl Doings {
     }
 }
 
-// ---- expressions that stand whole
+// ---- expressions as initializers or statements
 
 fn is_collective(b: Option<BuiltIn>) -> bool
     ensures { result ≡ is_collective (option_map built_in_of b) }
@@ -99,7 +99,7 @@ fn is_collective(b: Option<BuiltIn>) -> bool
     matches!(b, Some(BuiltIn::Exchange | BuiltIn::Delete))
 }
 
-// A member of the language that is a collective.
+// Whether the expression is a call of a built-in collective (`exchange` or `delete`).
 #[tactic(auto, using(ti_lang::proofs::Lemmas::program_bridges))]
 fn is_collective_call(p: &Program, this: Option<u32>, e: &Expr) -> bool
     ensures { result ≡ is_collective_call (program_of p.now.parts) this (expression_of e.now) }
@@ -121,14 +121,14 @@ fn is_single_method(m: Option<&Method>) -> bool
     }
 }
 
-// It performs a collective or calls a method declared single.
+// Whether the expression performs a collective or calls a method declared single.
 fn acts(p: &Program, this: Option<u32>, e: &Expr) -> bool
     ensures { result ≡ acts (program_of p.now.parts) this (expression_of e.now) }
 {
     is_single_method(called_method(&p.parts, this, e)) || is_collective_call(p, this, e)
 }
 
-// So does a right side.
+// Whether the initializer performs a collective or calls a method declared single.
 fn initial_acts(p: &Program, this: Option<u32>, value: &Init) -> bool
     ensures { result ≡ initial_acts (program_of p.now.parts) this (initial_of value.now) }
 {
@@ -143,7 +143,7 @@ fn initial_acts(p: &Program, this: Option<u32>, value: &Init) -> bool
 
 // ---- statements
 
-/// What all of these statements do, in a method with `this` of a class, or with none.
+/// The effect summary of all these statements. `this` is the class of `this` in their method, if there is one.
 #[cycle(doings)]
 pub fn doings_of_statements(p: &Program, this: Option<u32>, xs: &[Stmt]) -> Doings
     ensures { doings_of result ≡ doings_of_all (program_of p.now.parts) this (numbered_stms (map statement_of xs.now)) }
@@ -155,7 +155,7 @@ pub fn doings_of_statements(p: &Program, this: Option<u32>, xs: &[Stmt]) -> Doin
     found
 }
 
-/// What a statement does, with all statements in it, in a method with `this` of a class, or with none.
+/// The effect summary of a statement, with all statements in it. `this` is the class of `this` in its method, if there is one.
 #[cycle(doings)]
 #[tactic(auto, using(ti_lang::proofs::Lemmas::program_bridges))]
 pub fn doings_of_statement(p: &Program, this: Option<u32>, x: &Stmt) -> Doings
@@ -227,7 +227,7 @@ pub fn doings_of_statement(p: &Program, this: Option<u32>, x: &Stmt) -> Doings
 
 // ---- methods
 
-/// The class of `this` in a method, where it has one.
+/// The class of `this` in a method; None if the method is static.
 pub fn this_of(m: &Method) -> Option<u32>
     ensures { result ≡ this_of (numbered_method_of m.now) }
 {
@@ -238,7 +238,7 @@ pub fn this_of(m: &Method) -> Option<u32>
     }
 }
 
-/// Whether a method has a single result.
+/// Whether a method's result is declared single.
 pub fn has_single_result(m: &Method) -> bool
     ensures { result ≡ has_single_result (numbered_method_of m.now) }
 {
@@ -248,28 +248,29 @@ pub fn has_single_result(m: &Method) -> bool
     }
 }
 
-/// What the statements of a method do.
+/// The effect summary of a method's body.
 pub fn doings_of_method(p: &Program, m: &Method) -> Doings
     ensures { doings_of result ≡ doings_of_method (program_of p.now.parts) (numbered_method_of m.now) }
 {
     doings_of_statements(p, this_of(m), listed_statements(&m.body))
 }
 
-/// Whether a `return` of a method has an effect: the method has a single result or a statement that acts.
+/// Whether a `return` of the method counts as a global effect: the method has a single result, or its body has a global effect.
 pub fn return_acts(p: &Program, m: &Method) -> bool
     ensures { result ≡ return_acts (program_of p.now.parts) (numbered_method_of m.now) }
 {
     has_single_result(m) || doings_of_method(p, m).acts
 }
 
-/// Whether a jump has an effect whose loop does so much, where a `return` has one or not.
+/// Whether a jump out of a loop counts as a global effect. `d` is the summary of the loop's body and update; `return_has` says whether
+/// a `return` of the method counts as one.
 pub fn jump_acts(return_has: bool, d: Doings) -> bool
     ensures { result ≡ jump_acts return_has (doings_of d) }
 {
     d.acts || d.returns && return_has
 }
 
-/// Whether a statement that does so much has global effects, where a `return` and a jump have one or not.
+/// Whether a statement with this summary has global effects. `return_has` and `jump_has` say whether a `return` and a jump count as one.
 pub fn has_global_effects(return_has: bool, jump_has: bool, d: Doings) -> bool
     ensures { result ≡ has_global_effects return_has jump_has (doings_of d) }
 {

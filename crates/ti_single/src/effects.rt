@@ -1,4 +1,4 @@
-// Which statements have global effects.
+// Global effects of statements, given only a scope.
 ghost use Rattle.std.specs.Prelude.{◌≡◌};
 ghost use Rattle.ti_lang.specs.Program.Scope.{whereabouts_of};
 ghost use Rattle.ti_lang.specs.Program.Views.{program_of, statement_of, numbered_method_of};
@@ -11,7 +11,7 @@ use ti_base::Place;
 use ti_lang::program::{Method, Program, Scope, Stmt};
 use ti_lang::typing::method;
 
-// Whether a jump out of the loop at a place of a method has an effect.
+// Whether a jump out of the loop at this position of a method counts as a global effect.
 #[tactic(auto, using(crate::proofs::FirstLoop::loops_found))]
 fn jump_acts_at(p: &Program, m: &Method, at: Option<Place>) -> bool
     ensures { result ≡ jump_acts_at (program_of p.now.parts) (numbered_method_of m.now) at }
@@ -25,14 +25,12 @@ fn jump_acts_at(p: &Program, m: &Method, at: Option<Place>) -> bool
     }
 }
 
-/// Whether a statement has global effects at the place of a scope: all processes do it together.
+/// Whether a statement has global effects in this scope, so that all processes must execute it together.
 ///
-/// It has where it declares or changes a single variable, performs a collective, or calls a method
-/// declared single. A `return` has an effect where the method of the scope has a single result or a
-/// statement that does one of these; a `break` or `continue` that leaves the statement where the
-/// innermost loop that the scope says has, in its body or update, one that does, or a `return` with an
-/// effect. A place that is no loop's word in the method counts as no loop. A statement has what the
-/// statements in it have.
+/// It has if it declares or assigns a single variable, performs a collective, or calls a method declared single. A `return` has an
+/// effect if the scope's method has a single result or contains one of these. A `break` or `continue` that leaves the statement has
+/// an effect if the body or update of the scope's innermost loop contains one of these, or a `return` with an effect; a position that
+/// isn't that of a loop's keyword in the method is taken as no loop. A statement has the effects of the statements in it.
 pub fn has_effects(p: &Program, s: &Scope, st: &Stmt) -> bool
     ensures { result ≡ has_effects_at (program_of p.now.parts) (whereabouts_of s.now) (statement_of st.now) }
 {

@@ -1,4 +1,4 @@
-//! Which expressions are single, which statements have global effects, and which break a rule of single values.
+//! Single values: which expressions are single, which statements have global effects, and which break a rule of single values.
 #![tactic(auto)]
 
 mod boxes;

@@ -1,4 +1,4 @@
-// The loops of a method, by the places of their words.
+// Lookup of a method's loops by the positions of their keywords.
 ghost use Rattle.std.specs.Prelude.{◌≡◌, map};
 ghost use Rattle.std.specs.Option.{option_map, option_or};
 ghost use Rattle.ti_lang.specs.Program.Statements.{numbered_stms};
@@ -22,7 +22,7 @@ fn either<'a>(a: Option<&'a Stmt>, b: Option<&'a Stmt>) -> Option<&'a Stmt>
     }
 }
 
-/// The loop in some statements whose word stands at a place, where there is one.
+/// The first loop in these statements whose keyword is at this position.
 #[cycle(loops)]
 pub fn loop_in_all<'a>(at: Place, xs: &'a [Stmt]) -> Option<&'a Stmt>
     ensures { option_map (λ y. statement_of y.now) result ≡ loop_in_all at (numbered_stms (map statement_of xs.now)) }
@@ -35,7 +35,7 @@ pub fn loop_in_all<'a>(at: Place, xs: &'a [Stmt]) -> Option<&'a Stmt>
     None
 }
 
-// The loop in a statement whose word stands at a place.
+// The first loop in a statement whose keyword is at this position.
 #[cycle(loops)]
 #[tactic(auto, using(ti_lang::proofs::Lemmas::program_bridges))]
 fn loop_in<'a>(at: Place, x: &'a Stmt) -> Option<&'a Stmt>
@@ -102,7 +102,7 @@ fn loop_in<'a>(at: Place, x: &'a Stmt) -> Option<&'a Stmt>
     }
 }
 
-/// What the update and the body of a loop of a method do; another statement is no loop and does nothing so.
+/// The effect summary of a loop's update and body; that of nothing if the statement is no loop.
 pub fn doings_in_loop(p: &Program, m: &Method, x: &Stmt) -> Doings
     ensures { doings_of result ≡ doings_in_loop (program_of p.now.parts) (numbered_method_of m.now) (statement_of x.now) }
 {

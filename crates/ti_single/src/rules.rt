@@ -1,4 +1,4 @@
-// The rules of single values, by which statements are judged apart from the statements in them.
+// The rules of single values (S1 to S9) for one statement by itself, without the statements in it.
 ghost use Rattle.std.specs.Prelude.{◌≡◌, ◌++◌, ◌&&◌, map, not, false};
 ghost use Rattle.std.specs.Option.{option_map, option_map_or, unwrap_or};
 ghost use Rattle.ti_syntax.specs.Trees.Views.{maybe_of};
@@ -48,7 +48,7 @@ fn is_delete(b: Option<BuiltIn>) -> bool
 }
 
 impl<'a> SingleSite<'a> {
-    /// Whether an expression inside another one, or a condition, is single.
+    /// Whether an expression is single as a part of another one, or as a condition.
     pub fn is_single_inside(self, e: &Expr) -> bool
         ensures { result ≡ is_single_part (program_at self.entry) (this_of (around_of self.entry).method) (singles_in (scope_at self.entry))
             (expression_of e.now) }
@@ -56,35 +56,35 @@ impl<'a> SingleSite<'a> {
         is_single_part(self.program, self.scope, e)
     }
 
-    // Whether it is plain.
+    // Whether an expression is plain (not single) as a part of another one.
     fn is_plain_part(self, e: &Expr) -> bool
         ensures { result ≡ is_plain_part (program_at self.entry) (around_of self.entry) (expression_of e.now) }
     {
         !self.is_single_inside(e)
     }
 
-    // Whether an expression that is a whole right side is plain.
+    // Whether an expression is plain (not single) as an initializer.
     fn is_plain(self, e: &Expr) -> bool
         ensures { result ≡ is_plain (program_at self.entry) (around_of self.entry) (expression_of e.now) }
     {
         !is_single(self.program, self.scope, e)
     }
 
-    // Whether a right side is plain.
+    // Whether an initializer is plain (not single).
     fn is_plain_initial(self, value: &Init) -> bool
         ensures { result ≡ is_plain_initial (program_at self.entry) (around_of self.entry) (initial_of value.now) }
     {
         !is_single_initial(self.program, self.scope, value)
     }
 
-    // The class of `this`, where there is one.
+    // The class of `this`, if there is one.
     fn this(self) -> Option<u32>
         ensures { result ≡ this_of (around_of self.entry).method }
     {
         this_of(self.method)
     }
 
-    // Whether a statement that does so much has global effects.
+    // Whether a statement with this effect summary has global effects here.
     fn has_effects(self, own: Doings) -> bool
         ensures { result ≡ has_global_effects (return_acts (program_at self.entry) (around_of self.entry).method)
             (unwrap_or (around_of self.entry).jump_has false) (doings_of own) }
@@ -92,14 +92,14 @@ impl<'a> SingleSite<'a> {
         has_global_effects(self.return_has, or_false(self.jump_has), own)
     }
 
-    // Whether a loop whose update and body do so much has global effects.
+    // Whether a loop has global effects whose update and body have this effect summary.
     fn loop_acts(self, inside: Doings) -> bool
         ensures { result ≡ jump_acts (return_acts (program_at self.entry) (around_of self.entry).method) (doings_of inside) }
     {
         jump_acts(self.return_has, inside)
     }
 
-    // A plain argument for a single parameter.
+    // S5 if the argument is plain and its parameter single.
     fn argument(self, param: &Param, e: &Expr) -> Option<Refusal>
         ensures { result ≡ first_of (refused_at ((numbered_param_of param.now).ty.is_single && is_plain_part (program_at self.entry)
             (around_of self.entry) (expression_of e.now)) S5 (place_of_numbered (expression_of e.now))) }
@@ -127,7 +127,7 @@ impl<'a> SingleSite<'a> {
         found
     }
 
-    // A call of the method, if there is one.
+    // The first broken rule of a call by itself; none if there is no such method.
     #[tactic(auto, unfolding(ti_rules::specs::Mirrors::First::first_of))]
     fn call(self, m: Option<&Method>, args: &[Expr]) -> Option<Refusal>
         ensures { result ≡ first_of (call_refusals (program_at self.entry) (around_of self.entry)
@@ -151,7 +151,7 @@ impl<'a> SingleSite<'a> {
         is_delete(member)
     }
 
-    // A member form that deletes a plain region.
+    // S8 if the expression deletes a plain region.
     fn delete(self, place: Place, receiver: &Expr, name: u32) -> Option<Refusal>
         ensures { result ≡ first_of (delete_refusals (program_at self.entry) (around_of self.entry) place
             (expression_of receiver.now) name) }
@@ -160,7 +160,7 @@ impl<'a> SingleSite<'a> {
         refused_if(plain, Rule::S8, place)
     }
 
-    // An expression that stands whole: a right side, or a statement.
+    // The first broken rule of an expression that is an initializer or a statement.
     #[tactic(auto, unfolding(ti_rules::specs::Mirrors::First::first_of), using(ti_lang::proofs::Lemmas::program_bridges))]
     fn whole(self, e: &Expr) -> Option<Refusal>
         ensures { result ≡ first_of (whole_refusals (program_at self.entry) (around_of self.entry) (expression_of e.now)) }
@@ -188,7 +188,7 @@ impl<'a> SingleSite<'a> {
         }
     }
 
-    // A right side: the root of a broadcast is single.
+    // The first broken rule of an initializer. The root of a broadcast must be single (S8).
     #[tactic(auto, unfolding(ti_rules::specs::Mirrors::First::first_of))]
     fn whole_initial(self, value: &Init) -> Option<Refusal>
         ensures { result ≡ first_of (initial_refusals (program_at self.entry) (around_of self.entry) (initial_of value.now)) }
@@ -272,7 +272,7 @@ impl<'a> SingleSite<'a> {
         }
     }
 
-    // An update that has a jump in it; no update of a text has one.
+    // Whether the update of a `for` contains a jump. In a parsed program it never does.
     fn update_jumps(self, update: &Option<Box<Stmt>>) -> bool
         ensures { result ≡ (doings_of_maybe (program_at self.entry) (this_of (around_of self.entry).method) (maybe_in update.now)).jumps }
     {
@@ -318,8 +318,8 @@ impl<'a> SingleSite<'a> {
         }
     }
 
-    /// What counts of the rules of single values that a statement breaks, apart from those that the statements in it break. What it
-    /// does is known, and so is what its update and its body do where it is a loop.
+    /// The first rule of single values that a statement breaks by itself, without the statements in it. `own` is its effect summary, and
+    /// `inside` that of its update and body if it is a loop.
     #[tactic(auto, unfolding(ti_rules::specs::Mirrors::First::first_of), using(ti_lang::proofs::Lemmas::program_bridges))]
     pub fn refusal(self, x: &Stmt, own: Doings, inside: Doings) -> Option<Refusal>
         requires own { doings_of own ≡ doings (program_at self) (this_of (around_of self).method) (statement_of x.now) }

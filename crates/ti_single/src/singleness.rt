@@ -1,4 +1,4 @@
-// Which expressions are single.
+// Single expressions: those whose values are known to be equal in all processes.
 ghost use Rattle.std.specs.Prelude.{◌≡◌, ◌&&◌, map};
 ghost use Rattle.std.specs.Option.{option_map};
 ghost use Rattle.ti_lang.specs.Program.Expressions.{numbered_exps, numbered_ranges};
@@ -17,7 +17,7 @@ use ti_lang::typing::{BuiltIn, Seen, called_method, member_called, type_in_text}
 
 // ---- variables and members
 
-// Whether the foreach variable of a number is single in a scope.
+// Whether the foreach variable with this number is single in the scope.
 fn is_single_number(scope: &Scope, number: u32) -> bool
     ensures { result ≡ singles_in (contents_of scope.now) number }
 {
@@ -29,7 +29,7 @@ fn is_single_number(scope: &Scope, number: u32) -> bool
     false
 }
 
-// A variable is single where it is declared so; one of a foreach as its scope says.
+// Whether a variable is single: by its declaration, or for a foreach variable by the scope.
 fn is_single_variable(scope: &Scope, v: &Variable) -> bool
     ensures { result ≡ declared_single (singles_in (contents_of scope.now)) (variable_of v.now).number (variable_of v.now).declared }
 {
@@ -39,7 +39,7 @@ fn is_single_variable(scope: &Scope, v: &Variable) -> bool
     }
 }
 
-/// Whether the target of an assignment is a single variable. A foreach variable is none.
+/// Whether the target of an assignment is a variable declared single. A foreach variable isn't one.
 #[tactic(auto, using(ti_lang::proofs::Lemmas::program_bridges))]
 pub fn is_single_target(e: &Expr) -> bool
     ensures { result ≡ is_single_target (expression_of e.now) }
@@ -59,7 +59,7 @@ fn is_point(t: Seen) -> bool
     matches!(t, Seen::Pt(_))
 }
 
-// A member that tells something of a domain.
+// Whether the built-in member is a query of a domain: its size, its bounds or whether it contains a point.
 fn tells_of_domain(b: Option<BuiltIn>) -> bool
     ensures { result ≡ tells_of_domain (option_map built_in_of b) }
 {
@@ -119,8 +119,8 @@ fn are_single_ranges(p: &Program, scope: &Scope, ranges: &[Range]) -> bool
     true
 }
 
-/// Whether an expression inside another one, or a condition, is single in a scope: its value is the same
-/// in all processes. A call of a declared method is plain there.
+/// Whether an expression is single as a part of another one, or as a condition: its value is equal in all processes. A call of a
+/// declared method is plain (not single) there.
 #[cycle(single)]
 #[tactic(auto, using(ti_lang::proofs::Lemmas::program_bridges))]
 pub fn is_single_part(p: &Program, scope: &Scope, e: &Expr) -> bool
@@ -178,10 +178,9 @@ pub fn is_single_part(p: &Program, scope: &Scope, e: &Expr) -> bool
     }
 }
 
-// ---- whole right sides
+// ---- initializers
 
-/// Whether an expression that is a whole right side is single in a scope: there a call of a method with
-/// single result is single.
+/// Whether an expression is single as an initializer. There, a call of a method with a single result is single, too.
 pub fn is_single(p: &Program, s: &Scope, e: &Expr) -> bool
     ensures { result ≡ is_single (program_of p.now.parts) s.now.this (singles_in (contents_of s.now)) (expression_of e.now) }
 {
@@ -191,7 +190,7 @@ pub fn is_single(p: &Program, s: &Scope, e: &Expr) -> bool
     }
 }
 
-// A broadcast value of such a type is single; a reference isn't.
+// Whether a broadcast value of this type is single; a reference isn't.
 fn is_single_sent(t: Seen) -> bool
     ensures { result ≡ is_single_sent (seen t.entry) }
 {
@@ -201,7 +200,7 @@ fn is_single_sent(t: Seen) -> bool
     )
 }
 
-/// Whether the right side of a declaration or an assignment is single in a scope.
+/// Whether an initializer is single.
 pub fn is_single_initial(p: &Program, s: &Scope, value: &Init) -> bool
     ensures { result ≡ is_single_initial (program_of p.now.parts) s.now.this (singles_in (contents_of s.now)) (initial_of value.now) }
 {

@@ -1,4 +1,4 @@
-// Where a statement stands, for the rules of single values.
+// The context of a statement, for the rules of single values.
 ghost use Rattle.std.specs.Prelude.{◌≡◌};
 ghost use Rattle.ti_lang.specs.Program.Scope.{this_of};
 ghost use Rattle.ti_lang.specs.Program.Views.{program_of, numbered_method_of};
@@ -6,15 +6,15 @@ ghost use Rattle.ti_lang.specs.Typing.Effects.{return_acts};
 
 use ti_lang::program::{Method, Program, Scope};
 
-/// Where a statement stands: in a method of a program, with parameters and foreach variables in scope, and perhaps in a loop.
+/// The context of a statement: its method, the parameters and foreach variables in scope, and the innermost enclosing loop, if any.
 #[derive(Clone, Copy)]
 pub struct SingleSite<'a> {
     pub program: &'a Program,
     pub method: &'a Method,
     pub scope: &'a Scope,
-    /// Whether a `return` of the method has an effect.
+    /// Whether a `return` of the method counts as a global effect.
     pub return_has: bool,
-    /// Where there is a loop around it, whether a jump out of the innermost one has an effect.
+    /// Whether a jump out of the innermost enclosing loop counts as a global effect; None if there is no loop.
     pub jump_has: Option<bool>,
     ghost of_method: { scope.now.this ≡ this_of (numbered_method_of method.now) },
     ghost returning: { return_has ≡ return_acts (program_of program.now.parts) (numbered_method_of method.now) },

@@ -1,4 +1,4 @@
--- A Vec of parts inside a tree is seen as the list of what its items are seen as.
+-- The model of a Vec of children in a tree is proved to be the list of its items' models.
 use Rattle.std.proofs.Common.{◌≡◌, ℕ, List, map, refl, ap, ◌∙◌}
 use Rattle.std.specs.declared.vec.Vec.{Vec}
 use Rattle.std.specs.declared.alloc.Global.{Global}

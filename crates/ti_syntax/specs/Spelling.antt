@@ -1,4 +1,4 @@
--- Which lists of tokens spell which trees: the grammar, in inductive families. Nothing here says how a text is read.
+-- The grammar, as inductive families between token lists and trees. It is declarative: nothing here says how a program is parsed.
 pub mod Operators
 pub mod Types
 pub mod Expressions
@@ -14,7 +14,7 @@ use Rattle.ti_syntax.specs.Trees.Classes.{TextTree}
 use Rattle.ti_syntax.specs.Spelling.Classes.{AllClasses}
 use Rattle.ti_syntax.specs.Spelling.Loads.{Load, Free, Level, Weight, classes_loads}
 
--- the list is a spelling of the tree: the tokens of its classes, and the end, which stands last
+-- the token list parses to the tree: it is the tokens of the tree's classes, followed by End
 pub record Spells (list : List Token) (tree : TextTree) : Type 0 where
   pub front : List Token
   pub last : Token
@@ -22,58 +22,58 @@ pub record Spells (list : List Token) (tree : TextTree) : Type 0 where
   pub ends : last.kind ≡ k.End
   pub classes : AllClasses front tree
 
--- some list of tokens spells the tree
+-- some token list parses to the tree
 abbrev pub IsSpelled : TextTree → Type 0
 IsSpelled tree = (list : List Token) × Spells list tree
 
--- the list can be gone on with to a text
+-- the list is a viable prefix: some continuation of it parses to a tree
 abbrev pub BeginsText : List Token → Type 0
 BeginsText list = (more : List Token) × (tree : TextTree) × Spells (list ++ more) tree
 
--- the levels and weights of the tokens of a text
+-- the nesting levels and weights of a program's tokens
 abbrev pub loads_of : {list : List Token} {tree : TextTree} → Spells list tree → List Load
 loads_of text = classes_loads text.classes ++ Free ∷ []
 
--- how deep compound statements may nest
+-- the limit on the nesting of compound statements
 abbrev pub most_levels : ℕ
 most_levels = 64
 
--- how many brackets, dots and operators an expression may have
+-- the limit on the weight of an expression: the number of its brackets, dots and operators
 abbrev pub most_weight : ℕ
 most_weight = 256
 
--- a level or a weight above the limit
+-- a level or a weight above its limit
 abbrev pub IsAbove : Option Load → Type 0
 IsAbove None = ⊥
 IsAbove (Some Free) = ⊥
 IsAbove (Some (Level n)) = most_levels < n
 IsAbove (Some (Weight n)) = most_weight < n
 
--- in every tree whose list begins with this front and this token, the token has a level or a weight above the limit
+-- in every program whose tokens begin with this prefix and this token, the token's level or weight is above its limit
 abbrev pub IsTooDeep : List Token → Token → Type 0
 IsTooDeep front t =
     (more : List Token) (tree : TextTree) (text : Spells (front ++ t ∷ more) tree) → IsAbove (slice_get (loads_of text) (length front))
 
--- no token of the list is too deep
+-- no token of the list is above a limit
 abbrev pub IsShallow : List Token → Type 0
 IsShallow list = (front : List Token) (t : Token) (rest : List Token) → list ≡ front ++ t ∷ rest → IsTooDeep front t → ⊥
 
--- what can be wrong with a token
+-- the syntax errors
 pub data Misfit : Type 0 where
   Unexpected : Misfit
   TooDeep : Misfit
 
--- the token behind this front of the list shows what is wrong with it
+-- the token after this prefix of the list is the one at which the error is reported
 pub data ShowsMisfit : Misfit → List Token → Token → Type 0 where
-  -- the first token such that the tokens up to and including it begin no text
+  -- the first token that makes the prefix not viable, if no token up to it is above a limit
   unexpected : {front : List Token} {t : Token} → BeginsText front → (BeginsText (front ++ t ∷ []) → ⊥) → IsShallow front
       → ShowsMisfit Unexpected front t
-  -- the first token before that which is too deep
+  -- the first token above a limit, if the prefix up to and including it is viable
   too_deep : {front : List Token} {t : Token} → BeginsText (front ++ t ∷ []) → IsTooDeep front t → IsShallow front
       → ShowsMisfit TooDeep front t
 
--- what is wrong with a list of tokens, and the place of the token that shows it: nothing exactly where the list spells a tree
--- and none of its tokens is too deep
+-- a syntax error of a token list and the position where it is reported; None exactly if the list parses to a tree and none of its
+-- tokens is above a limit
 pub data IsGrammarRefusal (list : List Token) : Option (Misfit × Place) → Type 0 where
   fits : {tree : TextTree} → Spells list tree → IsShallow list → IsGrammarRefusal list None
   refused : {misfit : Misfit} (front : List Token) (t : Token) (rest : List Token) → list ≡ front ++ t ∷ rest → ShowsMisfit misfit front t

@@ -1,9 +1,9 @@
--- The kinds of tokens.
+-- Token kinds: their indices, and the spelling of reserved words, operators and punctuation marks.
 use Rattle.std.specs.Prelude.{ℕ, Bool, ◌==◌, List, Option, Some, None, codes}
 use Rattle.ti_syntax.specs.declared.token.TokenKind.{TokenKind}
 use Rattle.ti_syntax.specs.declared.token.TokenKind.TheVariants as k
 
--- each variant has a number of its own
+-- the index of the variant, unique among the variants
 abbrev pub code : TokenKind → ℕ
 code k.KeywordBoolean = 0
 code k.KeywordBreak = 1
@@ -91,11 +91,11 @@ code (k.Int _) = 82
 code (k.LongInt _) = 83
 code (k.Str _) = 84
 
--- whether two tokens are the same variant, whatever they spell
+-- whether two kinds are the same variant, whatever their values
 abbrev pub same_kind : TokenKind → TokenKind → Bool
 same_kind a b = code a == code b
 
--- how a reserved word is spelled
+-- the spelling of a reserved word; None for other kinds
 abbrev pub word_of : TokenKind → Option (List ℕ)
 word_of k.KeywordBoolean = Some (codes "boolean")
 word_of k.KeywordBreak = Some (codes "break")
@@ -133,7 +133,7 @@ word_of k.KeywordVoid = Some (codes "void")
 word_of k.KeywordWhile = Some (codes "while")
 word_of _ = None
 
--- how an operator or a mark is spelled
+-- the spelling of an operator or a punctuation mark; None for other kinds
 abbrev pub sign_of : TokenKind → Option (List ℕ)
 sign_of k.Plus = Some (codes "+")
 sign_of k.Minus = Some (codes "-")

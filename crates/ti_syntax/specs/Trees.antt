@@ -1,4 +1,4 @@
--- The tree of a text as clauses see it: no pointers, no room.
+-- Models of the syntax trees, used in contracts: without pointers or capacities.
 pub mod Types
 pub mod Expressions
 pub mod Statements

@@ -1,4 +1,4 @@
-//! The syntax of the language: its tokens, its trees, and which lists of tokens spell which trees.
+//! The syntax of the language: tokens, abstract syntax trees, and (in specs/Spelling) the grammar, which relates token lists to trees.
 #![tactic(auto)]
 
 mod spelled;

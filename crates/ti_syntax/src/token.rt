@@ -1,13 +1,13 @@
-// The tokens of a source text.
+// Tokens, as the lexer produces them.
 ghost use Rattle.std.specs.Prelude.{◌≡◌};
 ghost use Rattle.ti_syntax.specs.Tokens.{code, same_kind};
 
 use crate::Spelled;
 use ti_base::Place;
 
-/// What a token is, and for some kinds what it spells.
+/// The kind of a token, with the value of a literal or name.
 ///
-/// There is a variant for each reserved word, each operator and each mark.
+/// Each reserved word, operator and punctuation mark has its own variant.
 #[derive(Debug, Drop)]
 pub enum TokenKind {
     /// `boolean`
@@ -168,23 +168,23 @@ pub enum TokenKind {
     Dot,
     /// `:`
     Colon,
-    /// The end of the text.
+    /// The end of the source.
     End,
-    /// A name.
+    /// An identifier.
     Name(Spelled),
     /// `1d`, `2d` or `3d`, by its number of dimensions.
     Dim(u8),
-    /// A whole number from 0 to 2147483647.
+    /// An `int` literal, from 0 to 2147483647.
     Int(i32),
-    /// A whole number from 0 to 9223372036854775807, with `L` or `l` behind its digits.
+    /// A `long` literal, from 0 to 9223372036854775807; it is written with a final `L` or `l`.
     LongInt(i64),
-    /// A string literal, by the bytes that it stands for: `\n`, `\t`, `\"` and `\\` are replaced.
+    /// A string literal, with its escapes `\n`, `\t`, `\"` and `\\` replaced.
     Str(Spelled),
 }
 
-/// A token, and the place of its first byte.
+/// A token, at the source position of its first byte.
 ///
-/// The end of a text is at the place of the byte that would follow the last one.
+/// The End token is at the position just after the last byte.
 #[derive(Debug, Drop)]
 pub struct Token {
     pub kind: TokenKind,
@@ -192,7 +192,7 @@ pub struct Token {
 }
 
 impl TokenKind {
-    /// The number of the variant; no two variants have one number.
+    /// The index of the variant, unique among the variants.
     pub fn number(&self) -> u8
         ensures { result ≡ code self.now }
     {
@@ -285,7 +285,7 @@ impl TokenKind {
         }
     }
 
-    /// Whether both are the same variant, whatever they spell.
+    /// Whether both are the same variant, whatever their values.
     pub fn same_kind(&self, other: &Self) -> bool
         ensures { result ≡ same_kind self.now other.now }
     {

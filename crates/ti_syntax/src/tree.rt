@@ -1,7 +1,7 @@
-// The tree of a text, as parsed.
+// The abstract syntax tree, as parsed.
 //
-// There is a node for each form of the grammar that makes one, with the place that stands for it and its parts in the
-// order of the text. A group `(e)` makes none: its tree is that of `e`.
+// Each form of the grammar that has a node holds its source position and its parts in source order. A group `(e)` has no node: its
+// tree is that of `e`.
 
 mod classes;
 mod exprs;

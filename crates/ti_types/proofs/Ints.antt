@@ -1,4 +1,4 @@
--- Nothing is wrong with an operator that gives an int of two ints, between two that are no calls and break no rule.
+-- An operator that maps two ints to an int is proved to have no error with operands that are ints without errors and no calls.
 use Rattle.std.proofs.Common.{◌≡◌, Bool, ◌++◌, Option, Some, None, is_some, ap, sym, subst}
 use Rattle.ti_base.specs.declared.place.Place.{Place}
 use Rattle.ti_syntax.specs.declared.tree.exprs.BinaryOperator.{BinaryOperator}

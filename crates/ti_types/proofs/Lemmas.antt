@@ -1,2 +1,2 @@
--- The lemmas of this crate that other crates may cite; no other module of its proofs is seen outside.
+-- The lemmas that this crate exports; its other proofs are private.
 pub use Rattle.ti_types.proofs.Loops.{drop_next, each_end, each_step, none_sooner, seen_end, seen_step}

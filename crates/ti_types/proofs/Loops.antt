@@ -1,4 +1,4 @@
--- What counts of a list that is walked: what was found so far, and what counts of the rest.
+-- The first error of a list is proved to be the earlier of the first one so far and the first one of the rest.
 use Rattle.std.proofs.Common.{◌≡◌, ℕ, Bool, not, ◌||◌, if◌then◌else◌, map, ◌+◌, ◌<◌, ◌≤◌, List, [], ◌∷◌, drop, length, get_or, flat_map, Option, None, refl, ap, sym, ◌∙◌, add-one}
 use Rattle.std.proofs.Math.Seq.{drop-cons}
 use Rattle.std.proofs.lemmas.List.{drop_all}

@@ -1,4 +1,4 @@
--- Parameters and their types, by number.
+-- Lemmas on parameters and their types, by index.
 use Rattle.std.proofs.Common.{◌≡◌, ℕ, suc, ◌<◌, ◌≤◌, List, [], ◌∷◌, map, length, get_or, slice_get, Some, None, option_map, refl, ap, ◌∙◌}
 use Rattle.std.proofs.lemmas.Option.{slice_get-map, slice_get-get_or, slice_get_past}
 use Rattle.ti_lang.specs.declared.program.classes.Param.{Param}

@@ -1,4 +1,4 @@
--- Words that stand twice: what counts of them is told by which of the two words stand before.
+-- The check for repeated qualifiers is proved to depend only on which of the two qualifiers occurred before.
 use Rattle.std.proofs.Common.{◌≡◌, Bool, true, false, not, ◌||◌, if◌then◌else◌, List, [], ◌∷◌, ◌++◌, refl, ap, ◌∙◌}
 use Rattle.std.specs.List.{list_any}
 use Rattle.ti_syntax.specs.declared.tree.types.Qualifier.{Qualifier}

@@ -1,4 +1,4 @@
--- The forms whose parts stand in lists of the code.
+-- The typing results of forms with lists of parts are proved correct.
 use Rattle.std.proofs.Common.{◌≡◌, ℕ, suc, false, List, [], ◌∷◌, map, length, slice_get, Option, None, is_some, option_map, option_and_then, refl, ap, ◌∙◌, subst}
 use Rattle.ti_base.specs.declared.place.Place.{Place}
 use Rattle.ti_lang.specs.declared.program.exprs.Expr.{Expr}

@@ -1,4 +1,4 @@
--- What is told of indices, of members and of ranges says as much as the types of their parts do.
+-- The summaries of the types of indices, members and ranges are proved to determine what the typing rules need.
 use Rattle.std.proofs.Common.{◌≡◌, ℕ, suc, ◌==◌, Bool, true, false, not, ◌&&◌, if◌then◌else◌, List, [], ◌∷◌, ◌++◌, map, length, Option, Some, None, is_some, option_map, option_and_then, refl, sym, ap, ◌∙◌, arith}
 use Rattle.std.proofs.lemmas.Bool.Decides.{Decides-eqb}
 use Rattle.ti_base.specs.declared.place.Place.{Place}

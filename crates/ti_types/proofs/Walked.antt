@@ -1,4 +1,4 @@
--- What is found of the arguments of a call and of ranges, from the last to the first.
+-- The typing results of arguments and ranges, computed from the last to the first, are proved correct.
 use Rattle.std.proofs.Common.{◌≡◌, ℕ, zero, suc, ◌+◌, ◌-◌, ◌<◌, ◌≤◌, List, [], ◌∷◌, ◌++◌, map, drop, length, get_or, flat_map, slice_get, Option, Some, None, option_map, refl, sym, ap, ◌∙◌, subst, arith}
 use Rattle.std.proofs.lemmas.List.{drop_all}
 use Rattle.ti_base.specs.declared.place.Place.{Place}

@@ -1,4 +1,4 @@
--- An expression that has a type breaks no rule of types in it but the one on words.
+-- An expression that has a type is proved to have no type error except Y7.
 use Rattle.std.proofs.Common.{◌≡◌, Bool, true, false, List, [], ◌∷◌, ◌++◌, length, map, All, flat_map, is_some, slice_get, refl}
 use Rattle.std.proofs.lemmas.Grind.{flat_map-append}
 use Rattle.std.proofs.lemmas.List.Elements.{All-nil, All-cons, All-append, All-same}

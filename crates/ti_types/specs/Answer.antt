@@ -1,4 +1,4 @@
--- What `type_of` answers.
+-- What `type_of` returns, as its public contract states it.
 use Rattle.std.specs.Prelude.{◌≡◌, [], Contains, Some, Result, Ok, Err}
 use Rattle.ti_lang.specs.declared.program.types.Ty.{Ty}
 use Rattle.ti_lang.specs.Program.Expressions.{NumberedExp}
@@ -11,8 +11,7 @@ use Rattle.ti_rules.specs.Broken.Expressions.{exp_refusals}
 use Rattle.ti_types.specs.declared.error.TypeErr.{TypeErr}
 use Rattle.ti_types.specs.declared.error.TypeErr.TheVariants.{Refused, Memory}
 
--- a type is that of an expression which breaks no rule of types, a refusal is the first of those of rules that are broken in it, and
--- memory may be wanting at any time
+-- the type is that of an expression without type errors, the refusal is the first type error; out of memory is always possible
 abbrev pub GivesType : NumberedProgram → ScopeContents → NumberedExp → Result Ty TypeErr → Type 0
 GivesType p s e (Ok type) = (exp_refusals p s e ≡ []) × (typed p s e ≡ Some (value_type_of type))
 GivesType p s e (Err (Refused refusal)) = IsFirstRefusal (Contains (exp_refusals p s e)) refusal

@@ -1,4 +1,4 @@
--- What is known of an expression, and of ranges as a literal has them.
+-- The typing result of an expression, and of ranges as in a domain literal.
 use Rattle.std.specs.Prelude.{◌≡◌, ℕ, Bool, List, map, Option, is_some}
 use Rattle.std.specs.Option.{option_map}
 use Rattle.ti_lang.specs.Program.Types.{ValueType}
@@ -15,26 +15,26 @@ use Rattle.ti_types.specs.declared.rects.Literal.{Literal}
 
 -- ---- expressions
 
--- what clauses see of a judged expression: its type, and whether it's a call of a declared method whose operands all have types
+-- the model of a typing result: the type, and whether it is a call of a declared method all of whose operands have types
 abbrev pub typed_of : Judged → Typed
 typed_of j = record { type = option_map seen j.ty; is_call = j.is_call }
 
--- an expression has this type, or none, and this counts of the rules of types that are broken in it
+-- the typing result of an expression is right: its type, and its first type error
 abbrev pub IsJudged : NumberedProgram → ScopeContents → NumberedExp → Judged → Type 0
 IsJudged p s e j = (typed_of j ≡ known p s e) × (j.first ≡ first_of (exp_refusals p s e))
 
 -- ---- ranges
 
--- what the rules ask of a literal: its type, where its bounds and steps are taken, and whether they would be with other numbers of
--- dimensions
+-- what the typing rules need of a domain literal: its type, if its bounds and steps are accepted, and whether they would be with
+-- dimensions ignored
 pub record LiteralTypes : Type 0 where
   pub type : Option ValueType
   pub near : Bool
 
--- the literal of so many ranges whose bounds and steps have these types
+-- the literal with `count` ranges whose bounds and steps have these types
 abbrev pub literal : ℕ → List ValueType → LiteralTypes
 literal count ts = record { type = rect_literal count ts; near = is_some (rect_literal count (map one_dim ts)) }
 
--- what clauses see of it
+-- the model of a literal's type
 abbrev pub literal_of : Literal → LiteralTypes
 literal_of l = record { type = option_map seen l.ty; near = l.near }

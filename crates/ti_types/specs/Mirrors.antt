@@ -1,4 +1,4 @@
--- Nobody has to believe what stands here: it mirrors the code, and only contracts of private functions speak of it.
+-- For proofs only: a functional model of the code. No public contract depends on it.
 pub mod Arguments
 pub mod BuiltIn
 pub mod Nodes

@@ -1,4 +1,4 @@
-// What is known of the arguments of a call.
+// Typing of argument lists, and of calls of declared methods.
 ghost use Rattle.std.specs.Prelude.{◌≡◌, [], ◌++◌, map, length, slice_get, Some};
 ghost use Rattle.std.specs.Option.{option_map};
 ghost use Rattle.ti_lang.specs.Program.Expressions.{numbered_exps};
@@ -20,27 +20,27 @@ use ti_lang::program::{Expr, Method, Param, Params, ResultType};
 use ti_lang::typing::Seen;
 use ti_rules::{Refusal, Rule, refused_if, sooner};
 
-/// What the rules ask of the types of arguments.
+/// What the typing rules need to know of the types of arguments. It is computed from the last argument to the first, without a list.
 #[derive(Clone, Copy)]
 pub struct ArgumentTypes<'a> {
-    /// All are ints.
+    /// Whether all are of type int.
     pub ints: bool,
-    /// The first of them.
+    /// The type of the first argument.
     pub first: Option<Seen<'a>>,
-    /// The second of them.
+    /// The type of the second argument.
     pub second: Option<Seen<'a>>,
-    /// What counts of those that don't fit their parameters.
+    /// The first error of an argument that doesn't fit its parameter.
     pub misfit: Option<Refusal>,
 }
 
-/// What is known of some arguments.
+/// The typing result of an argument list.
 #[derive(Clone, Copy)]
 pub struct Arguments<'a> {
-    /// What counts of the rules that are broken in them.
+    /// The first type error inside the arguments.
     pub inner: Option<Refusal>,
-    /// What counts of the calls that can't stand there.
+    /// The first argument that can't be an operand (Y6): a call of a declared method or an expression without a value.
     pub misplaced: Option<Refusal>,
-    /// What is told of their types, where all have some.
+    /// The types of the arguments; None if one of them has no type.
     pub types: Option<ArgumentTypes<'a>>,
 }
 
@@ -54,7 +54,7 @@ fn wanted_misfit<'a>(place: Place, t: Seen<'a>, wanted: Option<Seen<'a>>) -> Opt
     }
 }
 
-/// Whether this is `int`.
+/// Whether the type is int.
 pub fn is_int(t: Seen) -> bool
     ensures { result ≡ is_int (seen t.entry) }
 {
@@ -62,7 +62,7 @@ pub fn is_int(t: Seen) -> bool
 }
 
 impl<'a> ArgumentTypes<'a> {
-    /// Of one type more in front of others.
+    /// Prepends an argument of type `t` at `place`; `wanted` is its parameter's type, if there is a parameter.
     fn more(self, place: Place, wanted: Option<Seen<'a>>, t: Seen<'a>) -> ArgumentTypes<'a>
         ensures { told_of result ≡ more place (option_map seen wanted.entry) (seen t.entry) (told_of self.entry) }
     {
@@ -91,7 +91,7 @@ fn told_more<'a>(
 }
 
 impl<'a> Arguments<'a> {
-    /// Of no arguments.
+    /// The result of an empty argument list.
     #[tactic(auto, unfolding(ti_rules::specs::Mirrors::First::first_of))]
     pub fn none() -> Arguments<'a>
         ensures inner { result.inner ≡ first_of [] }
@@ -110,7 +110,7 @@ impl<'a> Arguments<'a> {
         }
     }
 
-    /// Of one argument more in front of others, at its place, with the type that is wanted for it, if there is one.
+    /// Prepends an argument at `place`; `wanted` is its parameter's type, if there is a parameter.
     pub fn more(self, place: Place, j: Judged<'a>, wanted: Option<Seen<'a>>) -> Arguments<'a>
         ensures inner { result.inner ≡ sooner_of j.entry.first self.entry.inner }
         ensures misplaced { result.misplaced ≡ sooner_of (first_of (misplaced_at place (typed_of j.entry))) self.entry.misplaced }
@@ -124,7 +124,7 @@ impl<'a> Arguments<'a> {
         }
     }
 
-    /// A form with these arguments, from what is wrong with the form itself.
+    /// Adds the errors of these arguments to `own`, the result of the enclosing form by itself.
     pub fn whole(self, own: Judged<'a>) -> Judged<'a>
         ensures known { typed_of result ≡ typed_of own.entry }
         ensures first { result.first ≡ sooner_of self.entry.inner (sooner_of self.entry.misplaced own.entry.first) }
@@ -134,7 +134,7 @@ impl<'a> Arguments<'a> {
 }
 
 impl<'a> Judged<'a> {
-    /// A form with this receiver, from what is wrong with the form itself.
+    /// Adds the errors of this receiver, at `inner`, to `own`, the result of the enclosing form by itself.
     pub(crate) fn whole(self, inner: Place, own: Judged<'a>) -> Judged<'a>
         ensures known { typed_of result ≡ typed_of own.entry }
         ensures first { result.first ≡ sooner_of self.entry.first (sooner_of
@@ -143,7 +143,7 @@ impl<'a> Judged<'a> {
         own.behind(self.misplaced(inner)).behind(self.first)
     }
 
-    /// A form with this receiver and these arguments.
+    /// Adds the errors of this receiver, at `inner`, and of these arguments to `own`, the result of the enclosing form by itself.
     pub(crate) fn with(self, inner: Place, found: Arguments<'a>, own: Judged<'a>) -> Judged<'a>
         ensures known { typed_of result ≡ typed_of own.entry }
         ensures first { result.first ≡ sooner_of (sooner_of self.entry.first found.entry.inner)
@@ -175,7 +175,7 @@ fn type_in<'a>(params: &'a Params, i: usize) -> Option<Seen<'a>>
     }
 }
 
-/// The type that a method wants for the argument of a number.
+/// The type of parameter `i` of a method; None if there is no method or no such parameter.
 pub fn wanted<'a>(m: Option<&'a Method>, i: usize) -> Option<Seen<'a>>
     ensures { option_map seen result ≡ slice_get (wanted_types (option_map (λ m. numbered_method_of m.now) m.entry)) i }
 {
@@ -195,7 +195,7 @@ fn takes(params: &Params, count: usize, misfit: Option<Refusal>) -> bool
     }
 }
 
-/// What a call of a method gives.
+/// The result type of a method.
 pub fn result_type(m: &Method) -> Seen<'_>
     ensures { seen result ≡ result_type (numbered_method_of m.now) }
 {
@@ -258,7 +258,7 @@ fn params_refusal(
     }
 }
 
-/// What counts of what is wrong with a call at a place, where all its arguments have types; and where no method is called, this.
+/// The first type error of a call by itself, if all its arguments have types; `otherwise` is the error if there is no such method.
 fn call_refusal<'a>(
     place: Place,
     m: Option<&'a Method>,
@@ -276,7 +276,7 @@ fn call_refusal<'a>(
     }
 }
 
-/// A call of a method at a place; and where there is none, this is wrong. What counts is what is wrong with the call itself.
+/// The typing result of a call by itself; `otherwise` is the error if there is no such method.
 pub fn called<'a>(
     place: Place,
     m: Option<&'a Method>,

@@ -1,4 +1,4 @@
-// The members that the language gives to domains, grids and regions.
+// Typing of the built-in members of domains, grids and regions.
 ghost use Rattle.std.specs.Prelude.{◌≡◌, [], ◌∷◌, None};
 ghost use Rattle.std.specs.Option.{option_map, option_and_then};
 ghost use Rattle.ti_lang.specs.Program.Views.{program_of};
@@ -105,7 +105,7 @@ fn can_exchange<'a>(t: Seen<'a>, u: Seen<'a>) -> bool
     }
 }
 
-/// What a member without arguments gives.
+/// The result type of a built-in member without arguments, if `t` has it.
 fn given_none<'a>(b: BuiltIn, t: Seen<'a>) -> Option<Seen<'a>>
     ensures { option_map seen result ≡ member_type (built_in_of b) (seen t.entry) [] }
 {
@@ -152,7 +152,7 @@ fn translate_type<'a>(t: Seen<'a>, u: Seen<'a>) -> Option<Seen<'a>>
     }
 }
 
-/// What a member with one argument gives.
+/// The result type of a built-in member with one argument, if `t` has it and it accepts the argument.
 fn given_one<'a>(b: BuiltIn, t: Seen<'a>, u: Seen<'a>) -> Option<Seen<'a>>
     ensures { option_map seen result ≡ member_type (built_in_of b) (seen t.entry) (seen u.entry ∷ []) }
 {
@@ -166,7 +166,7 @@ fn given_one<'a>(b: BuiltIn, t: Seen<'a>, u: Seen<'a>) -> Option<Seen<'a>>
     }
 }
 
-/// What a member with two arguments gives.
+/// The result type of a built-in member with two arguments, if `t` has it and it accepts them.
 fn given_two<'a>(b: BuiltIn, t: Seen<'a>, u: Seen<'a>, v: Seen<'a>) -> Option<Seen<'a>>
     ensures { option_map seen result ≡ member_type (built_in_of b) (seen t.entry) (seen u.entry ∷ seen v.entry ∷ []) }
 {
@@ -197,7 +197,7 @@ fn given_two<'a>(b: BuiltIn, t: Seen<'a>, u: Seen<'a>, v: Seen<'a>) -> Option<Se
     }
 }
 
-/// What a member gives.
+/// The result type of a built-in member with `count` arguments, if `t` has it and it accepts them.
 pub fn given<'a>(b: BuiltIn, t: Seen<'a>, count: usize, told: ArgumentTypes<'a>) -> Option<Seen<'a>>
     ensures { option_map seen result ≡ told_member (built_in_of b) (seen t.entry) count (told_of told.entry) }
 {
@@ -282,7 +282,7 @@ fn refusal_of_none<'a>(
     }
 }
 
-/// What counts where a member doesn't take an argument by its type.
+/// The error of an argument that a built-in member doesn't accept by its type: Y5 if only the number of dimensions is wrong, else Y1.
 fn other_refusal<'a>(place: Place, b: BuiltIn, t: Seen<'a>, u: Seen<'a>) -> Option<Refusal>
     ensures { result ≡ first_of (other_refusals place (built_in_of b) (seen t.entry) (seen u.entry ∷ [])) }
 {
@@ -312,7 +312,7 @@ fn refusal_of_one<'a>(place: Place, b: BuiltIn, t: Seen<'a>, u: Seen<'a>) -> Opt
     }
 }
 
-/// What counts of what is wrong with the arguments of a member, of which there are as many as it takes.
+/// The first error of a built-in member's arguments, given that their number is right.
 #[tactic(auto, unfolding(ti_rules::specs::Mirrors::First::first_of))]
 fn argument_refusal<'a>(
     place: Place,
@@ -335,7 +335,8 @@ fn argument_refusal<'a>(
     }
 }
 
-/// What counts of what is wrong with a member behind what is no object.
+/// The first error of a member of a value that isn't an object: Y1 if it has no such member, Y4 if the number of arguments is wrong,
+/// else that of the arguments.
 #[tactic(auto, unfolding(ti_rules::specs::Mirrors::First::first_of))]
 fn built_in_refusal<'a>(
     place: Place,
@@ -375,7 +376,7 @@ fn maybe_given<'a>(
     }
 }
 
-/// A member behind what is no object.
+/// The typing result of a member of a value that isn't an object, by itself.
 pub fn member_given<'a>(
     place: Place,
     b: Option<BuiltIn>,

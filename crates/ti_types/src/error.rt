@@ -1,13 +1,13 @@
-// Why an expression was given no type.
+// Errors of `type_of`.
 
 use thiserror::Error;
 use ti_base::Memory;
 use ti_rules::Refusal;
 
-/// Why an expression was given no type.
+/// Why `type_of` fails.
 #[derive(Debug, Drop, Error)]
 pub enum TypeErr {
-    /// The expression breaks a rule of types, and where.
+    /// A type error in the expression: the rule and the position.
     #[error("the text is refused")]
     Refused(Refusal),
     /// Out of memory.

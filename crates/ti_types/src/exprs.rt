@@ -1,4 +1,4 @@
-// The types of expressions, and what counts of the rules that are broken in them.
+// The type checker for expressions: one bottom-up pass that computes each expression's type and its first type error.
 ghost use Rattle.std.specs.Prelude.{◌≡◌, map, IfSome};
 ghost use Rattle.std.specs.Option.{option_map};
 ghost use Rattle.ti_lang.specs.Program.Scope.{contents_of};
@@ -17,14 +17,14 @@ use crate::rects::{Bounds, rect};
 use ti_lang::program::{Expr, Method, Parts, Range, Scope};
 use ti_lang::typing::{Seen, method, method_behind, own_field_type, this_type, variable_type};
 
-/// A program whose expressions are judged by the rules of types, without memory: what is known of them is borrowed.
+/// The type checker for the expressions of a program. It doesn't allocate: the types in its results are borrowed from the program.
 #[derive(Clone, Copy)]
 pub struct Judge<'a> {
     pub program: &'a Parts,
 }
 
 impl<'a> Judge<'a> {
-    /// What is known of the arguments of a call of a method, if there is one.
+    /// The typing result of an argument list; `m` is the method that is called, if there is one.
     #[cycle(exp)]
     fn arguments(&self, scope: &'a Scope, xs: &'a [Expr], m: Option<&'a Method>) -> Arguments<'a>
         ensures { AreArguments (program_of self.now.program.now) (contents_of scope.now) (numbered_exps (map expression_of xs.now))
@@ -39,7 +39,7 @@ impl<'a> Judge<'a> {
         found
     }
 
-    /// What is known of a range.
+    /// The typing result of a range.
     #[cycle(exp)]
     fn range(&self, scope: &'a Scope, r: &'a Range) -> Bounds<'a>
         ensures { IsRange (program_of self.now.program.now) (contents_of scope.now) (bound_of r.now) result }
@@ -64,7 +64,7 @@ impl<'a> Judge<'a> {
         }
     }
 
-    /// What is known of ranges.
+    /// The typing result of a list of ranges.
     #[cycle(exp)]
     pub(crate) fn ranges(&self, scope: &'a Scope, rs: &'a [Range]) -> Bounds<'a>
         ensures { AreRanges (program_of self.now.program.now) (contents_of scope.now) (numbered_ranges (map bound_of rs.now)) result }
@@ -77,7 +77,7 @@ impl<'a> Judge<'a> {
         found
     }
 
-    /// The method that is called behind something.
+    /// The method that a member call on a value of type `t` refers to.
     fn behind(&self, t: Option<Seen<'a>>, name: u32) -> Option<&'a Method>
         ensures { option_map (λ m. numbered_method_of m.now) result ≡ behind (program_of self.now.program.now)
             (option_map seen t.entry) name }
@@ -88,7 +88,7 @@ impl<'a> Judge<'a> {
         }
     }
 
-    /// What is known of an expression without parts.
+    /// The typing result of the most frequent expressions without parts; None for others.
     #[tactic(auto, using(ti_rules::proofs::Lemmas::firsts, ti_lang::proofs::Lemmas::program_bridges))]
     fn leaf(&self, scope: &'a Scope, e: &'a Expr) -> Option<Judged<'a>>
         ensures { IfSome result (λ j. IsJudged (program_of self.now.program.now) (contents_of scope.now) (expression_of e.now) j) }
@@ -107,8 +107,8 @@ impl<'a> Judge<'a> {
         }
     }
 
-    /// What is known of an expression in a scope: its type, where no rule of types is broken in it, and the one that counts of the
-    /// rules that are. There is no condition: a name that means nothing has no type.
+    /// The typing result of an expression: its type, if it has one, and its first type error. It has no precondition: a name that refers
+    /// to nothing has no type.
     #[cycle(exp)]
     pub fn exp(&self, scope: &'a Scope, e: &'a Expr) -> Judged<'a>
         ensures { IsJudged (program_of self.now.program.now) (contents_of scope.now) (expression_of e.now) result }
@@ -122,7 +122,7 @@ impl<'a> Judge<'a> {
         }
     }
 
-    /// What is known of an operator of two operands or one.
+    /// The typing result of a unary or binary operation; None for other expressions.
     #[cycle(exp)]
     #[tactic(auto, using(ti_rules::proofs::Lemmas::firsts, ti_lang::proofs::Lemmas::program_bridges))]
     fn operated(&self, scope: &'a Scope, e: &'a Expr) -> Option<Judged<'a>>
@@ -151,7 +151,7 @@ impl<'a> Judge<'a> {
         }
     }
 
-    /// The same for an expression of any form.
+    /// The typing result of an expression of any form.
     #[cycle(exp)]
     #[tactic(auto, using(ti_rules::proofs::Lemmas::firsts, ti_lang::proofs::Lemmas::program_bridges))]
     fn form(&self, scope: &'a Scope, e: &'a Expr) -> Judged<'a>

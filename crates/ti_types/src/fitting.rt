@@ -1,4 +1,4 @@
-// Which values go where.
+// Assignability of types.
 ghost use Rattle.std.specs.Prelude.{◌≡◌};
 ghost use Rattle.ti_lang.specs.Typing.Fits.{becomes, fits, casts};
 ghost use Rattle.ti_lang.specs.Typing.Seen.{seen};
@@ -15,7 +15,7 @@ fn becomes(t: Seen, u: Seen) -> bool
     }
 }
 
-/// Whether a value of the first type goes where the second is wanted.
+/// Whether a value of type `t` can be assigned to a target of type `u`.
 pub fn fits<'p>(t: Seen<'p>, u: Seen<'p>) -> bool
     ensures { result ≡ fits (seen t.entry) (seen u.entry) }
 {
@@ -25,7 +25,7 @@ pub fn fits<'p>(t: Seen<'p>, u: Seen<'p>) -> bool
         || t.is_null() && u.is_reference()
 }
 
-/// Whether a value of the second type can be cast to the first.
+/// Whether a value of type `t` can be cast to type `to`.
 pub fn casts<'p>(to: Seen<'p>, t: Seen<'p>) -> bool
     ensures { result ≡ casts (seen to.entry) (seen t.entry) }
 {

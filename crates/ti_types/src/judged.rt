@@ -1,4 +1,4 @@
-// What is known of an expression.
+// Typing results of expressions, and how operators combine them.
 ghost use Rattle.std.specs.Prelude.{◌≡◌, [], ◌++◌, is_some, false, Some, None, IsTrue};
 ghost use Rattle.std.specs.Option.{option_map, option_and_then};
 ghost use Rattle.ti_lang.specs.Program.Types.{Int};
@@ -25,18 +25,18 @@ use ti_lang::typing::Seen;
 use ti_rules::{Refusal, Rule, refused_if, sooner};
 use ti_syntax::tree::{BinaryOperator, UnaryOperator};
 
-/// What is known of an expression.
+/// The typing result of an expression.
 #[derive(Clone, Copy)]
 pub struct Judged<'a> {
-    /// Its type, where it has one.
+    /// The type, if the expression has one.
     pub ty: Option<Seen<'a>>,
-    /// It calls a declared method, and all its operands have types.
+    /// Whether it is a call of a declared method all of whose operands have types.
     pub is_call: bool,
-    /// What counts of the rules of types that are broken in it.
+    /// The first type error in it.
     pub first: Option<Refusal>,
 }
 
-// Whether an operator gives an int of two ints.
+// Whether the operator maps two ints to an int.
 fn is_of_ints(op: BinaryOperator) -> bool
     ensures { IsTrue result → binary_type op Int Int ≡ Some Int }
 {
@@ -56,7 +56,7 @@ fn is_of_ints(op: BinaryOperator) -> bool
     }
 }
 
-// Whether both are ints, no calls, and break no rule, and the operator gives an int of them.
+// Whether both operands are ints without type errors, neither is a method call, and the operator maps two ints to an int.
 fn are_sound_ints(op: BinaryOperator, x: &Judged, y: &Judged) -> bool
     ensures operator { IsTrue result → binary_type op Int Int ≡ Some Int }
     ensures left { IsTrue result → typed_of x.now ≡ plain (Some Int) }
@@ -68,7 +68,7 @@ fn are_sound_ints(op: BinaryOperator, x: &Judged, y: &Judged) -> bool
 }
 
 impl<'a> Judged<'a> {
-    /// One that is no call.
+    /// The result of an expression that isn't a method call.
     pub(crate) fn plain(ty: Option<Seen<'a>>, first: Option<Refusal>) -> Judged<'a>
         ensures known { typed_of result ≡ plain (option_map seen ty.entry) }
         ensures first { result.first ≡ first }
@@ -80,7 +80,7 @@ impl<'a> Judged<'a> {
         }
     }
 
-    /// One that is no call and breaks no rule.
+    /// The result of an expression that isn't a method call and has no type error.
     #[tactic(auto, unfolding(ti_rules::specs::Mirrors::First::first_of))]
     pub(crate) fn sound(ty: Option<Seen<'a>>) -> Judged<'a>
         ensures known { typed_of result ≡ plain (option_map seen ty.entry) }
@@ -89,7 +89,7 @@ impl<'a> Judged<'a> {
         Judged::plain(ty, None)
     }
 
-    /// The same, where this counts too of what is broken in it.
+    /// Adds the error of a part, which takes precedence at the same position.
     pub(crate) fn behind(self, inner: Option<Refusal>) -> Judged<'a>
         ensures known { typed_of result ≡ typed_of self.entry }
         ensures first { result.first ≡ sooner_of inner self.entry.first }
@@ -101,7 +101,7 @@ impl<'a> Judged<'a> {
         }
     }
 
-    /// Its type inside another expression, where it has one there: a call of a declared method has none, nor has what gives nothing.
+    /// The type that it has as an operand. A call of a declared method and an expression without a value have none.
     pub fn operand(self) -> Option<Seen<'a>>
         ensures { option_map seen result ≡ operand (typed_of self.entry) }
     {
@@ -114,7 +114,7 @@ impl<'a> Judged<'a> {
         }
     }
 
-    /// A call of a declared method, and what gives nothing, can't stand inside another expression: the rule that it breaks at its place.
+    /// Error Y6 at `place` if it can't be an operand: a call of a declared method, or an expression without a value.
     pub fn misplaced(self, place: Place) -> Option<Refusal>
         ensures { result ≡ first_of (misplaced_at place (typed_of self.entry)) }
     {
@@ -125,7 +125,7 @@ impl<'a> Judged<'a> {
         refused_if(self.is_call || nothing, Rule::Y6, place)
     }
 
-    /// An operator at a place, before an operand at its own.
+    /// The result of a unary operator at `place` with this operand, at `inner`.
     #[tactic(auto, using(ti_rules::proofs::Lemmas::firsts))]
     pub(crate) fn unary(self, inner: Place, place: Place, op: UnaryOperator) -> Judged<'a>
         ensures known { typed_of result ≡ plain (option_and_then (unary_type op) (operand (typed_of self.entry))) }
@@ -141,7 +141,7 @@ impl<'a> Judged<'a> {
         Judged::plain(ty, sooner(self.first, own))
     }
 
-    // Whether it is an int, no call, and breaks no rule.
+    // Whether it is an int without type errors and not a method call.
     fn is_sound_int(&self) -> bool
         ensures known { IsTrue result → typed_of self.now ≡ plain (Some Int) }
         ensures first { IsTrue result → self.now.first ≡ None }
@@ -152,7 +152,7 @@ impl<'a> Judged<'a> {
         }
     }
 
-    /// An operator at a place, between two operands at theirs. Those of ints, the commonest, need not pay for what the others want.
+    /// The result of a binary operator at `place` with these operands, at their positions. Ints, the most frequent case, have a fast path.
     pub(crate) fn binary(
         self,
         inner: Place,
@@ -174,7 +174,7 @@ impl<'a> Judged<'a> {
         }
     }
 
-    /// The same for operands of any type.
+    /// The result of a binary operator with operands of any types.
     #[inline(never)]
     #[tactic(auto, using(ti_rules::proofs::Lemmas::firsts))]
     fn any_binary(
@@ -198,7 +198,7 @@ impl<'a> Judged<'a> {
         own.behind(sooner(self.first, other.first))
     }
 
-    /// A cast at a place, of an operand at its own.
+    /// The result of a cast at `place` with this operand, at `inner`.
     #[tactic(auto, using(ti_rules::proofs::Lemmas::firsts))]
     pub(crate) fn cast(self, inner: Place, place: Place, to: &'a TypeUse) -> Judged<'a>
         ensures known { typed_of result
@@ -216,7 +216,7 @@ impl<'a> Judged<'a> {
     }
 }
 
-/// An operand that the operator doesn't take.
+/// The error of an operand that a unary operator doesn't accept.
 #[tactic(auto, unfolding(ti_rules::specs::Mirrors::First::first_of))]
 fn unary_mistaken(place: Place, op: UnaryOperator, t: Option<Seen>) -> Option<Refusal>
     ensures { result ≡ first_of (judged (option_map seen t.entry) (λ t. mistaken_at place (is_some (unary_type op t)) false)) }
@@ -227,8 +227,7 @@ fn unary_mistaken(place: Place, op: UnaryOperator, t: Option<Seen>) -> Option<Re
     }
 }
 
-/// What an operator at a place makes of two operands, apart from what is known of these: where both have types, the type that it
-/// gives, or that it doesn't take them.
+/// The result of a binary operator by itself, given the types of its operands; if one has no type, there is no type and no error.
 #[tactic(auto, unfolding(ti_rules::specs::Mirrors::First::first_of))]
 fn operated<'a>(
     place: Place,
@@ -265,7 +264,7 @@ fn cast_type<'a>(to: &'a Ty, t: Option<Seen<'a>>) -> Option<Seen<'a>>
     }
 }
 
-/// An operand that can't be cast.
+/// The error of an operand that can't be cast.
 #[tactic(auto, unfolding(ti_rules::specs::Mirrors::First::first_of))]
 fn cast_mistaken<'a>(place: Place, to: &'a Ty, t: Option<Seen<'a>>) -> Option<Refusal>
     ensures { result ≡ first_of (judged (option_map seen t.entry) (λ t. mistaken_at place (casts_to (value_type_of to.now) t)

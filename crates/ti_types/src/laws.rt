@@ -1,4 +1,4 @@
-// Laws of types: functions that do nothing, whose contracts are the laws.
+// Theorems on types: functions with an empty body, whose contracts are the theorems.
 ghost use Rattle.std.specs.Prelude.{◌≡◌, All, Some};
 ghost use Rattle.ti_lang.specs.Program.Types.{ValueType};
 ghost use Rattle.ti_lang.specs.Program.Expressions.{NumberedExp};
@@ -9,9 +9,9 @@ ghost use Rattle.ti_rules.specs.declared.rule.Rule.TheVariants.{Y7};
 ghost use Rattle.ti_rules.specs.declared.refusal.Refusal.{Refusal};
 ghost use Rattle.ti_rules.specs.Broken.Expressions.{exp_refusals};
 
-/// An expression that has a type breaks no rule of types in it but the one on words (Y7).
+/// Theorem: an expression that has a type has no type error except Y7 (on qualifiers).
 ///
-/// A word that can't stand in the type of a cast leaves this as it is without the word.
+/// A qualifier that isn't allowed in the type of a cast is ignored by typing.
 pub fn typed_breaks_words_alone()
     ensures { (p : NumberedProgram) (s : ScopeContents) (e : NumberedExp) (t : ValueType) → typed p s e ≡ Some t
         → All (λ (r : Refusal). r.rule ≡ Y7) (exp_refusals p s e) }

@@ -1,4 +1,4 @@
-//! The types of expressions, and the rule of types that counts where one is broken.
+//! The type checker for expressions: the type of each, and its first type error.
 #![tactic(auto)]
 
 mod arguments;

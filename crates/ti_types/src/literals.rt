@@ -1,4 +1,4 @@
-// Ranges that stand as in a literal.
+// Typing of ranges as in a domain literal, without a node of their own (as in `new T [a:b]`).
 ghost use Rattle.std.specs.Prelude.{◌≡◌, ◌++◌, map, flat_map};
 ghost use Rattle.std.specs.Option.{option_map};
 ghost use Rattle.ti_lang.specs.Program.Expressions.{numbered_ranges};
@@ -16,7 +16,7 @@ use crate::rects::Ranges;
 use ti_lang::program::{Range, Scope};
 
 impl<'a> Judge<'a> {
-    /// What is known of ranges that stand as in a literal, in a scope.
+    /// The typing result of ranges as in a domain literal.
     pub fn literal(&self, scope: &'a Scope, ranges: &'a [Range]) -> Ranges<'a>
         ensures first { result.first ≡ first_of (flat_map (refusals_at (program_of self.now.program.now) (contents_of scope.now))
             (parts_of_ranges (numbered_ranges (map bound_of ranges.now)))

@@ -1,4 +1,4 @@
-// Points, indices and members, by what is known of their parts.
+// Typing of points, indices, selections and members, given the typing results of their parts.
 ghost use Rattle.std.specs.Prelude.{◌≡◌, map, is_some, length, false};
 ghost use Rattle.std.specs.Option.{option_map, option_and_then};
 ghost use Rattle.ti_lang.specs.Program.Types.{Pt};
@@ -46,7 +46,7 @@ fn point_refusal(place: Place, types: Option<ArgumentTypes>) -> Option<Refusal>
     }
 }
 
-/// So many coordinates at a place.
+/// The typing result of a point literal with `count` coordinates, by itself.
 pub fn point<'a>(place: Place, count: usize, types: Option<ArgumentTypes<'a>>) -> Judged<'a>
     ensures known { typed_of result ≡ plain (option_and_then (λ (t : ToldTypes). where_true t.ints (Pt count))
         (option_map told_of types.entry)) }
@@ -143,7 +143,7 @@ fn index_refusal<'a>(
     }
 }
 
-/// So many indices at a place, behind something.
+/// The typing result of an index with `count` indices into a value of type `t`, by itself.
 pub fn index<'a>(
     place: Place,
     count: usize,
@@ -160,7 +160,7 @@ pub fn index<'a>(
     )
 }
 
-/// A member of a name at a place, behind something; behind an object a call of this method.
+/// The typing result of a member call on a value of type `t`, by itself; `m` is the method if `t` is a class.
 #[tactic(auto, unfolding(ti_rules::specs::Mirrors::First::first_of))]
 pub fn member<'a>(
     program: &'a Parts,
@@ -214,7 +214,7 @@ fn field_refusal<'a>(
     }
 }
 
-/// A field of a name at a place, behind something.
+/// The typing result of a field selection on a value of type `t`, by itself.
 pub fn select<'a>(program: &'a Parts, place: Place, t: Option<Seen<'a>>, name: u32) -> Judged<'a>
     ensures known { typed_of result ≡ plain (option_and_then (λ t. select_type (program_of program.now) t name) (option_map seen t.entry)) }
     ensures first { result.first ≡ first_of (judged (option_map seen t.entry)

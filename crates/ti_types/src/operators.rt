@@ -1,4 +1,4 @@
-// The types that operators take, and what they give.
+// The operand and result types of operators.
 ghost use Rattle.std.specs.Prelude.{◌≡◌};
 ghost use Rattle.std.specs.Option.{option_map, option_or};
 ghost use Rattle.ti_lang.specs.Typing.Operators.{wider, whole_type, truth_type, point_type, rect_type, domain_type, are_references, are_comparable, are_ordered, Sum, Product, Shift, Bits, row_type, binary_type, unary_type};
@@ -101,7 +101,7 @@ fn truth_if<'p>(test: bool) -> Option<Seen<'p>>
     if test { Some(Seen::Bool) } else { None }
 }
 
-// What `+` and `-` give.
+// The result type of `+` and `-`.
 fn sum_type<'p>(t: Seen<'p>, u: Seen<'p>) -> Option<Seen<'p>>
     ensures { option_map seen result ≡ row_type Sum (seen t.entry) (seen u.entry) }
 {
@@ -109,7 +109,7 @@ fn sum_type<'p>(t: Seen<'p>, u: Seen<'p>) -> Option<Seen<'p>>
     either(whole_type(t, u), others)
 }
 
-// What `*` gives.
+// The result type of `*`.
 fn product_type<'p>(t: Seen<'p>, u: Seen<'p>) -> Option<Seen<'p>>
     ensures { option_map seen result ≡ row_type Product (seen t.entry) (seen u.entry) }
 {
@@ -117,7 +117,7 @@ fn product_type<'p>(t: Seen<'p>, u: Seen<'p>) -> Option<Seen<'p>>
     either(whole_type(t, u), others)
 }
 
-// What a shift gives.
+// The result type of a shift.
 fn shift_type<'p>(t: Seen<'p>, u: Seen<'p>) -> Option<Seen<'p>>
     ensures { option_map seen result ≡ row_type Shift (seen t.entry) (seen u.entry) }
 {
@@ -128,14 +128,14 @@ fn shift_type<'p>(t: Seen<'p>, u: Seen<'p>) -> Option<Seen<'p>>
     }
 }
 
-// What `&`, `|` and `^` give.
+// The result type of `&`, `|` and `^`.
 fn bits_type<'p>(t: Seen<'p>, u: Seen<'p>) -> Option<Seen<'p>>
     ensures { option_map seen result ≡ row_type Bits (seen t.entry) (seen u.entry) }
 {
     either(whole_type(t, u), truth_type(t, u))
 }
 
-/// What an operator gives of two operands, where it takes them.
+/// The result type of a binary operator, if it accepts these operands.
 pub fn binary_type<'p>(op: BinaryOperator, t: Seen<'p>, u: Seen<'p>) -> Option<Seen<'p>>
     ensures { option_map seen result ≡ binary_type op (seen t.entry) (seen u.entry) }
 {
@@ -156,7 +156,7 @@ pub fn binary_type<'p>(op: BinaryOperator, t: Seen<'p>, u: Seen<'p>) -> Option<S
     }
 }
 
-/// What an operator gives of one operand, where it takes it.
+/// The result type of a unary operator, if it accepts this operand.
 pub fn unary_type<'p>(op: UnaryOperator, t: Seen<'p>) -> Option<Seen<'p>>
     ensures { option_map seen result ≡ unary_type op (seen t.entry) }
 {

@@ -1,4 +1,4 @@
-// What is known of the bounds and steps of ranges.
+// Typing of the bounds and steps of ranges.
 ghost use Rattle.std.specs.Prelude.{◌≡◌, ◌∷◌, [], Some, is_some};
 ghost use Rattle.std.specs.Option.{option_map, option_and_then};
 ghost use Rattle.ti_lang.specs.Typing.Expressions.{plain, operand, both, range_of_points};
@@ -18,47 +18,47 @@ use ti_base::Place;
 use ti_lang::typing::Seen;
 use ti_rules::{Refusal, sooner};
 
-/// What the rules ask of the types of bounds and steps.
+/// What the typing rules need to know of the types of bounds and steps.
 #[derive(Clone, Copy)]
 pub struct Ends<'a> {
-    /// All are ints.
+    /// Whether all are of type int.
     pub ints: bool,
-    /// The range of points that the first of the ranges is.
+    /// The type of the first range if it is one of points.
     pub range: Option<Seen<'a>>,
-    /// It would be one with other numbers of dimensions.
+    /// Whether the first range would be one of points if dimensions were ignored: then the error is Y5 rather than Y1.
     pub near: bool,
 }
 
-/// What ranges give as a literal.
+/// The type of ranges as a domain literal.
 #[derive(Clone, Copy)]
 pub struct Literal<'a> {
-    /// The rectangular domain, where their bounds and steps are taken.
+    /// The rectangular domain, if the types of the bounds and steps are accepted.
     pub ty: Option<Seen<'a>>,
-    /// Whether these would be taken with other numbers of dimensions.
+    /// Whether they would be accepted if dimensions were ignored.
     pub near: bool,
 }
 
-/// What is known of ranges that stand as in a literal.
+/// The typing result of ranges as in a domain literal.
 #[derive(Clone, Copy)]
 pub struct Ranges<'a> {
-    /// What counts of the rules that are broken in them; a call that can't stand there is one.
+    /// The first type error in them, including operands that can't be there (Y6).
     pub first: Option<Refusal>,
-    /// What they give, where all their bounds and steps have types.
+    /// The type of the literal; None if a bound or step has no type.
     pub types: Option<Literal<'a>>,
 }
 
-/// What is known of ranges.
+/// The typing result of a list of ranges.
 #[derive(Clone, Copy)]
 pub struct Bounds<'a> {
-    /// What counts of the rules that are broken in them.
+    /// The first type error inside the bounds and steps.
     pub inner: Option<Refusal>,
-    /// What counts of the calls that can't stand there.
+    /// The first bound or step that can't be an operand (Y6).
     pub misplaced: Option<Refusal>,
-    /// What is told of their types, where all have some.
+    /// The types of the bounds and steps; None if one of them has no type.
     pub types: Option<Ends<'a>>,
 }
 
-/// Whether this is a point of so many dimensions.
+/// Whether the type is that of points of `dim` dimensions.
 fn is_point_of(dim: usize, t: Seen) -> bool
     ensures { result ≡ same_type (Pt dim) (seen t.entry) }
 {
@@ -140,7 +140,7 @@ fn maybe_three<'a>(
 }
 
 impl<'a> Bounds<'a> {
-    /// Of no ranges.
+    /// The result of an empty list.
     #[tactic(auto, unfolding(ti_rules::specs::Mirrors::First::first_of))]
     pub fn none() -> Bounds<'a>
         ensures inner { result.inner ≡ first_of [] }
@@ -158,7 +158,7 @@ impl<'a> Bounds<'a> {
         }
     }
 
-    /// Of a range without a step, whose bounds stand at these places.
+    /// The result of a range without a step, with its bounds at these positions.
     pub fn plain(low_at: Place, low: Judged<'a>, high_at: Place, high: Judged<'a>) -> Bounds<'a>
         ensures inner { result.inner ≡ sooner_of low.entry.first high.entry.first }
         ensures misplaced { result.misplaced ≡ sooner_of (first_of (misplaced_at low_at (typed_of low.entry)))
@@ -173,7 +173,7 @@ impl<'a> Bounds<'a> {
         }
     }
 
-    /// Of a range with a step, where this is known of the range without it.
+    /// Adds a step at `step_at` to the result of a range with these bounds.
     pub fn stepped(
         self,
         low: Judged<'a>,
@@ -193,7 +193,7 @@ impl<'a> Bounds<'a> {
         }
     }
 
-    /// Of this range in front of others.
+    /// Prepends this range to others.
     pub fn before(self, others: Bounds<'a>) -> Bounds<'a>
         ensures inner { result.inner ≡ sooner_of self.entry.inner others.entry.inner }
         ensures misplaced { result.misplaced ≡ sooner_of self.entry.misplaced others.entry.misplaced }
@@ -207,7 +207,7 @@ impl<'a> Bounds<'a> {
         }
     }
 
-    /// A form with these ranges, from what is wrong with the form itself.
+    /// Adds the errors of these ranges to `own`, the result of the enclosing form by itself.
     pub fn whole(self, own: Judged<'a>) -> Judged<'a>
         ensures known { typed_of result ≡ typed_of own.entry }
         ensures first { result.first ≡ sooner_of self.entry.inner (sooner_of self.entry.misplaced own.entry.first) }
@@ -215,7 +215,7 @@ impl<'a> Bounds<'a> {
         own.behind(self.misplaced).behind(self.inner)
     }
 
-    /// The literal of these, which are so many.
+    /// The result of these ranges, `count` of them, as in a domain literal.
     pub fn literal(self, count: usize) -> Ranges<'a>
         ensures first { result.first ≡ sooner_of self.entry.inner self.entry.misplaced }
         ensures types { option_map literal_of result.types ≡ option_map (told_literal count) (option_map ends_of self.entry.types) }
@@ -294,7 +294,7 @@ fn rect_refusal(place: Place, count: usize, types: Option<Ends>) -> Option<Refus
     }
 }
 
-/// So many ranges at a place.
+/// The typing result of a domain literal with `count` ranges, by itself.
 pub fn rect<'a>(place: Place, count: usize, types: Option<Ends<'a>>) -> Judged<'a>
     ensures known { typed_of result ≡ plain (option_and_then (told_rect count) (option_map ends_of types.entry)) }
     ensures first { result.first ≡ first_of (judged (option_map ends_of types.entry)

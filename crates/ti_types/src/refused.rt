@@ -1,4 +1,4 @@
-// What is wrong with operands and values.
+// Errors of operands and values by their types.
 ghost use Rattle.std.specs.Prelude.{◌≡◌};
 ghost use Rattle.ti_rules.specs.Mirrors.First.{first_of};
 ghost use Rattle.ti_rules.specs.Broken.Refused.{mistaken, misfit};
@@ -9,7 +9,7 @@ use ti_base::Place;
 use ti_lang::typing::Seen;
 use ti_rules::{Refusal, Rule};
 
-/// Operands that aren't taken, though perhaps with other numbers of dimensions.
+/// The error of operands that aren't accepted: Y5 if they would be with dimensions ignored (`otherwise`), else Y1.
 #[tactic(auto, unfolding(ti_rules::specs::Mirrors::First::first_of, ti_rules::specs::Mirrors::First::sooner))]
 pub fn mistaken(place: Place, taken: bool, otherwise: bool) -> Option<Refusal>
     ensures { result ≡ first_of (mistaken place taken otherwise) }
@@ -29,7 +29,7 @@ pub fn mistaken(place: Place, taken: bool, otherwise: bool) -> Option<Refusal>
     }
 }
 
-/// A value of the first type where the second is wanted.
+/// The error of a value of type `t` for a target of type `u`: Y5 if only the dimension is wrong, Q1 if only `local` is missing, else Y2.
 #[tactic(auto, unfolding(ti_rules::specs::Mirrors::First::first_of, ti_rules::specs::Mirrors::First::sooner))]
 pub fn misfit<'p>(place: Place, t: Seen<'p>, u: Seen<'p>) -> Option<Refusal>
     ensures { result ≡ first_of (misfit place (seen t.entry) (seen u.entry)) }

@@ -1,4 +1,4 @@
-// The type of an expression of a program.
+// The public entry point to the type checker.
 ghost use Rattle.ti_lang.specs.Program.Scope.{contents_of};
 ghost use Rattle.ti_lang.specs.Program.Views.{program_of, expression_of};
 ghost use Rattle.ti_rules.specs.Known.{IsKnown};
@@ -11,8 +11,7 @@ use ti_lang::program::{Expr, Program, Scope, Ty};
 
 /// The type of an expression in a scope of a program.
 ///
-/// An expression that breaks rules of types is refused for the one that counts: that of the least place, and at one place the one
-/// listed first.
+/// Error: the first type error, by position, and at one position by the order in which the rules are listed; or Memory.
 pub fn type_of(alloc: Global, p: &Program, s: &Scope, e: &Expr) -> Result<Ty, TypeErr>
     requires { IsKnown (program_of p.now.parts) (contents_of s.now) (expression_of e.now) }
     ensures { GivesType (program_of p.now.parts) (contents_of s.now) (expression_of e.now) result }

@@ -1,4 +1,4 @@
-// Words of types that can't stand where they do.
+// Qualifiers that aren't allowed where they are (Y7).
 ghost use Rattle.std.specs.Prelude.{◌≡◌, ◌||◌, [], map, false, if◌then◌else◌, flat_map};
 ghost use Rattle.ti_syntax.specs.Trees.Views.{grid_of};
 ghost use Rattle.ti_lang.specs.Scopes.{is_single_word};
@@ -121,7 +121,7 @@ fn grid_words(words: &[Qualifier]) -> Option<Refusal>
     found
 }
 
-/// Qualifiers whose word stands before them.
+/// The first repeated qualifier.
 #[tactic(auto, using(crate::proofs::Repeated::repeated))]
 fn repeated(words: &[Qualifier]) -> Option<Refusal>
     ensures { result ≡ first_of (repeated_qualifiers [] words.now) }
@@ -146,7 +146,7 @@ fn all_grids(grids: &[Brackets]) -> Option<Refusal>
     found
 }
 
-/// The words of a type, where it is that of something that may be single, or not.
+/// The first error in a type's qualifiers; `may_be_single` says whether the type may have the qualifier `single`.
 #[tactic(auto, using(ti_rules::proofs::Lemmas::firsts))]
 pub fn type_words(may_be_single: bool, t: &TypeUse) -> Option<Refusal>
     ensures { result ≡ first_of (type_word_refusals may_be_single (type_use_of t.now)) }

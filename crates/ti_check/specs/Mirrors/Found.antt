@@ -1,5 +1,4 @@
--- Nobody has to believe this: it mirrors code, and only contracts of private functions speak of it.
--- What is found of statements.
+-- For proofs only: what the checker's results for statements mean.
 use Rattle.std.specs.Prelude.{◌≡◌, Bool, true, false, List, [], ◌++◌, flat_map}
 use Rattle.ti_lang.specs.Program.Statements.{NumberedStm}
 use Rattle.ti_lang.specs.Program.Statements as st
@@ -11,11 +10,11 @@ use Rattle.ti_rules.specs.Broken.Statements.{standing_refusals}
 use Rattle.ti_rules.specs.SingleRules.{standing_single_refusals}
 use Rattle.ti_check.specs.declared.found.Found.{Found}
 
--- this counts of what is wrong by the rules of types, and of what is by those of single values
+-- the first errors of the two groups of rules are right
 abbrev pub IsFirst : List Refusal → List Refusal → Found → Type 0
 IsFirst types single f = (f.types ≡ first_of types) × (f.single ≡ first_of single)
 
--- this is found of statements where they stand
+-- the first errors of these statements, each in its context, are right
 abbrev pub IsFound : NumberedProgram → List Standing → Found → Type 0
 IsFound p xs f = IsFirst (flat_map (standing_refusals p) xs) (flat_map (standing_single_refusals p) xs) f
 
@@ -30,7 +29,7 @@ below p around (st.For at first c update body) =
 below p around (st.Foreach at number domain body) = inside p (in_foreach p around number domain body) body
 below p around x = []
 
--- no statement stands in it
+-- whether the statement is of a form without statements in it
 abbrev pub is_simple : NumberedStm → Bool
 is_simple (st.Block body) = false
 is_simple (st.If at c a) = false

@@ -1,5 +1,4 @@
--- Nobody has to believe this: it mirrors code, and only contracts of private functions speak of it.
--- Modifiers that stand twice, by which of the words were met.
+-- For proofs only: the model of the check for repeated modifiers, by the set of modifiers seen before.
 use Rattle.std.specs.Prelude.{Bool, true, false, ◌||◌, List, [], ◌∷◌, ◌++◌}
 use Rattle.ti_syntax.specs.declared.tree.classes.Modifier.{Modifier}
 use Rattle.ti_syntax.specs.declared.tree.classes.ModifierWord.{ModifierWord}
@@ -10,12 +9,12 @@ use Rattle.ti_rules.specs.Refusals.{refused_if}
 use Rattle.ti_rules.specs.Broken.Words.{same_word}
 use Rattle.ti_check.specs.declared.modifiers.Met.{Met}
 
--- of modifiers behind others, those whose word was met
+-- the errors of modifiers that were seen before
 abbrev pub met_again : (ModifierWord → Bool) → List Modifier → List Refusal
 met_again met [] = []
 met_again met (m ∷ rest) = refused_if (met m.word) Y7 m.place ++ met_again (λ w. same_word w m.word || met w) rest
 
--- the word was met
+-- whether the modifier is in the set
 abbrev pub has_met : Met → ModifierWord → Bool
 has_met met word.Public = met.with_public
 has_met met word.Private = met.with_private
@@ -24,7 +23,7 @@ has_met met word.Static = met.with_static
 has_met met word.Final = met.with_final
 has_met met word.Single = met.with_single
 
--- with this word too
+-- the set with this modifier added
 abbrev pub meeting : Met → ModifierWord → Met
 meeting met word.Public = record met { with_public = true }
 meeting met word.Private = record met { with_private = true }
@@ -33,6 +32,6 @@ meeting met word.Static = record met { with_static = true }
 meeting met word.Final = record met { with_final = true }
 meeting met word.Single = record met { with_single = true }
 
--- no word
+-- the empty set
 abbrev pub nothing_met : ModifierWord → Bool
 nothing_met w = false

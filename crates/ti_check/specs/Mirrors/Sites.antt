@@ -1,5 +1,4 @@
--- Nobody has to believe this: it mirrors code, and only contracts of private functions speak of it.
--- What clauses see of where a statement stands.
+-- For proofs only: the model of a statement's context.
 use Rattle.std.specs.Prelude.{Bool, true, false, Option, Some, None}
 use Rattle.ti_lang.specs.Program.Classes.{NumberedProgram}
 use Rattle.ti_lang.specs.Program.Scope.{ScopeContents, contents_of}
@@ -7,16 +6,16 @@ use Rattle.ti_lang.specs.Program.Views.{program_of, numbered_method_of}
 use Rattle.ti_rules.specs.Standing.{Around, scope_of}
 use Rattle.ti_check.specs.declared.site.Site.{Site}
 
--- its program
+-- the program
 abbrev pub program_at : Site → NumberedProgram
 program_at s = program_of s.program.now.parts
 
--- where there is a loop around it, whether a jump out of the innermost one has an effect
+-- whether a jump out of the innermost enclosing loop counts as a global effect; None if there is no loop
 abbrev pub jump_in : Bool → Bool → Option Bool
 jump_in false jump_has = None
 jump_in true jump_has = Some jump_has
 
--- what stands around it, by whether such a jump has an effect
+-- the context, given whether such a jump counts as a global effect
 abbrev pub around_where : Site → Bool → Around
 around_where s jump_has = record {
   method = numbered_method_of s.method.now;
@@ -24,10 +23,10 @@ around_where s jump_has = record {
   jump_has = jump_in s.has_loop jump_has;
 }
 
--- what stands around it, where it has none
+-- the context if it doesn't
 abbrev pub around_of : Site → Around
 around_of s = around_where s false
 
--- what is in scope there
+-- the scope
 abbrev pub scope_at : Site → ScopeContents
 scope_at s = scope_of (around_of s)

@@ -1,5 +1,4 @@
--- Nobody has to believe this: it mirrors code, and only contracts of private functions speak of it.
--- What counts of what is wrong with writing a target, by what counts of what is wrong with the value.
+-- For proofs only: the first error of an assignment to a target, given that of the value.
 use Rattle.std.specs.Prelude.{◌++◌, if◌then◌else◌, Option}
 use Rattle.ti_base.specs.declared.place.Place.{Place}
 use Rattle.ti_lang.specs.Program.Expressions.{NumberedExp}

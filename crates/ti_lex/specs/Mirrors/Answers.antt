@@ -1,4 +1,4 @@
--- Mirrors the code; nobody has to believe it. What the private parts of the lexer answer.
+-- For proofs only: what the lexer's private functions return, in terms of the model.
 use Rattle.std.specs.Prelude.{◌≡◌, ℕ, Option, Some, None, Result, Ok, Err}
 use Rattle.ti_base.specs.declared.place.Place.{Place}
 use Rattle.ti_base.specs.Places.{place_of}
@@ -12,12 +12,12 @@ use Rattle.ti_lex.specs.declared.piece.Piece.TheVariants as p
 use Rattle.ti_lex.specs.Mirrors.Cursor.{Spot, moved}
 use Rattle.ti_lex.specs.Mirrors.Reading.{Reading, Takes, Refuses, Item, Gives, Closes, Breaks, Strays}
 
--- the piece that the code's piece means
+-- the lexical element that a Piece of the code represents
 abbrev pub meant : Piece → tokenizing.Piece
 meant p.Space = tokenizing.Space
 meant (p.Token kind) = tokenizing.Lexeme kind
 
--- the code read this from the old spot on, and came to the new one
+-- reading from the old position gave this reading, and ended at the new position
 abbrev pub Reads : Reading → Spot → Spot → Result Piece LexErr → Type 0
 Reads (Takes piece end) old new (Ok found) = (meant found ≡ piece) × (new ≡ record old { at = end })
 Reads (Takes piece end) old new (Err (Refused refusal)) = ⊥
@@ -26,7 +26,7 @@ Reads (Refuses flaw fault) old new (Err (Refused refusal)) =
     refusal ≡ record { rule = rule_of flaw; place = place_of old.text fault }
 Reads _ old new (Err Memory) = Unit {0}
 
--- the code read this item of a string from the old spot on; `quote` is the place of the string
+-- reading one item of a string from the old position gave this item; `quote` is the position of the opening quote
 abbrev pub ReadsItem : Item → Place → Spot → Spot → Result (Option ℕ) LexErr → Type 0
 ReadsItem (Gives byte size) quote old new (Ok found) = (found ≡ Some byte) × (new ≡ moved size old)
 ReadsItem Closes quote old new (Ok found) = (found ≡ None) × (new ≡ moved 1 old)

@@ -1,15 +1,15 @@
--- Mirrors the code; nobody has to believe it. Where a text is being read.
+-- For proofs only: the model of the lexer's cursor.
 use Rattle.std.specs.Prelude.{ℕ, ◌+◌, List, drop}
 
--- a text, and how many of its bytes are read
+-- a source, and the offset of its next byte
 pub record Spot : Type 0 where
   pub text : List ℕ
   pub at : ℕ
 
--- what is left to read
+-- the bytes that aren't read yet
 abbrev pub rest : Spot → List ℕ
 rest spot = drop spot.at spot.text
 
--- some bytes further on
+-- the cursor n bytes further on
 abbrev pub moved : ℕ → Spot → Spot
 moved n spot = record spot { at = spot.at + n }

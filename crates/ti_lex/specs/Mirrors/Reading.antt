@@ -1,5 +1,5 @@
--- Mirrors the code; nobody has to believe it. Reading the piece at the front of a list, as functions of the list; `at` is where
--- it begins in the text.
+-- For proofs only: a model of the lexer, as functions that read one lexical element at the start of a list; `at` is its offset in the
+-- source.
 use Rattle.std.specs.Prelude.{ℕ, ◌+◌, ◌-◌, ◌*◌, ◌==◌, min, nat_le, Bool, true, false, not, ◌&&◌, ◌||◌, if◌then◌else◌, Option, Some, None, is_some, unwrap_or, List, [], ◌∷◌, ◌++◌, take, drop, codes, pos}
 use Rattle.std.specs.List.{prefix_len}
 use Rattle.std.specs.Option.{option_map_or}
@@ -13,12 +13,12 @@ use Rattle.ti_syntax.specs.Tokenizing.{Piece, Space, Lexeme, Flaw, StrayByte, Op
 use Rattle.ti_lex.specs.declared.class.Class.{Class}
 use Rattle.ti_lex.specs.declared.class.Class.TheVariants as c
 
--- a piece and where it ends, or a flaw and which byte is at fault
+-- a lexical element and the offset of its end, or a lexical error and the offset of the byte that is reported
 pub data Reading : Type 0 where
   Takes : (piece : Piece) (end : ℕ) → Reading
   Refuses : (flaw : Flaw) (fault : ℕ) → Reading
 
--- what kind of piece can begin with a byte
+-- the class of a byte: which lexical elements it can begin
 abbrev pub class_of : ℕ → Class
 class_of b =
     if is_blank b then c.Blank
@@ -67,80 +67,80 @@ reserved =
     (codes "while", k.KeywordWhile) ∷
     []
 
--- what a whole word is: reserved, or a name
+-- the token kind of an identifier: a reserved word, or a name
 abbrev pub kind_of_word : List ℕ → TokenKind
 kind_of_word word = unwrap_or (lookup (bytes_eq word) reserved) (k.Name word)
 
--- a name or a reserved word, as far as it goes
+-- the name or reserved word: all bytes that can continue it
 abbrev pub word : ℕ → List ℕ → Reading
 word at l =
     let size = prefix_len is_name_byte l in Takes (Lexeme (kind_of_word (take size l))) (at + size)
 
--- the number before the `d`, where a dimension stands at the front
+-- the number of dimensions, if a dimension begins the list
 abbrev pub dimension : List ℕ → Option ℕ
 dimension [] = None
 dimension (b ∷ l) =
     if is_in_range 49 51 b && first_passes (λ d. d == 100) l && not (first_passes is_name_byte (drop 1 l)) then Some (b - 48)
     else None
 
--- one more than the largest long number
+-- one more than the largest long literal
 abbrev pub too_large : ℕ
 too_large = 9223372036854775808
 
--- the number that the digits at the front write behind those of `value`, or `too_large` where it is larger
+-- the value of the digits at the start, after digits of value `value`; `too_large` if it is larger
 abbrev pub value_from : ℕ → List ℕ → ℕ
 value_from value [] = value
 value_from value (b ∷ l) =
     if is_ascii_digit b then value_from (min (value * 10 + (b - 48)) too_large) l else value
 
--- the largest number, and the largest with the letter of a long one
+-- the largest value of an int literal (false) or a long literal (true)
 abbrev pub most_of : Bool → ℕ
 most_of false = 2147483647
 most_of true = 9223372036854775807
 
--- what a number is, and with the letter of a long one
+-- the token kind of an int literal (false) or a long literal (true)
 abbrev pub kind_of_number : Bool → ℕ → TokenKind
 kind_of_number false value = k.Int (pos value)
 kind_of_number true value = k.LongInt (pos value)
 
--- how many letters there are
+-- the length of the suffix
 abbrev pub letters : Bool → ℕ
 letters false = 0
 letters true = 1
 
--- a number has no 0 in front and isn't too large
+-- a valid literal has no leading 0 and isn't too large
 abbrev pub is_number : Bool → ℕ → ℕ → ℕ → Bool
 is_number leads_with_zero size most value = not (leads_with_zero && not (size == 1)) && nat_le value most
 
--- a whole number by its digits and whether the letter of a long one is behind them, or a run of digits that is none
+-- the literal with these digits, and a suffix if `long`; an error if it isn't valid
 abbrev pub number_of : ℕ → Bool → ℕ → ℕ → Bool → Reading
 number_of at leads_with_zero size value long =
     if is_number leads_with_zero size (most_of long) value then Takes (Lexeme (kind_of_number long value)) (at + size + letters long)
     else Refuses WrongNumber at
 
--- the run of digits at the front, with the letter behind it
+-- the digits at the start, with their suffix
 abbrev pub digits : ℕ → List ℕ → Reading
 digits at l =
     let size = prefix_len is_ascii_digit l in number_of at (first_passes (λ b. b == 48) l) size (value_from 0 l)
     (first_passes is_long_letter (drop size l))
 
--- the dimension or the number at the front
+-- the dimension or the number literal at the start
 abbrev pub number : ℕ → List ℕ → Reading
 number at l = option_map_or (λ n. Takes (Lexeme (k.Dim n)) (at + 2)) (dimension l) (digits at l)
 
--- what stands at the front of the rest of a string: an item for a byte, the closing quote, or a fault
+-- the next part of a string: an item with its value, the closing quote, or an error
 pub data Item : Type 0 where
   Gives : (byte : ℕ) (size : ℕ) → Item
   Closes : Item
   Breaks : Item
   Strays : Item
 
--- an item that begins with a backslash, which stands before the list
+-- the item that a backslash and this list begin
 abbrev pub escape : List ℕ → Item
 escape [] = Strays
 escape (b ∷ l) = option_map_or (λ byte. Gives byte 2) (escaped b) Strays
 
--- what stands at the front, by its first byte
+-- the next part of a string, by its first byte
 abbrev pub item : List ℕ → Item
 item [] = Breaks
 item (b ∷ l) =
@@ -150,7 +150,7 @@ item (b ∷ l) =
     else (if b == 10 || b == 13 then Breaks
     else Strays)))
 
--- the rest of a string that begins with the quote, behind items that stand for `bytes`
+-- the rest of a string that begins at `quote`, after items with value `bytes`
 abbrev mutual
   pub string_from : ℕ → List ℕ → ℕ → List ℕ → Reading
   string_from quote bytes at [] = Refuses OpenString quote
@@ -167,13 +167,13 @@ abbrev mutual
       if is_some (escaped b) then string_from quote (bytes ++ unwrap_or (escaped b) 0 ∷ []) (at + 2) l
       else Refuses StrayByte at
 
--- the rest of a comment; `star` says whether a `*` of the comment stands before it
+-- the rest of a comment that begins at `slash`; `star` says whether the byte before it is a `*` of the comment
 abbrev pub comment_from : ℕ → Bool → ℕ → List ℕ → Reading
 comment_from slash star at [] = Refuses OpenComment slash
 comment_from slash star at (b ∷ l) =
     if star && b == 47 then Takes Space (at + 1) else comment_from slash (b == 42) (at + 1) l
 
--- the operators and marks of one byte
+-- the operators and punctuation marks of one byte
 abbrev pub first_signs : List (ℕ × TokenKind)
 first_signs =
     (43, k.Plus) ∷
@@ -201,11 +201,11 @@ first_signs =
     (58, k.Colon) ∷
     []
 
--- the operator or mark that a byte is
+-- the operator or punctuation mark of one byte
 abbrev pub first_sign : ℕ → Option TokenKind
 first_sign b = lookup (λ sign. b == sign) first_signs
 
--- the operator that an operator and one more byte make
+-- the operator that extends an operator by one byte
 abbrev pub longer_sign : TokenKind → ℕ → Option TokenKind
 longer_sign k.Plus b = if b == 61 then Some k.PlusAssign else (if b == 43 then Some k.PlusPlus else None)
 longer_sign k.Minus b = if b == 61 then Some k.MinusAssign else (if b == 45 then Some k.MinusMinus else None)
@@ -224,30 +224,30 @@ longer_sign k.Exclamation b = if b == 61 then Some k.NotEqual else None
 longer_sign k.Assign b = if b == 61 then Some k.Equal else None
 longer_sign _ b = None
 
--- the longest operator that goes on from one
+-- the longest operator that extends this one
 abbrev pub sign_from : TokenKind → ℕ → List ℕ → Reading
 sign_from kind at [] = Takes (Lexeme kind) at
 sign_from kind at (b ∷ l) =
     if is_some (longer_sign kind b) then sign_from (unwrap_or (longer_sign kind b) kind) (at + 1) l
     else Takes (Lexeme kind) at
 
--- the operator or mark at the front
+-- the operator or punctuation mark at the start
 abbrev pub sign : ℕ → List ℕ → Reading
 sign at [] = Refuses StrayByte at
 sign at (b ∷ l) = option_map_or (λ kind. sign_from kind (at + 1) l) (first_sign b) (Refuses StrayByte at)
 
--- how many bytes are left of the line
+-- the number of bytes left in the line
 abbrev pub line_left : List ℕ → ℕ
 line_left l = prefix_len (λ b. not (b == 10)) l
 
--- a comment or an operator
+-- a comment or an operator that begins with a slash
 abbrev pub slash : ℕ → List ℕ → Reading
 slash at l =
     if first_passes (λ b. b == 47) (drop 1 l) then Takes Space (at + line_left l)
     else (if first_passes (λ b. b == 42) (drop 1 l) then comment_from at false (at + 2) (drop 1 (drop 1 l))
     else sign at l)
 
--- the piece at the front, by the class of its first byte
+-- the lexical element at the start, by the class of its first byte
 abbrev pub first_by : Class → ℕ → List ℕ → Reading
 first_by c.Blank at l = Takes Space (at + 1)
 first_by c.Letter at l = word at l
@@ -256,7 +256,7 @@ first_by c.Quote at l = string_from at [] (at + 1) (drop 1 l)
 first_by c.Slash at l = slash at l
 first_by c.Other at l = sign at l
 
--- the piece at the front
+-- the lexical element at the start
 unfoldable pub first : ℕ → List ℕ → Reading
 first at [] = Refuses StrayByte at
 first at (b ∷ l) = first_by (class_of b) at (b ∷ l)

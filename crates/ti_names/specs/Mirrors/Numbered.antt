@@ -1,5 +1,4 @@
--- Nobody has to believe this file: it mirrors the code, and laws tie it to the rules.
--- The program of a text as a function. What names nothing becomes some program all the same.
+-- For proofs only: a model of name resolution, as a function. A name that can't be resolved becomes a placeholder.
 use Rattle.std.specs.Prelude.{ℕ, ◌+◌, if◌then◌else◌, List, [], ◌∷◌, map, length, Option, Some, None}
 use Rattle.std.specs.Option.{unwrap_or}
 use Rattle.ti_base.specs.declared.place.Place.{Place}
@@ -28,12 +27,12 @@ named at (Some v) field = n.Variable at v
 named at None (Some field) = n.OwnField at field
 named at None None = n.Null at
 
--- a call of a method of the own class
+-- a call of a method of the enclosing class
 abbrev pub called : TextTree → Place → Option ℕ → NumberedExps → NumberedExp
 called text at None args = n.Null at
 called text at (Some method) args = if is_static_method text method then n.Call at method args else n.OwnCall at method args
 
--- a call of a method of another class
+-- a static call by class name
 abbrev pub class_called : Place → Option ℕ → NumberedExps → NumberedExp
 class_called at None args = n.Null at
 class_called at (Some method) args = n.Call at method args
@@ -134,7 +133,7 @@ abbrev mutual
   number_stms site s.Nil = m.Nil
   number_stms site (s.Cons x rest) = m.Cons (number_stm site x) (number_stms (behind site x) rest)
 
--- the statements of a list
+-- the statements of a list, each in the context that the ones before it leave
 abbrev pub number_list : Site → List Stm → List NumberedStm
 number_list site [] = []
 number_list site (x ∷ rest) = number_stm site x ∷ number_list (behind site x) rest

@@ -1,30 +1,29 @@
--- Nobody has to believe this file: it mirrors the code, and laws tie it to the rules.
--- Tables of names as lists of pairs, and those of a text.
+-- For proofs only: symbol tables as association lists, and those of a program.
 use Rattle.std.specs.Prelude.{ℕ, Bool, ◌+◌, if◌then◌else◌, List, [], ◌∷◌, ◌++◌, map, length, Option, is_some, slice_get, bytes_eq}
 use Rattle.std.specs.Map.{lookup}
 use Rattle.std.specs.Option.{option_and_then}
 use Rattle.ti_syntax.specs.Trees.Classes.{FieldTree, MemberTree, FieldMember, MethodMember, ClassTree, TextTree}
 use Rattle.ti_lang.specs.Members.{fields_in, OwnMethod, is_static, names_of}
 
--- the table with one pair more, if its name isn't there
+-- the table with this pair appended, unless its name is in the table already
 abbrev pub with_first : {V : Type 0} → List (List ℕ × V) → List ℕ → V → List (List ℕ × V)
 with_first table name value = if is_some (lookup (bytes_eq name) table) then table else table ++ (name, value) ∷ []
 
--- the table with the names from a number on, each with its number, if it isn't there
+-- the table with these names added, numbered consecutively from `number` on; names that it has already are skipped
 abbrev pub with_numbered : List (List ℕ × ℕ) → ℕ → List (List ℕ) → List (List ℕ × ℕ)
 with_numbered table number [] = table
 with_numbered table number (name ∷ rest) = with_numbered (with_first table name number) (number + 1) rest
 
--- each name with its number, the first from a number on
+-- the names, numbered consecutively from `number` on
 abbrev pub numbered : ℕ → List (List ℕ) → List (List ℕ × ℕ)
 numbered number [] = []
 numbered number (name ∷ rest) = (name, number) ∷ numbered (number + 1) rest
 
--- what a name means in one of several tables
+-- the value of a name in one of several tables
 abbrev pub found_in : List (List (List ℕ × ℕ)) → ℕ → List ℕ → Option ℕ
 found_in tables number name = option_and_then (λ table. lookup (bytes_eq name) table) (slice_get tables number)
 
--- ---- of a text
+-- ---- the tables of a program
 
 abbrev pub class_names : List ClassTree → List (List ℕ)
 class_names cs = map (λ (c : ClassTree). c.name) cs
@@ -41,20 +40,20 @@ method_names (MethodMember m ∷ rest) = m.name ∷ method_names rest
 abbrev pub class_table : TextTree → List (List ℕ × ℕ)
 class_table text = with_numbered [] 0 (class_names text)
 
--- one table of fields for each class
+-- the field table of each class
 abbrev pub field_tables : List ClassTree → List (List (List ℕ × ℕ))
 field_tables cs = map (λ (c : ClassTree). with_numbered [] 0 (field_names (fields_in c.members))) cs
 
--- one table of methods for each class, whose methods have the numbers from a number on
+-- the method table of each class, with methods numbered from `number` on throughout
 abbrev pub method_tables : ℕ → List ClassTree → List (List (List ℕ × ℕ))
 method_tables number [] = []
 method_tables number (c ∷ rest) =
     with_numbered [] number (method_names c.members) ∷ method_tables (number + length (method_names c.members)) rest
 
--- whether each method is static
+-- for each method, whether it is static
 abbrev pub static_table : List OwnMethod → List Bool
 static_table ms = map (λ (own : OwnMethod). is_static own.method) ms
 
--- the names of members with their numbers
+-- the interned member names with their numbers
 abbrev pub name_table : TextTree → List (List ℕ × ℕ)
 name_table text = numbered 0 (names_of text)

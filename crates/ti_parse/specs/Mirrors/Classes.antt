@@ -1,5 +1,4 @@
--- This file mirrors the code. Nobody has to believe it: the contracts of `parse` and `one_text` don't cite it.
--- Reading classes and their members.
+-- For proofs only: the model of parsing classes and their members. Loops have fuel.
 use Rattle.std.specs.Prelude.{ℕ, zero, suc, Bool, true, false, if◌then◌else◌, List, [], ◌∷◌, ◌++◌, Option, Some, None, Ok, Err}
 use Rattle.ti_base.specs.declared.place.Place.{Place}
 use Rattle.ti_syntax.specs.declared.token.TokenKind.{TokenKind}
@@ -18,7 +17,7 @@ use Rattle.ti_parse.specs.Mirrors.Statements.{body}
 module _ (w : Way) (turns : ℕ) where
   -- ---- methods
 
-  -- after the opening parenthesis
+  -- one or more parameters, after `(` or a comma
   unfoldable pub more_params : ℕ → List ParamTree → Parser (List ParamTree)
   more_params zero found = λ i. Err Spent
   more_params (suc n) found = do
@@ -29,7 +28,7 @@ module _ (w : Way) (turns : ℕ) where
     if is_more then take_token >> more_params n (found ++ record { ty = ty; place = at; name = name } ∷ []) else pure (found
         ++ record { ty = ty; place = at; name = name } ∷ [])
 
-  -- after `String`
+  -- the parameter `String[] x`, after `String`
   unfoldable pub words : Parser ParamsTree
   words = do
     expect k.LeftBracket
@@ -43,7 +42,7 @@ module _ (w : Way) (turns : ℕ) where
   params_by k.KeywordString = take_token >> words
   params_by _ = c.Params <$> more_params turns []
 
-  -- what stands between the parentheses of a method
+  -- a method's parameter list, without its parentheses
   unfoldable pub params : Parser ParamsTree
   params = peek >>= params_by
 
@@ -61,7 +60,7 @@ module _ (w : Way) (turns : ℕ) where
 
   -- ---- members
 
-  -- a method, after its result
+  -- a method, after its result type
   unfoldable pub method_named : List Modifier → ResultTree → Parser MemberTree
   method_named ms result = do
     at ← here
@@ -93,7 +92,7 @@ module _ (w : Way) (turns : ℕ) where
   modifiers_if more found None = pure found
   modifiers_if more found (Some word) = (do at ← here; take_token; more (found ++ record { word = word; place = at } ∷ []))
 
-  -- as many modifiers as there are, in at most so many turns
+  -- all modifiers that follow, with fuel
   unfoldable pub modifiers : (TokenKind → Option ModifierWord) → ℕ → List Modifier → Parser (List Modifier)
   modifiers word_of zero found = λ i. Err Spent
   modifiers word_of (suc n) found = (do kind ← peek; modifiers_if (modifiers word_of n) found (word_of kind))
@@ -124,14 +123,14 @@ module _ (w : Way) (turns : ℕ) where
   unfoldable pub class : Parser ClassTree
   class = modifiers class_modifier_of turns [] >>= class_from
 
-  -- as many classes as there are before the end, in at most so many turns
+  -- all classes up to End, with fuel
   unfoldable pub classes : ℕ → List ClassTree → Parser TextTree
   classes zero found = λ i. Err Spent
   classes (suc n) found = do
     is_end ← (λ i. Ok (sees k.End i, i))
     if is_end then pure found else (do x ← class; classes n (found ++ x ∷ []))
 
-  -- the end, which nothing follows
+  -- nothing follows End
   abbrev pub ended : TextTree → Parser TextTree
   ended tree [] = Ok (tree, [])
   ended tree (t ∷ []) = Ok (tree, t ∷ [])

@@ -1,5 +1,4 @@
--- This file mirrors the code. Nobody has to believe it: the contracts of `parse` and `one_text` don't cite it.
--- A function value that reads statements where so many levels of compound ones may still begin.
+-- For proofs only: the contract of a function value that parses statements in which this many more levels may be nested.
 use Rattle.std.specs.Prelude.{ℕ, Result, List}
 use denote.Ref.{MutBor}
 use Rattle.ti_syntax.specs.declared.token.Token.{Token}

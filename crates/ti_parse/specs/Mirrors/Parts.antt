@@ -1,5 +1,4 @@
--- This file mirrors the code. Nobody has to believe it: the contracts of `parse` and `one_text` don't cite it.
--- Reading what statements and members are made of. Loops make at most so many turns.
+-- For proofs only: the model of parsing the parts of statements and members. Loops have fuel `turns`.
 use Rattle.std.specs.Prelude.{ℕ, zero, suc, Bool, true, false, ◌&&◌, if◌then◌else◌, List, [], ◌∷◌, ◌++◌, Option, Some, None, Ok, codes}
 use Rattle.ti_base.specs.declared.place.Place.{Place}
 use Rattle.ti_syntax.specs.declared.token.TokenKind.{TokenKind}
@@ -23,13 +22,13 @@ use Rattle.ti_parse_expr.specs.Mirrors.Types.{arity, base, qualifiers, grid, gri
 use Rattle.ti_parse_expr.specs.Mirrors.Exprs.{Operand, is_dim}
 use Rattle.ti_parse.specs.Mirrors.Way.{Way}
 
--- the words of types that no field and no element has
+-- the keywords of types that fields and elements can't have
 abbrev pub is_wide : TokenKind → Bool
 is_wide k.KeywordDomain = true
 is_wide k.KeywordSharedRegion = true
 is_wide _ = false
 
--- the words that a declaration can begin with
+-- the keywords that can begin a declaration
 abbrev pub begins_declaration : TokenKind → Bool
 begins_declaration k.KeywordInt = true
 begins_declaration k.KeywordLong = true
@@ -44,12 +43,12 @@ abbrev pub is_call : Ending → Bool
 is_call Call = true
 is_call _ = false
 
--- what begins with a name: the type of a declaration, or an operand
+-- the start of a statement that begins with a name: the type of a declaration, or an operand
 pub data Begun : Type 0 where
   Declares : (ty : TypeTree) → Begun
   Starts : (x : Operand) → Begun
 
--- a class's type with nothing behind its name
+-- the type that is just a class name
 abbrev pub class_type : Place → List ℕ → TypeTree
 class_type at name = record { base = b.Named at name; qualifiers = []; grids = [] }
 
@@ -73,42 +72,42 @@ module _ (w : Way) (turns : ℕ) where
     one ← (λ i. Ok (is_wide (kind i), i))
     if one then wide else field
 
-  -- ---- right sides
+  -- ---- initializers
 
-  -- after both bounds
+  -- the rest of a range, after both bounds
   abbrev pub range_behind : Exp → Exp → Parser RangeTree
   range_behind low high = do
     is_stepped ← (λ i. Ok (sees k.Colon i, i))
     if is_stepped then take_token >> (λ step. e.Stepped low high step) <$> w.full form.Whole else pure (e.Plain low high)
 
-  -- after the lower bound
+  -- the rest of a range, after its lower bound
   unfoldable pub range_from : Exp → Parser RangeTree
   range_from low = do
     expect k.Colon
     high ← w.full form.Whole
     range_behind low high
 
-  -- at most so many more
+  -- at most n more ranges
   unfoldable pub more_ranges : ℕ → List RangeTree → Parser (List RangeTree)
   more_ranges zero found = pure found
   more_ranges (suc n) found = do
     is_more ← (λ i. Ok (sees k.Comma i, i))
     if is_more then (do take_token; low ← w.full form.Whole; r ← range_from low; more_ranges n (found ++ r ∷ [])) else pure found
 
-  -- a domain, or one to three ranges
+  -- a domain expression, or one to three ranges
   unfoldable pub dims : Parser DimsTree
   dims = do
     first ← w.full form.Whole
     is_range ← (λ i. Ok (sees k.Colon i, i))
     if is_range then (do r ← range_from first; s.Ranges <$> more_ranges 2 (r ∷ [])) else pure (s.Domain first)
 
-  -- the region of `new`
+  -- the optional `(r)` after `new`
   unfoldable pub region : Parser (Option Exp)
   region = do
     is_placed ← (λ i. Ok (sees k.LeftParen i, i))
     if is_placed then (do take_token; x ← w.full form.Whole; expect k.RightParen; pure (Some x)) else pure None
 
-  -- a grid, after the base of its elements
+  -- a new grid, after the base of its element type
   unfoldable pub new_grid : Place → Option Exp → Base → Parser InitTree
   new_grid at owner begin = do
     qs ← qualifiers turns []
@@ -119,7 +118,7 @@ module _ (w : Way) (turns : ℕ) where
     gs ← grids turns 2 []
     pure (s.NewGrid at owner (record { base = begin; qualifiers = qs; grids = gs }) dims_at d)
 
-  -- an object or a grid, after a name
+  -- a new object, or a new grid of a class, after the class name
   unfoldable pub new_named : Place → Option Exp → Place → List ℕ → Parser InitTree
   new_named at owner name_at name = do
     is_object ← (λ i. Ok (sees k.LeftParen i, i))
@@ -129,7 +128,7 @@ module _ (w : Way) (turns : ℕ) where
   made_by at owner (k.Name name) = (do name_at ← here; take_token; new_named at owner name_at name)
   made_by at owner _ = base >>= new_grid at owner
 
-  -- after `new` and its region
+  -- a new object or grid, after `new` and the optional region
   unfoldable pub made : Place → Option Exp → Parser InitTree
   made at owner = peek >>= made_by at owner
 
@@ -137,11 +136,11 @@ module _ (w : Way) (turns : ℕ) where
   new_by at k.KeywordSharedRegion = (do take_token; expect k.LeftParen; expect k.RightParen; pure (s.NewRegion at))
   new_by at _ = region >>= made at
 
-  -- after `new`
+  -- a new region, object or grid, after `new`
   unfoldable pub new_thing : Place → Parser InitTree
   new_thing at = peek >>= new_by at
 
-  -- after `broadcast`
+  -- a broadcast, after its keyword
   unfoldable pub broadcast : Place → Parser InitTree
   broadcast at = do
     x ← w.full form.Whole
@@ -168,11 +167,11 @@ module _ (w : Way) (turns : ℕ) where
     value ← initial
     pure (s.Declare at ty name value)
 
-  -- after `=`
+  -- an assignment, after its `=`
   abbrev pub assigned : Place → Exp → Parser Stm
   assigned at target = (do value ← initial; pure (s.Assign at target value))
 
-  -- after the operator
+  -- a compound assignment, after its operator
   abbrev pub updated : Place → BinaryOperator → Exp → Parser Stm
   updated at op target = (do x ← w.full form.Whole; pure (s.Update at op target x))
 
@@ -189,7 +188,7 @@ module _ (w : Way) (turns : ℕ) where
   changed_if x Target = peek >>= changed_by x
   changed_if x _ = refuse
 
-  -- a change, after the operand that it begins with
+  -- a change (an assignment, a compound assignment or a step), after its Postfix
   unfoldable pub changed : Operand → Parser Stm
   changed o = changed_if o.0 o.1
 
@@ -197,7 +196,7 @@ module _ (w : Way) (turns : ℕ) where
   simple_if o true = take_token >> pure (s.Call o.0)
   simple_if o false = (do x ← changed o; expect k.Semicolon; pure x)
 
-  -- a call or a change with its semicolon, after the operand that it begins with
+  -- a call or a change with its semicolon, after its Postfix
   unfoldable pub simple : Operand → Parser Stm
   simple o = do
     is_done ← (λ i. Ok (sees k.Semicolon i, i))
@@ -209,9 +208,9 @@ module _ (w : Way) (turns : ℕ) where
     begins ← (λ i. Ok (starts (kind i), i))
     if begins then w.operand >>= changed else refuse
 
-  -- ---- what begins with a name
+  -- ---- statements that begin with a name
 
-  -- after the name and a `[`
+  -- the start of a statement, after its name and `[`
   unfoldable pub begun_bracket : Place → List ℕ → Place → Parser Begun
   begun_bracket at name bracket_at = do
     is_grid ← (λ i. Ok (is_dim (kind i), i))
@@ -226,7 +225,7 @@ module _ (w : Way) (turns : ℕ) where
   begun_by at name k.LeftBracket = (do bracket_at ← here; take_token; begun_bracket at name bracket_at)
   begun_by at name kind = begun_if at name (qualifier_of kind)
 
-  -- after the name
+  -- the start of a statement, after its name
   unfoldable pub begun : Place → List ℕ → Parser Begun
   begun at name = peek >>= begun_by at name
 
@@ -236,11 +235,11 @@ module _ (w : Way) (turns : ℕ) where
   printer_by k.KeywordSystem = (do take_token; expect k.Dot; expect_word (codes "out"); expect k.Dot; at ← here; expect k.KeywordPrintln; pure at)
   printer_by _ = (do at ← here; expect k.KeywordPrintln; pure at)
 
-  -- the place of `println`
+  -- `println` or `System.out.println`; the value is the position of `println`
   unfoldable pub printer : Parser Place
   printer = peek >>= printer_by
 
-  -- after a string literal
+  -- the argument of a print, after its string literal
   unfoldable pub printed_text : List ℕ → Parser PrintTree
   printed_text text = do
     is_more ← (λ i. Ok (sees k.Plus i, i))
@@ -251,7 +250,7 @@ module _ (w : Way) (turns : ℕ) where
   printed_by (k.Str text) = take_token >> printed_text text
   printed_by _ = s.Expression <$> w.full form.Whole
 
-  -- what stands between the parentheses of a print
+  -- the argument of a print, without its parentheses
   unfoldable pub printed : Parser PrintTree
   printed = peek >>= printed_by
 
@@ -264,7 +263,7 @@ module _ (w : Way) (turns : ℕ) where
     expect k.Semicolon
     pure (s.Print at what)
 
-  -- after `Ti`
+  -- a barrier, after `Ti`
   unfoldable pub barrier : Parser Stm
   barrier = do
     expect k.Dot
@@ -275,7 +274,7 @@ module _ (w : Way) (turns : ℕ) where
     expect k.Semicolon
     pure (s.Barrier at)
 
-  -- ---- jumps, from their words on
+  -- ---- jumps, from their keywords on
 
   unfoldable pub break_out : Parser Stm
   break_out = do
@@ -291,7 +290,7 @@ module _ (w : Way) (turns : ℕ) where
     expect k.Semicolon
     pure (s.Continue at)
 
-  -- an expression, or none before a semicolon
+  -- an expression, or None if a semicolon is next
   unfoldable pub optional : Parser (Option Exp)
   optional = do
     is_none ← (λ i. Ok (sees k.Semicolon i, i))
@@ -323,11 +322,11 @@ module _ (w : Way) (turns : ℕ) where
   first_by (k.Name name) = (do at ← here; take_token; x ← begun at name; first ← first_of x; pure (s.SomeStm first))
   first_by kind = (do first ← (if begins_declaration kind then typed >>= declared else change); pure (s.SomeStm first))
 
-  -- what the head of a `for` begins with
+  -- the first part of a `for` head
   unfoldable pub first : Parser MaybeStm
   first = peek >>= first_by
 
-  -- the update of a `for`
+  -- the update of a `for` head
   unfoldable pub update : Parser MaybeStm
   update = do
     is_none ← (λ i. Ok (sees k.RightParen i, i))

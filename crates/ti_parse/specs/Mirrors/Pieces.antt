@@ -1,5 +1,4 @@
--- This file mirrors the code. Nobody has to believe it: the contracts of `parse` and `one_text` don't cite it.
--- Parts that functions of their own read, and what clauses see of them.
+-- For proofs only: groups of parsing steps that are functions of their own in the code, and the models of their values.
 use Rattle.std.specs.Prelude.{ℕ, List, [], Option}
 use Rattle.std.specs.declared.boxed.Box.{Box}
 use Rattle.std.specs.declared.alloc.Global.{Global}
@@ -24,7 +23,7 @@ use Rattle.ti_parse.specs.Mirrors.Statements.{body}
 use Rattle.ti_parse.specs.Mirrors.Classes.{params}
 
 module _ (w : Way) (turns : ℕ) where
-  -- of a new grid: the place of the first bracket, the dimensions, and the grids behind them
+  -- of a new grid: the position of its bracket, its domain, and the grid brackets of its element type
   unfoldable pub sizes : Parser (Place × DimsTree × List GridTree)
   sizes = do
     at ← here
@@ -34,7 +33,7 @@ module _ (w : Way) (turns : ℕ) where
     gs ← grids turns 2 []
     pure (at, d, gs)
 
-  -- the head of a `for`
+  -- the head of a `for`, with its parentheses
   unfoldable pub for_head : Parser (MaybeStm × Option Exp × MaybeStm)
   for_head = do
     expect k.LeftParen
@@ -46,7 +45,7 @@ module _ (w : Way) (turns : ℕ) where
     expect k.RightParen
     pure (begin, c, change)
 
-  -- the parameters of a method with their parentheses
+  -- a method's parameter list, with its parentheses
   unfoldable pub signature : Parser ParamsTree
   signature = do
     expect k.LeftParen
@@ -54,7 +53,7 @@ module _ (w : Way) (turns : ℕ) where
     expect k.RightParen
     pure ps
 
-  -- the items of a method in their braces, with the place of the last
+  -- a method body in its braces, with the position of the closing one
   unfoldable pub braced : Parser (List Stm × Place)
   braced = do
     expect k.LeftBrace
@@ -63,7 +62,7 @@ module _ (w : Way) (turns : ℕ) where
     expect k.RightBrace
     pure (xs, end_at)
 
--- ---- what clauses see
+-- ---- models of values
 
 abbrev pub sizes_of : Sizes → Place × DimsTree × List GridTree
 sizes_of z = (z.bracket, dims_of z.dims, grids_of z.grids)

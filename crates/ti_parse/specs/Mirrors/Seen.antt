@@ -1,5 +1,4 @@
--- This file mirrors the code. Nobody has to believe it: the contracts of `parse` and `one_text` don't cite it.
--- What clauses see of the values that are read.
+-- For proofs only: the models of the values that the parser returns.
 use Rattle.std.specs.Prelude.{◌≡◌, List, map, Option, Some, None, Result, Ok, Err}
 use Rattle.std.specs.declared.boxed.Box.{Box}
 use Rattle.std.specs.declared.vec.Vec.{Vec}
@@ -26,12 +25,12 @@ use Rattle.ti_parse.specs.declared.words.Modified.{Modified}
 use Rattle.ti_parse.specs.declared.words.Modified.TheVariants as modified
 use Rattle.ti_parse.specs.Mirrors.Parts as parts
 
--- the words in front of a class or a member
+-- the modifiers of a class or a member, by token
 abbrev pub word_of : Modified → TokenKind → Option ModifierWord
 word_of modified.Class = class_modifier_of
 word_of modified.Member = modifier_of
 
--- what begins with a name
+-- the model of the start of a statement
 abbrev pub begun_of : Begun → parts.Begun
 begun_of (begun.Declares ty) = parts.Declares (type_of ty)
 begun_of (begun.Starts o) = parts.Starts (operand_of o)
@@ -39,17 +38,17 @@ begun_of (begun.Starts o) = parts.Starts (operand_of o)
 abbrev pub boxed_stm : Box Stmt Global → Stm
 boxed_stm b = stm_of b.value
 
--- a part of the head of a `for`
+-- the model of an optional statement of a `for` head
 abbrev pub maybe_stm : Option (Box Stmt Global) → MaybeStm
 maybe_stm None = NoStm
 maybe_stm (Some b) = SomeStm (boxed_stm b)
 
--- ---- what stands in front of a semicolon
+-- ---- phrases followed by a semicolon
 
 abbrev pub before_semicolon : {A : Type 0} → Parser A → Parser A
 before_semicolon p = (do x ← p; expect k.Semicolon; pure x)
 
--- this value is given back where a token is taken
+-- the result is this value if the token is consumed, else the error
 abbrev pub Keeps : {A : Type 0} → A → Outcome (Unit {0}) → Result A Stop → List Token → Type 0
 Keeps read out (Ok a) new = (a ≡ read) × (out ≡ Ok (tt, new))
 Keeps read out (Err e) new = Fails out e new

@@ -1,5 +1,4 @@
--- This file mirrors the code. Nobody has to believe it: the contracts of `parse` and `one_text` don't cite it.
--- Reading statements.
+-- For proofs only: the model of parsing statements. Loops have fuel `turns`.
 use Rattle.std.specs.Prelude.{ℕ, zero, suc, Bool, true, false, if◌then◌else◌, List, [], ◌∷◌, ◌++◌, Ok, Err, codes}
 use Rattle.ti_base.specs.declared.place.Place.{Place}
 use Rattle.ti_syntax.specs.declared.token.TokenKind.{TokenKind}
@@ -13,7 +12,7 @@ use Rattle.ti_parse_expr.specs.Mirrors.Input.{Parser, Over, Spent, ◌>>=◌, �
 use Rattle.ti_parse.specs.Mirrors.Way.{Way}
 use Rattle.ti_parse.specs.Mirrors.Parts.{Begun, Declares, Starts, begins_declaration, typed, declared, simple, begun, print, barrier, break_out, continue_on, return_from, condition, first, optional, update}
 
--- the tokens that compound statements begin with
+-- the tokens that begin compound statements
 abbrev pub is_compound : TokenKind → Bool
 is_compound k.LeftBrace = true
 is_compound k.KeywordIf = true
@@ -22,15 +21,15 @@ is_compound k.KeywordFor = true
 is_compound k.KeywordForeach = true
 is_compound _ = false
 
--- the next token is nested too deeply
+-- the error at a token that is nested too deeply
 abbrev pub too_deep : {A : Type 0} → Parser A
 too_deep = λ i. Err (Over i)
 
 module _ (w : Way) (turns : ℕ) where
-  -- ---- the parts of compound statements, with a reader of the statements in them
+  -- ---- the parts of compound statements, over a parser of nested statements
 
   module _ (stmt : Parser Stm) where
-    -- what began with a name
+    -- an item that begins with a name, after its start
     abbrev pub named_item : Begun → Parser Stm
     named_item (Declares ty) = (do x ← declared w turns ty; expect k.Semicolon; pure x)
     named_item (Starts o) = simple w turns o
@@ -39,45 +38,45 @@ module _ (w : Way) (turns : ℕ) where
     item_by (k.Name name) = (do at ← here; take_token; x ← begun w turns at name; named_item x)
     item_by kind = if begins_declaration kind then (do ty ← typed w turns; x ← declared w turns ty; expect k.Semicolon; pure x) else stmt
 
-    -- a declaration or a statement
+    -- an item: a declaration or a statement
     unfoldable pub item : Parser Stm
     item = peek >>= item_by
 
-    -- as many as there are before a `}`, in at most so many turns
+    -- all items up to a `}`, with fuel
     unfoldable pub items : ℕ → List Stm → Parser (List Stm)
     items zero found = λ i. Err Spent
     items (suc n) found = do
       is_end ← (λ i. Ok (sees k.RightBrace i, i))
       if is_end then pure found else (do x ← item; items n (found ++ x ∷ []))
 
-    -- after `{`
+    -- a block, after its `{`
     unfoldable pub block : Parser Stm
     block = do
       xs ← items turns []
       expect k.RightBrace
       pure (s.block xs)
 
-    -- an `if` after its first statement
+    -- an `if`, after its first branch
     abbrev pub conditional_behind : Place → Exp → Stm → Parser Stm
     conditional_behind at c x = do
       has_else ← (λ i. Ok (sees k.KeywordElse i, i))
       if has_else then (do take_token; y ← stmt; pure (s.IfElse at c x y)) else pure (s.If at c x)
 
-    -- after `if`
+    -- an `if`, after its keyword
     unfoldable pub conditional : Place → Parser Stm
     conditional at = do
       c ← condition w turns
       x ← stmt
       conditional_behind at c x
 
-    -- after `while`
+    -- a `while`, after its keyword
     unfoldable pub while_loop : Place → Parser Stm
     while_loop at = do
       c ← condition w turns
       x ← stmt
       pure (s.While at c x)
 
-    -- after `for`
+    -- a `for`, after its keyword
     unfoldable pub for_loop : Place → Parser Stm
     for_loop at = do
       expect k.LeftParen
@@ -90,7 +89,7 @@ module _ (w : Way) (turns : ℕ) where
       x ← stmt
       pure (s.For at begin c change x)
 
-    -- after `foreach`
+    -- a `foreach`, after its keyword
     unfoldable pub foreach_loop : Place → Parser Stm
     foreach_loop at = do
       expect k.LeftParen
@@ -102,7 +101,7 @@ module _ (w : Way) (turns : ℕ) where
       x ← stmt
       pure (s.Foreach at name_at name domain x)
 
-    -- after the first token of a compound statement
+    -- a compound statement, after its first token
     abbrev pub compound : Place → TokenKind → Parser Stm
     compound at k.LeftBrace = block
     compound at k.KeywordIf = conditional at
@@ -112,7 +111,7 @@ module _ (w : Way) (turns : ℕ) where
 
   -- ---- statements
 
-  -- a statement that isn't compound
+  -- a statement that isn't compound, by its first token
   abbrev pub small_by : TokenKind → Parser Stm
   small_by k.Semicolon = take_token >> pure s.Empty
   small_by k.KeywordPrintln = print w turns
@@ -126,7 +125,7 @@ module _ (w : Way) (turns : ℕ) where
   unfoldable pub small : Parser Stm
   small = peek >>= small_by
 
-  -- a statement where so many levels of compound ones may still begin
+  -- a statement in which this many more levels of compound statements may be nested
   unfoldable pub stmt : ℕ → Parser Stm
   stmt zero = do
     is_deep ← (λ i. Ok (is_compound (kind i), i))
@@ -136,6 +135,6 @@ module _ (w : Way) (turns : ℕ) where
     at ← here
     if is_compound begin then take_token >> compound (stmt n) at begin else small
 
-  -- the items of a method
+  -- the items of a method body, without its braces
   abbrev pub body : Parser (List Stm)
   body = items (stmt w.levels) turns []

@@ -1,5 +1,4 @@
--- This file mirrors the code. Nobody has to believe it: the contracts of `parse` and `one_text` don't cite it.
--- Ways to read a text.
+-- For proofs only: the parser's parameters, so that it can be compared with one that has other limits.
 use Rattle.std.specs.Prelude.{ℕ, List}
 use Rattle.ti_base.specs.declared.place.Place.{Place}
 use Rattle.ti_syntax.specs.Trees.Expressions.{Exp}
@@ -8,8 +7,8 @@ use Rattle.ti_parse_expr.specs.Mirrors.Input.{Parser}
 use Rattle.ti_parse_expr.specs.Mirrors.Exprs.{Operand}
 use Rattle.ti_parse_expr.specs.Mirrors.Full.{Limits, usual, full_to, operand_to, behind_name_to, behind_bracket_to}
 
--- how many levels of compound statements are read, and how full expressions are read: one of a form, a Postfix, a Postfix
--- behind its first name, and one behind its first name and a `[`
+-- the limit on nesting, and the parsers of full expressions: of a phrase, of a Postfix, of a Postfix after its first name, and of one
+-- after its first name and `[`
 pub record Way : Type 0 where
   pub levels : ℕ
   pub full : Form → Parser Exp
@@ -17,7 +16,7 @@ pub record Way : Type 0 where
   pub behind_name : Place → List ℕ → Parser Operand
   pub behind_bracket : Place → Place → List ℕ → Parser Operand
 
--- up to these limits
+-- the parameters for these limits
 abbrev pub up_to : Limits → Way
 up_to limits = record {
   levels = limits.level;
@@ -27,6 +26,6 @@ up_to limits = record {
   behind_bracket = behind_bracket_to limits;
 }
 
--- up to those of the language: the way of the code
+-- the parameters for the language's limits, as in the code
 abbrev pub plain : Way
 plain = up_to usual

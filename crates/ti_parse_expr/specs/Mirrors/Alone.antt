@@ -1,5 +1,5 @@
--- This file mirrors the code. Nobody has to believe it: the contracts of `parse_expr` and `one_tree` don't cite it.
--- Tokens that often stand behind an operand, and with which none goes on.
+-- For proofs only: the model of the shortcut for operands of one token, by the tokens that often follow an operand and never
+-- continue it.
 use Rattle.std.specs.Prelude.{Bool, true, false, List, [], ◌∷◌}
 use Rattle.ti_syntax.specs.declared.token.Token.{Token}
 use Rattle.ti_syntax.specs.declared.token.TokenKind.{TokenKind}
@@ -15,7 +15,7 @@ ends_operand k.PlusAssign = true
 ends_operand k.PlusPlus = true
 ends_operand _ = false
 
--- the next token is a name behind which an expression ends
+-- a name, followed by a token that ends the expression
 abbrev pub names : TokenKind → TokenKind → Bool
 names (k.Name name) q = ends_operand q
 names _ q = false

@@ -1,5 +1,5 @@
--- This file mirrors the code. Nobody has to believe it: the contracts of `parse_expr` and `one_tree` don't cite it.
--- Reading expressions, with one token of lookahead. The numbers of turns are enough wherever they are above the count of tokens.
+-- For proofs only: the model of the expression parser, which has one token of lookahead. `turns` is fuel; more than the number of
+-- tokens suffices.
 use Rattle.std.specs.Prelude.{ℕ, zero, suc, ◌+◌, if◌then◌else◌, nat_lt, Bool, true, false, is_some, List, [], ◌∷◌, ◌++◌, Option, Some, None, Ok, Err, codes}
 use Rattle.ti_base.specs.declared.place.Place.{Place}
 use Rattle.ti_syntax.specs.declared.token.TokenKind.{TokenKind}
@@ -18,11 +18,11 @@ use Rattle.ti_parse_expr.specs.declared.parse.Form.{Form}
 use Rattle.ti_parse_expr.specs.declared.parse.Form.TheVariants as form
 use Rattle.ti_parse_expr.specs.Mirrors.Types.{base as type_base, grid, grids, field_type}
 
--- a Postfix, with what it ends with
+-- a Postfix, with its ending
 abbrev pub Operand : Type 0
 Operand = Exp × Ending
 
--- the words that begin a type but no expression
+-- the keywords that begin a type but no expression
 abbrev pub begins_type : TokenKind → Bool
 begins_type k.KeywordInt = true
 begins_type k.KeywordLong = true
@@ -35,14 +35,14 @@ abbrev pub is_dim : TokenKind → Bool
 is_dim (k.Dim n) = true
 is_dim _ = false
 
--- after `Ti` and its dot
+-- `thisProc` or `numProcs`, after `Ti` and its dot
 unfoldable pub process_name : Parser Bool
 process_name = do
   is_this ← (λ i. Ok (sees_word (codes "thisProc") i, i))
   is_num ← (λ i. Ok (sees_word (codes "numProcs") i, i))
   if is_this then take_token >> pure true else (if is_num then take_token >> pure false else refuse)
 
--- after `Ti`
+-- the rest of `Ti.thisProc()` or `Ti.numProcs()`, after `Ti`
 unfoldable pub process : Place → Parser Exp
 process at = do
   expect k.Dot
@@ -51,11 +51,11 @@ process at = do
   expect k.RightParen
   pure (if is_this then e.ThisProc at else e.NumProcs at)
 
--- `expr` reads an expression whose operators bind as tightly as a number or more.
+-- `expr` parses an expression whose operators have at least the given precedence level.
 module _ (turns : ℕ) (expr : ℕ → Parser Exp) where
   -- ---- lists
 
-  -- after a comma or an opening parenthesis
+  -- the remaining arguments, after a comma or `(`
   unfoldable pub more_args : ℕ → List Exp → Parser (List Exp)
   more_args zero found = λ i. Err Spent
   more_args (suc n) found = do
@@ -63,31 +63,31 @@ module _ (turns : ℕ) (expr : ℕ → Parser Exp) where
     is_more ← (λ i. Ok (sees k.Comma i, i))
     if is_more then take_token >> more_args n (found ++ x ∷ []) else pure (found ++ x ∷ [])
 
-  -- after the opening parenthesis, with the closing one
+  -- an argument list with its `)`, after `(`
   unfoldable pub args : Parser (List Exp)
   args = do
     is_empty ← (λ i. Ok (sees k.RightParen i, i))
     if is_empty then take_token >> pure [] else (do found ← more_args turns []; expect k.RightParen; pure found)
 
-  -- at most so many more
+  -- at most n more coordinates or indices
   unfoldable pub more_parts : ℕ → List Exp → Parser (List Exp)
   more_parts zero found = pure found
   more_parts (suc n) found = do
     is_more ← (λ i. Ok (sees k.Comma i, i))
     if is_more then (do take_token; x ← expr 1; more_parts n (found ++ x ∷ [])) else pure found
 
-  -- after a first one, with the closing bracket
+  -- the remaining coordinates or indices after the first one, with the `]`
   unfoldable pub parts_from : Exp → Parser (List Exp)
   parts_from first = do
     found ← more_parts 2 (first ∷ [])
     expect k.RightBracket
     pure found
 
-  -- after an opening bracket, with the closing one
+  -- coordinates or indices with the `]`, after `[`
   unfoldable pub parts : Parser (List Exp)
   parts = expr 1 >>= parts_from
 
-  -- after the lower bound
+  -- the rest of a range, after its lower bound
   unfoldable pub range_from : Exp → Parser RangeTree
   range_from low = do
     expect k.Colon
@@ -95,14 +95,14 @@ module _ (turns : ℕ) (expr : ℕ → Parser Exp) where
     is_stepped ← (λ i. Ok (sees k.Colon i, i))
     if is_stepped then take_token >> (λ step. e.Stepped low high step) <$> expr 1 else pure (e.Plain low high)
 
-  -- at most so many more
+  -- at most n more ranges
   unfoldable pub more_ranges : ℕ → List RangeTree → Parser (List RangeTree)
   more_ranges zero found = pure found
   more_ranges (suc n) found = do
     is_more ← (λ i. Ok (sees k.Comma i, i))
     if is_more then (do take_token; low ← expr 1; r ← range_from low; more_ranges n (found ++ r ∷ [])) else pure found
 
-  -- after the lower bound of the first one, with the closing bracket
+  -- the rest of a list of ranges with the `]`, after the lower bound of the first one
   unfoldable pub ranges_from : Exp → Parser (List RangeTree)
   ranges_from low = do
     r ← range_from low
@@ -112,20 +112,20 @@ module _ (turns : ℕ) (expr : ℕ → Parser Exp) where
 
   -- ---- a Postfix
 
-  -- after the opening bracket of a literal
+  -- a point or domain literal, after its `[`
   unfoldable pub bracket : Place → Parser Exp
   bracket at = do
     first ← expr 1
     is_range ← (λ i. Ok (sees k.Colon i, i))
     if is_range then e.rect at <$> ranges_from first else e.point at <$> parts_from first
 
-  -- after a name
+  -- a name or a call, after the name
   unfoldable pub named : Place → List ℕ → Parser Operand
   named at name = do
     is_call ← (λ i. Ok (sees k.LeftParen i, i))
     if is_call then take_token >> (λ xs. (e.call at name xs, Call)) <$> args else pure (e.Name at name, Target)
 
-  -- after a dot
+  -- a member selection or method call, after the dot
   unfoldable pub member : Exp → Parser Operand
   member left = do
     at ← here
@@ -133,7 +133,7 @@ module _ (turns : ℕ) (expr : ℕ → Parser Exp) where
     is_call ← (λ i. Ok (sees k.LeftParen i, i))
     if is_call then take_token >> (λ xs. (e.member at left name xs, Call)) <$> args else pure (e.Select at left name, Target)
 
-  -- after an opening bracket
+  -- an index, after its `[`
   unfoldable pub index : Place → Exp → Parser Operand
   index at left = (λ xs. (e.index at left xs, Target)) <$> parts
 
@@ -142,12 +142,12 @@ module _ (turns : ℕ) (expr : ℕ → Parser Exp) where
   postfix_by more left k.LeftBracket = (do at ← here; take_token; x ← index at left.0; more x)
   postfix_by more left _ = pure left
 
-  -- what stands behind an operand
+  -- the postfix parts that follow an operand
   unfoldable pub postfix : ℕ → Operand → Parser Operand
   postfix zero left = λ i. Err Spent
   postfix (suc n) left = peek >>= postfix_by (postfix n) left
 
-  -- after the opening parenthesis of a group
+  -- a group and its postfix parts, after `(`
   unfoldable pub group : Parser Operand
   group = do
     x ← expr 1
@@ -184,27 +184,27 @@ module _ (turns : ℕ) (expr : ℕ → Parser Exp) where
   climb_by more least left None = pure left
   climb_by more least left (Some op) = if nat_lt (strength op) least then pure left else (operation left op >>= more)
 
-  -- operators from a level on
+  -- operators of at least this level, with their right operands
   unfoldable pub climb : ℕ → ℕ → Exp → Parser Exp
   climb least zero left = λ i. Err Spent
   climb least (suc n) left = (do kind ← peek; climb_by (climb least n) least left (infix_of kind))
 
-  -- after its type: the closing parenthesis, and the operand
+  -- a cast from its `)` on, after its type
   unfoldable pub cast : Place → TypeTree → Parser Exp
   cast at ty = expect k.RightParen >> e.Cast at ty <$> expr 11
 
-  -- a cast after what its type begins with
+  -- a cast, after the base of its type
   unfoldable pub cast_from : Place → Base → Parser Exp
   cast_from at begin = field_type turns begin >>= cast at
 
-  -- a cast after a base and an opening bracket
+  -- a cast, after a class name and `[`
   unfoldable pub cast_from_grid : Place → Base → Parser Exp
   cast_from_grid at begin = do
     g ← grid turns
     gs ← grids turns 2 (g ∷ [])
     cast at (record { base = begin; qualifiers = []; grids = gs })
 
-  -- a group after its first operand
+  -- a group and its postfix parts, after the first operand in it
   unfoldable pub group_from : Operand → Parser Exp
   group_from first = do
     left ← postfix turns first
@@ -212,7 +212,7 @@ module _ (turns : ℕ) (expr : ℕ → Parser Exp) where
     expect k.RightParen
     (λ y. y.0) <$> postfix turns (x, Other)
 
-  -- after an opening parenthesis and a name, at an opening bracket
+  -- a cast or a group, at `[` after `(` and a name
   unfoldable pub paren_name_bracket : Place → Place → List ℕ → Parser Exp
   paren_name_bracket at name_at name = do
     bracket_at ← here
@@ -225,7 +225,7 @@ module _ (turns : ℕ) (expr : ℕ → Parser Exp) where
   paren_name_by at name_at name kind =
       if is_some (qualifier_of kind) then cast_from at (b.Named name_at name) else (named name_at name >>= group_from)
 
-  -- after an opening parenthesis and a name
+  -- a cast or a group, after `(` and a name
   unfoldable pub paren_name : Place → Place → List ℕ → Parser Exp
   paren_name at name_at name = peek >>= paren_name_by at name_at name
 
@@ -233,7 +233,7 @@ module _ (turns : ℕ) (expr : ℕ → Parser Exp) where
   paren_by at (k.Name name) = (do name_at ← here; take_token; paren_name at name_at name)
   paren_by at kind = if begins_type kind then (type_base >>= cast_from at) else ((λ x. x.0) <$> group)
 
-  -- after an opening parenthesis: a cast, or a group and what stands behind it
+  -- a cast, or a group and its postfix parts, after `(`
   unfoldable pub paren : Place → Parser Exp
   paren at = peek >>= paren_by at
 
@@ -267,11 +267,11 @@ phrase turns form.Whole = expr turns 1
 phrase turns form.Mul = expr turns 10
 phrase turns form.Postfix = (λ x. x.0) <$> operand turns (expr turns)
 
--- a Postfix behind its first name
+-- a Postfix, after its first name
 unfoldable pub behind_name : ℕ → Place → List ℕ → Parser Operand
 behind_name turns at name = named turns (expr turns) at name >>= postfix turns (expr turns) turns
 
--- a Postfix behind its first name and an opening bracket, with so many turns behind its index
+-- a Postfix, after its first name and `[`; `turns` is the fuel for the postfix parts after the index
 unfoldable pub behind_bracket : ℕ → Place → Place → List ℕ → Parser Operand
 behind_bracket turns bracket_at at name =
     index (suc turns) (expr (suc turns)) bracket_at (e.Name at name) >>= postfix (suc turns) (expr (suc turns)) turns

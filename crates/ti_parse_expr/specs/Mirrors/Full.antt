@@ -1,6 +1,5 @@
--- This file mirrors the code. Nobody has to believe it: the contracts of `parse_expr` and `one_tree` don't cite it.
--- Reading a full expression within a limit on weights: as without a limit, but that the first token that weighs too much is
--- too deep.
+-- For proofs only: the model of parsing a full expression with a weight limit. It is the parser without a limit, except that it fails
+-- with Over at the first token that is above the limit.
 use Rattle.std.specs.Prelude.{ℕ, suc, ◌+◌, ◌-◌, Bool, false, ◌&&◌, nat_lt, if◌then◌else◌, List, [], ◌∷◌, length, take, drop, Ok, Err}
 use Rattle.ti_base.specs.declared.place.Place.{Place}
 use Rattle.ti_syntax.specs.declared.token.Token.{Token}
@@ -13,12 +12,12 @@ use Rattle.ti_parse_expr.specs.Mirrors.Reach.{reach}
 use Rattle.ti_parse_expr.specs.Mirrors.Exprs.{Operand, operand, expr, phrase, behind_name, behind_bracket}
 use Rattle.ti_syntax.specs.Spelling.{most_levels, most_weight}
 
--- the highest level and the greatest weight of a token that is read
+-- limits on nesting levels and weights
 pub record Limits : Type 0 where
   pub level : ℕ
   pub weight : ℕ
 
--- those of the language
+-- the language's limits
 abbrev pub usual : Limits
 usual = record { level = most_levels; weight = most_weight }
 
@@ -31,7 +30,7 @@ above limits (Weight n) = nat_lt limits.weight n
 abbrev pub is_above : Load → Bool
 is_above = above usual
 
--- the outcome of reading a list that begins with tokens of these loads: at the first of them that is above its limit, or else this one
+-- the outcome with limits, for tokens with these loads at the start of the list: Over at the first one above its limit, else `out`
 abbrev pub limited_to : {A : Type 0} → Limits → List Load → List Token → Outcome A → Outcome A
 limited_to limits [] l out = out
 limited_to limits (x ∷ loads) l out = if above limits x then Err (Over l) else limited_to limits loads (next l) out
@@ -39,22 +38,22 @@ limited_to limits (x ∷ loads) l out = if above limits x then Err (Over l) else
 abbrev pub limited : {A : Type 0} → List Load → List Token → Outcome A → Outcome A
 limited loads l out = limited_to usual loads l out
 
--- what an outcome leaves
+-- the tokens that an outcome leaves unread
 abbrev pub rest_of : {A : Type 0} → Outcome A → List Token
 rest_of (Ok p) = p.1
 rest_of (Err (At r)) = r
 rest_of (Err (Over r)) = r
 rest_of (Err Spent) = []
 
--- what was taken of the list
+-- the tokens that were consumed
 abbrev pub taken : {A : Type 0} → List Token → Outcome A → List Token
 taken l out = take (length l - length (rest_of out)) l
 
--- a reader within the limit, where the weight is counted on from a number
+-- a parser with a weight limit, where weights are counted from `weight` on
 abbrev pub light : {A : Type 0} → Limits → ℕ → Parser A → Parser A
 light limits weight p l = limited_to limits (weights_behind 0 weight (taken l (p l))) l (p l)
 
--- ---- full expressions: an expression of a form; a Postfix; a Postfix behind its first name, and behind its first name and a `[`
+-- ---- full expressions: a phrase; a Postfix; a Postfix after its first name, and after its first name and `[`
 
 abbrev pub full_to : Limits → Form → Parser Exp
 full_to limits form l = light limits 0 (phrase (suc (length l)) form) l
@@ -68,7 +67,7 @@ behind_name_to limits at name l = light limits 0 (behind_name (suc (suc (length 
 abbrev pub behind_bracket_to : Limits → Place → Place → List ℕ → Parser Operand
 behind_bracket_to limits bracket_at at name l = light limits 1 (behind_bracket (suc (suc (length l))) bracket_at at name) l
 
--- the same within the usual limits
+-- the parsers above, with the language's limits
 
 abbrev pub full : Form → Parser Exp
 full = full_to usual
@@ -82,17 +81,17 @@ full_behind_name = behind_name_to usual
 abbrev pub full_behind_bracket : Place → Place → List ℕ → Parser Operand
 full_behind_bracket = behind_bracket_to usual
 
--- ---- as the code reads: a front of the list
+-- ---- the code's way: parsing a prefix
 
--- the front up to and including the first token that weighs too much or stands in no expression
+-- the prefix that ends with the first token that is above the weight limit or can't be in an expression
 abbrev pub front_of : ℕ → List Token → List Token
 front_of weight l = take (reach 0 (most_weight - weight) l) l
 
--- whether reading a front left so many tokens of it, none, and its last token weighs too much
+-- whether none of the prefix is left and its last token is above the weight limit; `left` is the number of its tokens that are left
 abbrev pub passed : ℕ → List Token → ℕ → Bool
 passed weight front left = nat_lt left 1 && nat_lt most_weight (weight + weigh front)
 
--- what the outcome for a front of the list is for the list
+-- the outcome for the list, given that for a prefix of it
 abbrev pub widened : {A : Type 0} → ℕ → List Token → List Token → Outcome A → Outcome A
 widened weight l front (Ok p) =
     if passed weight front (length p.1) then Err (Over (drop (length front - 1) l)) else Ok (p.0, drop (length front - length p.1) l)
@@ -102,6 +101,6 @@ widened weight l front (Err (Over r)) =
     if passed weight front (length r) then Err (Over (drop (length front - 1) l)) else Err (Over (drop (length front - length r) l))
 widened weight l front (Err Spent) = Err Spent
 
--- a reader of the front, given one turn more than the front has tokens
+-- a parser that reads only the prefix, with fuel of one more than the prefix has tokens
 abbrev pub within : {A : Type 0} → ℕ → (ℕ → Parser A) → Parser A
 within weight p l = let front = front_of weight l in widened weight l front (p (suc (length front)) front)

@@ -1,5 +1,4 @@
--- This file mirrors the code. Nobody has to believe it: the contracts of `parse_expr` and `one_tree` don't cite it.
--- What is read from, and the steps that every rule is made of.
+-- For proofs only: the model of the parser's input, and the parser combinators.
 use Rattle.std.specs.Prelude.{◌≡◌, ℕ, Bool, false, if◌then◌else◌, List, [], ◌∷◌, Result, Ok, Err}
 use Rattle.std.specs.Str.{bytes_eq}
 use Rattle.ti_base.specs.declared.place.Place.{Place}
@@ -10,7 +9,7 @@ use Rattle.ti_syntax.specs.Tokens.{same_kind}
 use Rattle.ti_parse_expr.specs.declared.stop.Stop.{Stop}
 use Rattle.ti_parse_expr.specs.declared.stop.Stop.TheVariants as stop
 
--- ---- the next token, which past the end is the end
+-- ---- the next token; past the end it is End
 
 abbrev pub kind : List Token → TokenKind
 kind [] = k.End
@@ -26,8 +25,8 @@ next (t ∷ ts) = ts
 
 -- ---- parsers
 
--- why no tree was read: the list from the token that was refused; the list from the token that was too deep; or no turns were
--- left
+-- why parsing failed: at an unexpected token (At, with the list from it on), at a token above a limit (Over, with the list from it
+-- on), or out of fuel (Spent)
 pub data Halt : Type 0 where
   At : List Token → Halt
   Over : List Token → Halt
@@ -67,7 +66,7 @@ peek = λ i. Ok (kind i, i)
 abbrev pub here : Parser Place
 here = λ i. Ok (place i, i)
 
--- ---- taking tokens
+-- ---- consuming tokens
 
 abbrev pub take_token : Parser (Unit {0})
 take_token = λ i. Ok (tt, next i)
@@ -78,7 +77,7 @@ sees wanted i = same_kind (kind i) wanted
 abbrev pub expect : TokenKind → Parser (Unit {0})
 expect wanted i = if sees wanted i then take_token i else Err (At i)
 
--- whether it is this name
+-- whether the kind is this name
 abbrev pub spells : List ℕ → TokenKind → Bool
 spells word (k.Name name) = bytes_eq name word
 spells word _ = false
@@ -96,7 +95,7 @@ named_by _ = refuse
 abbrev pub any_name : Parser (List ℕ)
 any_name = peek >>= named_by
 
--- ---- what a function that parses ensures: the parser's outcome, unless memory fails; at a refusal the refused token is next
+-- ---- what parsing functions ensure: the model's outcome, or out of memory; after an error, the failing token is the next one
 
 abbrev pub Fails : {A : Type 0} → Outcome A → Stop → List Token → Type 0
 Fails outcome stop.Memory new = Unit {0}
@@ -108,7 +107,7 @@ abbrev pub Reads : {A : Type 0} → Outcome A → Result A Stop → List Token �
 Reads outcome (Ok a) new = outcome ≡ Ok (a, new)
 Reads outcome (Err e) new = Fails outcome e new
 
--- the same where clauses see the value otherwise
+-- what a parsing function ensures whose value has another type in the model
 abbrev pub ReadsAs : {A B : Type 0} → (A → B) → Outcome B → Result A Stop → List Token → Type 0
 ReadsAs view outcome (Ok a) new = outcome ≡ Ok (view a, new)
 ReadsAs view outcome (Err e) new = Fails outcome e new

@@ -1,5 +1,4 @@
--- This file mirrors the code. Nobody has to believe it: the contracts of `parse_expr` and `one_tree` don't cite it.
--- How far a list is read: up to and including the first token that weighs too much or stands in no expression.
+-- For proofs only: how much of a token list is parsed: up to the first token that is above the weight limit or can't be in an expression.
 use Rattle.std.specs.Prelude.{◌≡◌, ◌⊎◌, ℕ, zero, suc, ◌+◌, ◌<◌, Bool, true, false, if◌then◌else◌, List, [], ◌∷◌, ◌++◌, Option, Some, None}
 use Rattle.ti_syntax.specs.declared.token.Token.{Token}
 use Rattle.ti_syntax.specs.declared.token.TokenKind.{TokenKind}
@@ -8,7 +7,7 @@ use Rattle.ti_syntax.specs.Spelling.Weights.{counts, arity_behind, weigh}
 use Rattle.ti_parse_expr.specs.Answers.{IsLight}
 use Rattle.ti_syntax.specs.Spelling.{most_weight}
 
--- tokens that stand in no expression
+-- tokens that can't be in an expression
 abbrev pub ends_expression : TokenKind → Bool
 ends_expression k.Semicolon = true
 ends_expression k.LeftBrace = true
@@ -16,8 +15,8 @@ ends_expression k.RightBrace = true
 ends_expression k.End = true
 ends_expression _ = false
 
--- Behind a token that isn't one of an arity: how many tokens of an arity follow, and how much may still be weighed; none
--- where the token weighs too much.
+-- The state after a token that isn't part of an arity: the number of arity tokens that follow, and the weight still available; None
+-- if the token is above the limit.
 abbrev pub weighed : Bool → ℕ → ℕ → Option (ℕ × ℕ)
 weighed true arity zero = None
 weighed true arity (suc left) = Some (arity, left)
@@ -27,7 +26,7 @@ abbrev pub onward : TokenKind → ℕ → ℕ → Option (ℕ × ℕ)
 onward kind (suc n) left = Some (n, left)
 onward kind zero left = weighed (counts kind) (arity_behind kind) left
 
--- how many tokens are read, with so many tokens of an arity in front and so much that may still be weighed
+-- the number of tokens to read, by the state after the next token
 abbrev pub reach_by : (ℕ → ℕ → ℕ) → Option (ℕ × ℕ) → ℕ
 reach_by more None = 0
 reach_by more (Some p) = more p.0 p.1
@@ -36,8 +35,8 @@ unfoldable pub reach : ℕ → ℕ → List Token → ℕ
 reach arity left [] = 0
 reach arity left (t ∷ l) = suc (if ends_expression t.kind then 0 else reach_by (λ a w. reach a w l) (onward t.kind arity left))
 
--- The front of the list that is read: its last token is the first that weighs too much, where the weight is counted on
--- from a number, or stands in no expression.
+-- The prefix that is read: its last token is the first one that is above the weight limit, where weights are counted from `weight` on,
+-- or can't be in an expression.
 pub record IsCut (weight : ℕ) (list cut : List Token) : Type 0 where
   pub front : List Token
   pub last : Token

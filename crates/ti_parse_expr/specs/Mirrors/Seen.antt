@@ -1,5 +1,4 @@
--- This file mirrors the code. Nobody has to believe it: the contracts of `parse_expr` and `one_tree` don't cite it.
--- What clauses see of the values that are read.
+-- For proofs only: the models of the values that the parser returns.
 use Rattle.std.specs.Prelude.{List, map}
 use Rattle.std.specs.declared.vec.Vec.{Vec}
 use Rattle.std.specs.declared.alloc.Global.{Global}
@@ -24,6 +23,6 @@ ending_of ending.Target = e.Target
 ending_of ending.Call = e.Call
 ending_of ending.Other = e.Other
 
--- an operand as its tree and what it ends with
+-- the model of an operand: its tree and its ending
 abbrev pub operand_of : Operand → Exp × e.Ending
 operand_of o = (exp_of o.expr, ending_of o.ending)

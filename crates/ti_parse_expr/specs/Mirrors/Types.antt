@@ -1,5 +1,4 @@
--- This file mirrors the code. Nobody has to believe it: the contracts of `parse_expr` and `one_tree` don't cite it.
--- Reading types, with one token of lookahead.
+-- For proofs only: the model of the type parser, which has one token of lookahead.
 use Rattle.std.specs.Prelude.{ℕ, zero, suc, ℤ, pos, negsuc, nat_le, ◌&&◌, if◌then◌else◌, List, [], ◌∷◌, ◌++◌, Option, Some, None, Ok, Err}
 use Rattle.ti_syntax.specs.declared.token.TokenKind.{TokenKind}
 use Rattle.ti_syntax.specs.declared.token.TokenKind.TheVariants as k
@@ -52,7 +51,7 @@ abbrev pub qualifiers_if : (List Qualifier → Parser (List Qualifier)) → List
 qualifiers_if more found None = pure found
 qualifiers_if more found (Some word) = (do at ← here; take_token; more (found ++ record { word = word; place = at } ∷ []))
 
--- as many as there are, in at most so many turns
+-- all qualifiers that follow, with fuel
 unfoldable pub qualifiers : ℕ → List Qualifier → Parser (List Qualifier)
 qualifiers zero found = λ i. Err Spent
 qualifiers (suc n) found = (do kind ← peek; qualifiers_if (qualifiers n) found (qualifier_of kind))
@@ -65,7 +64,7 @@ grid_dimension_by _ = refuse
 abbrev pub grid_dimension : Parser ℕ
 grid_dimension = peek >>= grid_dimension_by
 
--- after the opening bracket
+-- grid brackets with their qualifiers, after the `[`
 unfoldable pub grid : ℕ → Parser GridTree
 grid turns = do
   n ← grid_dimension
@@ -73,14 +72,14 @@ grid turns = do
   qs ← qualifiers turns []
   pure (record { dim = n; qualifiers = qs })
 
--- at most so many more
+-- at most n more grid brackets
 unfoldable pub grids : ℕ → ℕ → List GridTree → Parser (List GridTree)
 grids turns zero found = pure found
 grids turns (suc n) found = do
   is_more ← (λ i. Ok (sees k.LeftBracket i, i))
   if is_more then (do take_token; g ← grid turns; grids turns n (found ++ g ∷ [])) else pure found
 
--- the type of a field, after what it begins with
+-- the type of a field, after its base
 unfoldable pub field_type : ℕ → Base → Parser TypeTree
 field_type turns begin = do
   qs ← qualifiers turns []

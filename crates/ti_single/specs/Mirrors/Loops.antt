@@ -1,5 +1,4 @@
--- Nobody has to believe this: it mirrors code, and only contracts of private functions speak of it.
--- The loop at a place, as it is looked for.
+-- For proofs only: the model of the lookup of a loop by position.
 use Rattle.std.specs.Prelude.{if◌then◌else◌, Option, Some, None}
 use Rattle.std.specs.Option.{option_or}
 use Rattle.ti_base.specs.declared.place.Place.{Place}
@@ -21,12 +20,12 @@ abbrev mutual
       if same_place at place then Some (st.Foreach place variable domain body) else loop_in at body
   loop_in at x = None
 
-  -- in a statement, if there is one
+  -- in an optional statement
   pub loop_in_maybe : Place → MaybeNumbered → Option NumberedStm
   loop_in_maybe at st.NoStm = None
   loop_in_maybe at (st.SomeStm x) = loop_in at x
 
-  -- in all of these
+  -- in a sequence of statements
   pub loop_in_all : Place → NumberedStms → Option NumberedStm
   loop_in_all at st.Nil = None
   loop_in_all at (st.Cons x rest) = option_or (loop_in at x) (loop_in_all at rest)

@@ -1,5 +1,4 @@
--- Nobody has to believe this: it mirrors code, and only contracts of private functions speak of it.
--- A statement that may be missing.
+-- For proofs only: optional statements.
 use Rattle.std.specs.Prelude.{Option, Some, None}
 use Rattle.std.specs.declared.boxed.Box.{Box}
 use Rattle.std.specs.declared.alloc.Global.{Global}
@@ -7,7 +6,7 @@ use Rattle.ti_lang.specs.declared.program.stmts.Stmt.{Stmt}
 use Rattle.ti_lang.specs.Program.Statements.{MaybeNumbered, NoStm, SomeStm}
 use Rattle.ti_lang.specs.Program.Views.{statement_of}
 
--- a statement, if there is one
+-- the model of an optional statement
 abbrev pub maybe_in : Option (Box Stmt Global) → MaybeNumbered
 maybe_in None = NoStm
 maybe_in (Some x) = SomeStm (statement_of x.value)

@@ -1,4 +1,4 @@
--- The spelling of classes and their members.
+-- The grammar of classes and their members.
 use Rattle.std.specs.Prelude.{◌≡◌, ℕ, List, [], ◌∷◌, ◌++◌, Some}
 use Rattle.ti_syntax.specs.declared.token.Token.{Token}
 use Rattle.ti_syntax.specs.declared.token.TokenKind.TheVariants as k
@@ -21,7 +21,7 @@ pub data ParamList : List Token → List ParamTree → Type 0 where
       ≡ k.Comma → ParamList m ps
       → ParamList (l ++ t ∷ c ∷ m) (record { ty = ty; place = t.place; name = name } ∷ ps)
 
--- what stands between the parentheses of a method
+-- a method's parameter list, without its parentheses
 pub data Parameters : List Token → ParamsTree → Type 0 where
   none : Parameters [] (Params [])
   words : (s o c t : Token) {name : List ℕ} → s.kind ≡ k.KeywordString → o.kind ≡ k.LeftBracket → c.kind ≡ k.RightBracket → t.kind
@@ -29,7 +29,7 @@ pub data Parameters : List Token → ParamsTree → Type 0 where
       → Parameters (s ∷ o ∷ c ∷ t ∷ []) (Words t.place name)
   typed : {l : List Token} {ps : List ParamTree} → ParamList l ps → Parameters l (Params ps)
 
--- a method from its `(` on; the last token is its closing `}`
+-- a method from its `(` on; the last argument is the token of its closing `}`
 pub data Method : List Token → ParamsTree → List Stm → Token → Type 0 where
   method : {l m : List Token} (o c b e : Token) {params : ParamsTree} {body : List Stm} → o.kind ≡ k.LeftParen → Parameters l params
       → c.kind ≡ k.RightParen
@@ -38,7 +38,7 @@ pub data Method : List Token → ParamsTree → List Stm → Token → Type 0 wh
 
 -- ---- members and classes
 
--- any number of modifiers of a member
+-- a sequence of a member's modifiers, possibly empty
 pub data Modified : List Token → List Modifier → Type 0 where
   none : Modified [] []
   more : {l : List Token} {ms : List Modifier} (t : Token) {word : ModifierWord} → modifier_of t.kind ≡ Some word → Modified l ms
@@ -78,7 +78,7 @@ pub data Members : List Token → List MemberTree → Type 0 where
   none : Members [] []
   more : {l m : List Token} {x : MemberTree} {xs : List MemberTree} → Member l x → Members m xs → Members (l ++ m) (x ∷ xs)
 
--- any number of modifiers of a class
+-- a sequence of a class's modifiers, possibly empty
 pub data ClassModified : List Token → List Modifier → Type 0 where
   none : ClassModified [] []
   more : {l : List Token} {ms : List Modifier} (t : Token) {word : ModifierWord} → class_modifier_of t.kind ≡ Some word → ClassModified l ms
@@ -91,7 +91,7 @@ pub data Class : List Token → ClassTree → Type 0 where
       → o.kind ≡ k.LeftBrace → Members m xs → e.kind ≡ k.RightBrace
       → Class (l ++ c ∷ t ∷ o ∷ (m ++ e ∷ [])) (record { modifiers = ms; word = c.place; place = t.place; name = name; members = xs })
 
--- the classes of a text
+-- the classes of a program
 pub data AllClasses : List Token → List ClassTree → Type 0 where
   none : AllClasses [] []
   more : {l m : List Token} {x : ClassTree} {xs : List ClassTree} → Class l x → AllClasses m xs → AllClasses (l ++ m) (x ∷ xs)

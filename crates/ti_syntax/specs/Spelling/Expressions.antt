@@ -1,4 +1,4 @@
--- The spelling of expressions.
+-- The grammar of expressions.
 use Rattle.std.specs.Prelude.{◌≡◌, ℕ, ℤ, ◌+◌, ◌≤◌, true, false, List, [], ◌∷◌, ◌++◌, length, Some, codes}
 use Rattle.ti_syntax.specs.declared.token.Token.{Token}
 use Rattle.ti_syntax.specs.declared.token.TokenKind.TheVariants as k
@@ -10,19 +10,19 @@ use Rattle.ti_syntax.specs.Trees.Expressions as e
 use Rattle.ti_syntax.specs.Spelling.Operators.{prefix_of, infix_of, strength}
 use Rattle.ti_syntax.specs.Spelling.Types.{CastType}
 
--- What a Postfix ends with: a bare name alone, a member's name or an index, which can be assigned to; an argument list,
--- which can stand alone; or anything else, a group among it.
+-- The last part of a Postfix, which determines how the Postfix may be used: Target for a simple name, a member's name or an
+-- index, which can be assigned to; Arguments for an argument list, which makes it a statement; Other for the rest, also for a group.
 pub data Ending : Type 0 where
   Target : Ending
   Call : Ending
   Other : Ending
 
 mutual
-  -- An expression whose operators of two operands, where they stand in no group, bind as tightly as a level or more.
-  -- An Expr has level 1 and a Mul level 10.
+  -- An expression whose binary operators, outside of groups, have at least the given precedence level. An Expr has level 1 and a
+  -- Mul level 10.
   pub data Whole : ℕ → List Token → Exp → Type 0 where
     operand : {n : ℕ} {l : List Token} {x : Exp} → Prefixed l x → Whole n l x
-    -- from the left: the left operand may have operators of the same level, the right one may not
+    -- left-associative: the left operand may have operators of the same level, the right one may not
     operation : {n : ℕ} {a b : List Token} (t : Token) {op : BinaryOperator} {x y : Exp} → infix_of t.kind ≡ Some op → n ≤ strength op
         → Whole (strength op) a x → Whole (strength op + 1) b y → Whole n (a ++ t ∷ b) (e.Binary t.place op x y)
 
@@ -46,7 +46,7 @@ mutual
     call : {l : List Token} (t o c : Token) {name : List ℕ} {xs : List Exp} → t.kind ≡ k.Name name → o.kind ≡ k.LeftParen → Args l xs
         → c.kind ≡ k.RightParen
         → Postfixed Call (t ∷ o ∷ (l ++ c ∷ [])) (e.call t.place name xs)
-    -- a group has no node of its own
+    -- a group, which has no node of its own
     group : {l : List Token} (o c : Token) {x : Exp} → o.kind ≡ k.LeftParen → Whole 1 l x → c.kind ≡ k.RightParen
         → Postfixed Other (o ∷ (l ++ c ∷ [])) x
     rect : {l : List Token} (o c : Token) {rs : List RangeTree} → o.kind ≡ k.LeftBracket → Ranges l rs → length rs ≤ 3 → c.kind
@@ -71,18 +71,18 @@ mutual
         → Listed m xs → length xs ≤ 3
         → c.kind ≡ k.RightBracket → Postfixed Target (l ++ o ∷ (m ++ c ∷ [])) (e.index o.place x xs)
 
-  -- what stands between the parentheses of a call
+  -- a possibly empty argument list, without its parentheses
   pub data Args : List Token → List Exp → Type 0 where
     none : Args [] []
     some : {l : List Token} {xs : List Exp} → Listed l xs → Args l xs
 
-  -- expressions with commas between them
+  -- one or more expressions, separated by commas
   pub data Listed : List Token → List Exp → Type 0 where
     last : {l : List Token} {x : Exp} → Whole 1 l x → Listed l (x ∷ [])
     more : {l m : List Token} (t : Token) {x : Exp} {xs : List Exp} → Whole 1 l x → t.kind ≡ k.Comma → Listed m xs
         → Listed (l ++ t ∷ m) (x ∷ xs)
 
-  -- ranges with commas between them
+  -- one or more ranges, separated by commas
   pub data Ranges : List Token → List RangeTree → Type 0 where
     last_range : {l : List Token} {r : RangeTree} → Range l r → Ranges l (r ∷ [])
     more_ranges : {l m : List Token} (t : Token) {r : RangeTree} {rs : List RangeTree} → Range l r → t.kind ≡ k.Comma → Ranges m rs

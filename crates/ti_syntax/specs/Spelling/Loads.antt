@@ -1,5 +1,5 @@
--- The level or the weight of each token of a text. Each function gives the list for the tokens of a part, by the cases
--- of its spelling. Tokens that have neither are free.
+-- The nesting level or weight of each token of a program. Each function maps a derivation of a part to the list for its tokens.
+-- Tokens with neither are Free.
 use Rattle.std.specs.Prelude.{ℕ, zero, suc, ◌+◌, Bool, if◌then◌else◌, List, [], ◌∷◌, ◌++◌, map, Option}
 use Rattle.ti_syntax.specs.declared.token.Token.{Token}
 use Rattle.ti_syntax.specs.Trees.Expressions.{Exp, RangeTree}
@@ -12,7 +12,7 @@ use Rattle.ti_syntax.specs.Spelling.Classes.{Method, Member, Members, Class, All
 use Rattle.ti_syntax.specs.Spelling.Classes as c
 use Rattle.ti_syntax.specs.Spelling.Weights.{counts, arity_behind}
 
--- the first token of a compound statement has its level, and each token of a full expression its weight
+-- the load of a token: a nesting level for the first token of a compound statement, a weight for each token of a full expression
 pub data Load : Type 0 where
   Free : Load
   Level : (n : ℕ) → Load
@@ -21,13 +21,13 @@ pub data Load : Type 0 where
 abbrev pub free : List Token → List Load
 free l = map (λ t. Free) l
 
--- each token weighs as many as count up to and including it, the tokens of an arity aside
+-- the weights of the tokens of an expression, after tokens of weight w; the first n tokens belong to an arity and aren't counted
 abbrev pub weights_behind : ℕ → ℕ → List Token → List Load
 weights_behind n w [] = []
 weights_behind (suc n) w (t ∷ l) = Weight w ∷ weights_behind n w l
 weights_behind zero w (t ∷ l) = let v = (if counts t.kind then 1 else 0) + w in Weight v ∷ weights_behind (arity_behind t.kind) v l
 
--- those of a full expression, an Expr, Mul or Postfix that stands in no other one
+-- the weights of the tokens of a full expression: an Expr, Mul or Postfix that isn't part of another one
 abbrev pub weights : List Token → List Load
 weights l = weights_behind 0 0 l
 
@@ -92,7 +92,7 @@ update_loads s.none = []
 update_loads (s.change d) = changed_loads d
 
 abbrev mutual
-  -- where compound statements that stand directly here have level n
+  -- n is the level of compound statements that are directly in this statement
   pub stated_loads : ℕ → {b : Bool} {l : List Token} {x : Stm} → Stated b l x → List Load
   stated_loads n (s.block o c h xs h2) = Level n ∷ (items_loads (suc n) xs ++ Free ∷ [])
   stated_loads n (s.empty t h) = Free ∷ []
@@ -118,7 +118,7 @@ abbrev mutual
 
 -- ---- classes
 
--- compound statements that stand directly in a method's body have level 1
+-- compound statements directly in a method's body have level 1
 abbrev pub method_loads : {l : List Token} {params : ParamsTree} {body : List Stm} {e : Token} → Method l params body e → List Load
 method_loads (c.method {l = l} o c b e h ps h2 h3 items h4) = Free ∷ (free l ++ Free ∷ Free ∷ (items_loads 1 items ++ Free ∷ []))
 

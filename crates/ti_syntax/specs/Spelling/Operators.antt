@@ -1,4 +1,4 @@
--- What the tokens of operators, qualifiers and modifiers stand for.
+-- The operators, qualifiers and modifiers that tokens denote.
 use Rattle.std.specs.Prelude.{ℕ, Option, Some, None}
 use Rattle.ti_syntax.specs.declared.token.TokenKind.{TokenKind}
 use Rattle.ti_syntax.specs.declared.token.TokenKind.TheVariants as k
@@ -13,7 +13,7 @@ use Rattle.ti_syntax.specs.declared.tree.types.QualifierWord.TheVariants as qual
 use Rattle.ti_syntax.specs.declared.tree.classes.ModifierWord.{ModifierWord}
 use Rattle.ti_syntax.specs.declared.tree.classes.ModifierWord.TheVariants as modifier
 
--- the operators of one operand
+-- the unary operators
 abbrev pub prefix_of : TokenKind → Option UnaryOperator
 prefix_of k.Minus = Some unary.Minus
 prefix_of k.Plus = Some unary.Plus
@@ -21,7 +21,7 @@ prefix_of k.Exclamation = Some unary.Not
 prefix_of k.Tilde = Some unary.Complement
 prefix_of _ = None
 
--- the operators of two operands
+-- the binary operators
 abbrev pub infix_of : TokenKind → Option BinaryOperator
 infix_of k.OrOr = Some binary.OrElse
 infix_of k.AndAnd = Some binary.AndThen
@@ -44,7 +44,7 @@ infix_of k.Slash = Some binary.Divide
 infix_of k.Percent = Some binary.Remainder
 infix_of _ = None
 
--- how tightly an operator of two operands binds: there are ten levels, from the loosest
+-- the precedence level of a binary operator, from 1 (loosest) to 10
 abbrev pub strength : BinaryOperator → ℕ
 strength binary.OrElse = 1
 strength binary.AndThen = 2
@@ -66,7 +66,7 @@ strength binary.Multiply = 10
 strength binary.Divide = 10
 strength binary.Remainder = 10
 
--- the operator of `t op= e`
+-- the operator of the compound assignment `t op= e`
 abbrev pub update_of : TokenKind → Option BinaryOperator
 update_of k.PlusAssign = Some binary.Add
 update_of k.MinusAssign = Some binary.Subtract
@@ -91,7 +91,7 @@ qualifier_of k.KeywordSingle = Some qualifier.Single
 qualifier_of k.KeywordLocal = Some qualifier.Local
 qualifier_of _ = None
 
--- the words in front of a member
+-- the modifiers of a member
 abbrev pub modifier_of : TokenKind → Option ModifierWord
 modifier_of k.KeywordPublic = Some modifier.Public
 modifier_of k.KeywordPrivate = Some modifier.Private
@@ -101,7 +101,7 @@ modifier_of k.KeywordFinal = Some modifier.Final
 modifier_of k.KeywordSingle = Some modifier.Single
 modifier_of _ = None
 
--- the words in front of a class
+-- the modifiers of a class
 abbrev pub class_modifier_of : TokenKind → Option ModifierWord
 class_modifier_of k.KeywordPublic = Some modifier.Public
 class_modifier_of k.KeywordFinal = Some modifier.Final

@@ -1,4 +1,4 @@
--- The spelling of statements.
+-- The grammar of statements.
 use Rattle.std.specs.Prelude.{◌≡◌, ℕ, ◌≤◌, Bool, true, false, List, [], ◌∷◌, ◌++◌, length, Option, Some, None, codes}
 use Rattle.ti_syntax.specs.declared.token.Token.{Token}
 use Rattle.ti_syntax.specs.declared.token.TokenKind.{TokenKind}
@@ -16,7 +16,7 @@ use Rattle.ti_syntax.specs.Spelling.Types.{Based, Qualified, Gridded, Typed}
 use Rattle.ti_syntax.specs.Spelling.Expressions.{Ending, Whole, Postfixed, Ranges}
 use Rattle.ti_syntax.specs.Spelling.Expressions as ending
 
--- a Postfix at the start of a statement begins with a name, `this` or `(`
+-- the tokens that can begin a Postfix at the start of a statement: a name, `this` or `(`
 abbrev pub starts : TokenKind → Bool
 starts (k.Name name) = true
 starts k.KeywordThis = true
@@ -27,19 +27,19 @@ abbrev pub starts_so : List Token → Bool
 starts_so [] = false
 starts_so (t ∷ l) = starts t.kind
 
--- a Postfix at the start of a statement, with what it ends with
+-- a Postfix at the start of a statement, with its ending
 pub data Start : Ending → List Token → Exp → Type 0 where
   start : {ending : Ending} {l : List Token} {x : Exp} → Postfixed ending l x → starts_so l ≡ true → Start ending l x
 
 -- ---- right sides
 
--- the region of `new`
+-- the optional region of `new`
 pub data Region : List Token → Option Exp → Type 0 where
   none : Region [] None
   some : {l : List Token} (o c : Token) {x : Exp} → o.kind ≡ k.LeftParen → Whole 1 l x → c.kind ≡ k.RightParen
       → Region (o ∷ (l ++ c ∷ [])) (Some x)
 
--- what a new grid spreads over
+-- the domain of a new grid
 pub data Dims : List Token → DimsTree → Type 0 where
   domain : {l : List Token} {x : Exp} → Whole 1 l x → Dims l (s.Domain x)
   ranges : {l : List Token} {rs : List RangeTree} → Ranges l rs → length rs ≤ 3 → Dims l (s.Ranges rs)
@@ -52,7 +52,7 @@ pub data Initial : List Token → InitTree → Type 0 where
   new_object : {l : List Token} {region : Option Exp} (n t o c : Token) {name : List ℕ} → n.kind ≡ k.KeywordNew → Region l region → t.kind
       ≡ k.Name name
       → o.kind ≡ k.LeftParen → c.kind ≡ k.RightParen → Initial (n ∷ (l ++ t ∷ o ∷ c ∷ [])) (s.NewObject n.place region t.place name)
-  -- the elements have the base, and of the brackets behind the domain at most two
+  -- the element type consists of the base and at most two of the brackets after the domain
   new_grid : {l a q d g : List Token} {region : Option Exp} {b : Base} {qs : List Qualifier} {gs : List GridTree} {dims : DimsTree}
       (n o c : Token) → n.kind ≡ k.KeywordNew
       → Region l region → Based a b → Qualified q qs → o.kind ≡ k.LeftBracket → Dims d dims → c.kind ≡ k.RightBracket → Gridded g gs
@@ -89,7 +89,7 @@ pub data Printer : List Token → Token → Type 0 where
       ≡ k.KeywordPrintln
       → Printer (s ∷ d ∷ o ∷ p ∷ t ∷ []) t
 
--- what stands between the parentheses of a print
+-- the argument of a print, without its parentheses
 pub data Printed : List Token → PrintTree → Type 0 where
   nothing : Printed [] s.Nothing
   text : (t : Token) {bytes : List ℕ} → t.kind ≡ k.Str bytes → Printed (t ∷ []) (s.Text bytes)
@@ -104,25 +104,24 @@ pub data Condition : List Token → Exp → Type 0 where
   condition : {l : List Token} (o c : Token) {x : Exp} → o.kind ≡ k.LeftParen → Whole 1 l x → c.kind ≡ k.RightParen
       → Condition (o ∷ (l ++ c ∷ [])) x
 
--- what the head of a `for` begins with
+-- the first part of a `for` head: empty, a declaration or a change
 pub data First : List Token → MaybeStm → Type 0 where
   none : First [] s.NoStm
   declaration : {l : List Token} {x : Stm} → Declared l x → First l (s.SomeStm x)
   change : {l : List Token} {x : Stm} → Changed l x → First l (s.SomeStm x)
 
--- an expression that may be left out
+-- an optional expression
 pub data Optional : List Token → Option Exp → Type 0 where
   none : Optional [] None
   some : {l : List Token} {x : Exp} → Whole 1 l x → Optional l (Some x)
 
--- what it ends with
+-- the last part of a `for` head: empty or a change
 pub data Update : List Token → MaybeStm → Type 0 where
   none : Update [] s.NoStm
   change : {l : List Token} {x : Stm} → Changed l x → Update l (s.SomeStm x)
 
 mutual
-  -- A Stmt. The test says whether it ends with an `if` that has no `else`, so that an `else` behind it would belong to
-  -- that `if`.
+  -- A Stmt. The flag says whether it ends with an `if` that has no `else`, so that a following `else` would belong to that `if`.
   pub data Stated : Bool → List Token → Stm → Type 0 where
     block : {l : List Token} (o c : Token) {xs : List Stm} → o.kind ≡ k.LeftBrace → Items l xs → c.kind ≡ k.RightBrace
         → Stated false (o ∷ (l ++ c ∷ [])) (s.block xs)
@@ -158,7 +157,7 @@ mutual
     return : {l : List Token} (r t : Token) {value : Option Exp} → r.kind ≡ k.KeywordReturn → Optional l value → t.kind ≡ k.Semicolon
         → Stated false (r ∷ (l ++ t ∷ [])) (s.Return r.place value)
 
-  -- any number of Items
+  -- a sequence of Items, possibly empty
   pub data Items : List Token → List Stm → Type 0 where
     no_item : Items [] []
     declaration : {l m : List Token} (t : Token) {x : Stm} {xs : List Stm} → Declared l x → t.kind ≡ k.Semicolon → Items m xs

@@ -1,4 +1,4 @@
--- The spelling of types. Each family says which lists of tokens spell which parts of a tree.
+-- The grammar of types. Each inductive family relates token lists to parts of a tree.
 use Rattle.std.specs.Prelude.{◌≡◌, ℕ, ◌≤◌, pos, Bool, true, false, List, [], ◌∷◌, ◌++◌, length, Some}
 use Rattle.ti_syntax.specs.declared.token.Token.{Token}
 use Rattle.ti_syntax.specs.declared.token.TokenKind.TheVariants as k
@@ -9,11 +9,11 @@ use Rattle.ti_syntax.specs.declared.tree.types.QualifierWord.{QualifierWord}
 use Rattle.ti_syntax.specs.Trees.Types.{GridTree, TypeTree}
 use Rattle.ti_syntax.specs.Spelling.Operators.{qualifier_of}
 
--- `<` n `>`, with n from 1 to 3
+-- an arity: `<` n `>`, with n from 1 to 3
 pub data Arity : List Token → ℕ → Type 0 where
   arity : (o t c : Token) {n : ℕ} → o.kind ≡ k.Less → t.kind ≡ k.Int (pos n) → 1 ≤ n → n ≤ 3 → c.kind ≡ k.Greater → Arity (o ∷ t ∷ c ∷ []) n
 
--- what a field's type begins with
+-- the base of a field's type
 pub data Based : List Token → Base → Type 0 where
   int : (t : Token) → t.kind ≡ k.KeywordInt → Based (t ∷ []) (base.Int t.place)
   long : (t : Token) → t.kind ≡ k.KeywordLong → Based (t ∷ []) (base.Long t.place)
@@ -22,13 +22,13 @@ pub data Based : List Token → Base → Type 0 where
   rect_domain : {l : List Token} {n : ℕ} (t : Token) → t.kind ≡ k.KeywordRectDomain → Arity l n → Based (t ∷ l) (base.RectDomain t.place n)
   named : (t : Token) {name : List ℕ} → t.kind ≡ k.Name name → Based (t ∷ []) (base.Named t.place name)
 
--- any number of qualifiers
+-- a sequence of qualifiers, possibly empty
 pub data Qualified : List Token → List Qualifier → Type 0 where
   none : Qualified [] []
   more : {l : List Token} {qs : List Qualifier} (t : Token) {word : QualifierWord} → qualifier_of t.kind ≡ Some word → Qualified l qs
       → Qualified (t ∷ l) (record { word = word; place = t.place } ∷ qs)
 
--- any number of grid brackets with one to three dimensions, each with what qualifies it
+-- a sequence of grid brackets of one to three dimensions, possibly empty, each with its qualifiers
 pub data Gridded : List Token → List GridTree → Type 0 where
   none : Gridded [] []
   more : {l m : List Token} {qs : List Qualifier} {gs : List GridTree} (o t c : Token) {n : ℕ} → o.kind ≡ k.LeftBracket → t.kind ≡ k.Dim n
@@ -41,7 +41,7 @@ pub data FieldType : List Token → TypeTree → Type 0 where
       → length gs ≤ 3
       → FieldType (a ++ (l ++ m)) (record { base = b; qualifiers = qs; grids = gs })
 
--- the types that no field and no element has
+-- types that only variables, parameters and results can have, not fields or elements
 pub data WideType : List Token → TypeTree → Type 0 where
   domain : {l m : List Token} {n : ℕ} {qs : List Qualifier} (t : Token) → t.kind ≡ k.KeywordDomain → Arity l n → Qualified m qs
       → WideType (t ∷ (l ++ m)) (record { base = base.Domain t.place n; qualifiers = qs; grids = [] })
@@ -52,11 +52,11 @@ pub data Typed : List Token → TypeTree → Type 0 where
   field : {l : List Token} {ty : TypeTree} → FieldType l ty → Typed l ty
   wide : {l : List Token} {ty : TypeTree} → WideType l ty → Typed l ty
 
--- whether a type is a name with nothing behind it
+-- whether a type is just a class name, with no qualifiers or brackets
 abbrev pub is_name_alone : Base → List Qualifier → List GridTree → Bool
 is_name_alone (base.Named at name) [] [] = true
 is_name_alone _ _ _ = false
 
--- what a cast stands for: the type of a field that begins with a reserved word, or a name and more of such a type behind it
+-- a cast's type: a field's type, except a class name without qualifiers or brackets
 pub data CastType : List Token → TypeTree → Type 0 where
   cast_type : {l : List Token} {ty : TypeTree} → FieldType l ty → is_name_alone ty.base ty.qualifiers ty.grids ≡ false → CastType l ty

@@ -1,10 +1,10 @@
--- The weight of the tokens of an expression.
+-- The weight of an expression's tokens: a count that bounds how deeply the expression can nest.
 use Rattle.std.specs.Prelude.{ℕ, zero, suc, ◌+◌, Bool, true, false, if◌then◌else◌, List, [], ◌∷◌}
 use Rattle.ti_syntax.specs.declared.token.Token.{Token}
 use Rattle.ti_syntax.specs.declared.token.TokenKind.{TokenKind}
 use Rattle.ti_syntax.specs.declared.token.TokenKind.TheVariants as k
 
--- `(`, `[`, `.` and the operators of one or two operands count
+-- the tokens that are counted: `(`, `[`, `.` and the unary and binary operators
 abbrev pub counts : TokenKind → Bool
 counts k.LeftParen = true
 counts k.LeftBracket = true
@@ -32,19 +32,19 @@ counts k.Slash = true
 counts k.Percent = true
 counts _ = false
 
--- The three tokens behind a `Point` or a `RectDomain` are its arity, whose `<` and `>` are no operators and don't count.
+-- The number of tokens after this one that are an arity: the three after `Point` or `RectDomain`, whose `<` and `>` aren't operators.
 abbrev pub arity_behind : TokenKind → ℕ
 arity_behind k.KeywordPoint = 3
 arity_behind k.KeywordRectDomain = 3
 arity_behind _ = 0
 
--- how many tokens count, where so many tokens of an arity come first
+-- the number of counted tokens in the list, whose first n tokens belong to an arity
 abbrev pub weigh_behind : ℕ → List Token → ℕ
 weigh_behind n [] = 0
 weigh_behind (suc n) (t ∷ l) = weigh_behind n l
 weigh_behind zero (t ∷ l) = (if counts t.kind then 1 else 0) + weigh_behind (arity_behind t.kind) l
 
--- The weight of the last of these tokens, which an expression begins with. No token before it weighs more, and what
--- follows doesn't matter.
+-- The number of counted tokens in a prefix of an expression: the weight of its last token. Weights never decrease along an
+-- expression, and a token's weight doesn't depend on what follows it.
 abbrev pub weigh : List Token → ℕ
 weigh l = weigh_behind 0 l

@@ -1,4 +1,4 @@
--- Classes and their members.
+-- Models of classes and their members.
 use Rattle.std.specs.Prelude.{ℕ, List}
 use Rattle.ti_base.specs.declared.place.Place.{Place}
 use Rattle.ti_syntax.specs.declared.tree.classes.Modifier.{Modifier}
@@ -20,7 +20,7 @@ pub data ParamsTree : Type 0 where
   Words : (at : Place) (name : List ℕ) → ParamsTree
   Params : (params : List ParamTree) → ParamsTree
 
--- what a method is declared to give back
+-- a method's declared result
 pub data ResultTree : Type 0 where
   Void : (at : Place) → ResultTree
   Typed : (type : TypeTree) → ResultTree
@@ -45,6 +45,6 @@ pub record ClassTree : Type 0 where
   pub name : List ℕ
   pub members : List MemberTree
 
--- the classes of a text in order
+-- a program: its classes in source order
 abbrev pub TextTree : Type 0
 TextTree = List ClassTree

@@ -1,4 +1,4 @@
--- Expressions.
+-- Models of expressions.
 use Rattle.std.specs.Prelude.{ℕ, ℤ, Bool, List, [], ◌∷◌}
 use Rattle.ti_base.specs.declared.place.Place.{Place}
 use Rattle.ti_syntax.specs.declared.tree.exprs.UnaryOperator.{UnaryOperator}
@@ -6,7 +6,7 @@ use Rattle.ti_syntax.specs.declared.tree.exprs.BinaryOperator.{BinaryOperator}
 use Rattle.ti_syntax.specs.Trees.Types.{TypeTree}
 
 mutual
-  -- an expression, with the place of its node
+  -- an expression, with the source position of its node
   pub data Exp : Type 0 where
     Int : (at : Place) (n : ℤ) → Exp
     Long : (at : Place) (n : ℤ) → Exp
@@ -30,7 +30,7 @@ mutual
     NoExp : Exps
     MoreExp : (first : Exp) (rest : Exps) → Exps
 
-  -- a range, with a step or without one
+  -- a range, with or without a step
   pub data RangeTree : Type 0 where
     Plain : (low high : Exp) → RangeTree
     Stepped : (low high step : Exp) → RangeTree
@@ -39,7 +39,7 @@ mutual
     NoRange : RangeTrees
     MoreRange : (first : RangeTree) (rest : RangeTrees) → RangeTrees
 
--- ---- the nodes that hold a list, from the list
+-- ---- list nodes, from lists
 
 abbrev pub exps : List Exp → Exps
 exps [] = NoExp
@@ -64,7 +64,7 @@ member at x name xs = Member at x name (exps xs)
 abbrev pub index : Place → Exp → List Exp → Exp
 index at x xs = Index at x (exps xs)
 
--- the place of a node
+-- the source position of the root node
 abbrev pub place_of_exp : Exp → Place
 place_of_exp (Int at n) = at
 place_of_exp (Long at n) = at

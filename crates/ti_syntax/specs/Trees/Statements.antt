@@ -1,4 +1,4 @@
--- Statements.
+-- Models of statements.
 use Rattle.std.specs.Prelude.{ℕ, List, [], ◌∷◌, Option}
 use Rattle.ti_base.specs.declared.place.Place.{Place}
 use Rattle.ti_syntax.specs.declared.tree.exprs.BinaryOperator.{BinaryOperator}
@@ -6,12 +6,12 @@ use Rattle.ti_syntax.specs.declared.tree.stmts.StepOperator.{StepOperator}
 use Rattle.ti_syntax.specs.Trees.Types.{TypeTree}
 use Rattle.ti_syntax.specs.Trees.Expressions.{Exp, RangeTree}
 
--- what a new grid spreads over
+-- the domain of a new grid
 pub data DimsTree : Type 0 where
   Domain : (x : Exp) → DimsTree
   Ranges : (ranges : List RangeTree) → DimsTree
 
--- the right side of a declaration or an assignment
+-- an initializer: the right-hand side of a declaration or an assignment
 pub data InitTree : Type 0 where
   Value : (x : Exp) → InitTree
   NewRegion : (at : Place) → InitTree
@@ -19,7 +19,7 @@ pub data InitTree : Type 0 where
   NewGrid : (at : Place) (region : Option Exp) (element : TypeTree) (dims_at : Place) (dims : DimsTree) → InitTree
   Broadcast : (at : Place) (x root : Exp) → InitTree
 
--- what a print writes
+-- the argument of a print
 pub data PrintTree : Type 0 where
   Nothing : PrintTree
   Text : (text : List ℕ) → PrintTree
@@ -27,7 +27,7 @@ pub data PrintTree : Type 0 where
   TextAndExpression : (text : List ℕ) (x : Exp) → PrintTree
 
 mutual
-  -- a statement, with the place that stands for it
+  -- a statement, with its source position
   pub data Stm : Type 0 where
     Empty : Stm
     Declare : (at : Place) (type : TypeTree) (name : List ℕ) (value : InitTree) → Stm
@@ -55,7 +55,7 @@ mutual
     Nil : Stms
     Cons : (first : Stm) (rest : Stms) → Stms
 
--- ---- the nodes that hold a list, from the list
+-- ---- list nodes, from lists
 
 abbrev pub stms : List Stm → Stms
 stms [] = Nil

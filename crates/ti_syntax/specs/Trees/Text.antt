@@ -1,4 +1,4 @@
--- What clauses see of the tree of a text.
+-- The model of a program's tree.
 use Rattle.ti_syntax.specs.declared.tree.text.Tree.{Tree}
 use Rattle.ti_syntax.specs.Trees.Classes.{TextTree}
 use Rattle.ti_syntax.specs.Trees.Views.{text_tree_of}

@@ -1,4 +1,4 @@
--- What clauses see of the trees of src/.
+-- The model of each tree type of src/: the functions that map program values to the trees of specs/Trees.
 use Rattle.std.specs.Prelude.{List, map, Option, Some, None}
 use Rattle.std.specs.declared.vec.Vec.{Vec}
 use Rattle.std.specs.declared.alloc.Global.{Global}
@@ -35,7 +35,7 @@ use Rattle.ti_syntax.specs.Trees.Statements as s
 use Rattle.ti_syntax.specs.Trees.Classes.{FieldTree, ParamTree, ParamsTree, ResultTree, MethodTree, MemberTree, ClassTree, TextTree}
 use Rattle.ti_syntax.specs.Trees.Classes as c
 
--- an optional part
+-- the model of an optional part
 abbrev pub maybe_of : {A B : Type 0} → (A → B) → Option A → Option B
 maybe_of view None = None
 maybe_of view (Some a) = Some (view a)

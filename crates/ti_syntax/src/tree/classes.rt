@@ -1,11 +1,11 @@
-// Classes and their members.
+// Classes and their members, as parsed.
 
 use super::stmts::Stmt;
 use super::types::TypeName;
 use crate::Spelled;
 use ti_base::Place;
 
-/// A word in front of a class or a member.
+/// A modifier keyword of a class or a member.
 #[derive(Clone, Copy, Debug, PartialEq, Eq)]
 pub enum ModifierWord {
     Public,
@@ -16,14 +16,14 @@ pub enum ModifierWord {
     Single,
 }
 
-/// A modifier, at its word.
+/// An occurrence of a modifier, at the position of its keyword.
 #[derive(Clone, Copy, Debug, PartialEq, Eq)]
 pub struct Modifier {
     pub word: ModifierWord,
     pub place: Place,
 }
 
-/// A field, at its name.
+/// A field declaration; `place` is the position of its name.
 #[derive(Drop)]
 pub struct Field {
     pub modifiers: Vec<Modifier>,
@@ -32,7 +32,7 @@ pub struct Field {
     pub name: Spelled,
 }
 
-/// A parameter, at its name.
+/// A parameter declaration; `place` is the position of its name.
 #[derive(Drop)]
 pub struct Param {
     pub ty: TypeName,
@@ -40,23 +40,23 @@ pub struct Param {
     pub name: Spelled,
 }
 
-/// What stands between the parentheses of a method.
+/// A method's parameter list.
 #[derive(Drop)]
 pub enum Params {
-    /// `String[] x`, at the name.
+    /// `String[] x`, the parameter of `main`, at the name.
     Words(Place, Spelled),
     Typed(Vec<Param>),
 }
 
-/// What a method is declared to give back.
+/// A method's declared result.
 #[derive(Drop)]
 pub enum ResultType {
-    /// `void`, at the word.
+    /// `void`, at its keyword.
     Void(Place),
     Typed(TypeName),
 }
 
-/// A method, at its name; `end` is its closing `}`.
+/// A method declaration; `place` is the position of its name, `end` that of its closing `}`.
 #[derive(Drop)]
 pub struct Method {
     pub modifiers: Vec<Modifier>,
@@ -75,7 +75,7 @@ pub enum Member {
     Method(Method),
 }
 
-/// A class, at its name; `word` is the word `class`.
+/// A class declaration; `place` is the position of its name, `word` that of the keyword `class`.
 #[derive(Drop)]
 pub struct Class {
     pub modifiers: Vec<Modifier>,

@@ -1,10 +1,10 @@
-// Expressions.
+// Expressions, as parsed.
 
 use super::types::TypeName;
 use crate::Spelled;
 use ti_base::Place;
 
-/// An operator of one operand.
+/// A unary operator.
 #[derive(Clone, Copy, Debug, PartialEq, Eq)]
 pub enum UnaryOperator {
     /// `-`
@@ -17,7 +17,7 @@ pub enum UnaryOperator {
     Complement,
 }
 
-/// An operator of two operands.
+/// A binary operator.
 #[derive(Clone, Copy, Debug, PartialEq, Eq)]
 pub enum BinaryOperator {
     /// `||`
@@ -60,13 +60,13 @@ pub enum BinaryOperator {
     Remainder,
 }
 
-/// An expression, with the place of its node.
+/// An expression. Each node holds its source position; where that isn't the node's first token, the variant says which token it is.
 #[derive(Drop)]
 #[cycle(expr)]
 pub enum Expr {
-    /// A whole number of 32 bits.
+    /// An `int` literal.
     Int(Place, i32),
-    /// A whole number of 64 bits.
+    /// A `long` literal.
     Long(Place, i64),
     /// `true` or `false`
     Truth(Place, bool),
@@ -74,9 +74,9 @@ pub enum Expr {
     Null(Place),
     /// `this`
     This(Place),
-    /// A bare name.
+    /// A simple name.
     Name(Place, Spelled),
-    /// A call of a bare name.
+    /// A call by a simple name: `m(e, ..)`, at the name.
     Call {
         place: Place,
         name: Spelled,
@@ -86,17 +86,17 @@ pub enum Expr {
     ThisProc(Place),
     /// `Ti.numProcs()`, at `Ti`.
     NumProcs(Place),
-    /// `[e, ..]` with one to three coordinates, at its `[`.
+    /// A point literal `[e, ..]` with one to three coordinates, at its `[`.
     Point(Place, Vec<Expr>),
-    /// `[a:b:s, ..]` with one to three ranges, at its `[`.
+    /// A rectangular domain literal `[a:b:s, ..]` with one to three ranges, at its `[`.
     Rect(Place, Vec<Range>),
-    /// At the operator.
+    /// A unary operation, at its operator.
     Unary {
         place: Place,
         operator: UnaryOperator,
         operand: Box<Expr>,
     },
-    /// At the operator.
+    /// A binary operation, at its operator.
     Binary {
         place: Place,
         operator: BinaryOperator,
@@ -109,13 +109,13 @@ pub enum Expr {
         to: Box<TypeName>,
         operand: Box<Expr>,
     },
-    /// `e.f`, at the name.
+    /// A member selection `e.f`, at the name.
     Select {
         place: Place,
         receiver: Box<Expr>,
         name: Spelled,
     },
-    /// `e.f(..)`, at the name.
+    /// A method call `e.f(..)`, at the name.
     Member {
         place: Place,
         receiver: Box<Expr>,
@@ -130,7 +130,7 @@ pub enum Expr {
     },
 }
 
-/// A range of whole numbers or points.
+/// One range of a domain literal: bounds, and a step if one is written. The operands are integers or points.
 #[derive(Drop)]
 #[cycle(expr)]
 pub enum Range {
@@ -145,7 +145,7 @@ impl Expr {
     ghost use Rattle.ti_syntax.specs.Trees.Expressions.{place_of_exp};
     ghost use Rattle.ti_syntax.specs.Trees.Views.{exp_of};
 
-    /// The place of the node.
+    /// The source position of the expression's root node.
     pub fn place(&self) -> Place
         ensures { result ≡ place_of_exp (exp_of self.now) }
     {

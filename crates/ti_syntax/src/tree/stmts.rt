@@ -1,32 +1,33 @@
-// Statements.
+// Statements, as parsed.
 
 use super::exprs::{BinaryOperator, Expr, Range};
 use super::types::TypeName;
 use crate::Spelled;
 use ti_base::Place;
 
-/// What a new grid spreads over.
+/// The domain of a new grid.
 #[derive(Drop)]
 pub enum Dims {
+    /// An expression for the whole domain.
     Domain(Expr),
-    /// One to three ranges, as in a bracket literal.
+    /// One to three ranges, as in a domain literal.
     Ranges(Vec<Range>),
 }
 
-/// The right side of a declaration or an assignment.
+/// An initializer: the right-hand side of a declaration or an assignment.
 #[derive(Drop)]
 pub enum Init {
     Value(Expr),
     /// `new SharedRegion()`, at `new`.
     NewRegion(Place),
-    /// `new (r) C()`, at `new`; the class at its name.
+    /// `new (r) C()`, at `new`. `region` is `r`, if given; `name_place` is the position of `C`.
     NewObject {
         place: Place,
         region: Option<Expr>,
         name_place: Place,
         name: Spelled,
     },
-    /// `new (r) T [D]`, at `new`; the type of the elements, and the domain at its `[`.
+    /// `new (r) T [D]`, at `new`. `region` is `r`, if given; `element` is `T`, the element type; `bracket` is the position of `[`.
     NewGrid {
         place: Place,
         region: Option<Expr>,
@@ -42,24 +43,25 @@ pub enum Init {
     },
 }
 
-/// `++` or `--`.
+/// The operator of a step statement: `++` or `--`.
 #[derive(Clone, Copy, Debug, PartialEq, Eq)]
 pub enum StepOperator {
     Increment,
     Decrement,
 }
 
-/// What a print writes.
+/// The argument of a print.
 #[derive(Drop)]
 pub enum Printed {
     Nothing,
+    /// A string literal.
     Text(Spelled),
     Value(Expr),
     /// `"s" + e`
     TextAndValue(Spelled, Expr),
 }
 
-/// A statement, with the place that stands for it. Large parts are boxed, so that a statement without parts is small.
+/// A statement, with its source position. Large parts are boxed to keep the enum small.
 #[derive(Drop)]
 pub enum Stmt {
     /// `;`
@@ -77,46 +79,47 @@ pub enum Stmt {
         target: Expr,
         value: Box<Init>,
     },
-    /// `t op= e`, at the token.
+    /// The compound assignment `t op= e`, at its operator.
     Update {
         place: Place,
         operator: BinaryOperator,
         target: Expr,
         value: Expr,
     },
-    /// `t++` or `t--`, at the token.
+    /// `t++` or `t--`, at its operator.
     Step {
         place: Place,
         operator: StepOperator,
         target: Expr,
     },
-    /// A call alone.
+    /// A call as a statement.
     Call(Expr),
-    /// At `println`.
+    /// A print, at `println`.
     Print(Place, Printed),
-    /// At `barrier`.
+    /// `Ti.barrier()`, at `barrier`.
     Barrier(Place),
-    /// At `break`.
+    /// `break`, at its keyword.
     Break(Place),
-    /// At `continue`.
+    /// `continue`, at its keyword.
     Continue(Place),
-    /// `return` or `return e`, at the word.
+    /// `return` or `return e`, at the keyword.
     Return(Place, Option<Expr>),
+    /// `{ .. }`
     Block(Vec<Stmt>),
-    /// At `if`.
+    /// `if (c) s` or `if (c) s else t`, at `if`.
     If {
         place: Place,
         condition: Expr,
         then: Box<Stmt>,
         otherwise: Option<Box<Stmt>>,
     },
-    /// At `while`.
+    /// `while (c) s`, at `while`.
     While {
         place: Place,
         condition: Expr,
         body: Box<Stmt>,
     },
-    /// At `for`: a declaration or a change, the condition, a change, and the body.
+    /// `for (first; condition; update) body`, at `for`. `first` is a declaration or an assignment, `update` an assignment.
     For {
         place: Place,
         first: Option<Box<Stmt>>,
@@ -124,7 +127,7 @@ pub enum Stmt {
         update: Option<Box<Stmt>>,
         body: Box<Stmt>,
     },
-    /// At `foreach`; the variable at its name.
+    /// `foreach (p in D) body`, at `foreach`; `name_place` is the position of the variable.
     Foreach {
         place: Place,
         name_place: Place,

@@ -1,45 +1,47 @@
-// Types as they are written.
+// Types as written in a program, before names are resolved.
 
 use crate::Spelled;
 use ti_base::Place;
 
-/// A word that qualifies what it directly follows.
+/// A type qualifier. It applies to the base or the grid brackets that it directly follows.
 #[derive(Clone, Copy, Debug, PartialEq, Eq)]
 pub enum QualifierWord {
     Single,
     Local,
 }
 
-/// A qualifier, at its word.
+/// An occurrence of a qualifier, at the position of its keyword.
 #[derive(Clone, Copy, Debug, PartialEq, Eq)]
 pub struct Qualifier {
     pub word: QualifierWord,
     pub place: Place,
 }
 
-/// What a type begins with, at its word or the name of its class.
+/// The first part of a type, at the position of its keyword or class name.
 #[derive(Drop)]
 pub enum Base {
     Int(Place),
     Long(Place),
     Boolean(Place),
-    /// With the number of dimensions, as in the next two.
+    /// `Point<n>`, with its number of dimensions n.
     Point(Place, u8),
+    /// `RectDomain<n>`, with its number of dimensions n.
     RectDomain(Place, u8),
+    /// `Domain<n>`, with its number of dimensions n.
     Domain(Place, u8),
     SharedRegion(Place),
-    /// A class.
+    /// A class type, by its name.
     Named(Place, Spelled),
 }
 
-/// The brackets of a grid with its number of dimensions, and what qualifies the grid.
+/// One pair of grid brackets: the number of dimensions, and the qualifiers of the grid.
 #[derive(Drop)]
 pub struct Brackets {
     pub dim: u8,
     pub qualifiers: Vec<Qualifier>,
 }
 
-/// A type: a base with what qualifies it, and the brackets behind it from the outermost grid on.
+/// A type: its base with the base's qualifiers, then the grid brackets after it, the outermost grid first.
 #[derive(Drop)]
 pub struct TypeName {
     pub base: Base,

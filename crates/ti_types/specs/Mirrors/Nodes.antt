@@ -1,5 +1,4 @@
--- Nobody has to believe this: it mirrors code, and only contracts of private functions speak of it.
--- What is told of indices, of a member and of ranges, by what the rules ask of the types of their parts.
+-- For proofs only: the model of the typing of indices, members and ranges, by the summaries of their parts' types.
 use Rattle.std.specs.Prelude.{ℕ, ◌==◌, ◌&&◌, Bool, true, false, not, is_some, if◌then◌else◌, List, [], map, Option, Some, None, option_map, option_and_then}
 use Rattle.ti_base.specs.declared.place.Place.{Place}
 use Rattle.ti_lang.specs.Program.Types.{ValueType, Int, Pt, Rc, Class, Grid}
@@ -24,24 +23,24 @@ use Rattle.ti_types.specs.Mirrors.BuiltIn.{told_member, told_built_in}
 
 -- ---- indices
 
--- so many indices are taken by a grid of so many dimensions
+-- whether a grid of `dim` dimensions accepts `count` indices
 abbrev pub are_indices : ℕ → ℕ → Option ValueType → Bool → Bool
 are_indices dim count (Some (Pt m)) ints = (count == 1) && (dim == m)
 are_indices dim count _ ints = ints && (count == dim)
 
--- what so many indices give
+-- the type of an element, or a coordinate, with `count` indices
 abbrev pub told_index : ℕ → ValueType → ToldTypes → Option ValueType
 told_index count (Pt n) told = where_true (told.ints && (count == 1)) Int
 told_index count (Grid t n local) told = where_true (are_indices n count told.first told.ints) (read_through local t)
 told_index count _ told = None
 
--- the index is an int or a point
+-- whether the index is an int or a point
 abbrev pub is_index : Option ValueType → Bool
 is_index (Some Int) = true
 is_index (Some (Pt m)) = true
 is_index _ = false
 
--- indices in another number or with another number of dimensions
+-- whether the number of indices or their dimension is what is wrong
 abbrev pub told_other : ℕ → ValueType → ToldTypes → Bool
 told_other count (Pt n) told = not (count == 1)
 told_other count (Grid t n local) told = if count == 1 then is_index told.first else not (count == n)
@@ -49,12 +48,12 @@ told_other count _ told = false
 
 -- ---- members
 
--- the method that is called behind something, if it's an object
+-- the method that a member call on a value refers to, if it is an object
 abbrev pub behind : NumberedProgram → Option ValueType → ℕ → Option NumberedMethod
 behind p None name = None
 behind p (Some t) name = method_behind p t name
 
--- what is known of a member behind something: an object, where it's a call of this method, or another value
+-- the typing result of a member call on a value, by itself
 abbrev pub told_behind : NumberedProgram → Option ValueType → ℕ → Option NumberedMethod → ℕ → Option ToldTypes → Typed
 told_behind p None name m count told = plain None
 told_behind p (Some (Class c local)) name m count told = told_called m count told
@@ -62,7 +61,7 @@ told_behind p (Some t) name m count None = plain None
 told_behind p (Some t) name m count (Some told) =
     plain (option_and_then (λ (b : member.BuiltIn). told_member b t count told) (built_in p name))
 
--- what counts of what is wrong with it
+-- the first error of a member call on a value, by itself
 abbrev pub behind_refusal : NumberedProgram → Place → List Place → Option ValueType → ℕ → Option NumberedMethod → ℕ → Option ToldTypes
     → Option Refusal
 behind_refusal p at places None name m count told = None
@@ -72,38 +71,38 @@ behind_refusal p at places (Some t) name m count (Some told) = first_of (told_bu
 
 -- ---- ranges
 
--- what the rules ask of the bounds and steps of ranges: whether all are ints, the range of points that the first is, and whether it
--- would be one with other numbers of dimensions
+-- what the typing rules need of the bounds and steps of ranges: whether all are ints, the type of the first range if it is one of
+-- points, and whether it would be one with dimensions ignored
 pub record EndTypes : Type 0 where
   pub ints : Bool
   pub range : Option ValueType
   pub near : Bool
 
--- what is told of these types
+-- the summary of these types
 abbrev pub ends : List ValueType → EndTypes
 ends ts = record { ints = all_ints ts; range = range_of_points ts; near = is_some (range_of_points (map one_dim ts)) }
 
--- what clauses see of it
+-- the model of the summary in the code
 abbrev pub ends_of : Ends → EndTypes
 ends_of e = record { ints = e.ints; range = option_map seen e.range; near = e.near }
 
--- a range in front of others
+-- the summary with a range prepended
 abbrev pub ends_before : EndTypes → EndTypes → EndTypes
 ends_before e others = record { ints = e.ints && others.ints; range = e.range; near = e.near }
 
--- what is told of ranges
+-- the summary of a list of ranges; None if a bound or step has no type
 abbrev pub ranges_told : NumberedProgram → ScopeContents → NumberedRanges → Option EndTypes
 ranges_told p s NoRange = Some (ends [])
 ranges_told p s (MoreRange r rest) = both (option_map ends (bound p s r)) (ranges_told p s rest) (λ e others. Some (ends_before e others))
 
--- what so many ranges give
+-- the type of a domain literal with `count` ranges
 abbrev pub told_rect : ℕ → EndTypes → Option ValueType
 told_rect count e = if e.ints then Some (Rc count) else if count == 1 then e.range else None
 
--- whether they would give something with other numbers of dimensions
+-- whether there would be a type with dimensions ignored
 abbrev pub told_near : ℕ → EndTypes → Bool
 told_near count e = if e.ints then true else if count == 1 then e.near else false
 
--- what clauses see of the literal that so many ranges are
+-- the type of `count` ranges as in a domain literal
 abbrev pub told_literal : ℕ → EndTypes → LiteralTypes
 told_literal count e = record { type = told_rect count e; near = told_near count e }
