@@ -246,6 +246,7 @@ fn is_simple(x: &Stmt) -> bool
 {
     match x {
         Stmt::Block(_) | Stmt::While { .. } | Stmt::For { .. } | Stmt::Foreach { .. } => false,
+        // For the prover: the model has two forms of `if`, so the match is split.
         Stmt::If { otherwise, .. } => match otherwise {
             Some(_) => false,
             None => false,
@@ -254,7 +255,7 @@ fn is_simple(x: &Stmt) -> bool
     }
 }
 
-// The result for a statement. Simple statements skip the large stack frame of `compound`.
+// The result for a statement. Simple statements have a fast path, which doesn't go through `compound`.
 #[cycle(walk)]
 fn statement<'a>(
     alloc: Global,

@@ -1,4 +1,4 @@
--- What a reading at the start of a list implies about prefixes of the list is proved.
+-- Definitions and lemmas on what a reading says of the start of a list: soundness, and that no lexical element there is longer.
 use Rattle.std.proofs.Common.{◌≡◌, ◌⊎◌, inl, inr, ℕ, ◌+◌, ◌<◌, ◌≤◌, List, ◌++◌, length, refl, arith}
 use Rattle.std.proofs.lemmas.Bool.{cases_lt}
 use Rattle.ti_syntax.specs.Tokenizing.{Piece, IsPiece, Flaw, HasFlaw}

@@ -15,6 +15,7 @@ pub enum Class {
     Slash,
     Other,
 }
+/// The class of a byte.
 
 pub fn class_of(byte: u8) -> Class
     ensures { result ≡ class_of byte }
@@ -28,6 +29,7 @@ pub fn class_of(byte: u8) -> Class
         _ => Class::Other,
     }
 }
+/// Whether the byte can continue a name.
 
 pub fn is_name_byte(byte: u8) -> bool
     ensures { result ≡ is_name_byte byte }

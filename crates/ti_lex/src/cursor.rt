@@ -10,8 +10,11 @@ use ti_base::Place;
 /// A forward-only cursor over the bytes of a source. It tracks the line and column of the next byte.
 #[derive(Debug, Drop)]
 pub struct Cursor<'a> {
+    /// The source.
     text: &'a [u8],
+    /// The offset of the next byte.
     at: usize,
+    /// The position of the next byte.
     place: Place,
 }
 

@@ -1,4 +1,4 @@
--- At a node that the specification resolves, no naming rule is proved to be broken.
+-- Lemmas on lists of nodes at which no naming rule is broken.
 use Rattle.std.proofs.Common.{◌≡◌, List, [], ◌∷◌, ◌++◌, flat_map, refl, ap, ◌∙◌}
 use Rattle.ti_lang.specs.Nodes.{Node}
 use Rattle.ti_rules.specs.BrokenNames.{node_refusals}

@@ -25,7 +25,7 @@ fn class_table<'a>(alloc: Global, tree: &'a Tree) -> Result<Names<'a, u32>, Memo
     Ok(found)
 }
 
-/// The number of each field of a class by name. Fields are numbered from 0 in source order; of fields with one name, the first counts.
+/// The number of each field of a class by name. Fields are numbered from 0 in source order; of fields with one name, the first is there.
 fn field_table<'a>(alloc: Global, members: &'a [Member]) -> Result<Names<'a, u32>, Memory>
     ensures { IfOk result (λ t. t ≡ with_numbered [] 0 (field_names (fields_in (map member_of members.now)))) }
 {

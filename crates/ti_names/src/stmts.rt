@@ -392,7 +392,7 @@ impl<'t, 'a> Site<'t, 'a> {
         })
     }
 
-    /// Resolves a statement. The most frequent forms skip the large stack frame of `any_stm`.
+    /// Resolves a statement. The most frequent forms have a fast path, which doesn't go through `any_stm`.
     #[cycle(walk_stmt)]
     pub fn stm(&mut self, x: &'a tree::Stmt) -> Result<Resolved<Stmt>, Memory>
         ensures part { IfOk result (λ r. statement_of r.part ≡ number_stm (site_of self.old) (stm_of x.now)) }

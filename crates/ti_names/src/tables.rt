@@ -105,7 +105,7 @@ impl<'a> Tables<'a> {
         flag(&self.statics, number)
     }
 
-    /// The number of a member name.
+    /// The number of a member name; `unknown` if no member has it.
     pub fn name(&self, name: &[u8]) -> u32
         ensures { result ≡ name_number (text_of self.now) name.now }
     {

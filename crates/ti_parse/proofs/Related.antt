@@ -1,4 +1,4 @@
--- A relation between parsers that each step preserves is proved to hold between the parser with the usual limits and one with others.
+-- A relation between parsers that each step preserves is proved to hold between the parser and one with other full-expression parsers.
 use Rattle.std.proofs.Common.{◌≡◌, ℕ, zero, suc, List, [], ◌∷◌, ◌++◌, Option, Some, None, Ok, Err, refl, sym, subst, true, false, Bool, ◌&&◌, if◌then◌else◌, codes}
 use Rattle.ti_base.specs.declared.place.Place.{Place}
 use Rattle.ti_syntax.specs.declared.token.TokenKind.{TokenKind}

@@ -226,14 +226,14 @@ impl Reader {
         Ok(Init::Broadcast { place, value, root })
     }
 
-    /// For the prover: a new region, object or grid, after `new`, in a box.
+    /// A new region, object or grid, after `new`, in a box.
     fn boxed_new(self, tokens: &mut Tokens<'_>, place: Place) -> Result<Box<Init>, Stop>
         ensures { ReadsAs boxed_init (spec.new_thing plain self.turns place tokens.old) result tokens.new }
     {
         Ok(Box::new(self.alloc, self.new_thing(tokens, place)?)?)
     }
 
-    /// For the prover: a broadcast, after its keyword, in a box.
+    /// A broadcast, after its keyword, in a box.
     fn boxed_broadcast(self, tokens: &mut Tokens<'_>, place: Place) -> Result<Box<Init>, Stop>
         ensures { ReadsAs boxed_init (spec.broadcast plain self.turns place tokens.old) result tokens.new }
     {

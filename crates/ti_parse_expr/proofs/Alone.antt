@@ -1,4 +1,4 @@
--- The shortcut for an operand of one token is proved to be what the parser does, if the next token can't continue the operand.
+-- The shortcut for an expression that is just a name is proved to be what the parser does, if the next token can't continue it.
 use Rattle.std.proofs.Common.{◌≡◌, ℕ, suc, ◌+◌, ◌-◌, true, List, [], ◌∷◌, length, take, Ok, refl, sym, ap, ◌∙◌, arith, true≢false, ◌≤◌, if◌then◌else◌}
 use Rattle.ti_base.specs.declared.place.Place.{Place}
 use Rattle.ti_syntax.specs.declared.token.Token.{Token}

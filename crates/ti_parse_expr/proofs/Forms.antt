@@ -1,4 +1,4 @@
--- The parser for each form of phrase is proved sound, and its errors viable-prefix errors.
+-- The parser for each form of phrase is proved sound and complete, and its errors viable-prefix errors.
 use Rattle.std.proofs.Common.{◌≡◌, ◌⊎◌, inl, inr, ℕ, suc, ◌<◌, ◌≤◌, List, [], ◌∷◌, ◌++◌, length, Ok, ◌∙◌, arith}
 use Rattle.ti_syntax.specs.declared.token.Token.{Token}
 use Rattle.ti_syntax.specs.Trees.Expressions.{Exp}

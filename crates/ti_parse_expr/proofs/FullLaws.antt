@@ -1,4 +1,4 @@
--- The parser for full expressions is proved sound, and its errors viable-prefix errors.
+-- The parsers for full expressions are proved sound, and complete up to the first token above the weight limit.
 use Rattle.std.proofs.Common.{◌≡◌, ℕ, suc, ◌+◌, ◌<◌, List, [], ◌∷◌, ◌++◌, length, Ok, refl, ap, ◌∙◌, arith, if◌then◌else◌}
 use Rattle.ti_base.specs.declared.place.Place.{Place}
 use Rattle.ti_syntax.specs.declared.token.Token.{Token}

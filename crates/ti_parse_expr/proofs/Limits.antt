@@ -1,4 +1,4 @@
--- Lemmas on the first token of a list whose weight is above the limit.
+-- Lemmas on the outcome of parsing with limits, which the first token above its limit decides.
 use Rattle.std.proofs.Common.{◌≡◌, ℕ, zero, suc, ◌+◌, ◌<◌, ◌≤◌, List, [], ◌∷◌, ◌++◌, length, Ok, Err, refl, ap, ◌∙◌, arith, true, false, Bool, nat_lt, if◌then◌else◌}
 use borrow.Author.Tests.{ltb-true, ltb-false}
 use Rattle.std.proofs.lemmas.Bool.{le-ltb, lt-ltb}

@@ -16,7 +16,9 @@ use ti_syntax::{Spelled, Token, TokenKind};
 /// After the last token, the next token is End; consuming it changes nothing.
 #[derive(Drop)]
 pub struct Tokens<'a> {
+    /// The tokens that are left.
     list: &'a [Token],
+    /// End, the kind of the token after them.
     end: &'a TokenKind,
 }
 

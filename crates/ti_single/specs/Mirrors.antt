@@ -1,3 +1,3 @@
--- For proofs only: a functional model of the code. No public contract depends on it.
+-- For proofs only: a functional model of the code. Only contracts of private functions depend on it.
 pub mod Loops
 pub mod Maybe

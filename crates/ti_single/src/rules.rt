@@ -1,4 +1,4 @@
-// The rules of single values (S1 to S9) for one statement by itself, without the statements in it.
+// The rules of single values for one statement by itself, without the statements in it. Those for whole methods (S6, S9) are in ti_check.
 ghost use Rattle.std.specs.Prelude.{◌≡◌, ◌++◌, ◌&&◌, map, not, false};
 ghost use Rattle.std.specs.Option.{option_map, option_map_or, unwrap_or};
 ghost use Rattle.ti_syntax.specs.Trees.Views.{maybe_of};

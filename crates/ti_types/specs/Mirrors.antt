@@ -1,4 +1,4 @@
--- For proofs only: a functional model of the code. No public contract depends on it.
+-- For proofs only: a functional model of the code. Only contracts of private functions depend on it.
 pub mod Arguments
 pub mod BuiltIn
 pub mod Nodes

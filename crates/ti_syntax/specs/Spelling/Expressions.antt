@@ -11,7 +11,7 @@ use Rattle.ti_syntax.specs.Spelling.Operators.{prefix_of, infix_of, strength}
 use Rattle.ti_syntax.specs.Spelling.Types.{CastType}
 
 -- The last part of a Postfix, which determines how the Postfix may be used: Target for a simple name, a member's name or an
--- index, which can be assigned to; Arguments for an argument list, which makes it a statement; Other for the rest, also for a group.
+-- index, which can be assigned to; Call for an argument list, which makes it a statement; Other for the rest, also for a group.
 pub data Ending : Type 0 where
   Target : Ending
   Call : Ending
@@ -26,7 +26,7 @@ mutual
     operation : {n : ℕ} {a b : List Token} (t : Token) {op : BinaryOperator} {x y : Exp} → infix_of t.kind ≡ Some op → n ≤ strength op
         → Whole (strength op) a x → Whole (strength op + 1) b y → Whole n (a ++ t ∷ b) (e.Binary t.place op x y)
 
-  -- a Unary
+  -- a Unary: unary operators or casts before a Postfix
   pub data Prefixed : List Token → Exp → Type 0 where
     unary : {l : List Token} (t : Token) {op : UnaryOperator} {x : Exp} → prefix_of t.kind ≡ Some op → Prefixed l x
         → Prefixed (t ∷ l) (e.Unary t.place op x)
@@ -34,7 +34,7 @@ mutual
         → Prefixed m x → Prefixed (o ∷ (l ++ c ∷ m)) (e.Cast o.place ty x)
     postfixed : {ending : Ending} {l : List Token} {x : Exp} → Postfixed ending l x → Prefixed l x
 
-  -- a Postfix
+  -- a Postfix: a primary expression with its postfix parts
   pub data Postfixed : Ending → List Token → Exp → Type 0 where
     int : (t : Token) {n : ℤ} → t.kind ≡ k.Int n → Postfixed Other (t ∷ []) (e.Int t.place n)
     long : (t : Token) {n : ℤ} → t.kind ≡ k.LongInt n → Postfixed Other (t ∷ []) (e.Long t.place n)

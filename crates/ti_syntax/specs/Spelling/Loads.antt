@@ -31,7 +31,7 @@ weights_behind zero w (t ∷ l) = let v = (if counts t.kind then 1 else 0) + w i
 abbrev pub weights : List Token → List Load
 weights l = weights_behind 0 0 l
 
--- ---- right sides
+-- ---- initializers
 
 abbrev pub region_loads : {l : List Token} {x : Option Exp} → Region l x → List Load
 region_loads s.none = []

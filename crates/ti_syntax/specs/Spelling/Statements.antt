@@ -31,7 +31,7 @@ starts_so (t ∷ l) = starts t.kind
 pub data Start : Ending → List Token → Exp → Type 0 where
   start : {ending : Ending} {l : List Token} {x : Exp} → Postfixed ending l x → starts_so l ≡ true → Start ending l x
 
--- ---- right sides
+-- ---- initializers
 
 -- the optional region of `new`
 pub data Region : List Token → Option Exp → Type 0 where
@@ -44,7 +44,7 @@ pub data Dims : List Token → DimsTree → Type 0 where
   domain : {l : List Token} {x : Exp} → Whole 1 l x → Dims l (s.Domain x)
   ranges : {l : List Token} {rs : List RangeTree} → Ranges l rs → length rs ≤ 3 → Dims l (s.Ranges rs)
 
--- an Init
+-- an Init, the right-hand side of a declaration or an assignment
 pub data Initial : List Token → InitTree → Type 0 where
   value : {l : List Token} {x : Exp} → Whole 1 l x → Initial l (s.Value x)
   new_region : (n t o c : Token) → n.kind ≡ k.KeywordNew → t.kind ≡ k.KeywordSharedRegion → o.kind ≡ k.LeftParen → c.kind ≡ k.RightParen
@@ -65,13 +65,13 @@ pub data Initial : List Token → InitTree → Type 0 where
 
 -- ---- simple statements
 
--- a Decl
+-- a Decl: a declaration
 pub data Declared : List Token → Stm → Type 0 where
   declared : {l m : List Token} {ty : TypeTree} {value : InitTree} (t a : Token) {name : List ℕ} → Typed l ty → t.kind ≡ k.Name name
       → a.kind ≡ k.Assign → Initial m value
       → Declared (l ++ t ∷ a ∷ m) (s.Declare t.place ty name value)
 
--- a Change
+-- a Change: an assignment, a compound assignment or a step
 pub data Changed : List Token → Stm → Type 0 where
   assign : {l m : List Token} {target : Exp} {value : InitTree} (a : Token) → Start ending.Target l target → a.kind ≡ k.Assign
       → Initial m value
@@ -82,7 +82,7 @@ pub data Changed : List Token → Stm → Type 0 where
   step : {l : List Token} {target : Exp} (a : Token) {op : StepOperator} → Start ending.Target l target → step_of a.kind ≡ Some op
       → Changed (l ++ a ∷ []) (s.Step a.place op target)
 
--- `println` or `System.out.println`, with the place of `println`
+-- `println` or `System.out.println`, with the token `println`
 pub data Printer : List Token → Token → Type 0 where
   short : (t : Token) → t.kind ≡ k.KeywordPrintln → Printer (t ∷ []) t
   long : (s d o p t : Token) → s.kind ≡ k.KeywordSystem → d.kind ≡ k.Dot → o.kind ≡ k.Name (codes "out") → p.kind ≡ k.Dot → t.kind
