@@ -30,7 +30,7 @@ impl Instrs {
         Instrs { items }
     }
 
-    /// The instructions, where they are.
+    /// The instructions as a slice.
     pub fn as_slice(&self) -> &[Instr]
         ensures { result.now ≡ self.now }
     {

@@ -2,8 +2,8 @@
 
 use ti_base::{CollKind, Place, Value, Zero};
 
-/// A binary operator, by its name in the listing. Where several names denote one operator of the language, they say which types the
-/// operands have: `Add` is for numbers, `PtAdd` for points, `DomUnion` for domains.
+/// A binary operator, by its name in the listing. If several names denote one operator of the language, they say which types the operands
+/// have: `Add` is for numbers, `PtAdd` for points, `DomUnion` for domains.
 #[derive(Clone, Copy)]
 pub enum Operation {
     Add,
@@ -29,9 +29,11 @@ pub enum Operation {
     DomUnion,
     DomMinus,
     DomMeet,
-    /// `&&` of two operands that have both been evaluated: the right one. No compiled program has this instruction, since `&&` becomes jumps.
+    /// `&&` of two operands that have both been evaluated: the right one. No compiled program has this instruction, since `&&` becomes
+    /// jumps.
     AndThen,
-    /// `||` of two operands that have both been evaluated: the right one. No compiled program has this instruction, since `||` becomes jumps.
+    /// `||` of two operands that have both been evaluated: the right one. No compiled program has this instruction, since `||` becomes
+    /// jumps.
     OrElse,
 }
 
@@ -70,7 +72,7 @@ pub enum Instr {
     Dup,
     /// Pushes the value of a slot.
     Load(u32),
-    /// Pops the top operand into a slot; into a new slot if there is none of this number.
+    /// Pops the top operand into a slot; into a new slot if no slot has this number.
     Keep(u32),
     /// Keeps the given number of oldest slots and drops the others.
     Trim(u32),
@@ -113,7 +115,8 @@ pub enum Instr {
     JumpIf(u32),
     /// Pops a boolean and jumps if it is false.
     JumpIfNot(u32),
-    /// Moves the first point of the domain on top into a slot and leaves the other points on top; jumps if the domain is empty. The operands
+    /// Moves the first point of the domain on top into a slot and leaves the other points on top; jumps if the domain is empty. The
+    /// operands
     /// are the slot and the target.
     Next(u32, u32),
     /// Spends a tick of fuel.
