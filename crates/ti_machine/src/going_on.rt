@@ -81,6 +81,7 @@ impl Machine {
         requires goes { (n : Shown) × HasNext code.now (machine_of code.now self.old) [] n }
         ensures { IfOk result (λ w. IsWay code.now (machine_of code.now self.old) w (machine_of code.now self.new)) }
     {
+        // For the prover: brings the rule on jumps into scope.
         let _rule = code.methods();
         let mut count: u64 = 0;
         'steps: loop {
