@@ -1,4 +1,4 @@
-//! The values of expressions, from the answers that their actions have got so far.
+//! Evaluates expressions, given the answers that their actions have received so far.
 #![tactic(auto)]
 
 mod bounds;
