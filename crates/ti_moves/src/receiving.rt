@@ -26,7 +26,7 @@ use ti_eval::{Env, Held, Slot, Stop, Todo, Told, converted, evaluate, operated, 
 use ti_lang::program::{Declared, Expr, Stmt, TypeUse, Variable};
 use ti_lang::tree::{BinaryOperator, StepOperator};
 
-/// Where the value of a right side is stored.
+/// The receiver of the value of a right side: where it is stored.
 #[derive(Clone, Copy)]
 pub enum Receiver<'c> {
     Nowhere,
