@@ -94,7 +94,7 @@ pub enum Instr {
     AsGrid,
     /// Pops the given number of coordinates and pushes the point that they make.
     MakePt(u32),
-    /// Pops the given number of operands, an index, and a point below it; pushes this coordinate of the point.
+    /// Pops the given number of indices and the point below them; pushes the coordinate that the first index denotes.
     Coord(u32, Place),
     /// Pushes the default step of a range whose low and high bounds are the two top operands: 1, or the point whose coordinates are all 1.
     Step,
@@ -116,8 +116,7 @@ pub enum Instr {
     /// Pops a boolean and jumps if it is false.
     JumpIfNot(u32),
     /// Moves the first point of the domain on top into a slot and leaves the other points on top; jumps if the domain is empty. The
-    /// operands
-    /// are the slot and the target.
+    /// operands are the slot and the target.
     Next(u32, u32),
     /// Spends a tick of fuel.
     Tick(Place),

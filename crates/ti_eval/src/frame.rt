@@ -35,7 +35,7 @@ pub enum Todo {
     Here,
     /// None of its own: something inside it is pending, or a value on its way to it.
     Inside,
-    /// The statements of a list from this number on, and then the end of the block.
+    /// The statements of a list from this number on; after those of a block its end.
     From(usize),
     /// The end of a `for`.
     Ending,
@@ -72,7 +72,7 @@ pub enum Todo {
 pub enum Part {
     /// The statement of this number in a block.
     Item(usize),
-    /// The branch of an `if` whose condition holds.
+    /// The branch of an `if` that is taken if the condition holds.
     Then,
     /// The branch after `else`.
     Else,

@@ -50,7 +50,7 @@ impl State {
     }
 }
 
-// The successor of a number below a limit, so that it doesn't overflow.
+// For the prover: the successor of a number below a limit, which can't overflow.
 fn one_more(n: u32, limit: u32) -> u32
     requires { n < limit }
     ensures { result ≡ n + 1 }

@@ -1,4 +1,5 @@
--- Proves that the premises on a method are propositions (have at most one proof), so they may be derived from the mere existence of a source.
+-- Proves that the premises on a method are propositions (have at most one proof), so they may be derived from the mere existence of a
+-- source.
 use mathlib.Core.Path.{path_j'}
 use Rattle.std.proofs.Common.{◌≡◌, ◌⊎◌, inl, inr, ℕ, ◌==◌, Bool, true, false, ◌&&◌, slice_get, is_none, Option, Some, None, List, [], ◌∷◌, refl, ap, sym, ◌∙◌, subst}
 use Rattle.std.proofs.Math.Bool.{Bool-set}

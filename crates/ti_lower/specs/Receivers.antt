@@ -87,7 +87,7 @@ module _ (program : NumberedProgram) (this : Option ℕ) where
   kind_of_target (e.Index q x parts) = InElement
   kind_of_target other = InField 0
 
-  -- the reference and the index of a target
+  -- The reference and the index of a target.
   abbrev pub place_code : List Name → NumberedExp → ℕ → List Instr
   place_code names (e.Variable q x) at = []
   place_code names (e.OwnField q field) at = own (has_this names) ∷ []

@@ -19,7 +19,8 @@ use ti_lang::tree::BinaryOperator;
 use ti_lang::typing::{Seen, type_in_text};
 use ti_lower_expr::{Kind, Known, add, add_conversion, kind_of_seen, known_operated, operation_of};
 
-/// What becomes of a value: it is dropped, initializes a new variable, or is written to the target of an assignment, perhaps by an operator.
+/// What becomes of a value: it is dropped, initializes a new variable, or is written to the target of an assignment, perhaps by an
+/// operator.
 #[derive(Clone, Copy)]
 pub enum Receiver<'a> {
     Nowhere,

@@ -9,7 +9,7 @@ use Rattle.ti_code.specs.Effects.{Spot, Who}
 use Rattle.ti_code.specs.Leading.{next_effect, Leads}
 use Rattle.ti_lower_expr.specs.Methods.{receivers_of}
 
--- The same action is requested, at the same place.
+-- The computation requests this action at this place.
 pub record AsksFor (g : Got Spot) (q : Request) : Type 0 where
   pub request : Request
   pub is : g ≡ Asks request

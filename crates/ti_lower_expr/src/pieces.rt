@@ -191,7 +191,7 @@ pub fn add_point(parts: &[Expr], out: &mut Vec<Instr>) -> Result<(), Memory>
     add(Instr::MakePt(n), out)
 }
 
-/// The instruction that makes the rectangular domain of `n` ranges; out of memory iff a needed `n` doesn't fit into 32 bits.
+/// The instruction that makes the rectangular domain of `n` ranges; out of memory iff `n` doesn't fit into 32 bits.
 pub fn rect_instr(kind: Kind, n: usize, place: Place) -> Result<Instr, Memory>
     ensures value { IfOk result (λ i. i ≡ coding.rect_instr kind n place) }
     ensures large { IfErr result (λ _. 2 ^ 32 ≤ n) }

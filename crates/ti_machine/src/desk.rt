@@ -6,8 +6,7 @@ use crate::operand::Operand;
 use ti_eval::Held;
 
 /// The mutable state of a frame: the number of the next instruction, the slots, the oldest first (`this` is slot 0, if there is one), and
-/// the
-/// operand stack, whose top is the last element.
+/// the operand stack, whose top is the last element.
 #[derive(Drop)]
 pub struct Desk {
     pub at: usize,

@@ -16,8 +16,7 @@ use ti_code::Code;
 use ti_eval::Team;
 
 /// The result of a run of silent steps: what the process has next, how it uses the answer if that is an action, and how many instructions
-/// it
-/// has finished on the way.
+/// it has finished on the way.
 #[derive(Clone, Copy)]
 pub struct Way {
     pub next: Next,
@@ -95,9 +94,8 @@ impl Machine {
         }
     }
 
-    /// Like `go_on`, without its precondition. Runs at most about `turns` steps; returns `None` only if the process never has anything next
-    /// or at
-    /// least `turns` silent steps come before that.
+    /// Like `go_on`, without its precondition: gives up once it has executed at least `turns` silent steps. So it returns `None` only if
+    /// the process never has anything next or at least `turns` silent steps come before that.
     pub(crate) fn go_on_within(
         &mut self,
         alloc: Global,

@@ -30,8 +30,7 @@ pub struct Frame {
 }
 
 /// A process: its number and that of processes, its fuel in ticks and the ticks spent, its innermost frame, and the frames below, the
-/// outermost
-/// first. `spare` holds empty frames of calls that have returned, whose memory later calls reuse.
+/// outermost first. `spare` holds empty frames of calls that have returned, whose memory later calls reuse.
 #[derive(Drop)]
 pub struct Machine {
     pub team: Team,

@@ -19,6 +19,7 @@ use ti_eval::Held;
 // What a process passes on at an arrival: the argument of the collective and its contribution.
 #[derive(Clone, Copy)]
 pub struct Gift {
+    /// The root of a broadcast, or the region that is deleted.
     pub arg: Option<u32>,
     pub deposit: Deposit,
 }

@@ -21,7 +21,7 @@ pub enum State {
     Goes,
     /// Suspended with this next. If that is an action, its answer is used as `Hears` says.
     Stands(Next, Hears),
-    /// Unusable, after out of memory or after it exceeded its limit of steps.
+    /// Unusable, after out of memory or after `advance_within` gave up.
     Spent,
 }
 
@@ -33,7 +33,9 @@ pub enum State {
 pub struct Proc {
     machine: Machine,
     state: State,
+    /// How many instructions it has finished so far; saturates.
     steps: u64,
+    /// `steps` at the last answer.
     finished: u64,
     past: Past,
 }
@@ -75,8 +77,7 @@ impl Proc {
     }
 
     /// Process `p` of `procs` before its first instruction, if nothing is known of what it has next. Returns `None` iff the code has no
-    /// method
-    /// with the number of `main`.
+    /// method with the number of `main`.
     pub fn start_there(alloc: Global, code: &Code, p: u32, procs: u32, fuel: u32) -> Option<Proc>
         requires number { p < 2 ^ 31 }
         requires procs { procs < 2 ^ 31 }
@@ -120,8 +121,7 @@ impl Proc {
     }
 
     /// Like `advance`, without its precondition. Returns `None` only if the process never has anything next or at least `turns` silent
-    /// steps come
-    /// before that; the process is then unusable, as after out of memory.
+    /// steps come before that; the process is then unusable, as after out of memory.
     pub fn advance_within(
         &mut self,
         alloc: Global,
@@ -168,8 +168,7 @@ impl Proc {
     }
 
     /// How many instructions the process has finished with the last answer, that of the action included; 0 before the first answer.
-    /// Saturates
-    /// at 2^64 - 1.
+    /// Saturates at 2^64 - 1.
     pub fn finished(&self) -> u64
         ensures { HasFinished self.now result }
     {

@@ -20,6 +20,7 @@ pub enum Change<'c> {
 pub struct Meeting {
     pub place: Place,
     pub kind: CollKind,
+    /// The root of a broadcast, or the region that is deleted.
     pub arg: Option<u32>,
 }
 
