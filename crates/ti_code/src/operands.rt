@@ -1,4 +1,5 @@
-// The operands of an instruction as the listing shows them, each after a space.
+// The operands of an instruction as the listing shows them, each after a space. Each function states how much it can add to the line, so
+// that the line never overflows.
 
 ghost use Rattle.std.specs.Prelude.{◌≡◌, ◌+◌, ◌≤◌, ◌++◌, length, codes};
 ghost use Rattle.ti_watch.specs.Lines.{line_room};

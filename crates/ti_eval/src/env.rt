@@ -1,4 +1,4 @@
-// The environment of an expression.
+// The environment of an expression, and what it says of names: variables, types and members.
 
 ghost use Rattle.std.specs.Prelude.{◌≡◌, IfOk, IfSome, Some, None, reverse, option_map};
 ghost use Rattle.std.specs.Option.{option_map_or};

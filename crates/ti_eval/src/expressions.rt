@@ -1,4 +1,5 @@
-// The evaluation of expressions by recursion over them, from a list of answers.
+// The evaluation of expressions by recursion over them. Each function consumes answers from the beginning of a list and returns those that
+// are left.
 
 ghost use Rattle.std.specs.Prelude.{◌≡◌, map, option_map, ℤ, pos};
 ghost use Rattle.std.specs.declared.vec.Vec.{Vec as Row};

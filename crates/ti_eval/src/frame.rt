@@ -1,4 +1,4 @@
-// The position of a call in its method.
+// The position of a call in its method: which statements it has entered, and which work of each is pending.
 
 ghost use Rattle.ti_base.specs.Points.{IsPoint};
 

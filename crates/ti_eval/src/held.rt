@@ -1,4 +1,5 @@
-// The values of variables and operands.
+// The values of variables and operands. Accessors of one kind of value yield a default for the others, as in the semantics, so that they
+// have no preconditions.
 
 ghost use Rattle.std.specs.Prelude.{◌≡◌, ◌≤◌, length, IfOk};
 ghost use Rattle.ti_base.specs.Points.{IsPoint};

@@ -1,4 +1,4 @@
-// Kinds of operators.
+// Kinds of operators, by which functions handle several operators alike.
 
 /// A set operation on two domains.
 #[derive(Clone, Copy)]

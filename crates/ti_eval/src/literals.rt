@@ -1,4 +1,4 @@
-// Points and rectangular domains from their coordinates.
+// Points and rectangular domains from their coordinates, which literals give as numbers or as points.
 
 ghost use Rattle.std.specs.Prelude.{◌≡◌, ◌++◌, pos, int_le, map, true, IfOk, OnOk};
 ghost use Rattle.std.specs.List.{list_all};

@@ -1,4 +1,4 @@
-// The built-in members that have a value.
+// The built-in members that have a value, and indexing.
 
 ghost use Rattle.std.specs.Prelude.{◌≡◌, option_map, slice_index_or};
 ghost use Rattle.ti_base.specs.Points.{IsPoint};

@@ -1,4 +1,4 @@
-// Fields, elements and views, which need an action of the store.
+// Reads of fields and elements, domains and views of grids: what needs an action of the store.
 
 ghost use Rattle.std.specs.Prelude.{◌≡◌};
 ghost use Rattle.ti_lang.specs.Program.Types.{ValueType};

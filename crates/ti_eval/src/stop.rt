@@ -1,4 +1,4 @@
-// Why a computation is interrupted.
+// Why a computation is interrupted. Errors of the allocator become one of these by `?`.
 
 use std::alloc::{AllocError, AllocFailed};
 use ti_base::{Action, FaultKind, Memory, Place};

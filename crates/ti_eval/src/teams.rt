@@ -1,4 +1,4 @@
-// Rectangular domains with one point for each process.
+// Rectangular domains with one point for each process, as an exchange requires.
 
 ghost use Rattle.std.specs.Prelude.{◌≡◌, ◌<◌, ◌^◌};
 ghost use Rattle.ti_base.specs.Points.{IsPoint};

@@ -1,4 +1,4 @@
-// Answers to actions.
+// Answers to actions, as evaluations consume them.
 
 ghost use Rattle.std.specs.Prelude.{◌≡◌};
 ghost use Rattle.ti_lang.specs.Meaning.Asking.{told as told_spec};

@@ -1,4 +1,4 @@
-// The variables in scope.
+// The variables in scope: search, assignment, and the zeros of types.
 
 ghost use Rattle.std.specs.Prelude.{◌≡◌, [], IfOk};
 ghost use Rattle.ti_base.specs.Points.{IsDim};

@@ -1,4 +1,4 @@
-// The iteration over the points of a domain.
+// The iteration over the points of a domain in lexicographic order, which keeps only the last point.
 
 ghost use Rattle.std.specs.Prelude.{◌≡◌, IfSome, MatchOption, option_copied};
 ghost use Rattle.ti_base.specs.Points.{IsPoint};

@@ -1,4 +1,4 @@
-// The actions that a process requests.
+// The actions that a process requests. Each costs a tick. A computation that needs one more answer is repeated from its beginning with it.
 
 ghost use Rattle.std.specs.Prelude.{◌≡◌, Some, IfOk, List};
 ghost use Rattle.ti_base.specs.declared.entry.Answer.{Answer};

@@ -1,4 +1,4 @@
-// The calls below the innermost one.
+// The calls below the innermost one, of which there are fewer than 200.
 
 ghost use Rattle.std.specs.Prelude.{◌≡◌, ℕ, ◌<◌, ◌≤◌, ◌+◌, ◌*◌, ◌^◌, [], ◌∷◌, ◌++◌, length, reverse, MatchOption, OnOk};
 ghost use Rattle.ti_lang.specs.Program.Classes.{NumberedProgram};

@@ -1,4 +1,4 @@
-// Theorems on every process of a checked program.
+// Theorems on every process of a checked program; their functions do nothing.
 
 ghost use Rattle.std.specs.Prelude.{◌≡◌};
 ghost use Rattle.ti_base.specs.declared.entry.Answer.{Answer};

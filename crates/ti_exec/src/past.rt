@@ -1,4 +1,5 @@
-// The ghost history of a process.
+// The ghost history of a process, by which contracts refer to its beginning and to the answers it has received. It has no effect at run
+// time.
 
 ghost use Rattle.std.specs.Prelude.{◌≡◌, [], ◌∷◌, ◌++◌, false};
 ghost use Rattle.std.specs.Borrow.{ftrue};

@@ -1,4 +1,4 @@
-// The state of a process.
+// The state of a process: its calls with their positions, and its mode.
 
 ghost use Rattle.std.specs.Prelude.{◌≡◌, ◌<◌, ◌^◌, length};
 

@@ -1,4 +1,4 @@
-// The environment of the innermost statement.
+// The environment of the innermost statement, by reference to the process.
 
 ghost use Rattle.std.specs.Prelude.{◌≡◌};
 ghost use Rattle.ti_lang.specs.Program.Views.{program_of};

@@ -1,4 +1,4 @@
-// The steps of a process.
+// The steps of a process: the dispatch on its mode.
 
 ghost use Rattle.std.specs.Prelude.{◌≡◌, ◌<◌, length, IfOk};
 ghost use Rattle.ti_lang.specs.Program.Classes.{NumberedProgram};

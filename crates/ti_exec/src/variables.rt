@@ -1,4 +1,4 @@
-// The variables in scope of a call.
+// The variables in scope of a call. Their number is bounded, so that the contribution to the deletion of a region fits into 32 bits.
 
 ghost use Rattle.std.specs.Prelude.{◌≡◌, ◌<◌, ◌≤◌, ◌+◌, ◌^◌, [], ◌∷◌, ◌++◌, count_by, if◌then◌else◌, IfOk, OnOk};
 ghost use Rattle.ti_lang.specs.Meaning.Held.{thing_of};

@@ -1,4 +1,5 @@
-// How a process gets to the work at hand.
+// How a process gets to the work at hand: statements that are done are left, and the next one of a list is entered. No step of the
+// semantics corresponds to that.
 
 ghost use Rattle.std.specs.Prelude.{◌≡◌, ◌<◌, ℕ, IsTrue, IfSome, OnOk, None, length, map, ◌∷◌};
 ghost use Rattle.ti_lang.specs.Program.Classes.{NumberedProgram};

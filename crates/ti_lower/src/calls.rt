@@ -1,4 +1,4 @@
-// Calls of declared methods.
+// Calls of declared methods: the object, the arguments, and the call instruction.
 
 ghost use Rattle.std.specs.Prelude.{◌≡◌, ◌==◌, ◌&&◌, Some, OnOk, IfOk, length, map};
 ghost use Rattle.std.specs.List.{position_or_len};

@@ -1,4 +1,4 @@
-// The right sides of declarations and assignments.
+// The right sides of declarations and assignments, each with the store of its value.
 
 ghost use Rattle.std.specs.Prelude.{◌≡◌, OnOk, map};
 ghost use Rattle.ti_syntax.specs.Trees.Views.{maybe_of};

@@ -1,4 +1,4 @@
-// The code of methods and programs.
+// The code of methods and programs. A method's body is generated in two passes if it has forward jumps.
 
 ghost use Rattle.std.specs.Prelude.{◌≡◌, ◌≤◌, OnOk, IfOk, [], None, map, length};
 ghost use Rattle.std.specs.Option.{option_map};

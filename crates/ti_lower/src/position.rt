@@ -1,4 +1,5 @@
-// The context in which an expression of a statement is generated.
+// The context in which an expression of a statement is generated. Temporaries have slots after those of variables, and the context counts
+// them.
 
 ghost use Rattle.std.specs.Prelude.{◌≡◌, ◌+◌, ◌^◌, ◌≤◌, IfOk, IfErr, length};
 ghost use Rattle.ti_lower.specs.Mirrors.Positions.{where_of, one_waits};

@@ -1,4 +1,5 @@
-// Stores: the code that takes a value to where it is needed.
+// Stores: the code that takes a value to where it is needed. The target's reference and index are evaluated before the value, as the
+// language says, except for a value of a call, a `new` or a collective, which comes first.
 
 ghost use Rattle.std.specs.Prelude.{◌≡◌, OnOk, IfOk};
 ghost use Rattle.ti_lang.specs.Program.Views.{variable_of, type_use_of};

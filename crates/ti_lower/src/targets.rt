@@ -1,4 +1,4 @@
-// The targets of assignments.
+// The targets of assignments: the code of their references and indices, and of the store.
 
 ghost use Rattle.std.specs.Prelude.{◌≡◌, ◌∷◌, ◌++◌, [], OnOk, IfOk, map};
 ghost use Rattle.ti_lang.specs.Program.Views.{program_of, expression_of, variable_of};

@@ -1,4 +1,4 @@
-// The code of expressions in statements.
+// The code of expressions in statements, by `lower_expr`.
 
 ghost use Rattle.std.specs.Prelude.{◌≡◌, OnOk, map};
 ghost use Rattle.ti_lang.specs.Program.Expressions.{numbered_exps};

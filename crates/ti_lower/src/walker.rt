@@ -1,4 +1,4 @@
-// The code of statements.
+// The code of statements, by recursion over them. The target of a forward jump is reserved, and set when the code after it is reached.
 
 ghost use Rattle.std.specs.Prelude.{◌≡◌, ◌∷◌, ◌++◌, ◌+◌, [], OnOk, IfOk, Some, length, map, pos};
 ghost use Rattle.std.specs.Option.{option_map};

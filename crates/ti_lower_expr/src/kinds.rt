@@ -1,4 +1,5 @@
-// Which instruction an operator or a member becomes, and what is statically known of its result.
+// Which instruction an operator or a member becomes, and what is statically known of its result: a conversion that can't change the value
+// is left out.
 
 ghost use Rattle.std.specs.Prelude.{◌≡◌, option_map, Some};
 ghost use Rattle.ti_syntax.specs.declared.tree.exprs.BinaryOperator.TheVariants as op;

@@ -1,4 +1,4 @@
-// The instructions of an expression besides those of its subexpressions.
+// The instructions of an expression besides those of its subexpressions: literals, variables, operators, conversions and members.
 
 ghost use Rattle.std.specs.Prelude.{◌≡◌, ◌∷◌, ◌++◌, ◌+◌, ◌^◌, ◌≤◌, [], IfOk, IfErr, OnOk, OnErr, false, map};
 ghost use Rattle.ti_base.specs.declared.value.Value.TheVariants as v;

@@ -1,4 +1,4 @@
-// The generator's table of slots: what each slot of the frame is for.
+// The generator's table of slots: what each slot of the frame is for, and by which slot a variable is found.
 
 ghost use Rattle.std.specs.Prelude.{◌≡◌, ◌∷◌, ◌-◌, ◌<◌, ◌≤◌, ℕ, Some, [], OnOk, OnErr, drop, get_or, length};
 ghost use Rattle.ti_lang.specs.Program.Views.{variable_of};

@@ -1,6 +1,5 @@
-// The instructions that request an action of the store. Each leaves the frame after the instruction and returns the request as
-// `Stop::Asks`;
-// the answer is used later.
+// The instructions that request an action of the store. Each leaves the frame at the next instruction and returns the request as
+// `Stop::Asks`; what the answer does to the frame is said by `Hears`.
 
 ghost use Rattle.std.specs.Prelude.{◌≡◌, ◌+◌};
 ghost use Rattle.ti_code.specs.Effects.{Who, process_at};

@@ -1,4 +1,4 @@
-// Points, ranges and rectangular domains from operands.
+// Points, ranges and rectangular domains from operands: what the instructions that make them share.
 
 ghost use Rattle.std.specs.Prelude.{◌≡◌, ◌++◌, [], IfOk, OnOk};
 ghost use Rattle.ti_base.specs.Points.{IsDim};

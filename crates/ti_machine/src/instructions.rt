@@ -1,4 +1,5 @@
-// The instructions that move values between constants, slots and operands, and those that jump.
+// The instructions that move values between constants, slots and operands, and those that jump. `next` is the position after the
+// instruction, where the frame continues unless it jumps.
 
 ghost use Rattle.std.specs.Prelude.{◌≡◌, ◌+◌, ℕ, List, Option};
 ghost use Rattle.ti_base.specs.Points.{IsDim};

@@ -1,4 +1,4 @@
-// Theorems on every process that executes code.
+// Theorems on every process that executes code; their functions do nothing.
 
 ghost use Rattle.std.specs.Prelude.{◌≡◌, ◌<◌, ◌≤◌};
 ghost use Rattle.ti_base.specs.declared.entry.Next.{Next};

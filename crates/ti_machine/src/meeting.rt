@@ -1,4 +1,5 @@
-// Arrivals at collectives and departures.
+// Arrivals at collectives and departures. An arrival takes the contribution of the process from the operand stack; the contribution to the
+// deletion of a region is the number of slots that still refer to something in it.
 
 ghost use Rattle.std.specs.Prelude.{◌≡◌, ◌+◌, ◌^◌, ◌≤◌, ◌≤ℤ◌, ℕ, pos, count_by, Some, IfOk, IfErr};
 ghost use Rattle.ti_base.specs.Ranges.{natural};

@@ -1,4 +1,5 @@
-// The operand stack and the slots of a frame.
+// The operand stack and the slots of a frame. Contracts see both with the newest element first, while the vectors grow at their ends. An
+// access to something that isn't there yields `false`, as in the semantics.
 
 ghost use Rattle.std.specs.Prelude.{◌≡◌, ◌+◌, ◌<◌, ◌^◌, [], ◌∷◌, reverse, length, IfOk, vec_len, vec_capacity};
 ghost use Rattle.ti_lang.specs.Meaning.Held.{Held as Seen, plain_of, point_of, thing_of};

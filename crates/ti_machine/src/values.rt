@@ -1,4 +1,4 @@
-// The instructions that compute a value from operands.
+// The instructions that compute a value from operands, by the functions of ti_eval that the tree interpreter uses, too.
 
 ghost use Rattle.std.specs.Prelude.{◌≡◌, ◌+◌, ◌^◌, ◌<◌, ℕ, List, [], ◌∷◌, Option};
 ghost use Rattle.ti_lang.specs.Meaning.Held.{Held as Seen};

@@ -1,4 +1,4 @@
-// Calls of declared methods.
+// Calls of declared methods: which method is called, the binding of its parameters, and the outcome.
 
 ghost use Rattle.std.specs.Prelude.{◌≡◌, ◌==◌, ◌&&◌, [], Some, map, not, find, slice_get, option_map};
 ghost use Rattle.std.specs.declared.vec.Vec.{Vec as Row};

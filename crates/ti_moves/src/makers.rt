@@ -1,4 +1,4 @@
-// New objects and grids.
+// The values of `new`: new objects and grids.
 
 ghost use Rattle.std.specs.Prelude.{◌≡◌};
 ghost use Rattle.ti_syntax.specs.Trees.Views.{maybe_of};

@@ -1,4 +1,4 @@
-// The outcomes of statements.
+// The outcomes of statements: what a statement does to its process is returned as a value, which ti_exec applies.
 
 use ti_base::{CollKind, Deposit, Id, Place};
 use ti_eval::{Held, Part, Slot, Todo};

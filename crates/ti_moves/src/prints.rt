@@ -1,4 +1,4 @@
-// Prints.
+// The execution of prints.
 
 ghost use Rattle.std.specs.Prelude.{Some};
 ghost use Rattle.ti_lang.specs.Program.Views.{printed_of};

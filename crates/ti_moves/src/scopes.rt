@@ -1,4 +1,4 @@
-// The variables that leave their scope.
+// The end of a scope: which variables leave.
 
 ghost use Rattle.std.specs.Prelude.{◌≡◌, not, map};
 ghost use Rattle.ti_lang.specs.Program.Statements.{numbered_stms};

@@ -1,4 +1,5 @@
-// The statement at the position of a call.
+// The statement at the position of a call, and the parts of loops. Positions are indices rather than references, so a process doesn't
+// borrow its program.
 
 ghost use Rattle.std.specs.Prelude.{◌≡◌, ◌<◌, [], ◌∷◌, length, map, reverse, slice_get, unwrap_or, if◌then◌else◌};
 ghost use Rattle.ti_syntax.specs.Trees.Views.{maybe_of};

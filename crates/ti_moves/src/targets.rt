@@ -1,4 +1,4 @@
-// The targets of assignments.
+// The targets of assignments: their references and indices, their values, and the writes.
 
 ghost use Rattle.std.specs.Prelude.{◌≡◌, List};
 ghost use Rattle.ti_base.specs.declared.value.Id.{Id as Thing};
