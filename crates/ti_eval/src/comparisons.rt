@@ -40,6 +40,7 @@ fn unless(is_unused: bool, op: Test, a: i32, b: i32) -> bool
     }
 }
 
+// For the prover: a conjunction of three.
 fn all_three(a: bool, b: bool, c: bool) -> bool
     ensures { result ≡ (a && b && c) }
 {

@@ -42,7 +42,7 @@ impl State {
         }
     }
 
-    /// Changes the state.
+    /// For the prover: assigns the state.
     pub fn set(&mut self, state: State)
         ensures { self.new ≡ state }
     {

@@ -47,7 +47,7 @@ pub enum Mode {
 }
 
 impl Mode {
-    /// Changes the mode.
+    /// For the prover: assigns the mode.
     pub(crate) fn set(&mut self, mode: Mode)
         ensures { self.new ≡ mode }
     {

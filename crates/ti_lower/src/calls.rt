@@ -91,6 +91,7 @@ pub fn call_at<'a>(program: &'a Parts, this: Option<u32>, x: &'a Expr) -> Option
     }
 }
 
+// For the prover: the number of methods.
 fn how_many(methods: &[Method]) -> usize
     ensures { result ≡ length methods.now }
 {
