@@ -75,7 +75,7 @@ impl TreeProc {
     }
 
     /// Runs the process up to what it has next: an action, its end or a fault of its own. Until it is answered, later calls return the
-    /// same.
+    /// same, unless they are out of memory.
     ///
     /// After out of memory the process is unusable: each later call is out of memory, too.
     pub fn advance(&mut self, alloc: Global, c: &Checked) -> Result<Next, Memory>
