@@ -1,2 +1,2 @@
--- The lemmas of this crate that other crates may cite; no other module of its proofs is seen outside.
+-- The lemmas of this crate that other crates may cite; no other module of its proofs is visible outside.
 pub use Rattle.ti_code.proofs.Short.{effect_short}

@@ -1,4 +1,4 @@
--- Instructions that stay in their frame ask for one action at most.
+-- Proves that instructions that stay in their frame request at most one action.
 use Rattle.std.proofs.Common.{inl, ℕ, ◌*◌, slice_get, Bool, true, false, if◌then◌else◌, List, [], ◌∷◌, Option, Some, None}
 use Rattle.ti_base.specs.declared.place.Place.{Place}
 use Rattle.ti_base.specs.declared.point.Point.{Point}

@@ -1,4 +1,4 @@
--- How code is written.
+-- The listing of code, byte for byte.
 use Rattle.std.specs.Prelude.{ℕ, ◌+◌, Bool, true, false, List, [], ◌∷◌, ◌++◌, Option, None, Some, codes, decimal}
 use Rattle.ti_base.specs.declared.place.Place.{Place}
 use Rattle.ti_watch.specs.Texts.{place_text, value_text, zero_text}
@@ -58,7 +58,7 @@ member_word kind.Restrict = codes "view restrict"
 member_word kind.Translate = codes "view translate"
 member_word kind.Slice = codes "view slice"
 
--- the name of an instruction
+-- The name of an instruction.
 abbrev pub word_of : Instr → List ℕ
 word_of (i.Const value) = codes "const"
 word_of (i.EmptyDom dim) = codes "emptyDom"
@@ -106,7 +106,7 @@ word_of i.Return = codes "return"
 word_of i.ReturnValue = codes "returnValue"
 word_of (i.Stop at) = codes "stop"
 
--- ---- operands, each behind a blank
+-- ---- operands, each after a space
 
 abbrev pub number_part : ℕ → List ℕ
 number_part n = codes " " ++ decimal n
@@ -118,14 +118,14 @@ abbrev pub truth_text : Bool → List ℕ
 truth_text true = codes "true"
 truth_text false = codes "false"
 
--- of operators, `/`, `%` and the union of domains show their place
+-- Of operators, `/`, `%` and the union of domains show their place.
 abbrev pub operation_part : Operation → Place → List ℕ
 operation_part o.Div at = place_part at
 operation_part o.Rem at = place_part at
 operation_part o.DomUnion at = place_part at
 operation_part op at = []
 
--- of members, `contains` shows none
+-- Of members, each but `contains` shows its place.
 abbrev pub member_part : Member → Place → List ℕ
 member_part kind.Contains at = []
 member_part k at = place_part at
@@ -133,7 +133,7 @@ member_part k at = place_part at
 abbrev pub print_part : Option ℕ → Bool → Place → List ℕ
 print_part literal value at = codes " " ++ optional literal_text literal ++ codes " " ++ truth_text value ++ place_part at
 
--- what is shown of the operands of an instruction
+-- The operands of an instruction that the listing shows.
 abbrev pub operands_text : Instr → List ℕ
 operands_text (i.Const value) = codes " " ++ value_text value
 operands_text (i.EmptyDom dim) = number_part dim
@@ -186,20 +186,20 @@ operands_text (i.Stop at) = place_part at
 abbrev pub instr_text : Instr → List ℕ
 instr_text x = word_of x ++ operands_text x
 
--- two blanks, the number of the instruction, and the instruction
+-- Two spaces, the number of the instruction, and the instruction.
 abbrev pub instr_line : ℕ → Instr → List ℕ
 instr_line n x = codes "  " ++ decimal n ++ codes " " ++ instr_text x ++ codes "\n"
 
--- the lines of instructions, numbered from there on
+-- The lines of instructions, numbered from n on.
 abbrev pub instr_lines : ℕ → List Instr → List ℕ
 instr_lines n [] = []
 instr_lines n (x ∷ xs) = instr_line n x ++ instr_lines (n + 1) xs
 
--- the number of a method, and how many parameters it has besides `this`
+-- The number of a method, and how many parameters it has besides `this`.
 abbrev pub method_head : ℕ → ℕ → List ℕ
 method_head k params = codes "method " ++ decimal k ++ codes " params " ++ decimal params ++ codes "\n"
 
--- the lines of methods, numbered from there on
+-- The lines of methods, numbered from k on.
 abbrev pub method_lines : ℕ → List MethodCode → List ℕ
 method_lines k [] = []
 method_lines k (m ∷ ms) = (method_head k m.params ++ instr_lines 0 m.instrs) ++ method_lines (k + 1) ms

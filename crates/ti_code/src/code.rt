@@ -1,4 +1,4 @@
-// Code: the instructions of the methods of a program.
+// The bytecode of a program: its methods and their instructions, with the invariant that keeps a process from looping without a tick.
 
 ghost use Rattle.std.specs.Prelude.{◌≡◌, IsTrue};
 ghost use Rattle.ti_code.specs.JumpRule.{keep_jump_rule};
@@ -7,7 +7,7 @@ ghost use Rattle.ti_code.specs.Forms.{AreFormed};
 use crate::instr::Instr;
 use std::marker::Model;
 
-/// The instructions of a method, which contracts see as a list.
+/// The instructions of a method. Contracts see them as a list.
 #[derive(Drop)]
 pub struct Instrs {
     items: Vec<Instr>,
@@ -23,14 +23,14 @@ impl Model for Instrs {
 }
 
 impl Instrs {
-    /// These instructions, without taking memory.
+    /// Wraps these instructions. It doesn't allocate.
     pub fn new(items: Vec<Instr>) -> Self
         ensures { result ≡ items.items }
     {
         Instrs { items }
     }
 
-    /// The instructions, where they are.
+    /// The instructions as a slice.
     pub fn as_slice(&self) -> &[Instr]
         ensures { result.now ≡ self.now }
     {
@@ -38,7 +38,8 @@ impl Instrs {
     }
 }
 
-/// The code of a method: whether it has a `this`, how many parameters it has besides, and its instructions, numbered from 0.
+/// The code of a method: whether it has a `this`, how many parameters it has besides, and its instructions. Instructions are numbered from
+/// 0; these numbers are the targets of jumps.
 #[derive(Drop)]
 pub struct MethodCode {
     pub instance: bool,
@@ -46,9 +47,9 @@ pub struct MethodCode {
     pub instrs: Instrs,
 }
 
-/// The code of a program, which keeps the rule on jumps: from the target of a jump or a Next that doesn't lead forward, up to the next
-/// instruction that takes a tick, no instruction is a jump or a Next. So a process can't jump for ever without a tick. Each of its
-/// instructions is in its form. Contracts see its methods as a list, with the number of the one in which a run begins.
+/// The code of a program. Its invariant is the rule on jumps: from the target of a backward jump (or Next) up to the next instruction that
+/// costs a tick, no instruction is a jump or a Next. So a process can't loop for ever without a tick. The values in its instructions are
+/// canonical, too. Contracts see a list of methods and the number of the method in which a run begins.
 #[derive(Drop)]
 pub struct Code {
     methods: Vec<MethodCode>,
@@ -69,7 +70,7 @@ impl Model for Code {
 }
 
 impl Code {
-    /// The code of these methods, of which a run begins in the one of this number; without taking memory.
+    /// The code of these methods; a run begins in the method with the number `main`. It doesn't allocate.
     pub fn new(methods: Vec<MethodCode>, main: u32) -> Self
         requires rule { IsTrue (keep_jump_rule methods.items) }
         requires formed { AreFormed methods.items }
@@ -78,7 +79,7 @@ impl Code {
         Code { methods, main }
     }
 
-    /// The methods, where they are.
+    /// The methods as a slice.
     pub fn methods(&self) -> &[MethodCode]
         ensures methods { result.now ≡ self.now.methods }
         ensures rule { IsTrue (keep_jump_rule result.now) }

@@ -1,9 +1,9 @@
-// Instructions.
+// The instruction set of the virtual machine: a stack machine whose frames have numbered slots.
 
 use ti_base::{CollKind, Place, Value, Zero};
 
-/// An operator of two operands, by the name that code shows. Where several names mean one operator of the language, they tell the types
-/// that its operands have in the text: `Add` stands between numbers, `PtAdd` between points, `DomUnion` between domains.
+/// A binary operator, by its name in the listing. If several names denote one operator of the language, they say which types the operands
+/// have: `Add` is for numbers, `PtAdd` for points, `DomUnion` for domains.
 #[derive(Clone, Copy)]
 pub enum Operation {
     Add,
@@ -29,13 +29,15 @@ pub enum Operation {
     DomUnion,
     DomMinus,
     DomMeet,
-    /// What `&&` comes to behind both operands, which is the right one. A text has no such instruction: jumps stand in its place.
+    /// `&&` of two operands that have both been evaluated: the right one. No compiled program has this instruction, since `&&` becomes
+    /// jumps.
     AndThen,
-    /// The same of `||`.
+    /// `||` of two operands that have both been evaluated: the right one. No compiled program has this instruction, since `||` becomes
+    /// jumps.
     OrElse,
 }
 
-/// An operator of one operand, by the name that code shows.
+/// A unary operator, by its name in the listing.
 #[derive(Clone, Copy)]
 pub enum OneOperand {
     Neg,
@@ -43,7 +45,7 @@ pub enum OneOperand {
     Not,
 }
 
-/// A member of the language that has a value: of a domain, or of a grid.
+/// A built-in member that has a value: of a domain, or of a grid.
 #[derive(Clone, Copy)]
 pub enum Member {
     Size,
@@ -56,93 +58,94 @@ pub enum Member {
     Slice,
 }
 
-/// An instruction. Targets of jumps are numbers of instructions in the same method. A place, or a number of operands, that code
-/// doesn't show is what a fault or the taking of operands needs.
+/// An instruction. Jump targets are instruction numbers in the same method. Places that the listing omits are those of faults; numbers that
+/// it omits say how many operands are popped.
 #[derive(Clone, Copy)]
 pub enum Instr {
-    /// Pushes a value.
+    /// Pushes a constant.
     Const(Value),
-    /// Pushes the domain of so many dimensions that has no point.
+    /// Pushes the empty domain of the given number of dimensions.
     EmptyDom(u8),
-    /// Drops the last operand.
+    /// Pops the top operand.
     Pop,
-    /// Pushes the last operand once more.
+    /// Pushes a copy of the top operand.
     Dup,
-    /// Pushes what a slot holds.
+    /// Pushes the value of a slot.
     Load(u32),
-    /// The last operand goes into a slot: into a new one where there are only so many.
+    /// Pops the top operand into a slot; into a new slot if no slot has this number.
     Keep(u32),
-    /// Keeps the first so many slots.
+    /// Keeps the given number of oldest slots and drops the others.
     Trim(u32),
-    /// Pushes the own number.
+    /// Pushes the number of the process itself.
     ThisProc,
     /// Pushes the number of processes.
     NumProcs,
-    /// An operator of two operands.
+    /// Applies a binary operator to the two top operands.
     Operate(Operation, Place),
-    /// An operator of one operand.
+    /// Applies a unary operator to the top operand.
     Alone(OneOperand),
-    /// An int becomes the long of the same number.
+    /// Converts an int to a long.
     Widen,
-    /// A long becomes the int that is left of it.
+    /// Converts a long to an int, keeping its low 32 bits.
     Narrow,
-    /// `null` becomes a reference to an object.
+    /// Makes `null` a reference to an object.
     AsObj,
-    /// `null` becomes a reference to a grid.
+    /// Makes `null` a reference to a grid.
     AsGrid,
-    /// The point of so many coordinates.
+    /// Pops the given number of coordinates and pushes the point that they make.
     MakePt(u32),
-    /// A coordinate of a point by its index, behind which so many operands lie.
+    /// Pops the given number of indices and the point below them; pushes the coordinate that the first index denotes.
     Coord(u32, Place),
-    /// Pushes the step of a range that says none, above its two bounds: 1, or the point whose coordinates are 1.
+    /// Pushes the default step of a range whose low and high bounds are the two top operands: 1, or the point whose coordinates are all 1.
     Step,
-    /// The rectangular domain of so many ranges of numbers, each with its step.
+    /// Pops the given number of ranges of numbers, each with its step, and pushes the rectangular domain.
     MakeRect(u32, Place),
-    /// The rectangular domain of one range of points, with its step.
+    /// Pops one range of points, with its step, and pushes the rectangular domain.
     RectOfPts(Place),
-    /// The points that are in both of two rectangular domains of one dimension.
+    /// The intersection of two rectangular domains. If they have different numbers of dimensions, it is empty.
     Common,
-    /// A rectangular domain becomes the domain of its points.
+    /// Converts a rectangular domain to a general domain.
     ToDom(Place),
-    /// A member with so many arguments.
+    /// Evaluates a built-in member with the given number of arguments.
     Member(Member, u32, Place),
-    /// The reference names a thing of the own process, or nothing.
+    /// Cast to a local reference: a fault unless it is null or refers to an object of the process itself.
     CastLocal(Place),
     Jump(u32),
-    /// Pops a boolean, and jumps where it is true.
+    /// Pops a boolean and jumps if it is true.
     JumpIf(u32),
-    /// Pops a boolean, and jumps where it is false.
+    /// Pops a boolean and jumps if it is false.
     JumpIfNot(u32),
-    /// The first point of the domain on top goes into a slot, and the others are left; without a point it jumps.
+    /// Moves the first point of the domain on top into a slot and leaves the other points on top; jumps if the domain is empty. The
+    /// operands are the slot and the target.
     Next(u32, u32),
-    /// A tick.
+    /// Spends a tick of fuel.
     Tick(Place),
     GetField(u32, Place),
     PutField(u32, Place),
     GetElem(Place),
     PutElem(Place),
-    /// A new object of a class, in the region on top.
+    /// Makes a new object of a class, in the region on top.
     NewObj(u32, Place),
-    /// A new grid of such elements, over the domain on top and in the region under it.
+    /// Makes a new grid with these initial elements, over the domain on top and in the region below it.
     NewGrid(Zero, Place),
-    /// A line of a literal and of the operand on top, each where there is one.
+    /// Prints a line: a string literal and the top operand, each if there is one.
     Print(Option<u32>, bool, Place),
-    /// The operand is the number of a process; it stays.
+    /// Checks that the top operand is the number of a process. It stays on the stack.
     RootTest(Place),
-    /// The operand is the domain that has one point for each process; it stays.
+    /// Checks that the top operand is the domain with one point for each process. It stays on the stack.
     GridTest(Place),
     /// Arrives at a collective.
     Arrive(CollKind, Place),
-    /// Leaves it.
+    /// Leaves the collective.
     Depart(Place),
-    /// What the process whose point is on top gave at the exchange that was left last.
+    /// Pops a process's point and pushes what that process contributed to the exchange that was left last.
     Take(Place),
-    /// Calls the method of a number, for a tick.
+    /// Calls the method with this number. Costs a tick.
     Call(u32, Place),
-    /// Goes back to the caller.
+    /// Returns to the caller without a value.
     Return,
-    /// The same with the last operand as the call's value.
+    /// Returns to the caller with the top operand as the value of the call.
     ReturnValue,
-    /// The end of the process.
+    /// Ends the process.
     Stop(Place),
 }

@@ -1,4 +1,4 @@
-//! Code for a machine, and what it means.
+//! The bytecode of a virtual machine, its listing, and its semantics.
 #![tactic(auto)]
 
 mod code;

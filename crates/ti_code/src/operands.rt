@@ -1,4 +1,5 @@
-// The operands of instructions, each behind a blank.
+// The operands of an instruction as the listing shows them, each after a space. Each function states how much it can add to the line, so
+// that the line never overflows.
 
 ghost use Rattle.std.specs.Prelude.{◌≡◌, ◌+◌, ◌≤◌, ◌++◌, length, codes};
 ghost use Rattle.ti_watch.specs.Lines.{line_room};
@@ -8,7 +9,7 @@ use crate::instr::{Instr, Member, Operation};
 use ti_base::{CollKind, Place, Zero};
 use ti_watch::{Line, collective_name};
 
-// Adds a number.
+// Appends a number.
 fn add_number(line: &mut Line, n: u32)
     requires { length line.old + 11 ≤ line_room }
     ensures text { line.new ≡ line.old ++ text.number_part n }
@@ -17,7 +18,7 @@ fn add_number(line: &mut Line, n: u32)
     line.labelled(b" ", n);
 }
 
-// Adds a place.
+// Appends a place.
 fn add_place(line: &mut Line, place: Place)
     requires { length line.old + 22 ≤ line_room }
     ensures text { line.new ≡ line.old ++ text.place_part place }
@@ -27,7 +28,7 @@ fn add_place(line: &mut Line, place: Place)
     line.labelled(b":", place.col);
 }
 
-// Adds a number and a place.
+// Appends a number and a place.
 fn add_both(line: &mut Line, n: u32, place: Place)
     requires { length line.old + 33 ≤ line_room }
     ensures text { line.new ≡ line.old ++ (text.number_part n ++ text.place_part place) }
@@ -37,7 +38,7 @@ fn add_both(line: &mut Line, n: u32, place: Place)
     add_place(line, place);
 }
 
-// Adds two numbers.
+// Appends two numbers.
 fn add_numbers(line: &mut Line, n: u32, m: u32)
     requires { length line.old + 22 ≤ line_room }
     ensures text { line.new ≡ line.old ++ (text.number_part n ++ text.number_part m) }
@@ -47,7 +48,7 @@ fn add_numbers(line: &mut Line, n: u32, m: u32)
     add_number(line, m);
 }
 
-// Adds the place of an operator that shows it.
+// Appends the place of an operator, if the listing shows it: of `/`, `%` and the union of domains, which can fault.
 fn add_operation(line: &mut Line, operation: Operation, place: Place)
     requires { length line.old + 22 ≤ line_room }
     ensures text { line.new ≡ line.old ++ text.operation_part operation place }
@@ -82,7 +83,7 @@ fn add_operation(line: &mut Line, operation: Operation, place: Place)
     }
 }
 
-// Adds the place of a member that shows it.
+// Appends the place of a member, if the listing shows it: of each but `contains`.
 fn add_member(line: &mut Line, member: Member, place: Place)
     requires { length line.old + 22 ≤ line_room }
     ensures text { line.new ≡ line.old ++ text.member_part member place }
@@ -100,7 +101,7 @@ fn add_member(line: &mut Line, member: Member, place: Place)
     }
 }
 
-// Adds a boolean.
+// Appends a boolean.
 fn add_truth(line: &mut Line, b: bool)
     requires { length line.old + 6 ≤ line_room }
     ensures text { line.new ≡ line.old ++ codes " " ++ text.truth_text b }
@@ -113,7 +114,7 @@ fn add_truth(line: &mut Line, b: bool)
     }
 }
 
-// Adds what is printed, and where.
+// Appends the operands of a print: the number of its literal, whether it prints a value, and its place.
 fn add_print(line: &mut Line, literal: Option<u32>, value: bool, place: Place)
     requires { length line.old + 40 ≤ line_room }
     ensures text { line.new ≡ line.old ++ text.print_part literal value place }
@@ -124,7 +125,7 @@ fn add_print(line: &mut Line, literal: Option<u32>, value: bool, place: Place)
     add_place(line, place);
 }
 
-// Adds what a new element holds, and where the grid is made.
+// Appends the initial value of the elements of a new grid, and the place.
 fn add_zero(line: &mut Line, zero: Zero, place: Place)
     requires { length line.old + 31 ≤ line_room }
     ensures text { line.new ≡ line.old ++ text.operands_text (Instr.NewGrid zero place) }
@@ -135,7 +136,7 @@ fn add_zero(line: &mut Line, zero: Zero, place: Place)
     add_place(line, place);
 }
 
-// Adds the name of a collective, and where it is.
+// Appends the name of a collective, and the place.
 fn add_collective(line: &mut Line, kind: CollKind, place: Place)
     requires { length line.old + 35 ≤ line_room }
     ensures text { line.new ≡ line.old ++ text.operands_text (Instr.Arrive kind place) }
@@ -146,7 +147,7 @@ fn add_collective(line: &mut Line, kind: CollKind, place: Place)
     add_place(line, place);
 }
 
-/// Adds what is shown of the operands of an instruction.
+/// Appends the operands of an instruction as the listing shows them.
 pub fn add_operands(line: &mut Line, instr: &Instr)
     requires { length line.old + 107 ≤ line_room }
     ensures text { line.new ≡ line.old ++ text.operands_text instr.now }

@@ -1,4 +1,4 @@
-// The text of code.
+// The listing of code, as `--mode code` prints it.
 
 ghost use Rattle.std.specs.Prelude.{◌≡◌, ◌++◌, IfOk, OnOk};
 ghost use Rattle.ti_code.specs.CodeText as text;
@@ -11,7 +11,7 @@ use std::alloc::Global;
 use ti_base::Memory;
 use ti_watch::Line;
 
-// The line of an instruction.
+// The line of an instruction: its number, its name and its operands.
 fn instr_line(n: usize, instr: &Instr) -> Line
     ensures { result ≡ text.instr_line n instr.now }
 {
@@ -24,7 +24,7 @@ fn instr_line(n: usize, instr: &Instr) -> Line
     line
 }
 
-// Adds the lines of instructions.
+// Appends the lines of instructions, numbered from 0.
 fn add_instrs(instrs: &[Instr], out: &mut Vec<u8>) -> Result<(), Memory>
     ensures { OnOk result (out.new.items ≡ out.old.items ++ text.instr_lines 0 instrs.now) }
 {
@@ -34,7 +34,7 @@ fn add_instrs(instrs: &[Instr], out: &mut Vec<u8>) -> Result<(), Memory>
     Ok(())
 }
 
-// The first line of a method.
+// The first line of a method: its number and how many parameters it has besides `this`.
 fn method_head(k: usize, params: u32) -> Line
     ensures { result ≡ text.method_head k params }
 {
@@ -45,7 +45,7 @@ fn method_head(k: usize, params: u32) -> Line
     line
 }
 
-// Adds the lines of methods.
+// Appends the lines of methods, numbered from 0.
 fn add_methods(methods: &[MethodCode], out: &mut Vec<u8>) -> Result<(), Memory>
     ensures { OnOk result (out.new.items ≡ out.old.items ++ text.method_lines 0 methods.now) }
 {
@@ -56,7 +56,8 @@ fn add_methods(methods: &[MethodCode], out: &mut Vec<u8>) -> Result<(), Memory>
     Ok(())
 }
 
-/// The text of code: for each method its number and how many parameters it has besides `this`, and then its instructions.
+/// The listing of code: for each method its number, how many parameters it has besides `this`, and its instructions. The only error is out
+/// of memory.
 pub fn code_text(alloc: Global, code: &Code) -> Result<Vec<u8>, Memory>
     ensures { IfOk result (λ v. v.items ≡ text.code_text code.now) }
 {

@@ -1,11 +1,11 @@
-// The names of instructions.
+// The names of instructions in the listing.
 
 ghost use Rattle.std.specs.Prelude.{◌≡◌, ◌≤◌, length};
 ghost use Rattle.ti_code.specs.CodeText as text;
 
 use crate::instr::{Instr, Member, OneOperand, Operation};
 
-// The name of an operator of two operands.
+// The name of a binary operator.
 fn operation_word(operation: Operation) -> &'static [u8]
     ensures word { result.now ≡ text.operation_word operation }
     ensures short { length result.now ≤ 14 }
@@ -39,7 +39,7 @@ fn operation_word(operation: Operation) -> &'static [u8]
     }
 }
 
-// The name of an operator of one operand.
+// The name of a unary operator.
 fn one_word(operator: OneOperand) -> &'static [u8]
     ensures word { result.now ≡ text.one_word operator }
     ensures short { length result.now ≤ 14 }
@@ -51,7 +51,7 @@ fn one_word(operator: OneOperand) -> &'static [u8]
     }
 }
 
-// The name of a member.
+// The name of a built-in member.
 fn member_word(member: Member) -> &'static [u8]
     ensures word { result.now ≡ text.member_word member }
     ensures short { length result.now ≤ 14 }

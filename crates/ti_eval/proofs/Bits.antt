@@ -1,4 +1,4 @@
--- The bits of whole numbers.
+-- Proves what bitwise operators and shifts do to integers.
 use Rattle.std.proofs.Common.{◌≡◌, ◌∙◌, refl, sym, ap, ℕ, ◌+◌, ◌*◌, ◌^◌, ◌<◌, ℤ, pos, negsuc, ◌+ℤ◌, ◌*ℤ◌, bit_and, bit_or, bit_xor, FitsSigned, to_z, of_z, arith, lit<}
 use Rattle.std.proofs.Math.Nat.{mod-eq_of_lt}
 use Rattle.std.proofs.lemmas.Int.{ints, to_z-of_z}

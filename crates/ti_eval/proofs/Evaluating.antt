@@ -1,4 +1,4 @@
--- Expressions, and lists of them.
+-- Proves that the evaluation of expressions, and of lists of them, agrees with the semantics.
 use Rattle.std.proofs.Common.{◌≡◌, ◌∙◌, refl, sym, ap, subst, ℕ, ◌+◌, ◌<◌, ◌≤◌, ℤ, List, [], ◌∷◌, ◌++◌, map, drop, drop-cons, drop_of_length-le, add-one, length, get_or, append_assoc}
 use Rattle.ti_base.specs.declared.entry.Answer.{Answer}
 use Rattle.ti_lang.specs.declared.program.exprs.Expr.{Expr}

@@ -1,4 +1,4 @@
--- Points and rectangular domains from their numbers.
+-- Proves that points and rectangular domains made from numbers are those of the semantics.
 use Rattle.std.proofs.Common.{◌≡◌, ◌∙◌, refl, sym, ap, ⊎_elim, ℕ, ◌≤◌, ◌==◌, nat_le, ℤ, pos, ◌≤ℤ◌, int_le, Bool, true, false, ◌&&◌, List, [], ◌∷◌, length, arith}
 use Rattle.std.specs.List.{list_all}
 use Rattle.std.proofs.lemmas.Int.{ints}

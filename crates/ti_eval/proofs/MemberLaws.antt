@@ -1,4 +1,4 @@
--- Members of domains.
+-- Proves the sizes and the least and greatest points of domains.
 use Rattle.std.proofs.Common.{◌≡◌, ◌∙◌, refl, sym, ap, subst, ⊎_elim, ℕ, ◌<◌, ◌≤◌, nat_le, ℤ, pos, Bool, true, false, List, length, IsTrue, ◌↔◌, arith}
 use Rattle.std.proofs.lemmas.Bool.Decides.{nat_tests}
 use Rattle.ti_base.specs.declared.place.Place.{Place}

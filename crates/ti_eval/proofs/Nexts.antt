@@ -1,4 +1,4 @@
--- The points of rectangular domains in their lists.
+-- Proves that the points of rectangular domains are those in their lists.
 use Rattle.std.proofs.Common.{◌≡◌, inl, inr, ℕ, List, [], ◌∷◌, Option, IfSome, refl}
 use Rattle.ti_base.specs.declared.point.Point.{Point}
 use Rattle.ti_base.specs.declared.point.Rect.{Rect}

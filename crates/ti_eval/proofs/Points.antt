@@ -1,4 +1,4 @@
--- Points and rectangular domains in their one form.
+-- Proves that operations on canonical points and rectangular domains yield canonical ones.
 use Rattle.std.proofs.Common.{◌≡◌, ◌∙◌, refl, sym, ap, subst, ⊎_elim, length, get_or, arith, ℕ, ◌<◌, ℤ, pos, Bool, true, false, List, [], ◌∷◌, IsTrue, ◌↔◌, ◌&&◌}
 use Rattle.std.specs.Int.{w32, int_wrap}
 use Rattle.ti_base.specs.declared.point.Point.{Point}

@@ -1,4 +1,4 @@
--- The points of a domain above another one.
+-- Proves which points of a domain come after another point.
 use Rattle.std.proofs.Common.{◌≡◌, ◌∙◌, inl, inr, ⊎_elim, ◌↔◌, refl, sym, ap, subst, ◌==◌, ℤ, ◌≤ℤ◌, ◌<ℤ◌, Bool, true, false, cond, ◌&&◌, ◌||◌, if◌then◌else◌, List, [], ◌∷◌, filter, Option, Some, None, IfSome, MatchOption, arith}
 use Rattle.std.specs.Bool.{Decides}
 use Rattle.std.specs.Int.RustNames.{int_lt, int_le}

@@ -1,4 +1,4 @@
--- What the comparison of two rectangular domains tells.
+-- Proves that the comparison of two canonical rectangular domains decides whether they have the same points.
 use Rattle.std.proofs.Common.{◌≡◌, refl, ap, ◌==◌, Bool, ◌&&◌, Decides}
 use Rattle.std.specs.Ordering.{int_eq}
 use Rattle.std.specs.Cmp.Lexicographic.{pointwise}

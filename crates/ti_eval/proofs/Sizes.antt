@@ -1,4 +1,4 @@
--- How many points domains have.
+-- Proves how many points domains have.
 use Rattle.std.proofs.Common.{◌≡◌, refl, ℕ, ◌<◌, ◌≤◌, nat_le, true, false, List, length, arith}
 use Rattle.std.proofs.lemmas.Bool.Decides.{nat_tests}
 use Rattle.ti_base.specs.declared.place.Place.{Place}

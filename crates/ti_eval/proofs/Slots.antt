@@ -1,4 +1,4 @@
--- The variables in scope, the newest first.
+-- Proves that the search in the code finds the newest variable in scope, and that an assignment changes it.
 use Rattle.std.proofs.Common.{◌≡◌, ◌∙◌, ap, refl, ℕ, ◌+◌, ◌<◌, List, [], ◌∷◌, ◌++◌, take, map, reverse, length, get_or, add-one, zero, suc, drop, set, sym, Bool, true, if◌then◌else◌, arith}
 use Rattle.std.proofs.lemmas.List.{take-append-drop, drop-set-lt, map-append}
 use Rattle.std.proofs.Math.Seq.{take-suc-set}

@@ -1,4 +1,4 @@
--- One computation and then the next.
+-- Proves that a computation followed by another one is their composition.
 use Rattle.std.proofs.Common.{◌≡◌, ap, Some}
 use Rattle.ti_lang.specs.Meaning.Asking.{Asking, Got, Gives, Asks, Fails, followed}
 use Rattle.ti_eval.specs.declared.stop.Stop.{Stop}

@@ -1,4 +1,4 @@
--- Rectangular domains with one element for each process.
+-- Proves which points rectangular domains with one point for each process have.
 use Rattle.std.proofs.Common.{◌≡◌, ◌∙◌, inl, ⊎_elim, ◌↔◌, refl, sym, ap, subst, ℕ, ◌<◌, Bool, IsTrue, List, [], ◌∷◌, arith}
 use Rattle.std.proofs.lemmas.Int.{ints}
 use Rattle.ti_base.specs.declared.point.Point.{Point}

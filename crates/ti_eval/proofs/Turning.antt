@@ -1,4 +1,4 @@
--- The foreach loops in progress around a statement.
+-- Proves that the search in the code finds the innermost foreach with a variable.
 use Rattle.std.proofs.Common.{◌≡◌, ◌∙◌, ap, refl, sym, ℕ, zero, suc, ◌-◌, ◌==◌, ◌<◌, ◌≤◌, eq-eqb, true, List, [], ◌∷◌, ◌++◌, take, reverse, length, map, drop, get_or, arith}
 use Rattle.std.proofs.Math.Seq.{take-suc}
 use Rattle.std.proofs.lemmas.List.{reverse-append, length-reverse, length-take-le}

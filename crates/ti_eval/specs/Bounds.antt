@@ -1,4 +1,4 @@
--- What clauses see of bounds in the code.
+-- What contracts see of bounds in the code.
 use Rattle.ti_lang.specs.Meaning.Literals as literal
 use Rattle.ti_eval.specs.declared.bounds.Bounds.{Bounds}
 

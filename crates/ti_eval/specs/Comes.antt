@@ -1,4 +1,4 @@
--- What the code's computations come to.
+-- How results of the code correspond to computations of the semantics.
 use Rattle.std.specs.Prelude.{◌≡◌, List, Option, Some, None, Result, Ok, Err}
 use Rattle.std.specs.Borrow.{Bor}
 use Rattle.ti_base.specs.declared.place.Place.{Place}
@@ -8,24 +8,24 @@ use Rattle.ti_lang.specs.Meaning.Asking.{Got, Gives, Asks, Fails}
 use Rattle.ti_eval.specs.declared.stop.Stop.{Stop}
 use Rattle.ti_eval.specs.declared.stop.Stop.TheVariants as stop
 
--- the action that a computation asks for, and where, if it asks for one
+-- The action that a computation requests, and its place, if it requests one.
 abbrev pub asked_in : {A : Type 0} → Got A → Option (Place × Action)
 asked_in (Gives a rest) = None
 asked_in (Asks q) = Some (q.place, q.action)
 asked_in (Fails kind at) = None
 
--- a computation that gives nothing yet, as the code says it; the code doesn't tell for what an action is asked
+-- The code's account of a computation that is interrupted. It doesn't say what an action's answer is for.
 abbrev pub Stops : {A : Type 0} → Stop → Got A → Type 0
 Stops (stop.Asks at a) got = asked_in got ≡ Some (at, a)
 Stops (stop.Fails kind at) got = got ≡ Fails kind at
 Stops stop.Memory got = Unit {0}
 
--- the code's result is what a computation comes to, with the answers that are left
+-- The code's result is that of a computation, with the answers that are left.
 abbrev pub Comes : {A : Type 0} → Result (A × Bor (List Answer)) Stop → Got A → Type 0
 Comes (Ok p) got = got ≡ Gives p.0 p.1.now
 Comes (Err s) got = Stops s got
 
--- the same, where clauses see the result by a view
+-- The code's result is that of a computation, if contracts see its value through a view.
 abbrev pub ComesAs : {A B : Type 0} → (A → B) → Result (A × Bor (List Answer)) Stop → Got B → Type 0
 ComesAs view (Ok p) got = got ≡ Gives (view p.0) p.1.now
 ComesAs view (Err s) got = Stops s got

@@ -1,4 +1,4 @@
--- Where the code evaluates an expression.
+-- The environment in which the code evaluates an expression.
 use Rattle.std.specs.Prelude.{List, reverse}
 use Rattle.ti_lang.specs.Program.Statements.{numbered_stms}
 use Rattle.ti_lang.specs.Program.Scope.{this_of}
@@ -12,7 +12,7 @@ use Rattle.ti_eval.specs.Frames.{Site, method_seen, slots_of, rest_of}
 abbrev pub site_of : Env → Site
 site_of e = record { program = program_of e.program.now; this = this_of (method_seen e.method); procs = e.team.procs }
 
--- the work behind the innermost statement
+-- The pending work after the innermost statement.
 abbrev pub behind : Env → List Work
 behind e = rest_of (site_of e) (numbered_stms (method_seen e.method).body) (reverse e.levels.now)
 

@@ -1,4 +1,4 @@
--- What clauses see of the values of src/, and which values are in their one form.
+-- What contracts see of the values in src/, and which values are canonical.
 use Rattle.ti_base.specs.declared.value.Value.{Value}
 use Rattle.ti_base.specs.declared.value.Value.TheVariants as v
 use Rattle.ti_base.specs.declared.entry.Answer.{Answer}
@@ -9,12 +9,12 @@ use Rattle.ti_domain.specs.declared.held.Held.{Held as Kept}
 use Rattle.ti_domain.specs.declared.held.Held.TheVariants as kept
 use Rattle.ti_lang.specs.Meaning.Held.{Held, Plain, Dm}
 
--- what a variable holds, as the meaning of programs sees it
+-- The value of a variable as the semantics sees it.
 abbrev pub held_of : Kept → Held
 held_of (kept.Plain value) = Plain value
 held_of (kept.Dm d) = Dm d.dim d.points
 
--- a point or a rectangular domain is in its one form
+-- A point or a rectangular domain is canonical.
 abbrev pub IsFormedValue : Value → Type 0
 IsFormedValue (v.Pt p) = IsPoint p
 IsFormedValue (v.Rc r) = IsRect r

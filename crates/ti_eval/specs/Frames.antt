@@ -1,4 +1,4 @@
--- What is left in a call in progress, and where it stands.
+-- What contracts see of a call in progress: its variables, and its pending work.
 use Rattle.std.specs.Prelude.{ℕ, ◌-◌, ◌==◌, false, if◌then◌else◌, List, [], ◌∷◌, ◌++◌, drop, map, filter, reverse, Option, Some, None}
 use Rattle.std.specs.Borrow.{Bor}
 use Rattle.ti_base.specs.declared.place.Place.{Place}
@@ -30,7 +30,7 @@ use Rattle.ti_eval.specs.Places.{list_of, part_of, inside}
 abbrev pub slot_of : Slot → Variable
 slot_of s = record { named = variable_of s.variable; held = s.held }
 
--- the variables in scope, the newest first
+-- The variables in scope, the newest first.
 abbrev pub slots_of : List Slot → List Variable
 slots_of slots = map slot_of (reverse slots)
 
@@ -39,7 +39,7 @@ slots_of slots = map slot_of (reverse slots)
 abbrev pub nowhere : Place
 nowhere = record { line = 0; col = 0 }
 
--- what stands for a method that isn't there
+-- A placeholder for a method that doesn't exist.
 abbrev pub no_method : NumberedMethod
 no_method = record {
   class = 0;
@@ -59,30 +59,30 @@ method_seen (Some m) = numbered_method_of m.now
 
 -- ---- the parts of statements
 
--- the place of a loop
+-- The place of a loop.
 abbrev pub place_of : NumberedStm → Place
 place_of (s.While at c body) = at
 place_of (s.For at first c update body) = at
 place_of (s.Foreach at variable domain body) = at
 place_of x = nowhere
 
--- the condition of a loop
+-- The condition of a loop.
 abbrev pub condition_in : NumberedStm → Option NumberedExp
 condition_in (s.While at c body) = Some c
 condition_in (s.For at first c update body) = c
 condition_in x = None
 
--- what each turn of a loop ends with
+-- The update of a loop, which ends each iteration.
 abbrev pub update_in : NumberedStm → MaybeNumbered
 update_in (s.For at first c update body) = update
 update_in x = NoStm
 
--- the domain of a `foreach`
+-- The domain of a `foreach`.
 abbrev pub domain_in : NumberedStm → NumberedExp
 domain_in (s.Foreach at variable domain body) = domain
 domain_in x = e.Null nowhere
 
--- the statements of a block
+-- The statements of a block.
 abbrev pub list_in : NumberedStm → List NumberedStm
 list_in (s.Block body) = list_of body
 list_in x = []
@@ -101,35 +101,35 @@ member_args x = e.NoExp
 
 -- ---- work
 
--- the program, the class of `this`, and how many processes there are
+-- The program, the class of `this`, and the number of processes.
 pub record Site : Type 0 where
   pub program : NumberedProgram
   pub this : Option ℕ
   pub procs : ℕ
 
--- a while or a for, whichever statement it is
+-- A `while` or `for` as a loop, given any statement.
 abbrev pub loop_of : NumberedStm → Loop
 loop_of x = While (place_of x) (condition_in x) (update_in x) (part_of x part.Body)
 
 abbrev pub foreach_of : NumberedStm → ℕ → List Point → Loop
 foreach_of x variable points = Foreach (place_of x) variable (domain_in x) points (part_of x part.Body)
 
--- the end of a `for`
+-- The end of a `for`.
 abbrev pub end_of_for : NumberedStm → List Work
 end_of_for (s.For at first c update body) = End (s.For at first c update body) ∷ []
 end_of_for x = []
 
--- the points of a domain above another one, which is of its dimension
+-- The points of a domain after another point of its dimension, in lexicographic order.
 abbrev pub points_above : Held → Option Point → List Point
 points_above h None = points_in h
 points_above h (Some p) = if p.dim == dim_of h then filter (is_lex_lt p) (points_in h) else []
 
--- a point, if there is one, and those above it
+-- A point, if there is one, and those after it.
 abbrev pub from_point : Held → Option Point → List Point
 from_point domain None = []
 from_point domain (Some p) = p ∷ points_above domain (Some p)
 
--- a thing with the type of the expression that named it
+-- A reference to an object or a grid, with the type of the expression that yielded it.
 abbrev pub reference : Site → NumberedExp → Id → Reference
 reference site x id = record { thing = id; type = type_in_text site.program site.this x }
 
@@ -137,7 +137,7 @@ abbrev pub first_reference : Site → NumberedExps → Id → Reference
 first_reference site e.NoExp id = record { thing = id; type = t.Void }
 first_reference site (e.MoreExp x xs) id = reference site x id
 
--- the work that is left of a statement
+-- The pending work of a statement.
 abbrev pub work_of : Site → NumberedStm → Todo → List Work
 work_of site x todo.Here = Do x ∷ []
 work_of site x todo.Inside = []
@@ -153,17 +153,17 @@ work_of site x (todo.Copying copy last) =
 work_of site x (todo.Taking grid next) =
     TakeAll (member_place x) (reference site (member_receiver x) grid) (counted next (site.procs - next)) ∷ []
 
--- that is left of the body of a method
+-- The pending work of the body of a method.
 abbrev pub work_of_body : NumberedStms → Todo → List Work
 work_of_body body (todo.From n) = map Do (drop n (list_of body))
 work_of_body body t = []
 
--- that is left in a frame, from what is left of the innermost statement on
+-- The pending work of a frame, from that of the innermost statement on.
 abbrev pub left_of : Site → NumberedStms → List Level → Todo → List Work
 left_of site body [] t = work_of_body body t
 left_of site body (l ∷ ls) t = work_of site (inside body (l ∷ ls)) t ++ left_of site body ls l.todo
 
--- behind the innermost statement
+-- The pending work after the innermost statement.
 abbrev pub rest_of : Site → NumberedStms → List Level → List Work
 rest_of site body [] = []
 rest_of site body (l ∷ ls) = left_of site body ls l.todo

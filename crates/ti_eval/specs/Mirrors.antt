@@ -1,2 +1,2 @@
--- Definitions that mirror code, as its private contracts speak of it: nobody has to believe them.
+-- Definitions that mirror the code, for contracts of private functions: no public claim depends on them.
 pub mod Teams

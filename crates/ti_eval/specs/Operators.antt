@@ -1,4 +1,4 @@
--- What clauses see of operands and operators in the code.
+-- What contracts see of operands and operators in the code.
 use Rattle.std.specs.Prelude.{◌≡◌, ℕ, ℤ, int_lt, int_le, Bool, not, ◌&&◌, ◌||◌, bit_and, bit_or, bit_xor, List, Some}
 use Rattle.std.specs.Int.{Width, w32, w64}
 use Rattle.ti_base.specs.declared.point.Point.{Point}
@@ -32,17 +32,17 @@ operands_of (o.Things a b) = seen.Things a b
 operands_of (o.Regions a b) = seen.Regions a b
 operands_of o.Others = seen.Others
 
--- points and rectangular domains are in their one form, and of one dimension
+-- Points and rectangular domains are canonical and of one dimension.
 abbrev pub AreFormed : Operands → Type 0
 AreFormed (o.Points p q) = IsPoint p × IsPoint q × (q.dim ≡ p.dim)
 AreFormed (o.Rects r s) = IsRect r × IsRect s × (s.dim ≡ r.dim)
 AreFormed x = Unit {0}
 
--- both are domains of one dimension, rectangular or not
+-- Both are domains of one dimension, rectangular or not.
 abbrev pub HaveOneDim : Held → Held → Type 0
 HaveOneDim x y = (n : ℕ) × (held_dim x ≡ Some n) × (held_dim y ≡ Some n)
 
--- where the operands are domains, they are of one dimension
+-- If the operands are domains, they are of one dimension.
 abbrev pub AreDomains : Operands → Held → Held → Type 0
 AreDomains (o.Rects r s) x y = HaveOneDim x y
 AreDomains o.Domains x y = HaveOneDim x y

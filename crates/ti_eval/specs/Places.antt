@@ -1,4 +1,4 @@
--- Where a call stands in its method: the parts of statements that it has entered.
+-- The position of a call in its method: the parts of statements that it has entered.
 use Rattle.std.specs.Prelude.{List, [], ◌∷◌, slice_get, unwrap_or}
 use Rattle.ti_lang.specs.Program.Statements.{NumberedStm, MaybeNumbered, NoStm, SomeStm, NumberedStms, Nil, Cons}
 use Rattle.ti_lang.specs.Program.Statements as s
@@ -14,7 +14,7 @@ abbrev pub maybe : MaybeNumbered → NumberedStm
 maybe NoStm = s.Empty
 maybe (SomeStm x) = x
 
--- the part of a statement; one that it hasn't is empty
+-- The part of a statement; the empty statement if it doesn't have this part.
 abbrev pub part_of : NumberedStm → Part → NumberedStm
 part_of (s.Block body) (part.Item n) = unwrap_or (slice_get (list_of body) n) s.Empty
 part_of (s.If at c x) part.Then = x
@@ -27,7 +27,7 @@ part_of (s.For at first c update body) part.First = maybe first
 part_of (s.For at first c update body) part.Update = maybe update
 part_of x p = s.Empty
 
--- the innermost statement, from those entered, the innermost first; the outermost is the body of the method
+-- The innermost statement, given the parts entered, the innermost first; the outermost statement is the body of the method.
 abbrev pub inside : NumberedStms → List Level → NumberedStm
 inside body [] = s.Block body
 inside body (l ∷ ls) = part_of (inside body ls) l.inner

@@ -1,6 +1,6 @@
 // The bounds of a rectangular domain.
 
-/// From where to where, and by which steps, coordinate by coordinate.
+/// The low and high bounds and the steps of a rectangular domain, one of each per coordinate.
 #[derive(Drop)]
 pub struct Bounds {
     pub low: Vec<i32>,

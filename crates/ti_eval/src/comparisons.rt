@@ -1,4 +1,4 @@
-// Comparisons.
+// Comparisons and equality.
 
 ghost use Rattle.std.specs.Prelude.{◌≡◌, ◌||◌, ◌&&◌};
 ghost use Rattle.ti_base.specs.PointSets.{same_point as same_point_spec};
@@ -40,6 +40,7 @@ fn unless(is_unused: bool, op: Test, a: i32, b: i32) -> bool
     }
 }
 
+// For the prover: a conjunction of three.
 fn all_three(a: bool, b: bool, c: bool) -> bool
     ensures { result ≡ (a && b && c) }
 {
@@ -56,7 +57,7 @@ fn in_each(op: Test, p: &Point, q: &Point) -> bool
     all_three(first, second, third)
 }
 
-/// A comparison of numbers, or of points, where it holds in every coordinate.
+/// A comparison of two numbers or of two points; that of points holds if it holds in every coordinate. `false` for other operands.
 pub fn compared(op: Test, x: &Held, y: &Held) -> Held
     ensures { result ≡ ops.compared (test_of op) (seen.operands x.now y.now) }
 {
@@ -76,7 +77,7 @@ fn same_point(p: &Point, q: &Point) -> bool
     p.dim == q.dim && p.x1 == q.x1 && p.x2 == q.x2 && p.x3 == q.x3
 }
 
-// Whether two rectangular domains have the same points.
+// Whether two rectangular domains of one dimension have the same points.
 fn same_rect(r: &Rect, s: &Rect) -> bool
     requires first { IsRect r.now }
     requires second { IsRect s.now }
@@ -101,7 +102,7 @@ fn same_rect(r: &Rect, s: &Rect) -> bool
     true
 }
 
-// Whether two domains have the same points.
+// Whether two domains of one dimension have the same points.
 fn same_domain(d: &Dom, e: &Dom) -> bool
     requires { e.now.dim ≡ d.now.dim }
     ensures { result ≡ seen.same_points d.now.points e.now.points }
@@ -124,7 +125,7 @@ fn same_thing(a: Option<Id>, b: Option<Id>) -> bool
     }
 }
 
-// Whether two domains, each rectangular or not, have the same points.
+// Whether two domains of one dimension, each rectangular or not, have the same points.
 #[tactic(auto, using(crate::proofs::Steps::steps))]
 fn equal_domains<'a>(
     alloc: Global,
@@ -141,7 +142,7 @@ fn equal_domains<'a>(
     Ok((same_domain(&d, &e), answers))
 }
 
-/// Whether two operands are equal.
+/// Whether two operands are equal. It can fault, since a rectangular domain may have to be converted.
 pub fn equal<'a>(
     alloc: Global,
     at: Place,

@@ -1,4 +1,4 @@
-// Values as those of a type, and domains.
+// Conversions of values to types, and of rectangular domains to general ones.
 
 ghost use Rattle.std.specs.Prelude.{◌≡◌, Some, IfOk, ℕ};
 ghost use Rattle.ti_lang.specs.Program.Types as types;
@@ -22,7 +22,7 @@ use ti_domain::{Dom, DomErr, Held as Kept, dom_copy, dom_of};
 use ti_lang::program::Ty;
 use ti_lang::typing::Seen;
 
-// The domain of the points of a rectangular one.
+// The domain of the points of a rectangular one; a fault if there are too many.
 fn widened<'a>(alloc: Global, at: Place, r: &Rect, answers: &'a [Told]) -> Given<'a, Dom>
     requires { IsRect r.now }
     ensures came { ComesAs (λ (d : Domain). Dm d.dim d.points) result (conversions.to_domain at (Plain (Rc r.now)) answers.now) }
@@ -35,7 +35,7 @@ fn widened<'a>(alloc: Global, at: Place, r: &Rect, answers: &'a [Told]) -> Given
     }
 }
 
-/// A rectangular domain becomes the domain of its points, unless these are too many.
+/// Converts a rectangular domain to a general one; a fault if it has too many points. Any other value is unchanged.
 pub fn to_domain<'a>(alloc: Global, at: Place, h: Held, answers: &'a [Told]) -> Given<'a, Held>
     ensures { Comes result (conversions.to_domain at h answers.now) }
 {
@@ -48,7 +48,7 @@ pub fn to_domain<'a>(alloc: Global, at: Place, h: Held, answers: &'a [Told]) -> 
     }
 }
 
-/// The domain that one is, rectangular or not.
+/// A copy of a domain, rectangular or not, as a general one; a fault if it has too many points.
 pub fn as_domain<'a>(alloc: Global, at: Place, h: &Held, answers: &'a [Told]) -> Given<'a, Dom>
     requires { (n : ℕ) × (held_dim h.now ≡ Some n) }
     ensures came { ComesAs (λ (d : Domain). Dm d.dim d.points) result (conversions.to_domain at h.now answers.now) }
@@ -61,7 +61,7 @@ pub fn as_domain<'a>(alloc: Global, at: Place, h: &Held, answers: &'a [Told]) ->
     }
 }
 
-/// An int becomes the long of the same number; any other value stays.
+/// Converts an int to a long; any other value is unchanged.
 pub fn as_long(h: Held) -> Held
     ensures { result ≡ as_type types.Long h }
 {
@@ -71,7 +71,7 @@ pub fn as_long(h: Held) -> Held
     }
 }
 
-/// A long becomes the int that is left of it; any other value stays.
+/// Converts a long to an int, keeping its low 32 bits; any other value is unchanged.
 pub fn as_int(h: Held) -> Held
     ensures { result ≡ as_type types.Int h }
 {
@@ -81,7 +81,7 @@ pub fn as_int(h: Held) -> Held
     }
 }
 
-/// A value as one of a type, where this is no domain.
+/// Converts a value to a type that isn't a domain's.
 pub fn as_type(ty: &Ty, h: Held) -> Held
     ensures { result ≡ as_type (value_type_of ty.now) h }
 {
@@ -98,7 +98,7 @@ pub fn as_type(ty: &Ty, h: Held) -> Held
     }
 }
 
-/// A value as one of a type.
+/// Converts a value to a type. A domain with too many points is a fault.
 pub fn converted<'a>(
     alloc: Global,
     at: Place,
@@ -129,7 +129,7 @@ fn is_local(ty: &Ty) -> bool
     Seen::of(ty, false).is_local()
 }
 
-/// A reference of local type names a thing of the own process, or nothing.
+/// Checks a reference of local type: a fault unless it is null or refers to an object or array of the process itself.
 pub fn kept_local<'a>(
     number: u32,
     at: Place,

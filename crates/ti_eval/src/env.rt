@@ -1,4 +1,4 @@
-// Where an expression is evaluated.
+// The environment of an expression, and what it says of names: variables, types and members.
 
 ghost use Rattle.std.specs.Prelude.{◌≡◌, IfOk, IfSome, Some, None, reverse, option_map};
 ghost use Rattle.std.specs.Option.{option_map_or};
@@ -25,12 +25,13 @@ use ti_base::{Id, Memory, Point, Value};
 use ti_lang::program::{Declared, Expr, Method, Parts, Variable, has_static};
 use ti_lang::typing::{BuiltIn, Seen, member_called, type_in_text};
 
-/// Where an expression is evaluated: in which process, in which call of which method, and where that stands.
+/// The environment of an expression: the process, the method and the object of its call, the variables in scope, and the position in the
+/// method.
 #[derive(Clone, Copy)]
 pub struct Env<'a> {
     pub team: Team,
     pub program: &'a Parts,
-    /// None stands for a method without a word.
+    /// `None` is a placeholder for a method without modifiers.
     pub method: Option<&'a Method>,
     pub this: Option<Id>,
     /// The variables in scope, the oldest first.
@@ -39,7 +40,7 @@ pub struct Env<'a> {
     pub levels: &'a [Level],
 }
 
-/// The class of `this` in a method, where there is one.
+/// The class of `this` in a method, if it has a `this`.
 pub fn class_of_this(method: Option<&Method>) -> Option<u32>
     ensures { result ≡ this_of (method_seen method.entry) }
 {
@@ -53,14 +54,14 @@ pub fn class_of_this(method: Option<&Method>) -> Option<u32>
     }
 }
 
-/// The type that an expression has in the text.
+/// The static type of an expression.
 pub fn type_of<'a>(env: &Env<'a>, e: &'a Expr) -> Seen<'a>
     ensures { seen result ≡ type_of_spec (env_of env.now) (expression_of e.now) }
 {
     type_in_text(env.program, class_of_this(env.method), e)
 }
 
-/// The member of the language that a name means behind an expression.
+/// The built-in member that a name denotes after an expression.
 pub fn called_member(env: &Env, receiver: &Expr, name: u32) -> Option<BuiltIn>
     ensures { option_map built_in_of result ≡ member_called_spec (program_of env.now.program.now) (this_of (method_seen env.now.method))
         (expression_of receiver.now) name }
@@ -87,7 +88,7 @@ pub fn point_of_turn(levels: &[Level], number: u32) -> Option<Point>
     None
 }
 
-/// What a variable holds.
+/// The value of a variable.
 pub fn variable(alloc: Global, env: &Env, v: &Variable) -> Result<Held, Memory>
     ensures { IfOk result (λ h. h ≡ value_by (variable_of v.now).declared (env_of env.now) (variable_of v.now)) }
 {

@@ -1,4 +1,5 @@
-// The values of expressions.
+// The evaluation of expressions by recursion over them. Each function consumes answers from the beginning of a list and returns those that
+// are left.
 
 ghost use Rattle.std.specs.Prelude.{◌≡◌, map, option_map, ℤ, pos};
 ghost use Rattle.std.specs.declared.vec.Vec.{Vec as Row};
@@ -41,7 +42,7 @@ use ti_lang::program::{Expr, Range, TypeUse, Variable};
 use ti_lang::tree::{BinaryOperator, UnaryOperator};
 use ti_lang::typing::{BuiltIn, Seen as Kind};
 
-// Whether an expression is a point in the text.
+// Whether the static type of an expression is that of a point.
 fn is_point(env: &Env, e: &Expr) -> bool
     ensures { result ≡ is_point_spec (type_of_spec (env_of env.now) (expression_of e.now)) }
 {
@@ -58,7 +59,7 @@ fn held_by<'a>(alloc: Global, env: &Env, v: &Variable, answers: &'a [Told]) -> G
     Ok((variable(alloc, env, v)?, answers))
 }
 
-// A field of the own object.
+// A field of `this`.
 fn own_field<'a>(env: &Env, at: Place, field: u32, answers: &'a [Told]) -> Given<'a, Held>
     ensures { (type through : ValueType) → Comes result (fetched at type (Field (Plain (Obj env.now.this)) through field) answers.now) }
 {
@@ -76,7 +77,7 @@ fn point<'a>(alloc: Global, env: &Env, parts: &[Expr], answers: &'a [Told]) -> G
     Ok((Held::plain(Value::Pt(point_of_numbers(&numbers))), answers))
 }
 
-/// The rectangular domain within ranges, coordinate by coordinate.
+/// The rectangular domain of ranges, one per coordinate.
 #[cycle(evaluate)]
 #[tactic(auto, using(crate::proofs::Steps::steps))]
 pub fn rectangle<'a>(
@@ -92,7 +93,7 @@ pub fn rectangle<'a>(
     rect_within(at, &bounds, answers)
 }
 
-// An operator of one operand.
+// A unary operator.
 #[cycle(evaluate)]
 #[tactic(auto, using(crate::proofs::Steps::steps))]
 fn unary<'a>(
@@ -108,7 +109,7 @@ fn unary<'a>(
     Ok((operated_alone(op, h), answers))
 }
 
-// What an operator comes to behind its left operand.
+// A binary operator, given the value of its left operand. `&&` and `||` may not evaluate the right one.
 #[cycle(evaluate)]
 #[tactic(auto, using(crate::proofs::Steps::steps))]
 fn with_right<'a>(
@@ -165,7 +166,7 @@ fn selected<'a>(
     fetch_field(at, &h, field, answers)
 }
 
-// What a member of the language comes to behind its receiver.
+// A built-in member, given the value of its receiver.
 #[cycle(evaluate)]
 #[tactic(auto, using(crate::proofs::Steps::steps))]
 fn with_arguments<'a>(
@@ -185,7 +186,7 @@ fn with_arguments<'a>(
     member(at, called, h, &hs, answers)
 }
 
-// What an index comes to behind the point or the grid.
+// An indexing, given the value of the point or the grid.
 #[cycle(evaluate)]
 #[tactic(auto, using(crate::proofs::Steps::steps))]
 fn with_indices<'a>(
@@ -226,7 +227,7 @@ pub fn evaluate_all<'a>(
     Ok((found, left))
 }
 
-/// The numbers that expressions come to, or the coordinates of points.
+/// The integers that expressions evaluate to: numbers, or coordinates of points.
 #[cycle(evaluate)]
 pub fn evaluate_numbers<'a>(
     alloc: Global,
@@ -288,9 +289,8 @@ pub fn evaluate_ranges<'a>(
     Ok((found, left))
 }
 
-/// The value of an expression, from these answers, and those that are left. It asks for an action where
-/// the answers are used up, and fails with a fault where the language says so; a call of a declared
-/// method has no value here.
+/// The value of an expression on these answers, with the answers that are left. It requests an action if the answers are used up, and fails
+/// with a fault if the semantics does. A call of a declared method has no value here.
 #[cycle(evaluate)]
 #[tactic(auto, using(crate::proofs::Evaluating::evaluating))]
 pub fn evaluate<'a>(alloc: Global, env: &Env, e: &Expr, answers: &'a [Told]) -> Given<'a, Held>
@@ -360,7 +360,7 @@ fn this_proc(env: &Env) -> Scalar
     Scalar::Int(team.number as i32)
 }
 
-// How many processes there are.
+// The number of processes.
 fn num_procs(env: &Env) -> Scalar
     ensures { held_of_scalar result ≡ Plain (Int (pos env.now.team.procs)) }
 {
@@ -368,14 +368,14 @@ fn num_procs(env: &Env) -> Scalar
     Scalar::Int(team.procs as i32)
 }
 
-// A number or a boolean.
+// The value of a number or a boolean.
 fn made<'a>(x: Scalar, answers: &'a [Told]) -> Given<'a, Held>
     ensures { Comes result (gives (held_of_scalar x) answers.now) }
 {
     Ok((x.held(), answers))
 }
 
-// An object, or none.
+// The value of an object, or null.
 fn object<'a>(id: Option<Id>, answers: &'a [Told]) -> Given<'a, Held>
     ensures { Comes result (gives (Plain (Obj id)) answers.now) }
 {

@@ -1,4 +1,4 @@
-// Which field a name means.
+// Resolves the name of a field.
 
 ghost use Rattle.std.specs.Prelude.{◌≡◌, IfOk};
 ghost use Rattle.ti_lang.specs.Program.Views.{expression_of};
@@ -10,8 +10,8 @@ use ti_base::Memory;
 use ti_lang::program::Expr;
 use ti_lang::typing::field_number;
 
-/// The number of the field that `e.f` means, by the number of its name. A class with more fields than a
-/// number of 32 bits counts is want of memory.
+/// The number of the field that `e.f` denotes, given the number of its name; 0 if there is no such field. Out of memory if the number
+/// doesn't fit into 32 bits.
 pub fn field_selected(env: &Env, e: &Expr, name: u32) -> Result<u32, Memory>
     ensures { IfOk result (λ n. n ≡ selected_spec (env_of env.now) (expression_of e.now) name) }
 {

@@ -1,4 +1,4 @@
-// Where a call stands in its method.
+// The position of a call in its method: which statements it has entered, and which work of each is pending.
 
 ghost use Rattle.ti_base.specs.Points.{IsPoint};
 
@@ -6,14 +6,14 @@ use crate::held::Held;
 use ti_base::{Id, Point};
 use ti_lang::program::Variable;
 
-/// A variable in scope, with what it holds.
+/// A variable in scope, with its value.
 #[derive(Drop)]
 pub struct Slot {
     pub variable: Variable,
     pub held: Held,
 }
 
-/// A point in its one form.
+/// A canonical point.
 #[derive(Clone, Copy)]
 pub struct Spot {
     pub point: Point,
@@ -28,39 +28,39 @@ pub struct Copy {
     pub domain: Held,
 }
 
-/// What is left to do of a statement.
+/// The pending work of a statement.
 #[derive(Drop)]
 pub enum Todo {
     /// All of it.
     Here,
-    /// Nothing, but that something inside it may still be done, or that a value is on its way to it.
+    /// None of its own: something inside it is pending, or a value on its way to it.
     Inside,
-    /// Of a list of statements those from a number on; behind those of a block comes its end.
+    /// The statements of a list from this number on; after those of a block its end.
     From(usize),
     /// The end of a `for`.
     Ending,
-    /// The next turn of a `while` or a `for`.
+    /// The next iteration of a `while` or a `for`.
     Before,
-    /// The end of a turn of a `while` or a `for`.
+    /// The end of an iteration of a `while` or a `for`.
     Behind,
-    /// The next turn of a `foreach`, with its variable and its domain: it is at the first point above the last one.
+    /// The next iteration of a `foreach` with this variable and domain, at the first point after the last one.
     Each {
         variable: u32,
         domain: Box<Held>,
         last: Option<Point>,
     },
-    /// The end of a turn of a `foreach` at a point.
+    /// The end of an iteration of a `foreach` at a point.
     Turn {
         variable: u32,
         domain: Box<Held>,
         at: Spot,
     },
-    /// A copy at the points above the last one.
+    /// A copy at the points after the last one.
     Copying {
         copy: Box<Copy>,
         last: Option<Point>,
     },
-    /// The values of an exchange, from that of a process on, go into the grid.
+    /// The values of an exchange are written into the grid, from that of process `next` on.
     Taking {
         grid: Id,
         next: u32,
@@ -70,21 +70,21 @@ pub enum Todo {
 /// A part of a statement that is a statement.
 #[derive(Clone, Copy)]
 pub enum Part {
-    /// That of a number in a block.
+    /// The statement of this number in a block.
     Item(usize),
-    /// Behind `if (..)`.
+    /// The branch of an `if` that is taken if the condition holds.
     Then,
-    /// Behind `else`.
+    /// The branch after `else`.
     Else,
     /// The body of a loop.
     Body,
-    /// What the head of a `for` begins with.
+    /// The first part of the head of a `for`.
     First,
-    /// What each turn of a `for` ends with.
+    /// The update of a `for`, which ends each iteration.
     Update,
 }
 
-/// A statement that has been entered: what is left of it behind the part inside, and which part that is.
+/// A statement that has been entered: its pending work after the part inside, and which part that is.
 #[derive(Drop)]
 pub struct Level {
     pub todo: Todo,

@@ -1,4 +1,5 @@
-// What variables hold.
+// The values of variables and operands. Accessors of one kind of value yield a default for the others, as in the semantics, so that they
+// have no preconditions.
 
 ghost use Rattle.std.specs.Prelude.{◌≡◌, ◌≤◌, length, IfOk};
 ghost use Rattle.ti_base.specs.Points.{IsPoint};
@@ -12,8 +13,8 @@ use std::marker::Model;
 use ti_base::{Id, Memory, Point, Rect, Value};
 use ti_domain::{Dom, Held as Kept, dim_of, dom_copy, dom_pieces};
 
-/// What a variable holds: a value, in which a point or a rectangular domain is in its one form, or a domain.
-/// Contracts see it as the meaning of programs does.
+/// A run-time value: a value of a cell, in which a point or a rectangular domain is canonical, or a general domain. Contracts see it as the
+/// semantics does.
 #[derive(Drop)]
 pub struct Held {
     pub(crate) kept: Kept,
@@ -32,7 +33,7 @@ impl Model for Held {
 }
 
 impl Held {
-    /// A value.
+    /// A value that isn't a general domain.
     pub fn plain(value: Value) -> Held
         requires { IsFormedValue value }
         ensures { result ≡ held.Plain value }
@@ -42,11 +43,12 @@ impl Held {
         }
     }
 
-    /// A domain.
+    /// A general domain.
     pub fn domain(d: Dom) -> Held
         ensures value { result ≡ held.Dm d.dim d.points }
         ensures small { length d.points ≤ 1048576 }
     {
+        // For the prover: brings the bound on the number of points into scope.
         let _ = dom_pieces(&d);
         Held { kept: Kept::Dm(d) }
     }
@@ -58,7 +60,7 @@ impl Held {
         Held::plain(Value::Bool(b))
     }
 
-    /// The same.
+    /// A copy.
     pub fn copy(&self, alloc: Global) -> Result<Held, Memory>
         ensures { IfOk result (λ h. h ≡ self.now) }
     {
@@ -82,7 +84,7 @@ impl Held {
         }
     }
 
-    /// The number that an int or a long is.
+    /// The number that an int or a long is; 0 for another value.
     pub fn whole(&self) -> i64
         ensures { result ≡ held.whole_of self.now }
     {
@@ -93,7 +95,7 @@ impl Held {
         }
     }
 
-    /// The number that an int is.
+    /// The number that an int is; 0 for another value.
     pub fn int(&self) -> i32
         ensures { result ≡ held.int_of self.now }
     {
@@ -103,7 +105,7 @@ impl Held {
         }
     }
 
-    /// The point that it is.
+    /// The point that it is; the one-dimensional point 0 for another value.
     pub fn point(&self) -> Point
         ensures value { result ≡ held.point_of self.now }
         ensures form { IsPoint result }
@@ -119,7 +121,7 @@ impl Held {
         }
     }
 
-    /// The object or the grid that it names, if it names one.
+    /// The object or the grid that it refers to, if there is one.
     pub fn thing(&self) -> Option<Id>
         ensures { result ≡ held.thing_of self.now }
     {
@@ -130,7 +132,7 @@ impl Held {
         }
     }
 
-    /// The number of the region that it is.
+    /// The number of the region that it is; 0 for another value.
     pub fn region(&self) -> u32
         ensures { result ≡ held.region_of self.now }
     {
@@ -140,7 +142,7 @@ impl Held {
         }
     }
 
-    /// The value that goes into a cell or an action.
+    /// The value for a cell or an action; `false` for a general domain.
     pub fn value(&self) -> Value
         ensures { result ≡ held.plain_of self.now }
     {
@@ -150,7 +152,7 @@ impl Held {
         }
     }
 
-    /// The rectangular domain that it is.
+    /// The rectangular domain that it is; an empty one for another value.
     pub fn rect(&self) -> Rect
         ensures value { result ≡ held.rect_of self.now }
         ensures form { IsRect result }
@@ -161,7 +163,7 @@ impl Held {
         }
     }
 
-    /// The dimension of a domain, rectangular or not.
+    /// The dimension of a domain, rectangular or not; 1 for another value.
     pub fn dim(&self) -> u8
         ensures { result ≡ held.dim_of self.now }
     {

@@ -1,6 +1,6 @@
-// Kinds of operators.
+// Kinds of operators, by which functions handle several operators alike.
 
-/// What is made of two sets of points.
+/// A set operation on two domains.
 #[derive(Clone, Copy)]
 pub enum Both {
     Union,

@@ -1,4 +1,5 @@
-//! The values of expressions, from the answers that their actions have got so far.
+//! Evaluates expressions, given the answers that their actions have received so far. An evaluation is a function of these answers: if it
+//! needs one more, it stops with a request, and is repeated from its beginning when the answer is there.
 #![tactic(auto)]
 
 mod bounds;

@@ -1,4 +1,4 @@
-// Points and rectangular domains from their numbers.
+// Points and rectangular domains from their coordinates, which literals give as numbers or as points.
 
 ghost use Rattle.std.specs.Prelude.{◌≡◌, ◌++◌, pos, int_le, map, true, IfOk, OnOk};
 ghost use Rattle.std.specs.List.{list_all};
@@ -18,7 +18,7 @@ use ti_base::{FaultKind, Memory, Place, Point, Rect, Value};
 use ti_domain::Held as Kept;
 use ti_rect::rect_make;
 
-// Adds the coordinates of a point, or a number alone.
+// Appends the coordinates of a point, or the number if the value is one.
 fn add_numbers(found: &mut Vec<i32>, h: &Held) -> Result<(), Memory>
     ensures { OnOk result (found.new.items ≡ found.old.items ++ literal.numbers_in h.now) }
 {
@@ -35,7 +35,7 @@ fn add_numbers(found: &mut Vec<i32>, h: &Held) -> Result<(), Memory>
     }
 }
 
-/// These numbers, and then the coordinates of a point, or a number alone.
+/// These numbers followed by the coordinates of a point, or by the number if the value is one.
 pub fn with_numbers(numbers: Vec<i32>, h: Held) -> Result<Vec<i32>, Memory>
     ensures { IfOk result (λ v. v.items ≡ numbers.items ++ literal.numbers_in h) }
 {
@@ -44,7 +44,7 @@ pub fn with_numbers(numbers: Vec<i32>, h: Held) -> Result<Vec<i32>, Memory>
     Ok(found)
 }
 
-// The coordinates of a point, or a number alone.
+// The coordinates of a point, or the number if the value is one.
 fn numbers_of(alloc: Global, h: &Held) -> Result<Vec<i32>, Memory>
     ensures { IfOk result (λ v. v.items ≡ literal.numbers_in h.now) }
 {
@@ -53,7 +53,7 @@ fn numbers_of(alloc: Global, h: &Held) -> Result<Vec<i32>, Memory>
     Ok(found)
 }
 
-// As many ones.
+// As many ones as there are numbers.
 fn ones(alloc: Global, numbers: &[i32]) -> Result<Vec<i32>, Memory>
     ensures { IfOk result (λ v. v.items ≡ map (λ x. pos 1) numbers.now) }
 {
@@ -62,7 +62,7 @@ fn ones(alloc: Global, numbers: &[i32]) -> Result<Vec<i32>, Memory>
     Ok(found)
 }
 
-/// From one to another by steps of 1.
+/// The bounds of a range whose steps are 1.
 pub fn plain_bounds(alloc: Global, low: &Held, high: &Held) -> Result<Bounds, Memory>
     ensures { IfOk result (λ b. bounds_of b ≡ literal.plain_bounds low.now high.now) }
 {
@@ -72,7 +72,7 @@ pub fn plain_bounds(alloc: Global, low: &Held, high: &Held) -> Result<Bounds, Me
     Ok(Bounds { low, high, step })
 }
 
-/// From one to another by steps.
+/// The bounds of a range with steps.
 pub fn stepped_bounds(alloc: Global, low: &Held, high: &Held, step: &Held) -> Result<Bounds, Memory>
     ensures { IfOk result (λ b. bounds_of b ≡ literal.stepped_bounds low.now high.now step.now) }
 {
@@ -82,7 +82,7 @@ pub fn stepped_bounds(alloc: Global, low: &Held, high: &Held, step: &Held) -> Re
     Ok(Bounds { low, high, step })
 }
 
-/// The coordinates of the first, and then those of the second.
+/// The coordinates of the first bounds followed by those of the second.
 pub fn joined(a: Bounds, b: Bounds) -> Result<Bounds, Memory>
     ensures { IfOk result (λ c. bounds_of c ≡ literal.joined (bounds_of a) (bounds_of b)) }
 {
@@ -97,7 +97,7 @@ pub fn joined(a: Bounds, b: Bounds) -> Result<Bounds, Memory>
     Ok(Bounds { low, high, step })
 }
 
-/// No coordinate.
+/// The bounds without coordinates.
 pub fn no_bounds(alloc: Global) -> Bounds
     ensures { bounds_of result ≡ literal.no_bounds }
 {
@@ -108,7 +108,7 @@ pub fn no_bounds(alloc: Global) -> Bounds
     }
 }
 
-/// The point of these coordinates.
+/// The point of one to three coordinates; the one-dimensional point 0 for another number of them.
 pub fn point_of_numbers(numbers: &[i32]) -> Point
     ensures value { result ≡ literal.point_of_numbers numbers.now }
     ensures form { IsPoint result }
@@ -178,7 +178,7 @@ fn rect_of(b: &Bounds) -> Rect
     }
 }
 
-/// The rectangular domain within the bounds, unless a step is below 1.
+/// The rectangular domain within the bounds; a fault if a step is below 1.
 pub fn rect_within<'a>(at: Place, b: &Bounds, answers: &'a [Told]) -> Given<'a, Held>
     ensures { Comes result (literal.rect_within at (bounds_of b.now) answers.now) }
 {

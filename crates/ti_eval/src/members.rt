@@ -1,4 +1,4 @@
-// The members of the language that have a value.
+// The built-in members that have a value, and indexing.
 
 ghost use Rattle.std.specs.Prelude.{◌≡◌, option_map, slice_index_or};
 ghost use Rattle.ti_base.specs.Points.{IsPoint};
@@ -24,7 +24,7 @@ use ti_domain::{Dom, Held as Kept, dim_of, dom_contains, dom_pieces, dom_size};
 use ti_lang::typing::BuiltIn;
 use ti_rect::{rect_contains, rect_size};
 
-// How many points a rectangular domain has, unless an int can't count them.
+// How many points a rectangular domain has; a fault if the number isn't an int.
 #[tactic(auto, using(crate::proofs::MemberLaws::sizes))]
 fn sized_rect<'a>(at: Place, r: &Rect, answers: &'a [Told]) -> Given<'a, Held>
     requires { rects.IsRect r.now }
@@ -53,7 +53,7 @@ fn is_empty(r: &Rect) -> bool
     r.hi.x1 < r.lo.x1 || r.hi.x2 < r.lo.x2 || r.hi.x3 < r.lo.x3
 }
 
-// The least point of a rectangular domain, unless this is empty.
+// The least point of a rectangular domain; a fault if it is empty.
 #[tactic(auto, using(crate::proofs::MemberLaws::ends))]
 fn least<'a>(at: Place, h: &Held, answers: &'a [Told]) -> Given<'a, Held>
     ensures { Comes result (forms.extreme at h.now (held.rect_of h.now).lo answers.now) }
@@ -65,7 +65,7 @@ fn least<'a>(at: Place, h: &Held, answers: &'a [Told]) -> Given<'a, Held>
     Ok((Held::plain(Value::Pt(r.lo)), answers))
 }
 
-// The greatest point of a rectangular domain, unless this is empty.
+// The greatest point of a rectangular domain; a fault if it is empty.
 #[tactic(auto, using(crate::proofs::MemberLaws::ends))]
 fn greatest<'a>(at: Place, h: &Held, answers: &'a [Told]) -> Given<'a, Held>
     ensures { Comes result (forms.extreme at h.now (held.rect_of h.now).hi answers.now) }
@@ -77,7 +77,7 @@ fn greatest<'a>(at: Place, h: &Held, answers: &'a [Told]) -> Given<'a, Held>
     Ok((Held::plain(Value::Pt(r.hi)), answers))
 }
 
-// Whether a rectangular domain has a point.
+// Whether a rectangular domain contains a point.
 fn rect_has(r: &Rect, p: &Point) -> bool
     requires { rects.IsRect r.now }
     ensures { result ≡ rects.is_in r.now p.now }
@@ -88,10 +88,11 @@ fn rect_has(r: &Rect, p: &Point) -> bool
     rect_contains(r, p)
 }
 
-// Whether a domain has a point.
+// Whether a domain contains a point.
 fn domain_has(d: &Dom, p: &Point) -> bool
     ensures { result ≡ is_among d.now.points p.now }
 {
+    // For the prover: brings the form of the domain into scope.
     let pieces = dom_pieces(d);
     let _ = pieces;
     if p.dim != dim_of(d) {
@@ -160,7 +161,7 @@ fn sliced<'a>(at: Place, h: &Held, args: &[Held], answers: &'a [Told]) -> Given<
 
 // ---- members
 
-/// What a member of the language comes to; `copy`, `exchange` and `delete` have no value.
+/// The value of a built-in member; `false` for `copy`, `exchange` and `delete`, which have no value.
 pub fn member<'a>(
     at: Place,
     b: Option<BuiltIn>,
@@ -193,7 +194,7 @@ pub fn member<'a>(
 
 // ---- indices
 
-// A coordinate of a point, counted from 1.
+// A coordinate of a point, counted from 1; a fault if the point doesn't have it.
 fn coordinate<'a>(at: Place, p: &Point, k: i32, answers: &'a [Told]) -> Given<'a, Held>
     requires { IsPoint p.now }
     ensures { Comes result (parts.coordinate at p.now k answers.now) }

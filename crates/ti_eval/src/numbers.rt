@@ -1,4 +1,4 @@
-// Bits and shifts of whole numbers.
+// Bits and shifts of integers.
 
 ghost use Rattle.std.specs.Prelude.{◌≡◌, ◌-ℤ◌, neg_ℤ, pos};
 ghost use Rattle.std.specs.Int.{w32, w64};
@@ -11,7 +11,7 @@ use ti_base::{
     int_shl, int_shr, int_sub, int_ushr, long_shl, long_shr, long_sub, long_ushr, to_int,
 };
 
-/// An operator on the bits of two ints.
+/// A bitwise operator on two ints.
 pub fn int_bits(op: Bits, a: i32, b: i32) -> i32
     ensures { result ≡ on_bits (bits_by op) w32 a b }
 {
@@ -22,7 +22,7 @@ pub fn int_bits(op: Bits, a: i32, b: i32) -> i32
     }
 }
 
-/// An operator on the bits of two longs.
+/// A bitwise operator on two longs.
 pub fn long_bits(op: Bits, a: i64, b: i64) -> i64
     ensures { result ≡ on_bits (bits_by op) w64 a b }
 {
@@ -33,7 +33,7 @@ pub fn long_bits(op: Bits, a: i64, b: i64) -> i64
     }
 }
 
-/// The same of two booleans.
+/// A logical operator on two booleans.
 pub fn truths(op: Bits, a: bool, b: bool) -> bool
     ensures { result ≡ truths_by op a b }
 {
@@ -44,7 +44,7 @@ pub fn truths(op: Bits, a: bool, b: bool) -> bool
     }
 }
 
-// The count that a long is for an int, by its low 5 bits.
+// A long as the shift count of an int, of which only the low 5 bits matter.
 fn count_of(b: i64) -> i32
     ensures { shift_count w32 result ≡ shift_count w32 b }
 {

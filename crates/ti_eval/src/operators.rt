@@ -1,4 +1,4 @@
-// The operators, on the values of their operands.
+// The operators on the values of their operands.
 
 ghost use Rattle.std.specs.Prelude.{◌≡◌, ℤ};
 ghost use Rattle.std.specs.Int.{Width};
@@ -31,7 +31,7 @@ use ti_domain::Held as Kept;
 use ti_lang::tree::{BinaryOperator, UnaryOperator};
 use ti_rect::rect_meet;
 
-/// The result that needs no right operand, if the left one tells it.
+/// The result of `&&` or `||` if the left operand determines it.
 pub fn settled(op: BinaryOperator, x: &Held) -> Option<Held>
     ensures { result ≡ ops.settled op x.now }
 {
@@ -65,7 +65,7 @@ fn added<'a>(alloc: Global, at: Place, x: &Held, y: &Held, answers: &'a [Told]) 
     }
 }
 
-// `x - y`: a difference, of numbers or of sets.
+// `x - y`: a difference, of numbers, points or sets.
 #[tactic(auto, using(crate::proofs::Points::points))]
 fn subtracted<'a>(
     alloc: Global,
@@ -86,7 +86,7 @@ fn subtracted<'a>(
     }
 }
 
-// `x * y`: a product, or a meet.
+// `x * y`: a product, or an intersection.
 fn multiplied<'a>(
     alloc: Global,
     at: Place,
@@ -139,7 +139,7 @@ fn remained<'a>(at: Place, x: &Held, y: &Held, answers: &'a [Told]) -> Given<'a,
     }
 }
 
-// An operator on the bits of numbers, or on booleans.
+// A bitwise operator on numbers, or a logical one on booleans.
 fn combined(op: Bits, x: &Held, y: &Held) -> Held
     ensures { result ≡ ops.combined (bits_by op) (truths_by op) (seen.operands x.now y.now) }
 {
@@ -162,7 +162,7 @@ fn shifted(op: Shift, x: &Held, y: &Held) -> Held
     }
 }
 
-// An operator of one operand that changes it.
+// A unary operator other than `+`.
 fn changed(op: UnaryOperator, h: &Held) -> Held
     requires { op ≡ Plus → ⊥ }
     ensures { result ≡ ops.operated_alone op h.now }
@@ -183,7 +183,7 @@ fn changed(op: UnaryOperator, h: &Held) -> Held
     }
 }
 
-/// An operator of one operand.
+/// A unary operator.
 pub fn operated_alone(op: UnaryOperator, h: Held) -> Held
     ensures { result ≡ ops.operated_alone op h }
 {
@@ -223,7 +223,7 @@ fn inequality<'a>(
     Ok((Held::truth(!same), answers))
 }
 
-// An operator of two operands that stay; behind `&&` and `||` the right one doesn't.
+// A binary operator other than `&&` and `||`.
 fn applied<'a>(
     alloc: Global,
     at: Place,
@@ -259,7 +259,7 @@ fn applied<'a>(
     }
 }
 
-/// An operator of two operands. What `&&` and `||` come to behind their right operand is that operand.
+/// A binary operator. The result of `&&` and `||`, if both operands are evaluated, is the right one.
 pub fn operated<'a>(
     alloc: Global,
     at: Place,

@@ -1,4 +1,4 @@
-// Two operands brought to one type.
+// Binary numeric promotion, and the classification of two operands.
 
 ghost use Rattle.std.specs.Prelude.{◌≡◌, if◌then◌else◌};
 ghost use Rattle.ti_base.specs.Points.{IsPoint};
@@ -42,7 +42,7 @@ fn rects(r: Rect, s: Rect) -> Operands
     }
 }
 
-// An object or a grid beside another value.
+// An object or a grid with another value.
 fn things(a: Option<Id>, y: Value) -> Operands
     ensures value { operands_of result ≡ seen.plain_operands (Obj a) y }
     ensures grid { operands_of result ≡ seen.plain_operands (Grid a) y }
@@ -56,7 +56,7 @@ fn things(a: Option<Id>, y: Value) -> Operands
     }
 }
 
-// Two values; an int beside a long becomes one.
+// Two values; if one is an int and the other a long, the int is converted to a long.
 fn values(x: Value, y: Value) -> Operands
     requires first { IsFormedValue x }
     requires second { IsFormedValue y }
@@ -96,7 +96,7 @@ fn values(x: Value, y: Value) -> Operands
     }
 }
 
-// The dimension of a domain, rectangular or not.
+// The dimension of a domain, rectangular or not; `None` for another value.
 fn held_dim(h: &Held) -> Option<u8>
     ensures { result ≡ seen.held_dim h.now }
 {
@@ -107,7 +107,7 @@ fn held_dim(h: &Held) -> Option<u8>
     }
 }
 
-// Two operands of which one is a domain that isn't rectangular.
+// Two operands of which at least one is a general domain.
 fn domains(x: &Held, y: &Held) -> Operands
     ensures value { operands_of result ≡ (if seen.same_dim (seen.held_dim x.now) (seen.held_dim y.now) then seen.Domains else seen.Others) }
     ensures form { AreFormed result }
@@ -123,7 +123,7 @@ fn domains(x: &Held, y: &Held) -> Operands
     }
 }
 
-/// Two operands.
+/// Two operands, brought to one type.
 pub fn operands(x: &Held, y: &Held) -> Operands
     ensures value { operands_of result ≡ seen.operands x.now y.now }
     ensures form { AreFormed result }

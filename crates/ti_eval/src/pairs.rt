@@ -10,10 +10,10 @@ pub enum Operands {
     Truths(bool, bool),
     Points(Point, Point),
     Rects(Rect, Rect),
-    /// Domains of which not both are rectangular.
+    /// Domains that aren't both rectangular.
     Domains,
     Things(Option<Id>, Option<Id>),
     Regions(u32, u32),
-    /// Of no program without a broken rule.
+    /// Other operands, which don't occur in a program that breaks no rule.
     Others,
 }

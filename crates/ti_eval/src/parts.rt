@@ -1,4 +1,4 @@
-// Cells of things, and views.
+// Reads of fields and elements, domains and views of grids: what needs an action of the store.
 
 ghost use Rattle.std.specs.Prelude.{◌≡◌};
 ghost use Rattle.ti_lang.specs.Program.Types.{ValueType};
@@ -11,7 +11,7 @@ use crate::stop::Stop;
 use crate::told::{Given, Told, value_told};
 use ti_base::{Action, FaultKind, Place, Point, ViewHow};
 
-/// An action: its answer, if it is there.
+/// The answer to an action, if there is one left; otherwise a request for the action.
 pub fn asked<'a>(at: Place, action: Action, answers: &'a [Told]) -> Given<'a, Held>
     ensures { (through : ValueType) (wanted : Wanted) → Comes result
         (asked_spec (record { place = at; action = action; through = through; wanted = wanted }) answers.now) }
@@ -22,7 +22,7 @@ pub fn asked<'a>(at: Place, action: Action, answers: &'a [Told]) -> Given<'a, He
     }
 }
 
-/// What a field of an object holds.
+/// Reads a field of an object. A null reference is a fault.
 pub fn fetch_field<'a>(at: Place, object: &Held, field: u32, answers: &'a [Told]) -> Given<'a, Held>
     ensures { (type through : ValueType) → Comes result (fetched at type (Field object.now through field) answers.now) }
 {
@@ -32,7 +32,7 @@ pub fn fetch_field<'a>(at: Place, object: &Held, field: u32, answers: &'a [Told]
     }
 }
 
-/// What an element of a grid holds.
+/// Reads an element of a grid. A null reference is a fault.
 pub fn fetch_element<'a>(
     at: Place,
     grid: &Held,
@@ -47,7 +47,7 @@ pub fn fetch_element<'a>(
     }
 }
 
-/// The domain of a grid.
+/// The domain of a grid. A null reference is a fault.
 pub fn fetch_domain<'a>(at: Place, grid: &Held, answers: &'a [Told]) -> Given<'a, Held>
     ensures { (through : ValueType) → Comes result (domain_of at through grid.now answers.now) }
 {
@@ -57,7 +57,7 @@ pub fn fetch_domain<'a>(at: Place, grid: &Held, answers: &'a [Told]) -> Given<'a
     }
 }
 
-/// A view of a grid.
+/// A view of a grid. A null reference is a fault.
 pub fn fetch_view<'a>(at: Place, how: ViewHow, grid: &Held, answers: &'a [Told]) -> Given<'a, Held>
     ensures { (type through : ValueType) → Comes result (viewed at type how through grid.now answers.now) }
 {

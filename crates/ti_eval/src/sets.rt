@@ -1,4 +1,4 @@
-// What is made of two domains.
+// Set operations on domains.
 
 ghost use Rattle.std.specs.Prelude.{◌≡◌};
 ghost use Rattle.ti_lang.specs.Meaning.Conversions as conversions;
@@ -14,7 +14,7 @@ use std::alloc::Global;
 use ti_base::{FaultKind, Place};
 use ti_domain::{Dom, DomErr, dom_meet, dom_minus, dom_union};
 
-// What is made of two domains, unless it has too many points.
+// A set operation on two domains; a fault if the result has too many points.
 #[tactic(auto, using(crate::proofs::Sizes::sizes))]
 fn joined<'a>(
     alloc: Global,
@@ -38,7 +38,7 @@ fn joined<'a>(
     }
 }
 
-/// What is made of two domains, each rectangular or not.
+/// A set operation on two domains of one dimension, each rectangular or not.
 #[tactic(auto, using(crate::proofs::Steps::steps))]
 pub fn of_domains<'a>(
     alloc: Global,

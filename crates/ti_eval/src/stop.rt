@@ -1,9 +1,9 @@
-// Why a computation gives nothing yet.
+// Why a computation is interrupted. Errors of the allocator become one of these by `?`.
 
 use std::alloc::{AllocError, AllocFailed};
 use ti_base::{Action, FaultKind, Memory, Place};
 
-/// Why a computation gives nothing yet: it asks for an action, or it fails with a fault, or memory is wanting.
+/// Why a computation yields no value yet: it requests an action at a place, fails with a fault, or is out of memory.
 #[derive(Clone, Copy)]
 pub enum Stop {
     Asks(Place, Action),

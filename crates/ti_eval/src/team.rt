@@ -1,11 +1,11 @@
-// Which of how many processes.
+// A process and the number of processes.
 
 ghost use Rattle.std.specs.Prelude.{◌<◌, ◌^◌};
 
-/// Which of how many processes this is; both numbers are ints of the language.
+/// A process and the number of processes; both numbers are ints of the language.
 #[derive(Clone, Copy)]
 pub struct Team {
-    /// From 0.
+    /// The number of the process, from 0 on.
     pub number: u32,
     pub procs: u32,
     pub ghost number_fits: { number < 2 ^ 31 },

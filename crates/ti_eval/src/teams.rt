@@ -1,4 +1,4 @@
-// Rectangular domains of one element for each process.
+// Rectangular domains with one point for each process, as an exchange requires.
 
 ghost use Rattle.std.specs.Prelude.{◌≡◌, ◌<◌, ◌^◌};
 ghost use Rattle.ti_base.specs.Points.{IsPoint};
@@ -12,7 +12,7 @@ use ti_base::{Point, Rect};
 use ti_rect::rect::is_empty;
 use ti_rect::rect_make;
 
-/// The element of a process in a domain of one element for each process.
+/// The point of a process.
 pub fn element_at(number: u32) -> Point
     requires { number < 2 ^ 31 }
     ensures value { result ≡ element_at_spec number }
@@ -26,7 +26,7 @@ pub fn element_at(number: u32) -> Point
     }
 }
 
-// The element of the last of so many processes.
+// The point of the last of `procs` processes.
 fn last_element(procs: u32) -> Point
     requires { procs < 2 ^ 31 }
     ensures value { result ≡ last_of procs }
@@ -40,7 +40,7 @@ fn last_element(procs: u32) -> Point
     }
 }
 
-/// The rectangular domain of one element for each process: from 0 to one below their number.
+/// The rectangular domain with one point for each process: from 0 to `procs` - 1.
 pub fn rect_of_team(procs: u32) -> Rect
     requires { procs < 2 ^ 31 }
     ensures value { result ≡ collectives.team procs }
@@ -53,7 +53,7 @@ pub fn rect_of_team(procs: u32) -> Rect
     }
 }
 
-/// Whether a rectangular domain has one element for each process. That of a team of none is empty, as those of other dimensions can be.
+/// Whether a rectangular domain has exactly one point for each process. Without processes any empty one does, of whatever dimension.
 pub fn is_of_team(r: &Rect, procs: u32) -> bool
     requires form { IsRect r.now }
     requires small { procs < 2 ^ 31 }

@@ -1,4 +1,4 @@
-// Answers.
+// Answers to actions, as evaluations consume them.
 
 ghost use Rattle.std.specs.Prelude.{◌≡◌};
 ghost use Rattle.ti_lang.specs.Meaning.Asking.{told as told_spec};
@@ -9,7 +9,7 @@ use crate::stop::Stop;
 use std::marker::Model;
 use ti_base::{Answer, Value};
 
-/// An answer, in which a point or a rectangular domain is in its one form. Contracts see the answer.
+/// An answer, in which a point or a rectangular domain is canonical. Contracts see the answer.
 #[derive(Clone, Copy)]
 pub struct Told {
     answer: Answer,
@@ -39,10 +39,10 @@ impl Told {
     }
 }
 
-/// What a computation comes to: a value and the answers that are left, or why it gives nothing yet.
+/// The result of a computation: a value and the answers that are left, or why it is interrupted.
 pub type Given<'a, T> = Result<(T, &'a [Told]), Stop>;
 
-/// The value that an answer holds.
+/// The value of an answer; `false` if it has none.
 pub fn value_told(t: Told) -> Held
     ensures { result ≡ told_spec t }
 {

@@ -1,4 +1,4 @@
-// The variables in scope.
+// The variables in scope: search, assignment, and the zeros of types.
 
 ghost use Rattle.std.specs.Prelude.{◌≡◌, [], IfOk};
 ghost use Rattle.ti_base.specs.Points.{IsDim};
@@ -48,7 +48,7 @@ fn has_dim(dim: u8) -> bool
     1 <= dim && dim <= 3
 }
 
-/// The rectangular domain without points.
+/// The empty rectangular domain of the given number of dimensions.
 pub fn empty_rect(dim: u8) -> Rect
     requires { IsDim dim }
     ensures value { result ≡ empty_spec dim }
@@ -72,7 +72,7 @@ pub fn empty_rect(dim: u8) -> Rect
     }
 }
 
-// The domain without points.
+// The empty domain of the given number of dimensions.
 fn no_points(alloc: Global, dim: u8) -> Result<Dom, Memory>
     requires { IsDim dim }
     ensures dim { IfOk result (λ d. d.dim ≡ dim) }
@@ -85,7 +85,7 @@ fn no_points(alloc: Global, dim: u8) -> Result<Dom, Memory>
     }
 }
 
-// The zero of a type of so many dimensions.
+// The zero of points of the given number of dimensions.
 fn zero_point(dim: u8) -> Held
     ensures { result ≡ zero_of (value_type_of (Ty.Pt dim)) }
 {
@@ -141,7 +141,7 @@ fn zero(alloc: Global, ty: &Ty) -> Result<Held, Memory>
     }
 }
 
-// The zero of what is written where a variable is declared.
+// The initial value of a variable with this declaration.
 fn zero_declared(alloc: Global, declared: &Declared) -> Result<Held, Memory>
     ensures { IfOk result (λ h. h ≡ zero_declared (declared_of declared.now)) }
 {
@@ -153,7 +153,7 @@ fn zero_declared(alloc: Global, declared: &Declared) -> Result<Held, Memory>
 
 // ---- values
 
-/// What a variable holds; one that isn't in scope, the zero of its type.
+/// The value of a variable; the zero of its type if it isn't in scope.
 pub fn find(alloc: Global, variable: &Variable, slots: &[Slot]) -> Result<Held, Memory>
     ensures { IfOk result (λ h. h ≡ find_variable (variable_of variable.now) (slots_of slots.now)) }
 {
@@ -167,7 +167,7 @@ pub fn find(alloc: Global, variable: &Variable, slots: &[Slot]) -> Result<Held, 
     zero_declared(alloc, &variable.declared)
 }
 
-/// The newest of these variables holds something else, where it is in scope.
+/// Assigns to the newest of these variables that is the same; does nothing if it isn't in scope.
 pub fn change(slots: &mut Vec<Slot>, variable: &Variable, held: Held)
     ensures { slots_of slots.new.items ≡ with_changed (variable_of variable.now) held (slots_of slots.old.items) }
 {

@@ -1,4 +1,4 @@
-// The next point of a domain, rectangular or not.
+// The iteration over the points of a domain in lexicographic order, which keeps only the last point.
 
 ghost use Rattle.std.specs.Prelude.{◌≡◌, IfSome, MatchOption, option_copied};
 ghost use Rattle.ti_base.specs.Points.{IsPoint};
@@ -12,7 +12,7 @@ use ti_base::{Point, Rect, Value};
 use ti_domain::{Dom, Held as Kept, dom_next_after, dom_pieces};
 use ti_rect::rect_next_after;
 
-// The same of a rectangular domain.
+// The next point of a rectangular domain.
 fn next_in_rect(r: &Rect, p: Option<&Point>) -> Option<Point>
     requires rect { IsRect r.now }
     requires dim { IfSome (option_copied p) (λ q. q.dim ≡ r.now.dim) }
@@ -24,7 +24,7 @@ fn next_in_rect(r: &Rect, p: Option<&Point>) -> Option<Point>
     rect_next_after(r, p)
 }
 
-// The same of one that isn't rectangular.
+// The next point of a general domain.
 fn next_in_domain(d: &Dom, p: Option<&Point>) -> Option<Point>
     requires { IfSome (option_copied p) (λ q. q.dim ≡ d.now.dim) }
     ensures list { IsDomain d.now.dim d.now.points }
@@ -32,12 +32,13 @@ fn next_in_domain(d: &Dom, p: Option<&Point>) -> Option<Point>
     ensures next { MatchOption result (NoneAfter (IsAmong d.now.points) (option_copied p.entry))
         (λ q. IsNextAfter (IsAmong d.now.points) (option_copied p.entry) q) }
 {
+    // For the prover: brings the form of the domain into scope.
     let _ = dom_pieces(d);
     dom_next_after(d, p)
 }
 
-/// The lexicographically first point of a domain above `p`, or the first of all where none is given; none
-/// exactly where there is no such point. A value that is no domain has no points.
+/// The lexicographically first point of a domain after `p`, or its first point without `p`. Returns `None` iff there is no such point. A
+/// value that is no domain has no points.
 pub fn next_above(domain: &Held, p: Option<&Point>) -> Option<Point>
     requires { IfSome (option_copied p) (λ q. q.dim ≡ dim_of domain.now) }
     ensures list { IsDomain (dim_of domain.now) (points_in domain.now) }
@@ -52,8 +53,7 @@ pub fn next_above(domain: &Held, p: Option<&Point>) -> Option<Point>
     }
 }
 
-/// The first point of a domain above another one, or the first of all where none is given; none also where
-/// the other one is of another dimension.
+/// The first point of a domain after `last`, or its first point without `last`; `None` also if `last` is of another dimension.
 #[tactic(auto, using(crate::proofs::PointsAbove::points))]
 pub fn next_point(domain: &Held, last: Option<Point>) -> Option<Point>
     ensures value { points_above domain.now last ≡ from_point domain.now result }

@@ -1,4 +1,4 @@
--- Silent steps of a process, and its answers.
+-- Proves what silent steps and answers do to what a process has next.
 use Rattle.std.proofs.Common.{◌≡◌, ◌∙◌, ℕ, ◌<◌, refl, ap, subst, List, [], ◌∷◌, ◌++◌}
 use Rattle.std.specs.declared.vec.Vec.{Vec}
 use Rattle.std.specs.declared.alloc.Global.{Global}

@@ -1,4 +1,4 @@
--- Actions that are asked for.
+-- Proves that the actions that the code requests are those of the semantics.
 use Rattle.std.proofs.Common.{◌≡◌, ◌∙◌, ap, sym, refl, subst, ◌<◌, ◌≤◌, List, [], Option, None, Some}
 use Rattle.std.proofs.lemmas.Bool.{lt-ltb, le-ltb}
 use Rattle.std.specs.declared.alloc.Global.{Global}

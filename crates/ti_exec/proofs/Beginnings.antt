@@ -1,4 +1,4 @@
--- A method before its first statement.
+-- Proves that the code's process before its first step is that of the semantics.
 use Rattle.std.proofs.Common.{◌≡◌, ap, refl, [], ◌∷◌, map}
 use Rattle.std.proofs.lemmas.Option.{slice_get-map}
 use Rattle.ti_lang.specs.Program.Statements.{NumberedStms, Nil, Cons}

@@ -1,4 +1,4 @@
--- How many variables there are, and how many of them name something.
+-- Proves how many variables there are, and how many of them refer to something in a region.
 use Rattle.std.proofs.Common.{◌≡◌, ◌∙◌, ap, sym, refl, ℕ, suc, ◌+◌, ◌<◌, ◌≤◌, Bool, true, false, cond, List, [], ◌∷◌, ◌++◌, map, length, reverse, take, get_or, add-one, filter, count_by, arith}
 use Rattle.std.proofs.Math.Seq.{take-suc}
 use Rattle.std.proofs.lemmas.List.{length-map, length-reverse, reverse-append}

@@ -1,4 +1,4 @@
--- Values of types are in their one form.
+-- Proves that values of a type's form are canonical.
 use Rattle.std.proofs.Common.{sym, subst}
 use Rattle.ti_base.specs.declared.value.Value.{Value}
 use Rattle.ti_base.specs.declared.value.Value.TheVariants as v

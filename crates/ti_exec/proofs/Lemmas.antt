@@ -1,4 +1,4 @@
--- The lemmas of this crate that other crates may cite; no other module of its proofs is seen outside.
+-- The lemmas of this crate that other crates may cite; no other module of its proofs is visible outside.
 pub use Rattle.ti_exec.proofs.Advances.{moved, with_room}
 pub use Rattle.ti_exec.proofs.Asked.{expects_at, handed_on, left_behind, valued_gives, waits_at}
 pub use Rattle.ti_exec.proofs.Begun.{block_done, left_here}

@@ -1,4 +1,4 @@
--- How a process gets to the work at hand.
+-- Proves that getting to the work at hand doesn't change the process.
 use Rattle.std.proofs.Common.{◌≡◌, ◌∙◌, ap, sym, refl, ℕ, ◌+◌, ◌<◌, List, [], ◌∷◌, ◌++◌, map, reverse, drop, length, slice_get, unwrap_or, add-one, drop-cons}
 use Rattle.std.proofs.lemmas.Option.{unwrap_or-slice_get}
 use Rattle.std.proofs.lemmas.List.{reverse-append}

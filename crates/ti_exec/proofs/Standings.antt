@@ -1,4 +1,4 @@
--- What contracts see of a process, and what the code does.
+-- Proves that what the code does to a process agrees with what contracts see of it.
 use Rattle.std.proofs.Common.{◌≡◌, ◌∙◌, ◌+◌, ◌<◌, refl, sym, ap, subst, Bool, false, Some, [], ◌∷◌, ◌++◌, vec_len, vec_capacity, arith}
 use Rattle.std.specs.declared.vec.Vec.{Vec}
 use Rattle.std.specs.declared.alloc.Global.{Global}

@@ -1,4 +1,4 @@
--- The step at which a process stands, and what is left in its frames.
+-- Proves which step a process takes, and what is pending in its frames.
 use Rattle.std.proofs.Common.{◌≡◌, ◌∙◌, ap, sym, refl, subst, ◌<◌, ◌≤◌, ℕ, suc, ◌+◌, true, false, List, [], ◌∷◌, ◌++◌, map, length, reverse, Option, None, Result, Ok, Err, IfOk, arith}
 use Rattle.std.proofs.Math.Dec.{ltb}
 use Rattle.std.proofs.lemmas.Bool.{lt-ltb, le-ltb}

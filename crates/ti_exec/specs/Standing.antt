@@ -8,8 +8,8 @@ use Rattle.ti_lang.specs.Program.Views.{program_of}
 use Rattle.ti_lang.specs.Meaning.Processes.{Setting, Process, begin}
 use Rattle.ti_lang.specs.Meaning.NextStep.{IsNext, After}
 
--- the program, how many processes there are, the fuel of each, which of them this is, the answers that it was told so far, and
--- whether it stands at an action
+-- The program, the number of processes, the fuel of each, the number of this process, the answers that it has received so far, and whether
+-- it waits for the answer to an action.
 pub record TreeStanding : Type 0 where
   pub program : Parts
   pub procs : ℕ
@@ -18,28 +18,28 @@ pub record TreeStanding : Type 0 where
   pub told : List Answer
   pub asks : Bool
 
--- what all processes of its run share
+-- What all processes of the run share.
 abbrev pub setting_of : TreeStanding → Setting
 setting_of s = record { program = program_of s.program; procs = s.procs; fuel = s.fuel }
 
--- the process of the definition before its first step
+-- The process of the semantics before its first step.
 abbrev pub begun_of : TreeStanding → Process
 begun_of s = begin (setting_of s) s.number
 
--- the process of the definition after the answers so far
+-- The process of the semantics after the answers so far.
 abbrev pub IsProcess : TreeStanding → Process → Type 0
 IsProcess s p = After (begun_of s) s.told p
 
--- there is that process, and it has this next
+-- That process exists and has this next.
 abbrev pub HasNext : TreeStanding → Next → Type 0
 HasNext s n = (p : Process) × IsProcess s p × IsNext p n
 
--- what is next is an action
+-- Whether what is next is an action.
 abbrev pub is_act : Next → Bool
 is_act (next.Act at action) = true
 is_act n = false
 
--- the process of the second is that of the first after one answer more
+-- The process of the second is that of the first after one more answer.
 pub record IsAnswered (s : TreeStanding) (a : Answer) (t : TreeStanding) : Type 0 where
   pub before : Process
   pub was : IsProcess s before

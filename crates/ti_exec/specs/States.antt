@@ -1,4 +1,4 @@
--- What a process of the code stands for, and what its steps say.
+-- Which process of the semantics the code's state represents, and what the code's steps say.
 use Rattle.std.specs.Prelude.{◌≡◌, ℕ, ◌≤◌, List, [], ◌∷◌, length, reverse, Option, None, Some}
 use Rattle.ti_base.specs.declared.entry.Answer.{Answer}
 use Rattle.ti_base.specs.declared.entry.Next.{Next}
@@ -31,52 +31,52 @@ use Rattle.ti_exec.specs.declared.process.Turn.TheVariants as turn
 
 -- ---- calls
 
--- the body of the method of a call
+-- The body of the method of a call.
 abbrev pub body_of : NumberedProgram → Call → NumberedStms
 body_of c f = numbered_stms (method_at c f.method).body
 
--- where its text stands
+-- The context of the method of a call.
 abbrev pub site_of : NumberedProgram → ℕ → Call → Site
 site_of c procs f = record { program = c; this = this_of (method_at c f.method); procs = procs }
 
--- its innermost statement
+-- The innermost statement of a call.
 abbrev pub here : NumberedProgram → Call → NumberedStm
 here c f = inside (body_of c f) (reverse f.levels.items)
 
--- the work that is left in it, where this is left of the innermost statement
+-- The pending work of a call, given that of its innermost statement.
 abbrev pub left_in : NumberedProgram → ℕ → Call → Todo → List Work
 left_in c procs f t = left_of (site_of c procs f) (body_of c f) (reverse f.levels.items) t
 
--- the work behind the innermost statement
+-- The pending work after the innermost statement.
 abbrev pub rest : NumberedProgram → ℕ → Call → List Work
 rest c procs f = rest_of (site_of c procs f) (body_of c f) (reverse f.levels.items)
 
--- the frame of a call with this work left, whose caller wants the result there
+-- The frame of a call with this pending work, whose caller needs the result at the receiver.
 abbrev pub frame_of : NumberedProgram → Receiver → Call → List Work → process.Frame
 frame_of c receiver f left =
     record { method = method_at c f.method; this = f.this; variables = slots_of f.variables.slots.items; left = left; receiver = receiver }
 
--- where the calls below want the result of the one above them
+-- The receiver, in the call below, of the result of the call above it.
 abbrev pub receiver_below : NumberedProgram → List Call → Receiver
 receiver_below c [] = Nowhere
 receiver_below c (f ∷ fs) = receiver_of (here c f)
 
--- calls that wait in their innermost statements for what comes out of the one above them, the innermost first
+-- The frames of calls that wait in their innermost statements for the result of the call above, the innermost first.
 abbrev pub frames_below : NumberedProgram → ℕ → List Call → List process.Frame
 frames_below c procs [] = []
 frames_below c procs (f ∷ fs) = frame_of c (receiver_below c fs) f (rest c procs f) ∷ frames_below c procs fs
 
 -- ---- processes
 
--- the frames below the innermost
+-- The frames below the innermost one.
 abbrev pub below_of : NumberedProgram → Walker → List process.Frame
 below_of c w = frames_below c w.team.procs (reverse w.below.calls.items)
 
--- the innermost frame with this work left
+-- The innermost frame with this pending work.
 abbrev pub top_of : NumberedProgram → Walker → List Work → process.Frame
 top_of c w left = frame_of c (receiver_below c (reverse w.below.calls.items)) w.top left
 
--- where the innermost statement is evaluated
+-- The environment of the innermost statement.
 abbrev pub env_in : NumberedProgram → Walker → Env
 env_in c w = record {
   number = w.team.number;
@@ -89,7 +89,7 @@ env_in c w = record {
   dims = dims_at c (this_of (method_at c w.top.method)) (rest c w.team.procs w.top);
 }
 
--- the frames of a process that goes on so
+-- The frames of a process in this mode.
 abbrev pub frames_in : NumberedProgram → Walker → Mode → List process.Frame
 frames_in c w (mode.Walks t) = top_of c w (left_in c w.team.procs w.top t) ∷ below_of c w
 frames_in c w (mode.Receives h) = top_of c w (Receive (receiver_of (here c w.top)) h ∷ rest c w.team.procs w.top) ∷ below_of c w
@@ -97,13 +97,13 @@ frames_in c w (mode.Waits meeting t) = top_of c w (left_in c w.team.procs w.top 
 frames_in c w (mode.Expects meeting) = top_of c w (rest c w.team.procs w.top) ∷ below_of c w
 frames_in c w mode.Ended = []
 
--- the collective at which such a process waits
+-- The collective at which a process in this mode waits.
 abbrev pub wait_in : NumberedProgram → Walker → Mode → Option Wait
 wait_in c w (mode.Waits meeting t) = Some (wait_of meeting ToBeDone Nowhere)
 wait_in c w (mode.Expects meeting) = Some (expected (env_in c w) (here c w.top) meeting)
 wait_in c w m = None
 
--- a process that goes on so, with these answers to its current work
+-- The process in this mode, with these answers to its current work.
 abbrev pub going_on : NumberedProgram → Walker → Mode → List Answer → Process
 going_on c w m answers = record {
   setting = record { program = c; procs = w.team.procs; fuel = w.fuel };
@@ -119,19 +119,19 @@ process_of c w = going_on c w w.mode w.answers.items
 
 -- ---- steps
 
--- how a process goes on behind its departure, which gave this
+-- The mode after a departure with this answer.
 abbrev pub mode_behind : Mode → Answer → Mode
 mode_behind (mode.Waits meeting t) r = mode.Walks t
 mode_behind (mode.Expects meeting) r = mode.Receives (value_told r)
 mode_behind m r = m
 
--- what the answer makes of a process in the code
+-- The process after the answer to its action, as the code represents it.
 abbrev pub told : NumberedProgram → Walker → Pending → Answer → Process
 told c w pend.Pushed r = spends (answered (process_of c w) r)
 told c w (pend.Arrived m) r = spends (going_on c w m [])
 told c w pend.Left r = spends (going_on c w (mode_behind w.mode r) [])
 
--- the process stands at an action, of which the answer makes this
+-- The process has this action next, whose answer has this effect.
 pub record Stands (s : Step) (n : Next) (makes : Answer → Process) : Type 0 where
   pub request : Request
   pub go : Answer → Process
@@ -139,25 +139,25 @@ pub record Stands (s : Step) (n : Next) (makes : Answer → Process) : Type 0 wh
   pub shows : shown s ≡ Some n
   pub goes : (r : Answer) → go r ≡ makes r
 
--- what the code makes of a step at which a process stands
+-- The result of a step, as the code represents it.
 abbrev pub IsStep : NumberedProgram → Process → Step → Turn → Walker → Type 0
 IsStep c p s turn.Went new = s ≡ To (process_of c new)
 IsStep c p s (turn.Asks q) new = (process_of c new ≡ p) × Stands s (next.Act q.value.place q.value.action) (told c new q.value.pending)
 IsStep c p s (turn.Ends at) new = (process_of c new ≡ p) × (s ≡ Ends at)
 IsStep c p s (turn.Fails kind at) new = (process_of c new ≡ p) × (s ≡ Faults kind at)
 
--- what the code makes of the step of a process
+-- The result of the next step of a process.
 abbrev pub IsTurn : NumberedProgram → Walker → Turn → Walker → Type 0
 IsTurn c old t new = IsStep c (process_of c old) (step (process_of c old)) t new
 
--- what the code makes of a move of the innermost statement, whatever else was left in its frame
+-- The result of an outcome of the innermost statement, whatever else was pending in its frame.
 abbrev pub IsMoved : NumberedProgram → Walker → Move → Turn → Walker → Type 0
 IsMoved c old move t new = (ws : List Work) → IsStep c (process_of c old)
     (moves (process_of c old) (top_of c old ws) (below_of c old) (rest c old.team.procs old.top) move) t new
 
--- ---- what is at hand
+-- ---- the work at hand
 
--- nothing inside the innermost statement comes first, and it isn't done, but for the body of a method
+-- The work at hand is that of the innermost statement: nothing inside it comes first, and it isn't done, unless it is the method's body.
 abbrev pub IsAtHand : NumberedStm → ℕ → Todo → Type 0
 IsAtHand x levels (todo.From n) = length (list_in x) ≤ n
 IsAtHand x levels todo.Inside = levels ≡ 0
@@ -167,21 +167,21 @@ abbrev pub AtHandIn : NumberedProgram → Call → Mode → Type 0
 AtHandIn c f (mode.Walks t) = IsAtHand (here c f) (length f.levels.items) t
 AtHandIn c f m = Unit {0}
 
--- what the process does next is at hand
+-- What the process does next is at hand.
 abbrev pub IsSettled : NumberedProgram → Walker → Type 0
 IsSettled c w = AtHandIn c w.top w.mode
 
--- the process walks on
+-- The process executes pending work.
 abbrev pub IsWalking : Mode → Type 0
 IsWalking (mode.Walks t) = Unit {0}
 IsWalking m = ⊥
 
--- a value is on its way
+-- A value is on its way to its receiver.
 abbrev pub IsReceiving : Mode → Type 0
 IsReceiving (mode.Receives h) = Unit {0}
 IsReceiving m = ⊥
 
--- something behind the beginning of the innermost statement is left
+-- The innermost statement has begun, and some of it is pending.
 abbrev pub IsBegun : Mode → Type 0
 IsBegun (mode.Walks todo.Here) = ⊥
 IsBegun (mode.Walks todo.Inside) = ⊥

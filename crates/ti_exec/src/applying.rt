@@ -1,4 +1,4 @@
-// The moves of a process.
+// Applies the outcome of a statement to the process.
 
 ghost use Rattle.std.specs.Prelude.{◌≡◌, ℕ, ◌<◌, ◌∷◌, [], ◌++◌, length, List, IfOk, OnOk, Option};
 ghost use Rattle.ti_base.specs.declared.value.Id.{Id as Thing};
@@ -20,11 +20,11 @@ use ti_eval::{Held, Slot, Todo};
 use ti_lang::program::Parts;
 use ti_moves::{Change, Left, Meeting, Move};
 
-// How many frames a process may have.
+// The most frames of a process.
 const MOST_FRAMES: usize = 200;
 
 impl Walker {
-    /// The current work is done, and the process goes on so.
+    /// Completes the current work, and continues in this mode.
     pub fn proceeds(&mut self, mode: Mode)
         ensures { (c : NumberedProgram) → process_of c self.new ≡ going_on c self.old mode [] }
     {
@@ -32,14 +32,14 @@ impl Walker {
         self.mode.set(mode);
     }
 
-    /// The current work isn't done, and the process goes on so.
+    /// Continues in this mode with the current work, which isn't complete.
     pub(crate) fn stays(&mut self, mode: Mode)
         ensures { self.new ≡ record self.old { mode = mode } }
     {
         self.mode.set(mode);
     }
 
-    // The current work is done, and this is left of the innermost statement.
+    // Completes the current work; this work of the innermost statement is pending.
     #[tactic(auto, using(crate::proofs::Works::lefts))]
     fn goes(&mut self, left: Left) -> Result<(), Memory>
         requires { 0 < length self.old.top.levels.items }
@@ -57,7 +57,7 @@ impl Walker {
         }
     }
 
-    // The variables change, and this is left of the innermost statement.
+    // Changes the variables; this work of the innermost statement is pending.
     fn varies(&mut self, change: Change, left: Left) -> Result<Turn, Memory>
         requires { 0 < length self.old.top.levels.items }
         ensures { (c : NumberedProgram) → IfOk result (λ t. IsMoved c self.old
@@ -69,7 +69,7 @@ impl Walker {
         Ok(Turn::Went)
     }
 
-    // A call begins, with its parameters.
+    // Enters a method with its parameters. Faults if no tick is left or the calls are too deep.
     #[tactic(auto, using(crate::proofs::Works::lefts))]
     fn begins(
         &mut self,
@@ -101,7 +101,7 @@ impl Walker {
         Ok(Turn::Went)
     }
 
-    /// The innermost call ends, with a value, if it has one.
+    /// Returns from the innermost call, with a value, if it has one. Without a caller the process ends.
     #[tactic(auto, using(crate::proofs::Works::lefts))]
     pub fn returns(&mut self, value: Option<Held>) -> Turn
         ensures { (c : NumberedProgram) (ws left : List Work) → IsStep c (process_of c self.old)
@@ -120,14 +120,14 @@ impl Walker {
         Turn::Went
     }
 
-    // How many variables of all calls name something in a region.
+    // How many variables of all calls refer to something in a region.
     fn named(&self, region: u32) -> u32
         ensures { (c : NumberedProgram) (ws : List Work) → result ≡ steps.named_in region (top_of c self.now ws ∷ below_of c self.now) }
     {
         self.top.named(region) + self.below.named(region)
     }
 
-    // The arrival at the delete of a region.
+    // The arrival at the deletion of a region, with the number of variables that refer to something in it.
     #[tactic(auto, using(crate::proofs::Works::lefts))]
     fn deletes(&self, alloc: Global, at: Place, region: u32) -> Result<Turn, Memory>
         ensures { IfOk result (λ t. (c : NumberedProgram) → IsMoved c self.now (move.Deletes at region) t self.now) }
@@ -141,7 +141,7 @@ impl Walker {
         self.arrives(alloc, meeting, deposit, Mode::Waits(meeting, Todo::Inside))
     }
 
-    /// What the innermost statement comes to is done.
+    /// Applies the outcome of the innermost statement.
     #[tactic(auto, using(crate::proofs::Works::lefts))]
     pub fn moves(&mut self, alloc: Global, c: &Parts, m: Move) -> Result<Turn, Memory>
         requires { 0 < length self.old.top.levels.items }

@@ -1,4 +1,4 @@
-// Actions that a process asks for.
+// The actions that a process requests. Each costs a tick. A computation that needs one more answer is repeated from its beginning with it.
 
 ghost use Rattle.std.specs.Prelude.{◌≡◌, Some, IfOk, List};
 ghost use Rattle.ti_base.specs.declared.entry.Answer.{Answer};
@@ -18,7 +18,7 @@ use ti_eval::Stop;
 use ti_moves::Meeting;
 
 impl Walker {
-    /// An action, which costs a tick.
+    /// Requests an action if a tick is left; otherwise the fault is out of fuel.
     #[tactic(auto, using(crate::proofs::Asked::asked))]
     pub fn asks(
         &self,
@@ -42,7 +42,7 @@ impl Walker {
         Ok(Turn::Asks(Box::new(alloc, asking)?))
     }
 
-    /// A computation that gives nothing yet.
+    /// Turns an interrupted computation into a request, a fault or out of memory.
     pub fn stops(&self, alloc: Global, stop: Stop) -> Result<Turn, Memory>
         ensures { IfOk result (λ t. (c : NumberedProgram) (got : Got Move) (go : Move → Step) → Stops stop got
             → IsStep c (process_of c self.now) (valued (process_of c self.now) got go) t self.now) }
@@ -54,7 +54,7 @@ impl Walker {
         }
     }
 
-    /// An arrival at a collective, behind which the process goes on so.
+    /// Requests the arrival at a collective, after which the process continues in this mode.
     pub fn arrives(
         &self,
         alloc: Global,

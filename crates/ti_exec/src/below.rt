@@ -1,4 +1,4 @@
-// The calls below the innermost.
+// The calls below the innermost one, of which there are fewer than 200.
 
 ghost use Rattle.std.specs.Prelude.{◌≡◌, ℕ, ◌<◌, ◌≤◌, ◌+◌, ◌*◌, ◌^◌, [], ◌∷◌, ◌++◌, length, reverse, MatchOption, OnOk};
 ghost use Rattle.ti_lang.specs.Program.Classes.{NumberedProgram};
@@ -10,7 +10,7 @@ use std::alloc::Global;
 use ti_base::Memory;
 
 impl Below {
-    /// None.
+    /// No calls.
     pub fn none(alloc: Global) -> Below
         ensures { result.calls.items ≡ [] }
     {
@@ -19,7 +19,7 @@ impl Below {
         }
     }
 
-    /// A call goes below the innermost.
+    /// Pushes the caller of a new innermost call.
     pub fn push(&mut self, call: Call) -> Result<(), Memory>
         requires { length self.old.calls.items + 1 < 200 }
         ensures { OnOk result (self.new.calls.items ≡ self.old.calls.items ++ call ∷ []) }
@@ -28,14 +28,14 @@ impl Below {
         Ok(())
     }
 
-    /// The call right below the innermost, if there is one.
+    /// Pops the caller of the innermost call, if there is one.
     pub fn pop(&mut self) -> Option<Call>
         ensures { MatchOption result (self.old.calls.items ≡ []) (λ call. self.old.calls.items ≡ self.new.calls.items ++ call ∷ []) }
     {
         self.calls.pop()
     }
 
-    /// How many variables of these calls name something in a region.
+    /// How many variables of these calls refer to something in a region.
     #[tactic(auto, using(crate::proofs::Few::few))]
     pub fn named(&self, region: u32) -> u32
         ensures value { (c : NumberedProgram) (procs : ℕ) → result ≡ named_in region (frames_below c procs (reverse self.now.calls.items)) }

@@ -1,4 +1,4 @@
-// How a process begins, and goes on to what it has next and behind the answer.
+// How a process begins, runs silent steps up to what it has next, and uses the answer.
 
 ghost use Rattle.std.specs.Prelude.{◌≡◌, ◌+◌, ◌<◌, [], ◌∷◌, None, IfOk, vec_len, vec_capacity};
 ghost use Rattle.ti_eval.specs.declared.frame.Todo.TheVariants.{From};
@@ -19,19 +19,19 @@ use ti_base::{Memory, Next};
 use ti_eval::{Team, Todo, Told, value_told};
 use ti_lang::program::Parts;
 
-/// How far a process has come.
+/// The control state of a process.
 #[derive(Drop)]
 pub enum State {
-    /// It stands somewhere behind its last answer.
+    /// Runnable: it is after its last answer.
     Goes,
-    /// It stands at an action, of which the answer makes this.
+    /// Suspended: it waits for the answer to this action.
     Asks(Box<Asking>),
-    /// Memory was wanting, and it stands nowhere.
+    /// Unusable, after out of memory.
     Spent,
 }
 
 impl State {
-    /// Whether memory was wanting.
+    /// Whether the process ran out of memory.
     pub fn is_spent(&self) -> bool
         ensures { result ≡ spent_in self.now }
     {
@@ -42,7 +42,7 @@ impl State {
         }
     }
 
-    /// It has come so far.
+    /// For the prover: assigns the state.
     pub fn set(&mut self, state: State)
         ensures { self.new ≡ state }
     {
@@ -50,7 +50,7 @@ impl State {
     }
 }
 
-// A number below another one, and one.
+// For the prover: the successor of a number below a limit, which can't overflow.
 fn one_more(n: u32, limit: u32) -> u32
     requires { n < limit }
     ensures { result ≡ n + 1 }
@@ -58,7 +58,7 @@ fn one_more(n: u32, limit: u32) -> u32
     n + 1
 }
 
-// How a process goes on behind its departure, which gave this.
+// The mode after a departure with this answer.
 fn behind(mode: Mode, answer: Told) -> Mode
     ensures { result ≡ mode_behind mode answer }
 {
@@ -72,7 +72,7 @@ fn behind(mode: Mode, answer: Told) -> Mode
 }
 
 impl Walker {
-    // A process in a mode, whose innermost call stands before the first statement of a method.
+    // A process in a mode, whose innermost call is before the first statement of a method.
     #[tactic(auto, using(crate::proofs::Beginnings::beginnings))]
     fn fresh(alloc: Global, team: Team, fuel: u32, method: usize, mode: Mode) -> Walker
         ensures walks { (c : NumberedProgram) → mode ≡ Walks (From 0) → process_of c result
@@ -108,7 +108,7 @@ impl Walker {
         }
     }
 
-    /// Silent steps, up to what it has next.
+    /// Runs silent steps up to what the process has next.
     pub fn go_on(&mut self, alloc: Global, c: &Parts) -> Result<(Next, State), Memory>
         ensures { IfOk result (λ r. GoesOn (program_of c.now) self.old r.0 r.1 self.new) }
     {
@@ -125,7 +125,7 @@ impl Walker {
         }
     }
 
-    // Its current work is done, and it goes on so.
+    // Completes the current work for a tick, and continues in this mode.
     fn stand(&mut self, mode: Mode)
         requires { self.old.spent < self.old.fuel }
         ensures { (c : NumberedProgram) → process_of c self.new ≡ spends (going_on c self.old mode []) }
@@ -135,7 +135,7 @@ impl Walker {
         self.mode.set(mode);
     }
 
-    // Its current work has got one answer more.
+    // Adds an answer to the current work, for a tick.
     fn get(&mut self, answer: Told)
         requires room { vec_len self.old.answers < vec_capacity self.old.answers }
         requires tick { self.old.spent < self.old.fuel }
@@ -145,7 +145,7 @@ impl Walker {
         let _ = self.answers.push(answer);
     }
 
-    /// What the answer to its action makes of it.
+    /// Applies the answer to the action that the process had next; this spends a tick.
     pub fn hear(&mut self, pending: Pending, answer: Told)
         requires room { vec_len self.old.answers < vec_capacity self.old.answers }
         requires tick { self.old.spent < self.old.fuel }

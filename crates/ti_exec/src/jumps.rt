@@ -1,4 +1,4 @@
-// Jumps: to the mark of the innermost loop in progress.
+// Break and continue: jumps to the mark of the innermost loop in progress, which is the end of its iteration.
 
 ghost use Rattle.std.specs.Prelude.{◌≡◌, ◌<◌, ℕ, ◌++◌, true, false, if◌then◌else◌, length, List};
 ghost use Rattle.ti_lang.specs.Program.Classes.{NumberedProgram};
@@ -21,7 +21,7 @@ use ti_eval::{Level, Todo};
 use ti_lang::program::{Parts, Stmt};
 use ti_moves::is_for;
 
-/// What is left of a statement begins with the mark of a loop.
+/// Whether the pending work of a statement begins with the mark of a loop.
 pub fn is_mark(t: &Todo) -> bool
     ensures { result ≡ is_mark_spec t.now }
 {
@@ -32,14 +32,14 @@ pub fn is_mark(t: &Todo) -> bool
     }
 }
 
-// A loop is in progress around the innermost statement.
+// Whether a loop is in progress around the innermost statement.
 fn in_loop(levels: &[Level]) -> bool
     ensures { result ≡ in_loop_spec levels.now }
 {
     levels.iter().skip(1).any(|l| is_mark(&l.todo))
 }
 
-// What a statement declared leaves when what is left of it is passed.
+// Whether a jump over the pending work of a statement ends the scope of what it declared.
 #[tactic(auto, using(crate::proofs::Marks::marks))]
 fn ends(t: &Todo, x: Option<&Stmt>) -> bool
     requires { is_mark_spec t.now ≡ false }
@@ -60,7 +60,7 @@ fn ends(t: &Todo, x: Option<&Stmt>) -> bool
     }
 }
 
-// What is left of a loop behind its mark.
+// The pending work of a loop after its mark.
 #[tactic(auto, using(crate::proofs::Marks::marks))]
 fn past(t: &Todo, x: Option<&Stmt>) -> Todo
     requires { is_mark_spec t.now ≡ true }
@@ -75,7 +75,7 @@ fn past(t: &Todo, x: Option<&Stmt>) -> Todo
 }
 
 impl Call {
-    // Out of the innermost statement, of which this was left: what is left of the one around it.
+    // Leaves the innermost statement, whose pending work is skipped, and returns that of the statement around it.
     #[tactic(auto, using(crate::proofs::Marks::marks))]
     fn passes(&mut self, c: &Parts, t: &Todo) -> Todo
         requires inner { 0 < length self.old.levels.items }
@@ -102,7 +102,7 @@ impl Call {
         }
     }
 
-    // Out of the statements inside the innermost loop in progress: what is left of it, from its mark on.
+    // Leaves the statements inside the innermost loop in progress, and returns its pending work from the mark on.
     #[tactic(auto, using(crate::proofs::Marks::marks))]
     fn to_mark(&mut self, c: &Parts) -> Todo
         requires { in_loop_spec self.old.levels.items ≡ true }
@@ -123,7 +123,7 @@ impl Call {
 }
 
 impl Walker {
-    /// Out of the innermost loop; without one nothing happens.
+    /// Leaves the innermost loop. Outside loops it only completes the statement.
     #[tactic(auto, using(crate::proofs::Marks::marks))]
     pub fn breaks(&mut self, c: &Parts)
         requires { 0 < length self.old.top.levels.items }
@@ -138,7 +138,7 @@ impl Walker {
         }
     }
 
-    /// To the next turn of the innermost loop; without one nothing happens.
+    /// Continues with the next iteration of the innermost loop. Outside loops it only completes the statement.
     #[tactic(auto, using(crate::proofs::Marks::marks))]
     pub fn continues(&mut self, c: &Parts)
         requires { 0 < length self.old.top.levels.items }

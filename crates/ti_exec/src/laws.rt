@@ -1,4 +1,4 @@
-// What holds of every process of a checked program.
+// Theorems on every process of a checked program; their functions do nothing.
 
 ghost use Rattle.std.specs.Prelude.{◌≡◌};
 ghost use Rattle.ti_base.specs.declared.entry.Answer.{Answer};
@@ -10,19 +10,19 @@ ghost use Rattle.ti_exec.specs.Standing.{TreeStanding, HasNext};
 
 use crate::tree_proc::TreeProc;
 
-/// A process has one thing next, and that hangs on what it began with and the answers that it was told alone.
+/// What a process has next is unique: it is determined by its initial configuration and the answers that it has received.
 pub fn has_one_next()
     ensures { (s : TreeStanding) (m n : Next) → HasNext s m → HasNext s n → m ≡ n }
 {}
 
-/// An answer that fits the action which a process has next is in the form that `TreeProc::answer` asks for.
+/// An answer that fits the action that a process has next is canonical, as `TreeProc::answer` requires.
 pub fn fitting_is_formed()
     ensures { (p : Process) (r : Answer) → FitsAction p r → IsFormedAnswer r }
 {}
 
 fn sent<T: Send>() {}
 
-/// A process may go to another thread. Nothing calls this: the claim is that it compiles, since `sent` has the bound `Send`.
+/// A process can be sent to another thread. Nothing calls this: the claim is that it compiles, since `sent` has the bound `Send`.
 pub fn process_is_sent() {
     sent::<TreeProc>();
 }

@@ -1,4 +1,4 @@
-//! A process that walks over the trees of its program.
+//! A tree interpreter: a process that executes the trees of its program.
 #![tactic(auto)]
 
 mod applying;

@@ -1,4 +1,4 @@
-// The work that is left of a statement that has begun.
+// The execution of the pending work of a statement that has begun: loops, copies, exchanges, and the ends of blocks.
 
 ghost use Rattle.std.specs.Prelude.{◌≡◌, ◌<◌, IfOk, OnOk, length, [], ◌∷◌};
 ghost use Rattle.ti_lang.specs.Program.Classes.{NumberedProgram};
@@ -21,7 +21,7 @@ use ti_eval::{Copy, Held, Part, Spot, Stop, Todo, next_point};
 use ti_lang::program::{Expr, Parts, Stmt};
 use ti_moves::{condition, copy_element, has_update, is_for, loop_place, take_element};
 
-// The place of the member that a statement calls.
+// The place of the member call that a statement is.
 fn member_place(x: Option<&Stmt>) -> Place
     ensures { result ≡ member_place_spec (stm_seen x.entry) }
 {
@@ -37,7 +37,7 @@ fn member_place(x: Option<&Stmt>) -> Place
     }
 }
 
-/// What is left of a statement behind the turns of a loop.
+/// The pending work of a statement after the last iteration of a loop.
 pub fn behind_loop(x: Option<&Stmt>) -> Todo
     ensures { (site : Site) → work_of site (stm_seen x.entry) result ≡ end_of_for (stm_seen x.entry) }
 {
@@ -49,7 +49,7 @@ pub fn behind_loop(x: Option<&Stmt>) -> Todo
 }
 
 impl Walker {
-    // The end of a block or a `for`: what it declared leaves.
+    // The end of a block or a `for`: its variables leave.
     #[tactic(auto, using(crate::proofs::Begun::begun))]
     fn end(&mut self, c: &Parts)
         requires { 0 < length self.old.top.levels.items }
@@ -62,7 +62,7 @@ impl Walker {
         self.done(Todo::Inside);
     }
 
-    // A turn of a `while` or a `for`, or what comes behind the last one.
+    // Begins an iteration of a `while` or a `for`, for a tick, or continues after the last one.
     fn turn(&mut self, c: &Parts, again: bool) -> Result<Turn, Memory>
         requires { 0 < length self.old.top.levels.items }
         ensures { IfOk result (λ r. IsStep (program_of c.now) (walking (program_of c.now) self.old left.Before)
@@ -82,7 +82,7 @@ impl Walker {
         Ok(Turn::Went)
     }
 
-    // Whether the condition of a `while` or a `for` is true.
+    // Evaluates the condition of a `while` or a `for`.
     #[tactic(auto, using(crate::proofs::Begun::begun))]
     fn again(&self, alloc: Global, c: &Parts) -> Result<bool, Stop>
         requires { 0 < length self.now.top.levels.items }
@@ -97,7 +97,7 @@ impl Walker {
         }
     }
 
-    // The next turn of a `while` or a `for`, if its condition is true.
+    // Evaluates the condition and begins the next iteration of a `while` or a `for`, if it is true.
     #[tactic(auto, using(crate::proofs::Begun::begun))]
     fn before(&mut self, alloc: Global, c: &Parts) -> Result<Turn, Memory>
         requires { 0 < length self.old.top.levels.items }
@@ -112,7 +112,7 @@ impl Walker {
         }
     }
 
-    // The end of a turn of a `while` or a `for`.
+    // Ends an iteration of a `while` or a `for`; its update comes next, if there is one.
     #[tactic(auto, using(crate::proofs::Begun::begun))]
     fn behind(&mut self, c: &Parts) -> Result<(), Memory>
         requires { 0 < length self.old.top.levels.items }
@@ -126,7 +126,7 @@ impl Walker {
         Ok(())
     }
 
-    // The next turn of a `foreach`, if a point is left.
+    // Begins the next iteration of a `foreach`, for a tick, if a point is left.
     #[tactic(auto, using(crate::proofs::Begun::begun))]
     fn each(
         &mut self,
@@ -168,7 +168,7 @@ impl Walker {
         }
     }
 
-    // The end of a turn of a `foreach`.
+    // Ends an iteration of a `foreach`.
     #[tactic(auto, using(crate::proofs::Begun::begun))]
     fn turned(&mut self, variable: u32, domain: Box<Held>, at: Spot)
         requires { 0 < length self.old.top.levels.items }
@@ -182,7 +182,7 @@ impl Walker {
         });
     }
 
-    // A copy of a grid at its next point, if one is left.
+    // Copies the element at the next point of a copy, if one is left.
     #[tactic(auto, using(crate::proofs::Begun::begun))]
     fn copying(
         &mut self,
@@ -219,7 +219,7 @@ impl Walker {
         }
     }
 
-    // An exchange, with the value of the next process, if one is left.
+    // Takes the value of the next process of an exchange, if one is left.
     #[tactic(auto, using(crate::proofs::Begun::begun))]
     fn taking(&mut self, alloc: Global, c: &Parts, grid: Id, next: u32) -> Result<Turn, Memory>
         requires { 0 < length self.old.top.levels.items }
@@ -245,7 +245,7 @@ impl Walker {
         }
     }
 
-    // What is left of a statement that has begun.
+    // Executes the pending work of a statement that has begun.
     #[tactic(auto, using(crate::proofs::Begun::begun))]
     fn rest(&mut self, alloc: Global, c: &Parts, todo: Todo) -> Result<Turn, Memory>
         requires inner { 0 < length self.old.top.levels.items }
@@ -287,7 +287,7 @@ impl Walker {
         }
     }
 
-    /// One step at what is left of a statement that has begun.
+    /// Executes one step of the pending work of a statement that has begun.
     #[tactic(auto, using(crate::proofs::Begun::begun))]
     pub fn at_rest(&mut self, alloc: Global, c: &Parts) -> Result<Turn, Memory>
         requires inner { 0 < length self.old.top.levels.items }
@@ -295,6 +295,7 @@ impl Walker {
         requires begun { IsBegun self.old.mode }
         ensures { IfOk result (λ r. IsTurn (program_of c.now) self.old r self.new) }
     {
+        // A placeholder is left, so that the pending work can be moved out; unless out of memory, each case sets the mode again.
         match std::mem::replace(&mut self.mode, Mode::Walks(Todo::Inside)) {
             Mode::Walks(todo) => Ok(self.rest(alloc, c, todo)?),
             Mode::Receives(_) => unreachable!(),

@@ -1,4 +1,5 @@
-// What a process began with and what it was told.
+// The ghost history of a process, by which contracts refer to its beginning and to the answers it has received. It has no effect at run
+// time.
 
 ghost use Rattle.std.specs.Prelude.{◌≡◌, [], ◌∷◌, ◌++◌, false};
 ghost use Rattle.std.specs.Borrow.{ftrue};
@@ -12,7 +13,8 @@ use ti_base::Answer;
 use ti_eval::Team;
 use ti_lang::program::Parts;
 
-/// What a process began with and what it was told so far, for clauses alone: it takes no room, and its calls do nothing.
+/// Ghost history: the initial configuration of a process and the answers that it has received. It is zero-sized and exists only for
+/// contracts.
 #[derive(Drop)]
 pub struct Past {
     pub ghost standing: { TreeStanding } by { standing_code parts.the_row.coded one_answer.the_row.coded },
@@ -22,11 +24,11 @@ impl Model for Past {
     ghost also_owns = { λ _. ftrue };
 }
 
-// It owns nothing.
+// SAFETY: it owns nothing.
 unsafe impl Send for Past {}
 
 impl Past {
-    /// That of a process which was told nothing yet.
+    /// The history of a process that has received no answer.
     pub(crate) fn of(_c: &Parts, _team: &Team, _fuel: &u32) -> Past
         ensures { result.standing ≡ record {
           program = _c.now;
@@ -40,7 +42,7 @@ impl Past {
         Past {}
     }
 
-    /// With one answer more.
+    /// The history with one more answer.
     pub(crate) fn and(&self, _answer: &Answer) -> Past
         ensures { result.standing ≡ record self.now.standing { told = self.now.standing.told ++ _answer.now ∷ [] } }
     {

@@ -1,4 +1,4 @@
-// A process of a run.
+// The state of a process: its calls with their positions, and its mode.
 
 ghost use Rattle.std.specs.Prelude.{◌≡◌, ◌<◌, ◌^◌, length};
 
@@ -6,7 +6,7 @@ use ti_base::{Action, FaultKind, Id, Place};
 use ti_eval::{Held, Level, Slot, Team, Todo, Told};
 use ti_moves::Meeting;
 
-/// The variables in scope of a call, the oldest first. They are so few that those of all calls can be counted.
+/// The variables in scope of a call, the oldest first. Their number is bounded, so that those of all calls can be counted in 32 bits.
 #[derive(Drop)]
 pub struct Variables {
     pub slots: Vec<Slot>,
@@ -24,30 +24,30 @@ pub struct Call {
     pub levels: Vec<Level>,
 }
 
-/// The calls that wait in their statements for what comes out of the call above, the outermost first.
+/// The calls that wait in their statements for the result of the call above, the outermost first.
 #[derive(Drop)]
 pub struct Below {
     pub calls: Vec<Call>,
     pub ghost few: { length calls.items < 200 },
 }
 
-/// How a process goes on.
+/// The mode of the interpreter.
 #[derive(Drop)]
 pub enum Mode {
-    /// This is left of the innermost statement.
+    /// It executes: this work of the innermost statement is pending.
     Walks(Todo),
-    /// A value is on its way to where the innermost statement wants it.
+    /// A value is on its way to the receiver of the innermost statement.
     Receives(Held),
-    /// It waits at a collective, behind which this is left.
+    /// It waits at a collective, after which this work is pending.
     Waits(Meeting, Todo),
-    /// It waits at a collective whose value the innermost statement wants.
+    /// It waits at a collective for whose value the innermost statement waits.
     Expects(Meeting),
     /// No call is in progress.
     Ended,
 }
 
 impl Mode {
-    /// It goes on so from here.
+    /// For the prover: assigns the mode.
     pub(crate) fn set(&mut self, mode: Mode)
         ensures { self.new ≡ mode }
     {
@@ -55,32 +55,33 @@ impl Mode {
     }
 }
 
-/// A process: the call in which it goes on, and those below.
+/// A process: its innermost call, the calls below, and its mode.
 #[derive(Drop)]
 pub struct Walker {
     pub team: Team,
-    /// The ticks that it may spend, and those that it has spent.
+    /// The fuel of the process in ticks.
     pub fuel: u32,
+    /// The ticks that it has spent.
     pub spent: u32,
     pub below: Below,
     pub top: Call,
     pub mode: Mode,
-    /// The answers that its current work has got so far.
+    /// The answers that its current work has received so far.
     pub answers: Vec<Told>,
 }
 
-/// What the answer to an action makes of a process.
+/// The effect of an action's answer on a process.
 #[derive(Drop)]
 pub enum Pending {
-    /// One answer more to its current work.
+    /// It is added to the answers of the current work.
     Pushed,
-    /// It has arrived, and goes on so.
+    /// The process has arrived at a collective, and continues in this mode.
     Arrived(Mode),
-    /// It has left the collective.
+    /// The process has left the collective.
     Left,
 }
 
-/// An action at which a process stands, and what its answer makes of the process.
+/// A requested action, and the effect of its answer.
 #[derive(Drop)]
 pub struct Asking {
     pub place: Place,
@@ -88,10 +89,10 @@ pub struct Asking {
     pub pending: Pending,
 }
 
-/// A step of a process.
+/// The result of a step.
 #[derive(Drop)]
 pub enum Turn {
-    /// It went on silently.
+    /// A silent step: the process continues.
     Went,
     Asks(Box<Asking>),
     Ends(Place),

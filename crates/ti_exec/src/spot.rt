@@ -1,4 +1,4 @@
-// Where the innermost statement is evaluated.
+// The environment of the innermost statement, by reference to the process.
 
 ghost use Rattle.std.specs.Prelude.{◌≡◌};
 ghost use Rattle.ti_lang.specs.Program.Views.{program_of};
@@ -11,7 +11,7 @@ use ti_lang::program::Parts;
 use ti_moves::method;
 
 impl Walker {
-    /// Where the innermost statement is evaluated.
+    /// The environment of the innermost statement.
     pub fn env<'a>(&'a self, c: &'a Parts) -> Env<'a>
         ensures { env_of result ≡ env_in (program_of c.now) self.now }
     {

@@ -1,4 +1,4 @@
-// The steps of a process.
+// The steps of a process: the dispatch on its mode.
 
 ghost use Rattle.std.specs.Prelude.{◌≡◌, ◌<◌, length, IfOk};
 ghost use Rattle.ti_lang.specs.Program.Classes.{NumberedProgram};
@@ -34,7 +34,7 @@ pub fn end_place(c: &Parts) -> Place
 }
 
 impl Walker {
-    // What the innermost statement comes to.
+    // The outcome of the innermost statement.
     fn stated<'a, 'c>(&'a self, alloc: Global, c: &'c Parts) -> Result<(Move<'c>, &'a [Told]), Stop>
         requires { 0 < length self.now.top.levels.items }
         ensures { ComesAs (move_of (env_in (program_of c.now) self.now) (here (program_of c.now) self.now.top)) result
@@ -43,7 +43,7 @@ impl Walker {
         statement(alloc, &self.env(c), self.top.stands(c), &self.answers)
     }
 
-    // What it comes to when a value has gone to where it wants it.
+    // The outcome of the innermost statement after it has received a value.
     fn given<'a, 'c>(
         &'a self,
         alloc: Global,
@@ -58,7 +58,7 @@ impl Walker {
         received(alloc, &self.env(c), self.top.stands(c), h, &self.answers)
     }
 
-    // The step at the innermost statement.
+    // The step at the beginning of the innermost statement.
     fn at_statement(&mut self, alloc: Global, c: &Parts) -> Result<Turn, Memory>
         requires inner { 0 < length self.old.top.levels.items }
         requires mode { self.old.mode ≡ Walks Here }
@@ -70,7 +70,7 @@ impl Walker {
         }
     }
 
-    // The step where the process walks on.
+    // The step of a process that executes pending work.
     fn walks(&mut self, alloc: Global, c: &Parts) -> Result<Turn, Memory>
         requires settled { IsSettled (program_of c.now) self.old }
         requires mode { IsWalking self.old.mode }
@@ -85,7 +85,7 @@ impl Walker {
         }
     }
 
-    /// The step with a value on its way. In the body of a method it goes nowhere.
+    /// The step of a process with a value on its way. In the body of a method the value is dropped.
     pub fn receiving(&mut self, alloc: Global, c: &Parts) -> Result<Turn, Memory>
         requires { IsReceiving self.old.mode }
         ensures { IfOk result (λ t. IsTurn (program_of c.now) self.old t self.new) }
@@ -103,7 +103,7 @@ impl Walker {
         }
     }
 
-    /// The step of a process that waits at a collective.
+    /// The step of a process that waits at a collective: it requests the departure.
     pub fn leaves(&self, alloc: Global, at: Place) -> Result<Turn, Memory>
         ensures waits { IfOk result (λ r. (c : NumberedProgram) (m : Met) (t : Left) → self.now.mode ≡ Waits m t → m.place ≡ at
             → IsTurn c self.now r self.now) }
@@ -113,7 +113,7 @@ impl Walker {
         self.asks(alloc, at, Action::Depart, Pending::Left)
     }
 
-    // The step at what is at hand.
+    // The step at the work at hand.
     fn act(&mut self, alloc: Global, c: &Parts) -> Result<Turn, Memory>
         requires { IsSettled (program_of c.now) self.old }
         ensures { IfOk result (λ t. IsTurn (program_of c.now) self.old t self.new) }

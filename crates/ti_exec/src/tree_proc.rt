@@ -1,4 +1,4 @@
-// Processes of checked programs.
+// A process of a checked program, as other crates use it.
 
 ghost use Rattle.std.specs.Prelude.{◌≡◌, ◌<◌, ◌^◌, [], ◌∷◌, ◌++◌, true, false, IfOk, IfErr, IsOk};
 ghost use Rattle.ti_lang.specs.Program.Views.{program_of};
@@ -17,9 +17,9 @@ use ti_rules::Checked;
 
 /// A process of a checked program.
 ///
-/// Contracts see the program, the number of processes, the fuel of each, which of them this is, the answers that it was
-/// told so far, and whether it stands at an action. Of the program it keeps the types of the variables in scope alone, and of the
-/// answers those to its current work.
+/// Contracts see the program, the number of processes, the fuel of each, the number of this process, the answers that it has received so
+/// far, and whether it waits for the answer to an action. Of the program it keeps only the types of the variables in scope, and of the
+/// answers only those to its current work.
 #[derive(Drop)]
 pub struct TreeProc {
     walker: Walker,
@@ -45,7 +45,7 @@ impl Model for TreeProc {
 }
 
 impl TreeProc {
-    /// The process of a number before its first step.
+    /// Process `p` of `procs` before its first step.
     pub fn start(
         alloc: Global,
         c: &Checked,
@@ -74,9 +74,10 @@ impl TreeProc {
         })
     }
 
-    /// What it has next: an action, its end or a fault of its own. Until it is answered this is the same again.
+    /// Runs the process up to what it has next: an action, its end or a fault of its own. Until it is answered, later calls return the
+    /// same, unless they are out of memory.
     ///
-    /// After want of memory it isn't used further: each later call wants memory too.
+    /// After out of memory the process is unusable: each later call is out of memory, too.
     pub fn advance(&mut self, alloc: Global, c: &Checked) -> Result<Next, Memory>
         requires { program_of c.now.program.parts ≡ program_of self.old.program }
         ensures next { IfOk result (λ n. HasNext self.old n) }
@@ -93,7 +94,7 @@ impl TreeProc {
         Ok(next)
     }
 
-    /// It has got the answer to the action at which it stands.
+    /// Passes the answer to the action for which the process waits.
     pub fn answer(&mut self, a: Answer)
         requires asks { self.old.asks ≡ true }
         requires form { IsFormedAnswer a }

@@ -1,4 +1,4 @@
-// The variables in scope of a call.
+// The variables in scope of a call. Their number is bounded, so that the contribution to the deletion of a region fits into 32 bits.
 
 ghost use Rattle.std.specs.Prelude.{◌≡◌, ◌<◌, ◌≤◌, ◌+◌, ◌^◌, [], ◌∷◌, ◌++◌, count_by, if◌then◌else◌, IfOk, OnOk};
 ghost use Rattle.ti_lang.specs.Meaning.Held.{thing_of};
@@ -17,10 +17,10 @@ use ti_eval::{Slot, change};
 use ti_lang::program::Stmt;
 use ti_moves::{Change, leave};
 
-// How many variables a call has room for.
+// The most variables of a call.
 const ROOM: usize = 16777215;
 
-// Whether the thing lies in the region.
+// Whether a reference refers to something in the region.
 fn lies_in(region: u32, thing: Option<Id>) -> bool
     ensures { result ≡ lies_in_spec region thing }
 {
@@ -31,7 +31,7 @@ fn lies_in(region: u32, thing: Option<Id>) -> bool
 }
 
 impl Variables {
-    /// None.
+    /// No variables.
     pub fn none(alloc: Global) -> Variables
         ensures { result.slots.items ≡ [] }
     {
@@ -40,7 +40,7 @@ impl Variables {
         }
     }
 
-    /// These, where there is room for them.
+    /// These variables; out of memory if there are more than `ROOM`.
     pub fn of(slots: Vec<Slot>) -> Result<Variables, Memory>
         ensures { IfOk result (λ v. v.slots.items ≡ slots.items) }
     {
@@ -50,7 +50,7 @@ impl Variables {
         Ok(Variables { slots })
     }
 
-    // One more.
+    // Adds a variable; out of memory if there are `ROOM` already.
     fn add(&mut self, slot: Slot) -> Result<(), Memory>
         ensures { OnOk result (self.new.slots.items ≡ self.old.slots.items ++ slot ∷ []) }
     {
@@ -61,7 +61,7 @@ impl Variables {
         Ok(())
     }
 
-    /// What becomes of them.
+    /// Applies a change.
     #[tactic(auto, using(crate::proofs::Few::few))]
     pub fn vary(&mut self, by: Change) -> Result<(), Memory>
         ensures { OnOk result (slots_of self.new.slots.items ≡ changed by.entry (slots_of self.old.slots.items)) }
@@ -76,7 +76,7 @@ impl Variables {
         }
     }
 
-    /// What a block or a `for` declared leaves at its end.
+    /// Removes the variables of a block or a `for` at its end.
     #[tactic(auto, using(crate::proofs::Few::few))]
     pub fn leave(&mut self, x: Option<&Stmt>)
         ensures { slots_of self.new.slots.items ≡ without (declared_in (stm_seen x.entry)) (slots_of self.old.slots.items) }
@@ -84,7 +84,7 @@ impl Variables {
         leave(&mut self.slots, x);
     }
 
-    // How many of them name something in a region.
+    // How many of the variables refer to something in a region.
     #[tactic(auto, using(crate::proofs::Few::few))]
     fn named(&self, region: u32) -> u32
         ensures value { result ≡ count_by (λ (x : Variable). lies_in_spec region (thing_of x.held)) (slots_of self.now.slots.items) }
@@ -101,7 +101,7 @@ impl Variables {
 }
 
 impl Call {
-    /// How many of its variables name something in a region; `this` is one.
+    /// How many variables of the call refer to something in a region; `this` is one.
     pub fn named(&self, region: u32) -> u32
         ensures value { result ≡ count_by (λ (x : Variable). lies_in_spec region (thing_of x.held))
             (slots_of self.now.variables.slots.items) + (if lies_in_spec region self.now.this then 1 else 0) }

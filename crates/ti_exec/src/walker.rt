@@ -1,4 +1,5 @@
-// How a process gets to the work at hand.
+// How a process gets to the work at hand: statements that are done are left, and the next one of a list is entered. No step of the
+// semantics corresponds to that.
 
 ghost use Rattle.std.specs.Prelude.{◌≡◌, ◌<◌, ℕ, IsTrue, IfSome, OnOk, None, length, map, ◌∷◌};
 ghost use Rattle.ti_lang.specs.Program.Classes.{NumberedProgram};
@@ -19,7 +20,7 @@ use ti_lang::program::{Parts, Stmt};
 use ti_moves::{body_of, count, method, statement_at};
 
 impl Call {
-    /// Its innermost statement.
+    /// The innermost statement of the call.
     pub fn stands<'c>(&self, c: &'c Parts) -> Option<&'c Stmt>
         requires { 0 < length self.now.levels.items }
         ensures { stm_seen result ≡ here (program_of c.now) self.now }
@@ -27,7 +28,7 @@ impl Call {
         statement_at(body_of(method(c, self.method)), &self.levels)
     }
 
-    // How many statements the list of its innermost block has.
+    // How many statements the list of the innermost block has.
     fn list_len(&self, c: &Parts) -> usize
         ensures { result ≡ length (list_in (here (program_of c.now) self.now)) }
     {
@@ -35,7 +36,7 @@ impl Call {
     }
 }
 
-// Nothing is left of the innermost statement.
+// Whether nothing of the innermost statement is pending.
 fn is_done(mode: &Mode) -> bool
     ensures yes { IsTrue result → mode.now ≡ Walks Inside }
     ensures no { mode.now ≡ Walks Inside → IsTrue result }
@@ -49,7 +50,7 @@ fn is_done(mode: &Mode) -> bool
     }
 }
 
-// The number of the statement from which on those of a list are left.
+// The number of the first pending statement of a list, if the work is that of a list.
 fn item_next(mode: &Mode) -> Option<usize>
     ensures some { IfSome result (λ n. mode.now ≡ Walks (From n)) }
     ensures none { (n : ℕ) → mode.now ≡ Walks (From n) → result ≡ None → ⊥ }
@@ -64,7 +65,7 @@ fn item_next(mode: &Mode) -> Option<usize>
 }
 
 impl Walker {
-    /// The current work is done, and this is left of the innermost statement.
+    /// Completes the current work; this work of the innermost statement is pending.
     pub fn done(&mut self, todo: Todo)
         ensures { (c : NumberedProgram) → process_of c self.new ≡ done_with c self.old (slots_of self.old.top.variables.slots.items)
             (left_in c self.old.team.procs self.old.top todo) }
@@ -72,7 +73,7 @@ impl Walker {
         self.proceeds(Mode::Walks(todo));
     }
 
-    /// The current work is done, a part of the innermost statement comes next, and behind it this is left.
+    /// Completes the current work and enters a part of the innermost statement, after which this work is pending.
     #[tactic(auto, using(crate::proofs::Works::lefts))]
     pub fn enter(&mut self, inner: Part, todo: Todo) -> Result<(), Memory>
         ensures { OnOk result ((c : NumberedProgram) → process_of c self.new
@@ -84,7 +85,7 @@ impl Walker {
         Ok(())
     }
 
-    // The statements of which nothing is left are left.
+    // Leaves the statements that are done.
     #[tactic(auto, using(crate::proofs::Works::lefts))]
     fn pop_done(&mut self)
         ensures same { (c : NumberedProgram) → process_of c self.new ≡ process_of c self.old }
@@ -101,7 +102,7 @@ impl Walker {
         }
     }
 
-    // The next statement of a list is entered, if one is left.
+    // Enters the next statement of a list, if one is left.
     #[tactic(auto, using(crate::proofs::Settling::settling))]
     fn enter_item(&mut self, c: &Parts) -> Result<(), Memory>
         requires { self.old.mode ≡ Walks Inside → length self.old.top.levels.items ≡ 0 }
@@ -123,7 +124,7 @@ impl Walker {
         }
     }
 
-    /// Gets to the work at hand, for which nothing changes that the process stands for.
+    /// Gets to the work at hand. This doesn't change which process of the semantics the state represents.
     pub fn settle(&mut self, c: &Parts) -> Result<(), Memory>
         ensures same { OnOk result (process_of (program_of c.now) self.new ≡ process_of (program_of c.now) self.old) }
         ensures settled { OnOk result (IsSettled (program_of c.now) self.new) }

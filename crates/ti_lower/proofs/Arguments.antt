@@ -1,4 +1,4 @@
--- The code of a call evaluates its object and its arguments, and stands then at the call.
+-- Proves that the code of a call evaluates its object and its arguments and is then at the call.
 use Rattle.std.proofs.Common.{◌≡◌, ℕ, ◌+◌, ◌==◌, ◌&&◌, Bool, true, false, if◌then◌else◌, slice_get, List, [], ◌∷◌, ◌++◌, length, Option, Some, None, option_map, refl, ap, sym, ◌∙◌, subst, arith}
 use Rattle.std.specs.Prelude.{find, not}
 use Rattle.std.proofs.lemmas.List.Folds.{find_at}

@@ -1,4 +1,4 @@
--- The code of whole methods.
+-- Proves facts on the code of whole methods.
 use Rattle.std.proofs.Common.{◌≡◌, inl, ℕ, ◌+◌, Bool, true, false, length, slice_get, List, [], ◌∷◌, ◌++◌, Option, Some, None, refl, ap, sym, ◌∙◌, subst, arith}
 use Rattle.std.proofs.lemmas.List.{append_assoc, length-append}
 use Rattle.ti_base.specs.declared.place.Place.{Place}

@@ -1,4 +1,4 @@
--- Each instruction of the code of every program is one that code may have, so it is in its form.
+-- Proves that each instruction of the code of every program is well-formed.
 use Rattle.std.proofs.Common.{◌≡◌, inl, inr, ℕ, zero, suc, ◌+◌, ◌==◌, Bool, true, false, length, List, [], ◌∷◌, ◌++◌, pos, Option, Some, None, refl, ap, ◌∙◌}
 use Rattle.std.specs.Prelude.{All}
 use Rattle.std.proofs.lemmas.List.Elements.{All-nil, All-cons, All-map, All-weaker}

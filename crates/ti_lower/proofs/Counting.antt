@@ -1,4 +1,4 @@
--- Slots name as many things of a region as the variables in scope and `this`.
+-- Proves that slots refer to as many objects of a region as the variables in scope and `this`.
 use Rattle.std.proofs.Common.{◌≡◌, ℕ, ◌+◌, Bool, true, false, if◌then◌else◌, cond, List, [], ◌∷◌, count_by, Option, Some, None, refl, ap, sym, ◌∙◌, arith}
 use Rattle.std.proofs.lemmas.List.Recursion.{is_count_by}
 use Rattle.ti_base.specs.declared.value.Id.{Id}

@@ -1,4 +1,4 @@
--- What is written of a method the second time, with the targets that the first time noted, is its code.
+-- Proves that the second pass over a method, which knows the targets that the first one noted, emits its code.
 use Rattle.std.proofs.Common.{◌≡◌, ◌∙◌, refl, sym, ap, subst, ℕ, ◌+◌, ◌-◌, Bool, true, false, List, [], ◌∷◌, ◌++◌, length, drop, set, get_or, append_assoc, arith, Option, Some, None, pos}
 use Rattle.std.proofs.Math.Seq.{set-append_seam, get_or-append_seam}
 use Rattle.std.proofs.lemmas.List.{length-append, append-nil, drop_at}

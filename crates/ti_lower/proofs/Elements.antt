@@ -1,4 +1,4 @@
--- The code of copies and exchanges takes their elements one by one.
+-- Proves that the code of copies and exchanges handles their elements one by one, as the semantics does.
 use Rattle.std.proofs.Common.{◌≡◌, ◌⊎◌, inl, inr, ℕ, ◌+◌, ◌++◌, slice_get, List, [], ◌∷◌, length, map, Option, Some, refl, ap, sym, ◌∙◌, subst, arith}
 use Rattle.ti_base.specs.declared.place.Place.{Place}
 use Rattle.ti_base.specs.declared.point.Point.{Point}

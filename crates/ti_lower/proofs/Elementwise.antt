@@ -1,4 +1,4 @@
--- The numbers in the code of copies, counted one by one.
+-- Proves that the positions and slots in the code of copies and exchanges are those of the specification.
 use Rattle.std.proofs.Common.{◌≡◌, refl, ℕ, ◌+◌, List, [], ◌∷◌}
 use Rattle.ti_base.specs.declared.place.Place.{Place}
 use Rattle.ti_code.specs.declared.instr.Instr.{Instr}

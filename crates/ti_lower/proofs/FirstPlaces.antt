@@ -1,4 +1,4 @@
--- Where the first element stands that passes a test.
+-- Proves facts on the first position of a list whose element passes a test.
 use Rattle.std.proofs.Common.{◌≡◌, ℕ, suc, ◌+◌, ◌≤◌, nat_lt, Bool, true, false, not, cond, List, [], ◌∷◌, length, Option, Some, None, position, refl, arith}
 use Rattle.std.specs.List.{position_or_len}
 use Rattle.std.proofs.lemmas.Bool.Decides.{nat_tests}

@@ -1,4 +1,4 @@
--- The code of a program has next what the process has, where its methods are fine.
+-- Proves that the code of a program has next what the process has, if the program's methods meet the premises.
 use Rattle.std.proofs.Common.{◌≡◌, ◌⊎◌, inl, inr, ℕ, ◌+◌, ◌-◌, ◌≤◌, nat_lt, ◌==◌, suc, Bool, true, false, if◌then◌else◌, length, map, reverse, count_by, slice_get, ap₂, List, [], ◌∷◌, ◌++◌, Option, Some, None, refl, ap, sym, ◌∙◌, subst, arith}
 use Rattle.std.proofs.lemmas.List.{append_assoc, append-nil, length-append}
 use Rattle.std.proofs.lemmas.Bool.{ltb-true}

@@ -1,4 +1,4 @@
--- The code of a copy and of an exchange up to their first element.
+-- Proves that the code of a copy and of an exchange does what the semantics does up to their first element.
 use Rattle.std.proofs.Common.{◌≡◌, inl, inr, ℕ, zero, suc, ◌+◌, ◌==◌, Bool, true, false, if◌then◌else◌, slice_get, slice_index_or, List, [], ◌∷◌, ◌++◌, length, map, Option, Some, None, refl, ap, sym, ◌∙◌, subst, arith}
 use Rattle.ti_base.specs.declared.place.Place.{Place}
 use Rattle.ti_base.specs.declared.point.Rect.{Rect}

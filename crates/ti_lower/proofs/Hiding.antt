@@ -1,4 +1,4 @@
--- Slots of values that wait are what no name means.
+-- Proves that temporary slots don't affect what names denote.
 use Rattle.std.proofs.Common.{◌≡◌, ◌∙◌, refl, ap, ℕ, zero, suc, ◌+◌, Bool, true, false, ◌&&◌, ◌==◌, if◌then◌else◌, List, [], ◌∷◌, ◌++◌, map, reverse, length, Option, Some, None, arith}
 use Rattle.ti_lang.specs.Program.Types.{VariableUse, Declaration, Typed, Foreach, ValueType}
 use Rattle.ti_lang.specs.Program.Types as t

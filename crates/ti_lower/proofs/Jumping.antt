@@ -1,4 +1,4 @@
--- The code of every program keeps the rule on jumps.
+-- Proves that the code of every program keeps the rule on jumps.
 use Rattle.std.proofs.Common.{◌≡◌, ℕ, zero, suc, ◌+◌, ◌≤◌, ◌==◌, ◌&&◌, Bool, true, false, if◌then◌else◌, nat_le, IsTrue, drop, length, map, List, [], ◌∷◌, ◌++◌, pos, Option, Some, None, refl, ap, ap₂, sym, ◌∙◌, subst, arith}
 use Rattle.std.proofs.lemmas.Bool.{and_from}
 use Rattle.std.proofs.lemmas.List.{drop-map}

@@ -1,4 +1,4 @@
--- What is written behind code is the code of values.
+-- Proves that what the generator appends is the code of expressions, stores and right sides.
 use Rattle.std.proofs.Common.{◌≡◌, ◌∙◌, refl, sym, ap, ℕ, ◌+◌, Bool, true, false, List, [], ◌∷◌, ◌++◌, length, set, append_assoc, arith, Option, Some, None}
 use Rattle.std.proofs.Math.Seq.{set-append_seam}
 use Rattle.std.proofs.lemmas.List.{length-append, append-nil}

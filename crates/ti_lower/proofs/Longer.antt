@@ -1,4 +1,4 @@
--- What instructions do stays the same where there are more answers, and where a method ends the run.
+-- Proves that the effect of instructions is the same with more answers, and in a method whose returns end the run.
 use Rattle.std.proofs.Common.{◌≡◌, ◌⊎◌, inl, inr, ℕ, List, [], ◌∷◌, ◌++◌, map, slice_get, Option, Some, None, option_map, refl, ap, sym, ◌∙◌, subst}
 use Rattle.std.proofs.lemmas.Option.{slice_get-map}
 use Rattle.ti_base.specs.declared.place.Place.{Place}

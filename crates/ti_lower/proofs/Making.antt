@@ -1,4 +1,4 @@
--- The code of new objects and grids.
+-- Proves that the code of `new` makes the objects and grids that the semantics makes.
 use Rattle.std.proofs.Common.{◌≡◌, ℕ, ◌+◌, true, List, [], ◌∷◌, ◌++◌, Option, Some, None, refl, sym, ◌∙◌, subst}
 use Rattle.ti_base.specs.declared.place.Place.{Place}
 use Rattle.ti_base.specs.declared.action.Action.TheVariants as act

@@ -1,4 +1,4 @@
--- The code of a broadcast does what comes before its arrival.
+-- Proves that the code of a broadcast does what the semantics does before its arrival.
 use Rattle.std.proofs.Common.{◌≡◌, ℕ, ℤ, pos, negsuc, ◌+◌, ◌==◌, ◌&&◌, Bool, true, false, if◌then◌else◌, slice_get, List, [], ◌∷◌, ◌++◌, Some, refl, ap, ap₂, sym, ◌∙◌, subst, arith}
 use Rattle.std.specs.Prelude.{int_le, int_lt}
 use Rattle.ti_base.specs.declared.place.Place.{Place}

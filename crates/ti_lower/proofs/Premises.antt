@@ -1,4 +1,4 @@
--- What the theorem on code asks of a program: of its methods, and of `main`.
+-- The premises of the theorem on code: what it requires of a program's methods and of `main`.
 use Rattle.std.proofs.Common.{◌≡◌, Bool, true, false, slice_get, [], Some, None}
 use Rattle.ti_lang.specs.Program.Statements.{NumberedStm, NumberedStms, Nil, Cons, numbered_stms}
 use Rattle.ti_lang.specs.Program.Statements as s

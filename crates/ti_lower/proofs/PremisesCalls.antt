@@ -1,4 +1,5 @@
--- What the rules say of calls: an argument for each parameter, an object where there is a `this`, a value on a right side, and no call of `main`.
+-- Proves what the rules guarantee of calls: an argument for each parameter, an object for each `this`, a value on a right side, and no call
+-- of `main`.
 use Rattle.std.proofs.Common.{◌≡◌, true≢false, ◌⊎◌, inl, inr, ℕ, suc, ◌+◌, ◌==◌, Bool, true, false, not, ◌&&◌, if◌then◌else◌, length, find, slice_get, option_map, Option, Some, None, List, [], ◌∷◌, refl, ap, sym, ◌∙◌, subst, arith, eqb-true}
 use Rattle.ti_base.specs.declared.place.Place.{Place}
 use Rattle.ti_syntax.specs.Trees.Expressions.{Exp}

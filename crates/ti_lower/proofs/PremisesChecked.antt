@@ -1,4 +1,5 @@
--- What the theorem on code asks of a method is so in one way at most, so that it is there where the program is known to be that of some text.
+-- Proves that the premises on a method are propositions (have at most one proof), so they may be derived from the mere existence of a
+-- source.
 use mathlib.Core.Path.{path_j'}
 use Rattle.std.proofs.Common.{◌≡◌, ◌⊎◌, inl, inr, ℕ, ◌==◌, Bool, true, false, ◌&&◌, slice_get, is_none, Option, Some, None, List, [], ◌∷◌, refl, ap, sym, ◌∙◌, subst}
 use Rattle.std.proofs.Math.Bool.{Bool-set}

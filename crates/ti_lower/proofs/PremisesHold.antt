@@ -1,4 +1,4 @@
--- A program of a text that breaks no rule meets what the theorem on code asks of it.
+-- Proves that the program of a source that breaks no rule meets the premises of the theorem on code.
 use Rattle.std.proofs.Common.{◌≡◌, true≢false, ℕ, zero, suc, ◌+◌, ◌==◌, Bool, true, false, not, ◌&&◌, if◌then◌else◌, length, flat_map, slice_get, Option, Some, None, List, [], ◌∷◌, ◌++◌, refl, ap, sym, ◌∙◌, subst, arith}
 use Rattle.ti_syntax.specs.Trees.Statements.{stms}
 use Rattle.ti_syntax.specs.Trees.Classes.{ParamsTree, ResultTree, TextTree}

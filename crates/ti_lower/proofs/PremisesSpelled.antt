@@ -1,4 +1,4 @@
--- What the grammar says of statements: no branch, no body and no update is a declaration.
+-- Proves what the grammar guarantees of statements: no branch, no body and no update is a declaration.
 use Rattle.std.proofs.Common.{Bool, List, [], ◌∷◌, ◌++◌, ℕ, ◌+◌}
 use Rattle.ti_syntax.specs.declared.token.Token.{Token}
 use Rattle.ti_syntax.specs.Trees.Statements.{Stm, MaybeStm, Stms, stms}

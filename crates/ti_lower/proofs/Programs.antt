@@ -1,4 +1,4 @@
--- The code of a program whose methods are fine follows it.
+-- Proves that the code of a program whose methods meet the premises follows it.
 use Rattle.std.proofs.Common.{◌≡◌, inl, ℕ, zero, suc, ◌+◌, ◌==◌, ◌≤◌, false, map, slice_get, List, [], ◌∷◌, Option, Some, None, refl, ap, sym, ◌∙◌, subst, arith}
 use Rattle.std.specs.Option.{option_map_or}
 use Rattle.ti_base.specs.declared.place.Place.{Place}

@@ -1,4 +1,4 @@
--- Where a frame stands: before work that is left, and behind a move.
+-- The states of a frame that correspond to pending work and to the outcome of a statement.
 use Rattle.std.proofs.Common.{◌≡◌, ◌⊎◌, ℕ, ◌+◌, ◌++◌, ◌==◌, Bool, true, false, if◌then◌else◌, slice_get, List, [], ◌∷◌, length, map, Option, Some, None}
 use Rattle.ti_base.specs.declared.place.Place.{Place}
 use Rattle.ti_base.specs.declared.point.Point.{Point}

@@ -1,4 +1,4 @@
--- The code of simple statements does what they come to.
+-- Proves that the code of simple statements carries them out.
 use Rattle.std.proofs.Common.{◌≡◌, ℕ, ◌+◌, true, false, slice_get, List, [], ◌∷◌, Option, Some, None, refl, sym, subst}
 use Rattle.ti_base.specs.declared.place.Place.{Place}
 use Rattle.ti_base.specs.declared.value.Value.{Value}

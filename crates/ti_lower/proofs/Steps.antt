@@ -1,4 +1,4 @@
--- What a piece of work comes to, the code does.
+-- Proves that the code carries out each step of the pending work.
 use Rattle.std.proofs.Common.{◌≡◌, inl, inr, ℕ, pos, ◌+◌, Bool, true, false, if◌then◌else◌, slice_get, List, [], ◌∷◌, ◌++◌, length, map, Option, Some, None, refl, ap, sym, ◌∙◌, subst}
 use Rattle.std.proofs.lemmas.List.{append_assoc}
 use Rattle.ti_base.specs.declared.place.Place.{Place}

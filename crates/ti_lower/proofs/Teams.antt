@@ -1,4 +1,4 @@
--- The rectangular domain with one element for each process has these points.
+-- Proves which points the rectangular domain with one point for each process has.
 use Rattle.std.proofs.Common.{◌≡◌, ℕ, zero, suc, ◌+◌, ◌≤◌, ◌/◌, ℤ, pos, ◌+ℤ◌, ◌-ℤ◌, ◌||◌, if◌then◌else◌, Bool, true, false, List, [], ◌∷◌, map, flat_map, refl, ap, ◌∙◌, arith}
 use Rattle.std.specs.Int.RustNames.{int_lt}
 use Rattle.std.proofs.lemmas.Int.{ints}

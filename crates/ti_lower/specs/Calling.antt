@@ -1,4 +1,4 @@
--- The code of calls, and how a called method begins.
+-- The code of calls of declared methods.
 use Rattle.std.specs.Prelude.{ℕ, ◌==◌, ◌&&◌, List, [], ◌∷◌, ◌++◌, Option, Some, None}
 use Rattle.std.specs.List.{position_or_len}
 use Rattle.ti_lang.specs.Program.Types.{ValueType, VariableUse}
@@ -18,13 +18,13 @@ use Rattle.ti_lower_expr.specs.Coding.{code_of, conversion}
 
 -- ---- calls
 
--- the number of the instance method behind an object
+-- The number of the instance method of this name for an object of the type.
 abbrev pub number_behind : NumberedProgram → ValueType → ℕ → ℕ
 number_behind program (t.Class class is_local) name =
     position_or_len (λ (m : NumberedMethod). (m.class == class) && (m.name == name)) program.methods
 number_behind program type name = 0
 
--- the number of the method that an expression calls, where it is a call
+-- The number of the method that an expression calls, if it is a call.
 abbrev pub number_called : NumberedProgram → Option ℕ → NumberedExp → ℕ
 number_called program this (e.Call at method args) = method
 number_called program this (e.OwnCall at method args) = method
@@ -32,7 +32,7 @@ number_called program this (e.Member at x name args) = number_behind program (ty
 number_called program this other = 0
 
 module _ (program : NumberedProgram) (this : Option ℕ) (names : List Name) where
-  -- an argument, made one of its parameter's type
+  -- An argument, converted to its parameter's type.
   abbrev pub arg_code : VariableUse → NumberedExp → ℕ → List Instr
   arg_code p x at =
       code_of program this names x at ++ conversion (place_of_numbered x) (declared_type p.declared) (known_of program this x)
@@ -45,7 +45,7 @@ module _ (program : NumberedProgram) (this : Option ℕ) (names : List Name) whe
   object_code None at = []
   object_code (Some x) at = code_of program this names x at
 
-  -- the object, the arguments, and the call of the method of a number
+  -- The object, the arguments, and the call of method k.
   abbrev pub call_code : ℕ → Call → ℕ → List Instr
   call_code k c at =
       object_code c.object at ++ (args_code (parameters_of c.method.params) c.args (behind at (object_code c.object at))

@@ -32,8 +32,8 @@ use Rattle.ti_lower_expr.specs.Coding.{kind_in, code_of, code_of_all, conversion
 use Rattle.ti_lower.specs.Calling.{number_called, call_code}
 use Rattle.ti_lower.specs.Receivers.{into_code, late_code}
 
--- Where the jumps of the innermost loop lead: to its next turn, where so many slots are left, and behind it, where so many are and the
--- domain that it walks over is dropped, if it does.
+-- The jump targets of the innermost loop: `again` for continue, which keeps `kept` slots, and `exit` for break, which keeps `left` slots.
+-- If the loop is a foreach (`walks`), break also pops its domain.
 pub record Labels : Type 0 where
   pub again : ℕ
   pub kept : ℕ
@@ -41,16 +41,16 @@ pub record Labels : Type 0 where
   pub left : ℕ
   pub walks : Bool
 
--- labels that aren't known yet, of a loop that walks over a domain or not: how long code is doesn't depend on where they lead
+-- Labels that aren't known yet. The length of code doesn't depend on where labels lead, only on whether the loop is a foreach.
 abbrev pub unknown : Bool → Option Labels
 unknown walks = Some (record { again = 0; kept = 0; exit = 0; left = 0; walks = walks })
 
--- the names of the slots behind a statement
+-- The names of the slots after a statement.
 abbrev pub names_after : NumberedStm → List Name → List Name
 names_after (s.Declare p type variable value) names = Of (declared_as type variable) ∷ names
 names_after x names = names
 
--- a value becomes one that an element of such a type may hold
+-- Converts a value to the element type of a grid.
 abbrev pub as_element : ValueType → List Instr
 as_element t.Long = i.Widen ∷ []
 as_element t.Int = i.Narrow ∷ []
@@ -58,12 +58,12 @@ as_element (t.Class class is_local) = i.AsObj ∷ []
 as_element (t.Grid element dim is_local) = i.AsGrid ∷ []
 as_element type = []
 
--- the domain that a loop walks over is dropped
+-- Pops the domain of a foreach.
 abbrev pub dropped : Bool → List Instr
 dropped true = i.Pop ∷ []
 dropped false = []
 
--- jumps out of blocks; in no loop they lead nowhere
+-- Break and continue. Outside loops they lead to the next instruction.
 abbrev pub break_code : Option Labels → List Name → ℕ → List Instr
 break_code None names at = i.Trim (length names) ∷ i.Jump (at + 1 + 1) ∷ []
 break_code (Some l) names at = i.Trim l.left ∷ (dropped l.walks ++ i.Jump l.exit ∷ [])
@@ -74,27 +74,27 @@ continue_code (Some l) names at = i.Trim l.kept ∷ i.Jump l.again ∷ []
 
 -- ---- copies and exchanges
 
--- the first of so many operands alone; where there is none, nothing
+-- Keeps the first of n operands only; without operands it pushes `false`.
 abbrev pub first_code : ℕ → List Instr
 first_code zero = i.Const (v.Bool false) ∷ []
 first_code (suc n) = pops n
 
--- Behind the domain whose points are walked over: for each, what is copied into the grid above it. Three slots wait: the grid or the
--- value that was handed in, the grid that is written, and the point.
+-- A loop over the points of the domain on top: for each point it writes what `read` yields into the grid. Three slots are temporaries: the
+-- grid that is read or the value contributed to an exchange, the grid that is written, and the point.
 abbrev pub elements_code : Place → ℕ → List Instr → ℕ → List Instr
 elements_code p n read at =
     let test = behind (at + 1 + 1 + 1) read + 1 in
     i.Jump test ∷ i.Load (n + 1) ∷ i.Load (n + 1 + 1) ∷ read ++ i.PutElem p ∷ i.Next (n + 1 + 1) (test + 1 + 1) ∷ i.Jump (at + 1) ∷ i.Trim n
     ∷ i.Pop ∷ []
 
--- what is read at a point of a copy, and at one of an exchange
+-- What is read at a point of a copy, and at a point of an exchange.
 abbrev pub copied_code : Place → ℕ → List Instr
 copied_code p n = i.Load n ∷ i.Load (n + 1 + 1) ∷ i.GetElem p ∷ []
 
 abbrev pub taken_code : Place → ℕ → List Instr
 taken_code p n = i.Load (n + 1 + 1) ∷ i.Take p ∷ []
 
--- `a.copy(b)`: both grids wait in slots, since both are needed before the domain of either is asked; `b` is tested first
+-- `a.copy(b)`: both grids are kept in slots, since both are needed before the domain of either is requested; `b` is tested for null first.
 abbrev pub grids_code : Place → ℕ → ℕ → List Instr
 grids_code p n at =
     i.AsGrid ∷ i.Keep n ∷ i.AsGrid ∷ i.Keep (n + 1)
@@ -102,27 +102,27 @@ grids_code p n at =
     ∷ i.Member kind.DomainOf 0 p
     ∷ i.Load (n + 1) ∷ i.Member kind.DomainOf 0 p ∷ i.Load n ∷ i.Member kind.DomainOf 0 p ∷ i.Common ∷ []
 
--- `a.exchange(e)`: the value and the grid wait in slots; the domain of the grid is that of the team, and is walked over
+-- `a.exchange(e)`: the value and the grid are kept in slots. The domain of the grid must be that of the processes; the loop is over it.
 abbrev pub team_code : Place → ℕ → List Instr
 team_code p n =
     i.Keep n ∷ i.Keep (n + 1) ∷ i.Load (n + 1) ∷ i.Member kind.DomainOf 0 p ∷ i.GridTest p ∷ i.Load n ∷ i.Arrive coll.Exchange p
     ∷ i.Depart p ∷ []
 
 module _ (program : NumberedProgram) (this : Option ℕ) where
-  -- a print
+  -- A print.
   abbrev pub print_code : Place → List Name → NumberedPrint → ℕ → List Instr
   print_code p names s.Nothing at = i.Print None false p ∷ []
   print_code p names (s.Text literal) at = i.Print (Some literal) false p ∷ []
   print_code p names (s.Expression x) at = code_of program this names x at ++ i.Print None true p ∷ []
   print_code p names (s.TextAndExpression literal x) at = code_of program this names x at ++ i.Print (Some literal) true p ∷ []
 
-  -- the condition of a loop
+  -- The condition of a loop.
   abbrev pub condition_code : List Name → Option NumberedExp → ℕ → List Instr
   condition_code names None at = i.Const (v.Bool true) ∷ []
   condition_code names (Some c) at = code_of program this names c at
 
-  -- A loop, with the code of its body with labels from an instruction on, and of its update: the condition stands behind both, and leads
-  -- back to the tick of the next turn.
+  -- A loop, given the code of its body with labels from a position on, and that of its update. The condition comes after both and leads
+  -- back to the tick of the next iteration.
   abbrev pub loop_code : Place → List Name → Option NumberedExp → (Option Labels → ℕ → List Instr) → (ℕ → List Instr) → ℕ → List Instr
   loop_code p names c body update at =
       let again = behind (at + 1 + 1) (body (unknown false) (at + 1 + 1)) in
@@ -132,7 +132,8 @@ module _ (program : NumberedProgram) (this : Option ℕ) where
       ∷ body (Some (record { again = again; kept = length names; exit = exit; left = length names; walks = false })) (at + 1 + 1)
       ++ (update again ++ (condition_code names c test ++ i.JumpIf (at + 1) ∷ []))
 
-  -- A loop over the points of the domain on top, which is dropped behind the last one. The point of a turn has a slot, behind these names.
+  -- A foreach over the points of the domain on top, which is popped after the last one. The point of an iteration has a slot after these
+  -- names.
   abbrev pub walk_code : Place → List Name → (Option Labels → ℕ → List Instr) → ℕ → List Instr
   walk_code p names body at =
       let again = behind (at + 1 + 1) (body (unknown true) (at + 1 + 1)) in
@@ -141,7 +142,8 @@ module _ (program : NumberedProgram) (this : Option ℕ) where
       ∷ body (Some (record { again = again; kept = length names + 1; exit = exit; left = length names; walks = true })) (at + 1 + 1)
       ++ i.Trim (length names) ∷ i.Next (length names) (again + 1 + 1 + 1) ∷ i.Jump (at + 1) ∷ i.Pop ∷ []
 
-  -- The arrival at a broadcast and its departure: the root's number, and on it what the root hands in. No other process evaluates that.
+  -- The arrival at a broadcast and its departure: the root's number, and above it the root's contribution, which no other process
+  -- evaluates.
   abbrev pub root_code : Place → List Name → NumberedExp → ℕ → List Instr
   root_code p names x at =
       let inner = at + 1 + 1 + 1 + 1 + 1 in
@@ -153,14 +155,14 @@ module _ (program : NumberedProgram) (this : Option ℕ) where
   broadcast_code p names x root at =
       code_of program this names root at ++ root_code p names x (behind at (code_of program this names root at))
 
-  -- ---- new things
+  -- ---- new objects and grids
 
-  -- the region in which a thing is placed, on top; 0 is none
+  -- The region in which an object or a grid is placed; 0 if none is given.
   abbrev pub region_code : List Name → Option NumberedExp → ℕ → List Instr
   region_code names None at = i.Const (v.Region 0) ∷ []
   region_code names (Some x) at = code_of program this names x at
 
-  -- the domain that a grid spreads over
+  -- The domain of a new grid.
   abbrev pub spread_code : List Name → Place → NumberedDims → ℕ → List Instr
   spread_code names p (s.Domain x) at = code_of program this names x at
   spread_code names p (s.Ranges ranges) at = code_of program this names (e.Rect p (numbered_ranges ranges)) at
@@ -175,7 +177,7 @@ module _ (program : NumberedProgram) (this : Option ℕ) where
 
   -- ---- right sides
 
-  -- a call, and the way of what it gives; or the way of another value
+  -- A call followed by the store of its value, or another value with its store.
   abbrev pub valued_code : Receiver → NumberedExp → Option Call → List Name → ℕ → List Instr
   valued_code r x None names at =
       into_code program this r (kind_in program this x) (known_of program this x) (λ ns from. code_of program this ns x from) names at
@@ -183,7 +185,7 @@ module _ (program : NumberedProgram) (this : Option ℕ) where
       let first = call_code program this names (number_called program this x) c at in
       first ++ late_code program this r (kind_in program this x) known.Other names (behind at first)
 
-  -- the right side of a declaration or an assignment, and the way of its value to its receiver
+  -- The right side of a declaration or an assignment, and the store of its value.
   abbrev pub init_code : Receiver → NumberedInit → List Name → ℕ → List Instr
   init_code r (s.Value x) names at = valued_code r x (call_by x (called_method program this x)) names at
   init_code r (s.NewRegion p) names at =
@@ -198,9 +200,9 @@ module _ (program : NumberedProgram) (this : Option ℕ) where
       let first = broadcast_code p names x root at in
       first ++ late_code program this r (kind_in program this x) known.Other names (behind at first)
 
-  -- ---- expressions that stand alone
+  -- ---- expression statements
 
-  -- the receiver of a member form, and the first of its arguments on it
+  -- The receiver of a member call, and above it the first of its arguments.
   abbrev pub both_code : List Name → NumberedExp → NumberedExps → ℕ → List Instr
   both_code names x args at =
       code_of program this names x at ++ (code_of_all program this names args (behind at (code_of program this names x at))
@@ -222,7 +224,7 @@ module _ (program : NumberedProgram) (this : Option ℕ) where
       let start = behind at both in
       both ++ (team_code p n ++ elements_code p n (taken_code p n) (behind start (team_code p n)))
 
-  -- a member form that stands alone
+  -- A member call as a statement.
   abbrev pub form_code : Option BuiltIn → Place → List Name → NumberedExp → NumberedExps → ℕ → List Instr → List Instr
   form_code (Some Copy) p names x args at other = copy_code p names x args at
   form_code (Some Exchange) p names x args at other = exchange_code p names x args at
@@ -235,20 +237,20 @@ module _ (program : NumberedProgram) (this : Option ℕ) where
       (into_code program this Nowhere Numbers known.Other (λ ns from. code_of program this ns (e.Member p x name args) from) names at)
   other_code names x at = into_code program this Nowhere Numbers known.Other (λ ns from. code_of program this ns x from) names at
 
-  -- a call whose value, where there is one, is dropped
+  -- A call as a statement; its value is dropped, if there is one.
   abbrev pub alone_code : Bool → NumberedExp → Option Call → List Name → ℕ → List Instr
   alone_code is_void x None names at = other_code names x at
   alone_code true x (Some c) names at = call_code program this names (number_called program this x) c at
   alone_code false x (Some c) names at = call_code program this names (number_called program this x) c at ++ i.Pop ∷ []
 
-  -- it gives nothing back, if it is a call
+  -- It isn't a call that returns a value.
   abbrev pub gives_nothing : Option Call → Bool
   gives_nothing None = true
   gives_nothing (Some c) = is_void (result_type c.method)
 
 module _ (program : NumberedProgram) (this : Option ℕ) (result : ValueType) where
   abbrev mutual
-    -- the code of a statement from an instruction on, within a loop or in none, where slots have these names
+    -- The code of a statement from a position on, in a loop with these labels or in none, while the slots have these names.
     pub stm_code : NumberedStm → Option Labels → List Name → ℕ → List Instr
     stm_code s.Empty l names at = []
     stm_code (s.Declare p type variable value) l names at = init_code program this (Declared p (declared_as type variable)) value names at
@@ -296,7 +298,7 @@ module _ (program : NumberedProgram) (this : Option ℕ) (result : ValueType) wh
     stms_code Nil l names at = []
     stms_code (Cons x rest) l names at = stm_code x l names at ++ stms_code rest l (names_after x names) (behind at (stm_code x l names at))
 
-    -- of the head or the update of a `for`
+    -- The code of the head or the update of a `for`.
     pub maybe_code : MaybeNumbered → Option Labels → List Name → ℕ → List Instr
     maybe_code NoStm l names at = []
     maybe_code (SomeStm x) l names at = stm_code x l names at

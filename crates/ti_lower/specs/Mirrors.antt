@@ -1,5 +1,5 @@
--- What the functions that write code make of the code that stands there. Nobody has to believe it: what the code of a program is, is said
--- by `Calling`, `Receivers`, `Laying` and `Programs`, and `lower` says that it is that.
+-- Mirrors the code: how the functions that generate code extend it. No public claim depends on it: `Calling`, `Receivers`, `Laying` and
+-- `Programs` say what the code of a program is, and the contract of `lower` refers to them.
 pub mod Positions
 pub mod Values
 pub mod Statements

@@ -1,4 +1,4 @@
--- The code of whole methods and programs.
+-- The code of methods and programs.
 use Rattle.std.specs.Prelude.{ℕ, ◌+◌, ◌==◌, Bool, true, false, List, [], ◌∷◌, ◌++◌, map, Option, Some, None}
 use Rattle.ti_base.specs.declared.place.Place.{Place}
 use Rattle.ti_lang.specs.Program.Statements.{numbered_stms}
@@ -12,16 +12,16 @@ use Rattle.ti_code.specs.Programs.{Code}
 use Rattle.ti_lower_expr.specs.Methods.{params_of, is_instance, names_of}
 use Rattle.ti_lower.specs.Laying.{stms_code}
 
--- an instruction in the method where the run begins: to return is the end
+-- An instruction of `main`, in which a return ends the run.
 abbrev pub in_main : Place → Instr → Instr
 in_main end i.Return = i.Stop end
 in_main end x = x
 
--- the code of a method, before its end is that of the run
+-- The code of a method, before returns become the end of the run.
 abbrev pub body_code : NumberedProgram → NumberedMethod → List Instr
 body_code program m = stms_code program (this_of m) (result_type m) (numbered_stms m.body) None (names_of m) 0 ++ i.Return ∷ []
 
--- the instructions of a method, where its end is that of the run or where it returns
+-- The instructions of a method: of `main`, if a place of the end is given, or of another one.
 abbrev pub instrs_in : Option Place → List Instr → List Instr
 instrs_in None is = is
 instrs_in (Some end) is = map (in_main end) is
@@ -30,16 +30,16 @@ abbrev pub method_code : NumberedProgram → Option Place → NumberedMethod →
 method_code program end m =
     record { instance = is_instance (this_of m); params = params_of m; instrs = instrs_in end (body_code program m) }
 
--- the place where the run ends, in `main`
+-- The place at which the run ends, in `main`.
 abbrev pub end_in : Bool → NumberedMethod → Option Place
 end_in true m = Some m.end
 end_in false m = None
 
--- of methods, numbered from a number on
+-- The code of methods, numbered from n on.
 abbrev pub methods_code : NumberedProgram → ℕ → List NumberedMethod → List MethodCode
 methods_code program n [] = []
 methods_code program n (m ∷ ms) = method_code program (end_in (n == program.main) m) m ∷ methods_code program (n + 1) ms
 
--- the code of a program
+-- The code of a program.
 abbrev pub program_code : NumberedProgram → Code
 program_code program = record { methods = methods_code program 0 program.methods; main = program.main }

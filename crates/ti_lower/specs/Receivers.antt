@@ -1,4 +1,4 @@
--- The code of the way of a value to where it is wanted.
+-- The code that stores a value where it is needed.
 use Rattle.std.specs.Prelude.{ℕ, ◌+◌, false, List, [], ◌∷◌, ◌++◌, length, Option, Some, None}
 use Rattle.std.specs.Prelude.{unwrap_or, option_and_then}
 use Rattle.ti_base.specs.declared.place.Place.{Place}
@@ -27,42 +27,42 @@ use Rattle.ti_lower_expr.specs.Coding.{kind_of_type, operation, conversion, load
 
 -- ---- variables
 
--- the slot of a variable that is written
+-- The slot of a variable that is written.
 abbrev pub written_slot : VariableUse → List Name → Option ℕ
 written_slot x names = find_by (Typed false t.Void) x names
 
--- a value goes into the slot of a variable; one without a slot is dropped
+-- A value is stored in the slot of a variable; if there is no slot, it is dropped.
 abbrev pub kept : Option ℕ → Instr
 kept (Some k) = i.Keep k
 kept None = i.Pop
 
--- the names of the slots behind the way of a value
+-- The names of the slots after a value is stored.
 abbrev pub names_behind : Receiver → List Name → List Name
 names_behind (Declared p x) names = Of x ∷ names
 names_behind r names = names
 
 -- ---- targets
 
--- what an assignment writes: a slot, a field, or an element
+-- The target of an assignment: a slot, a field, or an element.
 pub data TargetKind : Type 0 where
   InSlot : (x : VariableUse) → TargetKind
   InField : (field : ℕ) → TargetKind
   InElement : TargetKind
 
--- a value goes there from above the reference and the index
+-- Stores the top operand; the reference and the index of the target are below it.
 abbrev pub store_code : List Name → Place → TargetKind → List Instr
 store_code names p (InSlot x) = kept (written_slot x names) ∷ []
 store_code names p (InField field) = i.PutField field p ∷ []
 store_code names p InElement = i.PutElem p ∷ []
 
--- what is known of what a target holds: of a field and of an element nothing
+-- What is known of the value in a target: nothing, if it is a field or an element.
 abbrev pub held_known : TargetKind → Known
 held_known (InSlot x) = known_declared x.declared
 held_known (InField field) = known.Other
 held_known InElement = known.Other
 
--- What a target holds and a right side, by an operator of whose result so much is known, become what it holds. The code of the right side
--- is told from an instruction on, where slots have these names: the index of an element waits in a slot of its own.
+-- A compound assignment: the target's value and the right side become its new value by an operator, of whose result this is known. The
+-- right side's code is given for a position and names of slots, since the index of an element is kept in a temporary slot.
 abbrev pub update_code : List Name → Place → Place → Operation → Known → ValueType → TargetKind → (List Name → ℕ → List Instr) → ℕ
     → List Instr
 update_code names p q name k type (InSlot x) right at =
@@ -76,7 +76,7 @@ update_code names p q name k type InElement right at =
     ∷ (conversion p type k ++ i.Keep (n + 1) ∷ i.Load n ∷ i.Load (n + 1) ∷ i.PutElem p ∷ i.Trim n ∷ []))
 
 module _ (program : NumberedProgram) (this : Option ℕ) where
-  -- the number of the field that `x.f` means
+  -- The number of the field that `x.f` denotes.
   abbrev pub field_in : NumberedExp → ℕ → ℕ
   field_in x name = unwrap_or (option_and_then (field_numbered program name) (class_of_type (type_in_text program this x))) 0
 
@@ -87,7 +87,7 @@ module _ (program : NumberedProgram) (this : Option ℕ) where
   kind_of_target (e.Index q x parts) = InElement
   kind_of_target other = InField 0
 
-  -- the reference and the index of a target
+  -- The reference and the index of a target.
   abbrev pub place_code : List Name → NumberedExp → ℕ → List Instr
   place_code names (e.Variable q x) at = []
   place_code names (e.OwnField q field) at = own (has_this names) ∷ []
@@ -97,11 +97,11 @@ module _ (program : NumberedProgram) (this : Option ℕ) where
       ++ i.MakePt (how_many parts) ∷ [])
   place_code names other at = i.Const (v.Bool false) ∷ []
 
-  -- the name of a compound assignment's operator, whose right operand is such a one
+  -- The operator's name in a compound assignment whose right operand has this kind.
   abbrev pub updating : BinaryOperator → NumberedExp → Kind → Operation
   updating op target right = operation op (kind_of_type (type_in_text program this target)) right
 
-  -- what a right side comes to, of which so much is known, goes to its receiver
+  -- A right side, of whose value this is known, is evaluated and stored.
   abbrev pub into_code : Receiver → Kind → Known → (List Name → ℕ → List Instr) → List Name → ℕ → List Instr
   into_code Nowhere kind k right names at = right names at ++ i.Pop ∷ []
   into_code (Declared p x) kind k right names at =
@@ -114,13 +114,13 @@ module _ (program : NumberedProgram) (this : Option ℕ) where
       (operated_known op (held_known (kind_of_target target)) k) (type_in_text program this target)
       (kind_of_target target) right (behind at (place_code names target at))
 
-  -- A value that is there before its target is evaluated waits in a slot of its own, which is `right` then.
+  -- Spills a value to a temporary slot while its target is evaluated.
   abbrev pub waiting_code : Receiver → Kind → Known → List Name → ℕ → List Instr
   waiting_code r kind k names at =
       i.Keep (length names)
       ∷ (into_code r kind k (λ ns from. i.Load (length names) ∷ []) (Hidden ∷ names) (at + 1) ++ i.Trim (length names) ∷ [])
 
-  -- a value that a call, a `new` or a collective gave goes to its receiver
+  -- Stores the value of a call, a `new` or a collective, which is on top already.
   abbrev pub late_code : Receiver → Kind → Known → List Name → ℕ → List Instr
   late_code Nowhere kind k names at = i.Pop ∷ []
   late_code (Declared p x) kind k names at = conversion p (declared_type x.declared) k ++ i.Keep (length names) ∷ []

@@ -1,4 +1,4 @@
-// The code of a method as far as it is written.
+// The state of the generator for one method: two passes over its body, of which the second knows the targets of all forward jumps.
 
 ghost use Rattle.std.specs.Prelude.{◌≡◌, ◌+◌, ◌^◌, ◌≤◌, OnOk, IfOk, IfErr};
 ghost use Rattle.ti_lang.specs.Program.Views.{program_of};
@@ -14,7 +14,8 @@ use ti_lang::program::Parts;
 use ti_lang::typing::Seen;
 use ti_lower_expr::{Site, Slots, add, number_behind};
 
-/// Whose code is written: that of a method of a program with this class and this result, of whose forward jumps these targets are known.
+/// The context of a method's body: the program, the class of `this`, if there is one, the type of its result, and the targets of its
+/// forward jumps as far as the first pass has found them (none in that pass).
 #[derive(Clone, Copy)]
 pub struct Body<'a> {
     pub program: &'a Parts,
@@ -23,18 +24,23 @@ pub struct Body<'a> {
     pub known: &'a [u32],
 }
 
-/// Where the jumps of the innermost loop lead.
+/// The jump targets of the innermost loop, and what a jump leaves on the frame.
 #[derive(Clone, Copy)]
 pub struct Labels {
+    /// The target of continue.
     pub again: u32,
+    /// How many slots continue keeps.
     pub kept: u32,
+    /// The target of break.
     pub exit: u32,
+    /// How many slots break keeps.
     pub left: u32,
+    /// The loop is a foreach: its domain is on the operand stack and is popped at break.
     pub walks: bool,
 }
 
-/// The code of a method as far as it is written: what its slots are for, the instructions, and the targets of the forward jumps of its
-/// statements, in the order of the text, each once it is reached.
+/// The code of a method as far as it is generated: its slots, its instructions, and the targets of the forward jumps of its statements in
+/// source order. A target is 0 until it is reached.
 #[derive(Drop)]
 pub struct Written<'p> {
     pub slots: Slots<'p>,
@@ -42,7 +48,7 @@ pub struct Written<'p> {
     pub targets: Vec<u32>,
 }
 
-/// Where the next instruction is written.
+/// The context in which the next instruction is generated.
 pub fn position<'s, 'p>(b: &Body<'p>, slots: &'s Slots<'p>) -> Position<'s, 'p>
     ensures { where_of result ≡ record { program = program_of b.now.program.now; this = b.now.this; names = names_in slots.now } }
 {
@@ -57,7 +63,7 @@ pub fn position<'s, 'p>(b: &Body<'p>, slots: &'s Slots<'p>) -> Position<'s, 'p>
 }
 
 impl<'p> Written<'p> {
-    /// One more target, which isn't reached yet.
+    /// Reserves an entry for a target that isn't reached yet.
     pub fn reserve(&mut self) -> Result<(), Memory>
         ensures { OnOk result (written_of self.new ≡ on.reserved (written_of self.old)) }
     {
@@ -65,7 +71,7 @@ impl<'p> Written<'p> {
         Ok(())
     }
 
-    /// The target of this number is the next instruction.
+    /// Sets target `k` to the position of the next instruction.
     pub fn land(&mut self, k: usize) -> Result<(), Memory>
         ensures { OnOk result (written_of self.new ≡ on.landed k (written_of self.old)) }
     {
@@ -76,14 +82,14 @@ impl<'p> Written<'p> {
         Ok(())
     }
 
-    /// Keeps so many slots.
+    /// Keeps the `n` oldest slots.
     pub fn cut(&mut self, n: usize)
         ensures { written_of self.new ≡ on.cut n (written_of self.old) }
     {
         self.slots.cut(n);
     }
 
-    /// The same, and the code says so.
+    /// Keeps the `n` oldest slots, and emits the instruction for it.
     pub fn trim(&mut self, n: usize) -> Result<(), Memory>
         ensures { OnOk result (written_of self.new ≡ on.trimming n (written_of self.old)) }
     {
@@ -91,7 +97,7 @@ impl<'p> Written<'p> {
         add(Instr::Trim(number_behind(n, 0)?), &mut self.code)
     }
 
-    /// What was written behind a jump leaves so many slots, and the jump's target, of this number, is reached.
+    /// Ends what a jump jumps over: keeps the `n` oldest slots and sets target `k` to the position of the next instruction.
     pub fn close(&mut self, k: usize, n: usize) -> Result<(), Memory>
         ensures { OnOk result (written_of self.new ≡ on.closed k n (written_of self.old)) }
     {
@@ -100,14 +106,14 @@ impl<'p> Written<'p> {
     }
 }
 
-/// The target of a number, where it is known.
+/// Target `k`, or 0 if it isn't known yet.
 pub fn target(b: &Body, k: usize) -> u32
     ensures { result ≡ target_in b.now k }
 {
     if k < b.known.len() { b.known[k] } else { 0 }
 }
 
-/// The number of a target so far behind another; out of memory exactly where that doesn't fit.
+/// The sum; out of memory iff it doesn't fit.
 pub fn later(k: usize, more: usize) -> Result<usize, Memory>
     ensures value { IfOk result (λ n. n ≡ k + more) }
     ensures large { IfErr result (λ _. 2 ^ 64 ≤ k + more) }

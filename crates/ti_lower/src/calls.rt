@@ -1,4 +1,4 @@
-// Calls of declared methods.
+// Calls of declared methods: the object, the arguments, and the call instruction.
 
 ghost use Rattle.std.specs.Prelude.{◌≡◌, ◌==◌, ◌&&◌, Some, OnOk, IfOk, length, map};
 ghost use Rattle.std.specs.List.{position_or_len};
@@ -39,7 +39,7 @@ pub struct CallSite<'a> {
 
 // ---- which call
 
-/// The call that an expression is, given the method that it calls.
+/// The call that an expression is, given the method that it calls; `None` if it isn't a call.
 #[tactic(auto, using(ti_lang::proofs::Lemmas::program_bridges))]
 fn call_in<'a>(x: &'a Expr, method: &'a Method) -> Option<CallSite<'a>>
     ensures { option_map call_of result ≡ call_by (expression_of x.now) (Some (numbered_method_of method.now)) }
@@ -80,7 +80,7 @@ fn call_in<'a>(x: &'a Expr, method: &'a Method) -> Option<CallSite<'a>>
     }
 }
 
-/// The call that an expression is, if it is one.
+/// The call that an expression is, if it calls a declared method.
 pub fn call_at<'a>(program: &'a Parts, this: Option<u32>, x: &'a Expr) -> Option<CallSite<'a>>
     ensures { option_map call_of result ≡ call_by (expression_of x.now)
         (called_method_spec (program_of program.now) this (expression_of x.now)) }
@@ -91,13 +91,14 @@ pub fn call_at<'a>(program: &'a Parts, this: Option<u32>, x: &'a Expr) -> Option
     }
 }
 
+// For the prover: the number of methods.
 fn how_many(methods: &[Method]) -> usize
     ensures { result ≡ length methods.now }
 {
     methods.len()
 }
 
-// The number of the first method of a class and a name, or how many there are.
+// The number of the first method of a class and a name, or the number of methods if no method has them.
 fn position_of(program: &Parts, class: u32, name: u32) -> usize
     ensures { result ≡ position_or_len (λ (m : NumberedMethod). (m.class == class) && (m.name == name)) (program_of program.now).methods }
 {
@@ -107,7 +108,7 @@ fn position_of(program: &Parts, class: u32, name: u32) -> usize
     }
 }
 
-/// The number of the method that an expression calls; of another expression it means nothing.
+/// The number of the method that an expression calls; of no meaning if it isn't a call.
 pub fn number_called(program: &Parts, this: Option<u32>, x: &Expr) -> Result<u32, Memory>
     ensures { IfOk result (λ n. n ≡ number_spec (program_of program.now) this (expression_of x.now)) }
 {
@@ -137,7 +138,7 @@ pub fn number_called(program: &Parts, this: Option<u32>, x: &Expr) -> Result<u32
 
 // ---- its code
 
-// An argument, made one of its parameter's type.
+// Generates an argument, converted to its parameter's type.
 fn arg(p: &Position, param: &Param, x: &Expr, out: &mut Vec<Instr>) -> Result<(), Memory>
     ensures { OnOk result (out.new.items ≡ arg_on (where_of p.now) (numbered_param_of param.now).ty.type
         (expression_of x.now) out.old.items) }
@@ -147,7 +148,7 @@ fn arg(p: &Position, param: &Param, x: &Expr, out: &mut Vec<Instr>) -> Result<()
     add_conversion(x.place(), Seen::of(&param.ty.ty, false), known, out)
 }
 
-// Arguments for parameters, in order.
+// Generates arguments for parameters, in order.
 fn args_for(p: &Position, params: &[Param], xs: &[Expr], out: &mut Vec<Instr>) -> Result<(), Memory>
     ensures { OnOk result (out.new.items ≡ args_on (where_of p.now) (parameters_from 0 (map numbered_param_of params.now))
         (numbered_exps (map expression_of xs.now)) out.old.items) }
@@ -160,7 +161,7 @@ fn args_for(p: &Position, params: &[Param], xs: &[Expr], out: &mut Vec<Instr>) -
     Ok(())
 }
 
-// The arguments of a call.
+// Generates the arguments of a call.
 fn args(p: &Position, c: &CallSite, out: &mut Vec<Instr>) -> Result<(), Memory>
     ensures { OnOk result (out.new.items ≡ args_on (where_of p.now) (parameters_of (call_of c.now).method.params)
         (call_of c.now).args out.old.items) }
@@ -171,7 +172,7 @@ fn args(p: &Position, c: &CallSite, out: &mut Vec<Instr>) -> Result<(), Memory>
     }
 }
 
-// The object of a call.
+// Generates the object of a call, if it has one.
 #[tactic(auto, using(crate::proofs::Hiding::hidden_slots))]
 fn add_object(
     p: &Position,
@@ -188,7 +189,7 @@ fn add_object(
     }
 }
 
-/// The object, the arguments, and the call of the method of a number.
+/// Generates the object, the arguments, and the call of method `number`.
 pub fn call(p: &Position, number: u32, c: &CallSite, out: &mut Vec<Instr>) -> Result<(), Memory>
     ensures { OnOk result (out.new.items ≡ call_on (where_of p.now) number (call_of c.now) out.old.items) }
 {

@@ -1,4 +1,4 @@
-// Expressions that stand alone: copies, exchanges, deletes, calls, and others whose value is dropped.
+// Expression statements: copies, exchanges, deletes, calls, and others whose value is dropped.
 
 ghost use Rattle.std.specs.Prelude.{◌≡◌, ◌++◌, ◌∷◌, [], OnOk, map};
 ghost use Rattle.ti_base.specs.declared.action.CollKind.TheVariants as coll;
@@ -24,7 +24,7 @@ use ti_lower_expr::{add, add_pops, number_behind};
 
 // ---- copies and exchanges
 
-// The first of so many operands alone; where there is none, nothing.
+// Keeps the first of `n` operands only; without operands it pushes `false`.
 fn add_first(n: usize, out: &mut Vec<Instr>) -> Result<(), Memory>
     ensures { OnOk result (out.new.items ≡ out.old.items ++ first_code n) }
 {
@@ -35,7 +35,7 @@ fn add_first(n: usize, out: &mut Vec<Instr>) -> Result<(), Memory>
     }
 }
 
-// The receiver of a member form, and the first of its arguments on it.
+// Generates the receiver of a member call, and above it the first of its arguments.
 #[tactic(auto, using(ti_lang::proofs::Lemmas::many_arguments))]
 fn both(p: &Position, x: &Expr, args: &[Expr], out: &mut Vec<Instr>) -> Result<(), Memory>
     ensures { OnOk result (out.new.items ≡ on.both_on (where_of p.now) (expression_of x.now)
@@ -46,7 +46,8 @@ fn both(p: &Position, x: &Expr, args: &[Expr], out: &mut Vec<Instr>) -> Result<(
     add_first(args.len(), out)
 }
 
-// Both grids of a copy wait in slots, since both are needed before the domain of either is asked; the one that is read is tested first.
+// Keeps both grids of a copy in slots, since both are needed before the domain of either is requested; the one that is read is tested for
+// null first. Pushes the intersection of their domains.
 fn grids(place: Place, n: usize, out: &mut Vec<Instr>) -> Result<(), Memory>
     ensures { OnOk result (out.new.items ≡ on.grids_on place n out.old.items) }
 {
@@ -73,7 +74,7 @@ fn grids(place: Place, n: usize, out: &mut Vec<Instr>) -> Result<(), Memory>
     Ok(())
 }
 
-// Over the points of the domain on top, elements are copied.
+// Generates the loop that copies the elements at the points of the domain on top.
 fn copied(place: Place, n: usize, out: &mut Vec<Instr>) -> Result<(), Memory>
     ensures { OnOk result (out.new.items ≡ on.elements_on place n (copied_code place n) out.old.items) }
 {
@@ -97,7 +98,7 @@ fn copied(place: Place, n: usize, out: &mut Vec<Instr>) -> Result<(), Memory>
     Ok(())
 }
 
-// Over the points of the domain on top, what each process handed in is taken.
+// Generates the loop that takes, at the points of the domain on top, what each process contributed.
 fn taken(place: Place, n: usize, out: &mut Vec<Instr>) -> Result<(), Memory>
     ensures { OnOk result (out.new.items ≡ on.elements_on place n (taken_code place n) out.old.items) }
 {
@@ -137,7 +138,7 @@ fn copy(
     copied(place, n, out)
 }
 
-// A value becomes one that an element of the type may hold.
+// Converts the top operand to this element type.
 fn add_as_element(ty: &Ty, out: &mut Vec<Instr>) -> Result<(), Memory>
     ensures { OnOk result (out.new.items ≡ out.old.items ++ as_element (value_type_of ty.now)) }
 {
@@ -154,7 +155,7 @@ fn add_as_element(ty: &Ty, out: &mut Vec<Instr>) -> Result<(), Memory>
     }
 }
 
-// The same of an element of a grid.
+// Converts the top operand to the element type of a grid.
 fn as_element_in(grid: Seen, out: &mut Vec<Instr>) -> Result<(), Memory>
     ensures { OnOk result (out.new.items ≡ out.old.items ++ as_element (element_of (seen grid.entry))) }
 {
@@ -169,7 +170,7 @@ fn as_element_in(grid: Seen, out: &mut Vec<Instr>) -> Result<(), Memory>
     }
 }
 
-// The value and the grid of an exchange wait in slots; the domain of the grid is that of the team, and is walked over.
+// Keeps the value and the grid of an exchange in slots, checks that the grid's domain is that of the processes, and exchanges.
 fn team(place: Place, n: usize, out: &mut Vec<Instr>) -> Result<(), Memory>
     ensures { OnOk result (out.new.items ≡ out.old.items ++ team_code place n) }
 {
@@ -221,7 +222,7 @@ fn delete(p: &Position, place: Place, x: &Expr, out: &mut Vec<Instr>) -> Result<
     Ok(())
 }
 
-// An expression whose value is dropped.
+// Generates an expression whose value is dropped.
 fn dropped(p: &Position, x: &Expr, out: &mut Vec<Instr>) -> Result<(), Memory>
     ensures { OnOk result (out.new.items ≡ on.value_on (where_of p.now) (expression_of x.now) out.old.items ++ i.Pop ∷ []) }
 {
@@ -229,7 +230,7 @@ fn dropped(p: &Position, x: &Expr, out: &mut Vec<Instr>) -> Result<(), Memory>
     add(Instr::Pop, out)
 }
 
-// A member form, which three members have of their own.
+// Generates a member call; copy, exchange and delete have code of their own.
 fn form(
     p: &Position,
     member: Option<BuiltIn>,
@@ -250,7 +251,7 @@ fn form(
     }
 }
 
-// An expression that is no call of a declared method.
+// Generates an expression statement that calls no declared method.
 #[tactic(auto, using(ti_lang::proofs::Lemmas::program_bridges))]
 fn other(p: &Position, x: &Expr, out: &mut Vec<Instr>) -> Result<(), Memory>
     ensures { OnOk result (out.new.items ≡ on.other_on (where_of p.now) (expression_of x.now) out.old.items) }
@@ -269,7 +270,7 @@ fn other(p: &Position, x: &Expr, out: &mut Vec<Instr>) -> Result<(), Memory>
     }
 }
 
-// A method gives nothing back.
+// Whether the method returns no value.
 fn gives_nothing(c: &CallSite) -> bool
     ensures { result ≡ nothing_in (call_of c.now) }
 {
@@ -282,7 +283,7 @@ fn gives_nothing(c: &CallSite) -> bool
     }
 }
 
-/// An expression that stands alone; the value of a call is dropped, where there is one.
+/// Generates an expression statement. The value of a call is dropped, if there is one.
 pub fn alone(p: &Position, x: &Expr, out: &mut Vec<Instr>) -> Result<(), Memory>
     ensures { OnOk result (out.new.items ≡ on.stands_on (where_of p.now) (expression_of x.now) out.old.items) }
 {

@@ -1,4 +1,4 @@
-// Right sides of declarations and assignments.
+// The right sides of declarations and assignments, each with the store of its value.
 
 ghost use Rattle.std.specs.Prelude.{◌≡◌, OnOk, map};
 ghost use Rattle.ti_syntax.specs.Trees.Views.{maybe_of};
@@ -18,7 +18,7 @@ use ti_lang::program::{Dims, Expr, Init};
 use ti_lang::typing::zero_of_type;
 use ti_lower_expr::{Kind, Known, add, kind_in, known_of, number_behind};
 
-/// A call, and the way of what it gives; or the way of another value.
+/// Generates an expression and the store of its value. A call comes before its target is evaluated, another expression after it.
 pub fn valued(
     p: &Position,
     receiver: Receiver,
@@ -42,7 +42,7 @@ pub fn valued(
     }
 }
 
-// The region in which a thing is placed; 0 is none.
+// Pushes the region in which an object or a grid is placed; 0 if none is given.
 fn region(p: &Position, region: &Option<Expr>, out: &mut Vec<Instr>) -> Result<(), Memory>
     ensures { OnOk result (out.new.items ≡ region_on (where_of p.now) (maybe_of expression_of region.now) out.old.items) }
 {
@@ -52,7 +52,7 @@ fn region(p: &Position, region: &Option<Expr>, out: &mut Vec<Instr>) -> Result<(
     }
 }
 
-// The domain that a grid spreads over.
+// Pushes the domain of a new grid.
 fn spread(p: &Position, bracket: Place, dims: &Dims, out: &mut Vec<Instr>) -> Result<(), Memory>
     ensures { OnOk result (out.new.items ≡ spread_on (where_of p.now) bracket (extent_of dims.now) out.old.items) }
 {
@@ -62,7 +62,8 @@ fn spread(p: &Position, bracket: Place, dims: &Dims, out: &mut Vec<Instr>) -> Re
     }
 }
 
-// What the root of a broadcast hands in, behind the root's number; no other process evaluates it.
+// Generates a broadcast after the root's number: the root evaluates its contribution, the other processes push `false`; all arrive and
+// leave.
 fn root(p: &Position, place: Place, x: &Expr, out: &mut Vec<Instr>) -> Result<(), Memory>
     ensures { OnOk result (out.new.items ≡ root_on (where_of p.now) place (expression_of x.now) out.old.items) }
 {
@@ -89,7 +90,7 @@ fn root(p: &Position, place: Place, x: &Expr, out: &mut Vec<Instr>) -> Result<()
     Ok(())
 }
 
-/// A right side, whose value goes to its receiver.
+/// Generates a right side and the store of its value.
 pub fn init(
     p: &Position,
     receiver: Receiver,

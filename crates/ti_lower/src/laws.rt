@@ -1,4 +1,4 @@
-// What is so of the code of each checked program.
+// The theorem that the code of every checked program is correct.
 
 ghost use Rattle.ti_lang.specs.Program.Views.{program_of};
 ghost use Rattle.ti_code.specs.Follows.{Follows};
@@ -6,8 +6,8 @@ ghost use Rattle.ti_lower.specs.Programs.{program_code};
 
 use ti_rules::Checked;
 
-/// The code of a checked program follows it: for each number of processes, all ticks, each process and all answers that fit, it has next
-/// the action, the fault or the end that the program has, at the same place.
+/// The code of a checked program follows it: for each number of processes, each amount of fuel, each process and all answers that fit, it
+/// has next the same action, fault or end as the program, at the same place.
 pub fn code_follows(c: &Checked)
     ensures { Follows (program_code (program_of c.now.program.parts)) (program_of c.now.program.parts) }
 {}

@@ -1,4 +1,4 @@
-//! The code of a checked program, and that it follows the program.
+//! Compiles a checked program to bytecode, with the proof that the code follows the program.
 #![tactic(auto)]
 
 mod body;

@@ -1,4 +1,4 @@
-// The code of methods and programs.
+// The code of methods and programs. A method's body is generated in two passes if it has forward jumps.
 
 ghost use Rattle.std.specs.Prelude.{◌≡◌, ◌≤◌, OnOk, IfOk, [], None, map, length};
 ghost use Rattle.std.specs.Option.{option_map};
@@ -27,7 +27,7 @@ use ti_rules::Checked;
 
 // ---- frames
 
-// The class of `this`, where a method has one.
+// The class of `this`, if the method has one.
 fn this_of(m: &Method) -> Option<u32>
     ensures { result ≡ this_spec (numbered_method_of m.now) }
 {
@@ -38,7 +38,7 @@ fn this_of(m: &Method) -> Option<u32>
     }
 }
 
-// The type of what a method gives back.
+// The type of a method's result.
 fn result_of(m: &Method) -> Seen
     ensures { seen result ≡ result_type (numbered_method_of m.now) }
 {
@@ -48,7 +48,7 @@ fn result_of(m: &Method) -> Seen
     }
 }
 
-// Slots for parameters.
+// Adds the slots of parameters.
 fn push_params<'p>(params: &'p [Param], slots: &mut Slots<'p>) -> Result<(), Memory>
     ensures { OnOk result (names_in slots.new ≡ frame.param_names (parameters_from 0 (map numbered_param_of params.now))
         (names_in slots.old)) }
@@ -64,7 +64,7 @@ fn push_params<'p>(params: &'p [Param], slots: &mut Slots<'p>) -> Result<(), Mem
     Ok(())
 }
 
-// The slots of `this`.
+// The slot of `this`, if there is one.
 fn this_slots<'p>(alloc: Global, this: Option<u32>) -> Result<Slots<'p>, Memory>
     ensures { IfOk result (λ slots. names_in slots ≡ frame.this_names this) }
 {
@@ -76,7 +76,7 @@ fn this_slots<'p>(alloc: Global, this: Option<u32>) -> Result<Slots<'p>, Memory>
     Ok(slots)
 }
 
-// The slots of a frame at its begin.
+// The slots of a frame when it begins.
 fn first_slots<'p>(alloc: Global, m: &'p Method) -> Result<Slots<'p>, Memory>
     ensures { IfOk result (λ slots. names_in slots ≡ frame.names_of (numbered_method_of m.now)) }
 {
@@ -90,7 +90,7 @@ fn first_slots<'p>(alloc: Global, m: &'p Method) -> Result<Slots<'p>, Memory>
 
 // ---- methods
 
-// The code of a method's body, of whose forward jumps these targets are known.
+// One pass over a method's body, given the targets of its forward jumps as far as they are known.
 fn write<'p>(
     alloc: Global,
     program: &'p Parts,
@@ -114,7 +114,8 @@ fn write<'p>(
     Ok(w)
 }
 
-// The same with all targets known. What has no forward jumps is the same whatever is known.
+// Two passes: the first finds the targets of forward jumps (the length of code doesn't depend on them), the second emits with them. A
+// method without forward jumps needs only one.
 fn write_known(alloc: Global, program: &Parts, m: &Method) -> Result<Vec<Instr>, Memory>
     ensures { IfOk result (λ code. code.items ≡ (body_on (program_of program.now) (numbered_method_of m.now)
         (body_on (program_of program.now) (numbered_method_of m.now) []).targets).code) }
@@ -128,7 +129,7 @@ fn write_known(alloc: Global, program: &Parts, m: &Method) -> Result<Vec<Instr>,
     Ok(write(alloc, program, m, &targets)?.code)
 }
 
-// The same with a return at its end.
+// The instructions of a method, with a return at the end.
 fn write_all(alloc: Global, program: &Parts, m: &Method) -> Result<Vec<Instr>, Memory>
     ensures { IfOk result (λ code. code.items ≡ laid.body_code (program_of program.now) (numbered_method_of m.now)) }
 {
@@ -137,7 +138,7 @@ fn write_all(alloc: Global, program: &Parts, m: &Method) -> Result<Vec<Instr>, M
     Ok(code)
 }
 
-// An instruction where to return is the end.
+// An instruction of `main`, in which a return ends the run.
 fn main_instr(instr: Instr, end: Place) -> Instr
     ensures { result ≡ laid.in_main end instr }
 {
@@ -147,7 +148,7 @@ fn main_instr(instr: Instr, end: Place) -> Instr
     }
 }
 
-// Makes each return the end.
+// Makes each return the end of the run.
 fn end_run(instrs: &mut [Instr], end: Place)
     ensures { instrs.new ≡ map (laid.in_main end) instrs.old }
 {
@@ -156,7 +157,7 @@ fn end_run(instrs: &mut [Instr], end: Place)
     }
 }
 
-// The instructions of a method, where its end is that of the run or where it returns.
+// The instructions of a method; of `main`, if the place of the run's end is given.
 fn instrs_of(
     alloc: Global,
     program: &Parts,
@@ -193,7 +194,7 @@ fn is_instance(this: Option<u32>) -> bool
     }
 }
 
-// The code of a method.
+// The code of a method; of `main`, if the place of the run's end is given.
 fn method_code(
     alloc: Global,
     program: &Parts,
@@ -212,7 +213,7 @@ fn method_code(
 
 // ---- programs
 
-// Where the run ends, in `main`.
+// The place at which the run ends, if the method is `main`.
 fn end_in(is_main: bool, m: &Method) -> Option<Place>
     ensures { result ≡ laid.end_in is_main (numbered_method_of m.now) }
 {
@@ -235,8 +236,8 @@ fn methods_code(
     Ok(found)
 }
 
-/// The code of a checked program. It follows the program: for each number of processes, all ticks, each process and all answers that fit,
-/// it has next the action, the fault or the end that the program has, at the same place. Want of memory is the one other answer.
+/// Compiles a checked program. The code follows the program: for each number of processes, each amount of fuel, each process and all
+/// answers that fit, it has next the same action, fault or end as the program, at the same place. The only error is out of memory.
 pub fn lower(alloc: Global, c: &Checked) -> Result<Code, Memory>
     ensures code { IfOk result (λ code. code ≡ laid.program_code (program_of c.now.program.parts)) }
     ensures follows { IfOk result (λ code. Follows code (program_of c.now.program.parts)) }

@@ -1,4 +1,5 @@
-// The way of a value to where it is wanted.
+// Stores: the code that takes a value to where it is needed. The target's reference and index are evaluated before the value, as the
+// language says, except for a value of a call, a `new` or a collective, which comes first.
 
 ghost use Rattle.std.specs.Prelude.{◌≡◌, OnOk, IfOk};
 ghost use Rattle.ti_lang.specs.Program.Views.{variable_of, type_use_of};
@@ -19,7 +20,8 @@ use ti_lang::tree::BinaryOperator;
 use ti_lang::typing::{Seen, type_in_text};
 use ti_lower_expr::{Kind, Known, add, add_conversion, kind_of_seen, known_operated, operation_of};
 
-/// Where a value goes: nowhere, into a new variable, or into what an assignment names, there perhaps by an operator.
+/// What becomes of a value: it is dropped, initializes a new variable, or is written to the target of an assignment, perhaps by an
+/// operator.
 #[derive(Clone, Copy)]
 pub enum Receiver<'a> {
     Nowhere,
@@ -41,17 +43,21 @@ pub enum Receiver<'a> {
 
 // ---- compound assignments
 
-/// What a compound assignment does: the operator at its place, and the type and the place of its target.
+/// What is known of a compound assignment.
 #[derive(Clone, Copy)]
 struct Updating<'a> {
+    /// The place of the assignment.
     place: Place,
+    /// The place of the target, at which its old value is read.
     read: Place,
     operation: Operation,
+    /// What is known of the operator's result.
     known: Known,
+    /// The type of the target.
     ty: Seen<'a>,
 }
 
-// A right side, and the operator.
+// Generates a right side, and the operator.
 fn operated(p: &Position, u: &Updating, right: Right, out: &mut Vec<Instr>) -> Result<(), Memory>
     ensures { OnOk result (out.new.items ≡ operated_on (where_of p.now) u.now.place u.now.operation (source_of right.entry) out.old.items) }
 {
@@ -59,7 +65,7 @@ fn operated(p: &Position, u: &Updating, right: Right, out: &mut Vec<Instr>) -> R
     add(Instr::Operate(u.operation, u.place), out)
 }
 
-// Of a variable.
+// Generates the compound assignment of a variable.
 fn update_slot(
     p: &Position,
     u: &Updating,
@@ -75,7 +81,7 @@ fn update_slot(
     store(p, u.place, u.ty, u.known, Target::Slot(v), out)
 }
 
-// Of a field.
+// Generates the compound assignment of a field.
 fn update_field(
     p: &Position,
     u: &Updating,
@@ -91,7 +97,7 @@ fn update_field(
     store(p, u.place, u.ty, u.known, Target::Field(field), out)
 }
 
-// Of an element: its index waits in a slot.
+// Generates the compound assignment of an element, whose index is kept in a temporary slot.
 fn update_element(
     p: &Position,
     u: &Updating,
@@ -121,7 +127,7 @@ fn update_element(
     Ok(())
 }
 
-// Of what a target writes.
+// Generates the compound assignment of a target whose reference and index are on the stack.
 fn update(
     p: &Position,
     u: &Updating,
@@ -139,7 +145,7 @@ fn update(
     }
 }
 
-// The whole of it.
+// Generates a compound assignment, the target's reference and index included.
 fn updated(
     p: &Position,
     place_of: Place,
@@ -166,9 +172,9 @@ fn updated(
     update(p, &u, written, right, out)
 }
 
-// ---- ways of values
+// ---- stores
 
-// Into a new variable.
+// Stores the top operand in a new variable.
 fn declared(
     p: &Position,
     place: Place,
@@ -182,7 +188,7 @@ fn declared(
     add(Instr::Keep(slot_behind(p, 0)?), out)
 }
 
-// Into what an assignment names.
+// Generates the target's reference and index and a right side, and stores its value.
 fn assigned(
     p: &Position,
     place_of: Place,
@@ -200,7 +206,7 @@ fn assigned(
     store(p, place_of, ty, known, target_of(p, target)?, out)
 }
 
-/// A right side, whose value goes to its receiver: the reference and the index of a target come first.
+/// Generates a right side and the store of its value. The reference and the index of a target come first.
 pub fn into(
     p: &Position,
     receiver: Receiver,
@@ -234,7 +240,7 @@ pub fn into(
     }
 }
 
-// A value that is there before its target is evaluated waits in a slot.
+// Spills a computed value to a temporary slot while the target's reference and index are evaluated.
 fn waiting(
     p: &Position,
     receiver: Receiver,
@@ -257,7 +263,7 @@ fn waiting(
     add(Instr::Trim(n), out)
 }
 
-// The same where the target is a variable: the value goes there at once.
+// Stores a computed value in the target of an assignment; a variable needs no spill.
 fn late_assigned(
     p: &Position,
     place_of: Place,
@@ -288,7 +294,7 @@ fn late_assigned(
     }
 }
 
-/// A value that a call, a `new` or a collective gave goes to its receiver.
+/// Stores the value of a call, a `new` or a collective, which is on top before its target is evaluated.
 pub fn late(
     p: &Position,
     receiver: Receiver,

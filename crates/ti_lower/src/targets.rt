@@ -1,4 +1,4 @@
-// What assignments write.
+// The targets of assignments: the code of their references and indices, and of the store.
 
 ghost use Rattle.std.specs.Prelude.{◌≡◌, ◌∷◌, ◌++◌, [], OnOk, IfOk, map};
 ghost use Rattle.ti_lang.specs.Program.Views.{program_of, expression_of, variable_of};
@@ -20,7 +20,7 @@ use ti_lower_expr::{
     own,
 };
 
-/// What an assignment writes: the slot of a variable, a field, or an element.
+/// The target of an assignment: the slot of a variable, a field by its number, or an element.
 #[derive(Clone, Copy)]
 pub enum Target<'a> {
     Slot(&'a Variable),
@@ -28,7 +28,7 @@ pub enum Target<'a> {
     Element,
 }
 
-// The slot of a variable that is written.
+// The slot of a variable that is written; `None` for the variable of a foreach or one without a slot.
 #[tactic(auto, using(crate::proofs::Hiding::hidden_slots))]
 fn written(p: &Position, v: &Variable) -> Result<Option<u32>, Memory>
     ensures { IfOk result (λ k. k ≡ written_slot (variable_of v.now) (where_of p.now).names) }
@@ -42,7 +42,7 @@ fn written(p: &Position, v: &Variable) -> Result<Option<u32>, Memory>
     }
 }
 
-/// What the slot of a variable that is written holds.
+/// Pushes the value of a variable that is written.
 pub fn loaded(p: &Position, v: &Variable) -> Result<Instr, Memory>
     ensures { IfOk result (λ i. i ≡ loaded_spec (written_slot (variable_of v.now) (where_of p.now).names) (variable_of v.now)) }
 {
@@ -52,7 +52,7 @@ pub fn loaded(p: &Position, v: &Variable) -> Result<Instr, Memory>
     }
 }
 
-/// The value on top goes into the slot of a variable.
+/// Pops the top operand into the slot of a variable; drops it if there is no slot.
 pub fn keep(p: &Position, v: &Variable, out: &mut Vec<Instr>) -> Result<(), Memory>
     ensures { OnOk result (out.new.items ≡ out.old.items ++ kept_spec (written_slot (variable_of v.now) (where_of p.now).names) ∷ []) }
 {
@@ -62,7 +62,7 @@ pub fn keep(p: &Position, v: &Variable, out: &mut Vec<Instr>) -> Result<(), Memo
     }
 }
 
-/// What is known of what a target holds.
+/// What is known of the value in a target.
 pub fn held_known(target: Target) -> Known
     ensures { result ≡ held_spec (target_kind target.entry) }
 {
@@ -73,7 +73,7 @@ pub fn held_known(target: Target) -> Known
     }
 }
 
-/// What a target writes.
+/// The target that an expression denotes.
 pub fn target_of<'a>(p: &Position, target: &'a Expr) -> Result<Target<'a>, Memory>
     ensures { IfOk result (λ t. target_kind t ≡ kind_of_target (where_of p.now).program (where_of p.now).this (expression_of target.now)) }
 {
@@ -97,7 +97,7 @@ pub fn target_of<'a>(p: &Position, target: &'a Expr) -> Result<Target<'a>, Memor
     }
 }
 
-/// The reference and the index of a target.
+/// Generates the reference and the index of a target.
 #[tactic(auto, using(crate::proofs::Hiding::hidden_slots, ti_lang::proofs::Lemmas::program_bridges))]
 pub fn place(p: &Position, target: &Expr, out: &mut Vec<Instr>) -> Result<(), Memory>
     ensures { OnOk result (out.new.items ≡ place_on (where_of p.now) (expression_of target.now) out.old.items) }
@@ -123,7 +123,7 @@ pub fn place(p: &Position, target: &Expr, out: &mut Vec<Instr>) -> Result<(), Me
     }
 }
 
-// The value on top goes there, from above the reference and the index.
+// Stores the top operand; the reference and the index of the target are below it.
 fn add_store(p: &Position, place: Place, target: Target, out: &mut Vec<Instr>) -> Result<(), Memory>
     ensures { OnOk result (out.new.items ≡ out.old.items ++ store_code (where_of p.now).names place (target_kind target.entry)) }
 {
@@ -134,7 +134,7 @@ fn add_store(p: &Position, place: Place, target: Target, out: &mut Vec<Instr>) -
     }
 }
 
-/// The value on top becomes one of the target's type, and goes there.
+/// Converts the top operand to the target's type and stores it.
 pub fn store(
     p: &Position,
     place: Place,

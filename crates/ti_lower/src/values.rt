@@ -1,4 +1,4 @@
-// The code of expressions in statements.
+// The code of expressions in statements, by `lower_expr`.
 
 ghost use Rattle.std.specs.Prelude.{◌≡◌, OnOk, map};
 ghost use Rattle.ti_lang.specs.Program.Expressions.{numbered_exps};
@@ -13,14 +13,14 @@ use ti_code::Instr;
 use ti_lang::program::{Expr, Range};
 use ti_lower_expr::{add, lower_expr, lower_rect};
 
-/// A right side: an expression, or a value that waits in a slot.
+/// A right side: an expression, or a value in a temporary slot.
 #[derive(Clone, Copy)]
 pub enum Right<'a> {
     Value(&'a Expr),
     Waiting(u32),
 }
 
-/// An expression.
+/// Generates an expression.
 #[tactic(auto, using(crate::proofs::Hiding::hidden_slots))]
 pub fn value(p: &Position, x: &Expr, out: &mut Vec<Instr>) -> Result<(), Memory>
     ensures { OnOk result (out.new.items ≡ value_on (where_of p.now) (expression_of x.now) out.old.items) }
@@ -28,7 +28,7 @@ pub fn value(p: &Position, x: &Expr, out: &mut Vec<Instr>) -> Result<(), Memory>
     lower_expr(&p.site, x, out)
 }
 
-/// The rectangular domain of ranges.
+/// Generates the rectangular domain of ranges.
 #[tactic(auto, using(crate::proofs::Hiding::hidden_slots))]
 pub fn rect(
     p: &Position,
@@ -41,7 +41,7 @@ pub fn rect(
     lower_rect(&p.site, place, ranges, out)
 }
 
-/// Expressions, in order.
+/// Generates expressions, in order.
 pub fn values(p: &Position, xs: &[Expr], out: &mut Vec<Instr>) -> Result<(), Memory>
     ensures { OnOk result (out.new.items ≡ values_on (where_of p.now) (numbered_exps (map expression_of xs.now)) out.old.items) }
 {
@@ -51,7 +51,7 @@ pub fn values(p: &Position, xs: &[Expr], out: &mut Vec<Instr>) -> Result<(), Mem
     Ok(())
 }
 
-/// A right side.
+/// Generates a right side.
 pub fn source(p: &Position, right: Right, out: &mut Vec<Instr>) -> Result<(), Memory>
     ensures { OnOk result (out.new.items ≡ source_on (where_of p.now) (source_of right.entry) out.old.items) }
 {

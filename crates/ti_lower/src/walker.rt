@@ -1,4 +1,4 @@
-// The code of statements.
+// The code of statements, by recursion over them. The target of a forward jump is reserved, and set when the code after it is reached.
 
 ghost use Rattle.std.specs.Prelude.{◌≡◌, ◌∷◌, ◌++◌, ◌+◌, [], OnOk, IfOk, Some, length, map, pos};
 ghost use Rattle.std.specs.Option.{option_map};
@@ -34,9 +34,9 @@ use ti_lang::tree::{BinaryOperator, StepOperator};
 use ti_lang::typing::Seen;
 use ti_lower_expr::{SlotName, Slots, add, add_conversion, counted, known_of, number_behind};
 
-// ---- what stands in one statement
+// ---- simple statements
 
-// What `++` and `--` do with 1.
+// The operator that `++` or `--` applies to the target and 1.
 fn one_more(operator: StepOperator) -> BinaryOperator
     ensures { result ≡ one_more_spec operator }
 {
@@ -65,7 +65,7 @@ fn step(
     valued(p, receiver, &Expr::Int(place, 1), out)
 }
 
-// A print.
+// Generates a print. It prints a string literal and a value, each if there is one.
 fn print(p: &Position, place: Place, what: &Printed, out: &mut Vec<Instr>) -> Result<(), Memory>
     ensures { OnOk result (out.new.items ≡ print_on (where_of p.now) place (printed_of what.now) out.old.items) }
 {
@@ -83,7 +83,7 @@ fn print(p: &Position, place: Place, what: &Printed, out: &mut Vec<Instr>) -> Re
     }
 }
 
-// A barrier.
+// Generates a barrier: an arrival and a departure.
 fn barrier(place: Place, out: &mut Vec<Instr>) -> Result<(), Memory>
     ensures { OnOk result (out.new.items ≡ out.old.items ++ i.Arrive coll.Barrier place ∷ i.Depart place ∷ []) }
 {
@@ -91,7 +91,7 @@ fn barrier(place: Place, out: &mut Vec<Instr>) -> Result<(), Memory>
     add(Instr::Depart(place), out)
 }
 
-// In no loop a jump leads to the next instruction.
+// A break or continue outside loops leads to the next instruction.
 fn leave(slots: &Slots, out: &mut Vec<Instr>) -> Result<(), Memory>
     ensures { OnOk result (out.new.items ≡ out.old.items ++ i.Trim (length (names_in slots.now)) ∷ i.Jump (length out.old.items + 1 + 1)
         ∷ []) }
@@ -101,7 +101,7 @@ fn leave(slots: &Slots, out: &mut Vec<Instr>) -> Result<(), Memory>
     add(Instr::Jump(next), out)
 }
 
-// Out of the innermost loop.
+// Generates a break.
 fn break_out(l: Option<Labels>, slots: &Slots, out: &mut Vec<Instr>) -> Result<(), Memory>
     ensures { OnOk result (out.new.items ≡ out.old.items ++ break_code (option_map labels_of l) (names_in slots.now)
         (length out.old.items)) }
@@ -118,7 +118,7 @@ fn break_out(l: Option<Labels>, slots: &Slots, out: &mut Vec<Instr>) -> Result<(
     }
 }
 
-// On to the next turn of the innermost loop.
+// Generates a continue.
 fn go_on(l: Option<Labels>, slots: &Slots, out: &mut Vec<Instr>) -> Result<(), Memory>
     ensures { OnOk result (out.new.items ≡ out.old.items ++ continue_code (option_map labels_of l) (names_in slots.now)
         (length out.old.items)) }
@@ -132,7 +132,7 @@ fn go_on(l: Option<Labels>, slots: &Slots, out: &mut Vec<Instr>) -> Result<(), M
     }
 }
 
-// A return, with a value of the type or with none.
+// Generates a return. Its value, if there is one, is converted to the method's result type.
 fn returns(
     p: &Position,
     place: Place,
@@ -154,7 +154,7 @@ fn returns(
     }
 }
 
-// The slot of a variable behind its declaration.
+// Adds the slot of a declared variable.
 fn declare<'p>(ty: &'p TypeUse, variable: u32, slots: &mut Slots<'p>) -> Result<(), Memory>
     ensures { OnOk result (names_in slots.new ≡ Of (declared_as (type_use_of ty.now) variable) ∷ names_in slots.old) }
 {
@@ -167,7 +167,7 @@ fn declare<'p>(ty: &'p TypeUse, variable: u32, slots: &mut Slots<'p>) -> Result<
 
 // ---- branches
 
-// The condition of an `if`, and the jump where it doesn't hold.
+// Generates the condition of an `if`, and the jump if it doesn't hold.
 fn test<'p>(b: &Body<'p>, c: &'p Expr, w: &mut Written<'p>) -> Result<(), Memory>
     ensures { OnOk result (written_of w.new ≡ on.tested b.now (expression_of c.now) (written_of w.old)) }
 {
@@ -177,7 +177,7 @@ fn test<'p>(b: &Body<'p>, c: &'p Expr, w: &mut Written<'p>) -> Result<(), Memory
     w.reserve()
 }
 
-// Between two branches.
+// Between two branches: the first one jumps over the second, and target `k` is here.
 fn between(b: &Body, k: usize, n: usize, w: &mut Written) -> Result<(), Memory>
     ensures { OnOk result (written_of w.new ≡ on.otherwise b.now k n (written_of w.old)) }
 {
@@ -189,7 +189,7 @@ fn between(b: &Body, k: usize, n: usize, w: &mut Written) -> Result<(), Memory>
 
 // ---- loops
 
-// The body and the update of a loop have labels, whose targets have numbers from this one on.
+// The labels of a loop with `n` slots whose targets are numbered from `k` on.
 fn loop_labels(b: &Body, k: usize, n: usize) -> Result<Labels, Memory>
     ensures { IfOk result (λ l. Some (labels_of l) ≡ on.loop_labels b.now k n) }
 {
@@ -203,7 +203,7 @@ fn loop_labels(b: &Body, k: usize, n: usize) -> Result<Labels, Memory>
     })
 }
 
-// The same of a loop over points.
+// The labels of a foreach with `n` slots whose target is `k`.
 fn walk_labels(b: &Body, k: usize, n: usize) -> Result<Labels, Memory>
     ensures { IfOk result (λ l. Some (labels_of l) ≡ on.walk_labels b.now k n) }
 {
@@ -217,7 +217,7 @@ fn walk_labels(b: &Body, k: usize, n: usize) -> Result<Labels, Memory>
     })
 }
 
-// Before the first turn of a loop.
+// Generates what comes before the body of a loop: the jump to the condition, and the tick of an iteration.
 fn begin_loop(b: &Body, place: Place, w: &mut Written) -> Result<(), Memory>
     ensures { OnOk result (written_of w.new ≡ on.loop_begun b.now place (written_of w.old)) }
 {
@@ -229,7 +229,7 @@ fn begin_loop(b: &Body, place: Place, w: &mut Written) -> Result<(), Memory>
     w.reserve()
 }
 
-// Before the first turn of a loop over points.
+// Generates what comes before the body of a foreach: the jump to the next point, and the tick of an iteration.
 fn begin_walk(b: &Body, place: Place, variable: u32, w: &mut Written) -> Result<(), Memory>
     ensures { OnOk result (written_of w.new ≡ on.walk_begun b.now place variable (written_of w.old)) }
 {
@@ -240,7 +240,7 @@ fn begin_walk(b: &Body, place: Place, variable: u32, w: &mut Written) -> Result<
     w.reserve()
 }
 
-// The condition of a loop; a missing one holds.
+// Generates the condition of a loop; a missing one is true.
 fn condition<'p>(b: &Body<'p>, c: Option<&'p Expr>, w: &mut Written<'p>) -> Result<(), Memory>
     ensures { OnOk result (written_of w.new ≡ coded (written_of w.old)
         (on.condition_in b.now (option_map (λ x. expression_of x.now) c.entry) (written_of w.old))) }
@@ -251,7 +251,7 @@ fn condition<'p>(b: &Body<'p>, c: Option<&'p Expr>, w: &mut Written<'p>) -> Resu
     }
 }
 
-// Behind the body and the update of a loop.
+// Generates what comes after the body and the update of a loop: the condition, and the jump back.
 fn end_loop<'p>(
     b: &Body<'p>,
     k: usize,
@@ -266,7 +266,7 @@ fn end_loop<'p>(
     w.land(later(k, 2)?)
 }
 
-// Behind the body of a loop over points.
+// Generates what comes after the body of a foreach: the next point, the jump back, and the pop of the domain.
 fn end_walk(b: &Body, n: usize, at: usize, w: &mut Written) -> Result<(), Memory>
     ensures { OnOk result (written_of w.new ≡ on.walk_ended b.now n at (written_of w.old)) }
 {
@@ -282,7 +282,7 @@ fn end_walk(b: &Body, n: usize, at: usize, w: &mut Written) -> Result<(), Memory
     Ok(())
 }
 
-// What stands in an option, where it is.
+// The expression in an option, by reference.
 fn there(x: &Option<Expr>) -> Option<&Expr>
     ensures { option_map (λ x. expression_of x.now) result ≡ maybe_of expression_of x.now }
 {
@@ -292,15 +292,18 @@ fn there(x: &Option<Expr>) -> Option<&Expr>
     }
 }
 
-// What a loop began with: how many targets there were, how many slots, and how many instructions.
+// The state of the generator at the beginning of a loop.
 #[derive(Clone, Copy)]
 struct Turns {
+    /// The number of the first target of the loop.
     target: usize,
+    /// How many slots there are.
     slots: usize,
+    /// The position of the loop's first instruction.
     at: usize,
 }
 
-// The turns of a loop, before their update.
+// Generates a loop up to its update.
 #[cycle(statement)]
 fn turn<'p>(
     b: &Body<'p>,
@@ -325,7 +328,7 @@ fn turn<'p>(
     Ok(t)
 }
 
-// Behind the update of a loop: its test, and its end.
+// Generates the rest of a loop after its update.
 fn close_loop<'p>(
     b: &Body<'p>,
     t: &Turns,
@@ -339,7 +342,7 @@ fn close_loop<'p>(
     end_loop(b, t.target, t.at, c, w)
 }
 
-// The same of a `for`, which ends a scope.
+// Generates the rest of a `for` after its update; the scope of its variable ends there.
 fn close_for<'p>(
     b: &Body<'p>,
     t: &Turns,
@@ -354,7 +357,7 @@ fn close_for<'p>(
     w.trim(slots)
 }
 
-// A loop over the points of the domain on top.
+// Generates a foreach after its domain.
 #[cycle(statement)]
 fn walk<'p>(
     b: &Body<'p>,
@@ -378,7 +381,7 @@ fn walk<'p>(
 
 // ---- all statements
 
-/// Statements, in order.
+/// Generates statements, in order.
 #[cycle(statement)]
 pub fn statements<'p>(
     b: &Body<'p>,
@@ -395,7 +398,7 @@ pub fn statements<'p>(
     Ok(())
 }
 
-// A block.
+// Generates a block. Its variables' slots are dropped at its end.
 #[cycle(statement)]
 fn block<'p>(
     b: &Body<'p>,
@@ -411,7 +414,7 @@ fn block<'p>(
     w.trim(n)
 }
 
-// A statement.
+// Generates a statement.
 #[cycle(statement)]
 #[tactic(auto, using(ti_lang::proofs::Lemmas::program_bridges))]
 fn statement<'p>(

@@ -1,4 +1,4 @@
--- What code begins with that is written behind other code.
+-- Proves that code that was generated so far is a prefix of the code after more is appended.
 use Rattle.std.proofs.Common.{◌≡◌, ◌∙◌, ◌⊎◌, inl, inr, sym, ap, subst, ℕ, List, [], ◌∷◌, ◌++◌, length, take, drop, set, append_assoc, Result, Ok, Err, OnErr}
 use Rattle.std.proofs.Math.Seq.{take-append_seam}
 use Rattle.std.proofs.lemmas.List.{append-nil, take-append-drop, take-set}

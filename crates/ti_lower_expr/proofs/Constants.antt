@@ -1,5 +1,4 @@
--- Which constants code has: those that the text tells, and zeros of types. How that is shown of pieces of code, and that it is so of the
--- code of expressions.
+-- Proves that the constants of an expression's code are those of the source and zeros of types, by lemmas on pieces of code.
 use Rattle.std.proofs.Common.{◌≡◌, ◌⊎◌, inl, inr, ℕ, zero, suc, Bool, true, false, if◌then◌else◌, IsTrue, nat_le, List, [], ◌∷◌, ◌++◌, Option, Some, None, refl, sym, subst}
 use Rattle.std.specs.Prelude.{All}
 use Rattle.std.specs.List.{list_all}

@@ -1,4 +1,4 @@
--- The code of an expression does what the expression comes to.
+-- Proves that the code of an expression carries out its evaluation.
 use Rattle.std.proofs.Common.{◌≡◌, ℕ, ℤ, pos, zero, suc, ◌+◌, ◌*◌, Bool, true, false, not, ◌||◌, if◌then◌else◌, slice_get, slice_index_or, List, [], ◌∷◌, ◌++◌, length, Option, Some, None, refl, ap, ap₂, sym, ◌∙◌, subst, arith, ◌⊎◌, inl, inr}
 use Rattle.ti_base.specs.declared.place.Place.{Place}
 use Rattle.ti_base.specs.declared.value.Id.{Id}

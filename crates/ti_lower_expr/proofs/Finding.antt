@@ -1,4 +1,4 @@
--- Slots hold what their names stand for.
+-- Proves that slots hold what their names denote.
 use Rattle.std.proofs.Common.{◌≡◌, ℕ, zero, suc, ◌<◌, ◌==◌, Bool, true, false, if◌then◌else◌, List, [], ◌∷◌, length, Option, Some, None, refl, ap, sym, ◌∙◌, arith}
 use Rattle.ti_base.specs.declared.value.Id.{Id}
 use Rattle.ti_base.specs.declared.value.Value.TheVariants as v

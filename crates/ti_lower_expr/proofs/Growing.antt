@@ -1,4 +1,4 @@
--- Instructions that are added one after the other.
+-- Proves that pops, expressions and ranges that are appended one by one add up to the whole.
 use Rattle.std.proofs.Common.{◌≡◌, ◌∙◌, refl, sym, ap, ℕ, ◌+◌, ◌<◌, suc, List, [], ◌∷◌, ◌++◌, map, drop, length, get_or, drop-cons, add-one, append_assoc, arith}
 use Rattle.ti_lang.specs.declared.program.exprs.Expr.{Expr}
 use Rattle.ti_lang.specs.declared.program.exprs.Range.{Range}

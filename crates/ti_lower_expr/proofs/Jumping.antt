@@ -1,4 +1,4 @@
--- Code keeps the rule on jumps: how that is shown of pieces of code, and that the code of expressions keeps it, which only jumps forward.
+-- Proves that the code of expressions, which only jumps forward, keeps the rule on jumps, by lemmas on pieces of code.
 use Rattle.std.proofs.Common.{◌≡◌, ℕ, zero, suc, ◌+◌, ◌≤◌, Bool, true, false, if◌then◌else◌, IsTrue, nat_le, slice_get, drop, List, [], ◌∷◌, ◌++◌, Option, Some, None, refl, ap, ◌∙◌, arith}
 use Rattle.std.proofs.lemmas.Bool.{false≢true, and_parts, and_from, lt-leb}
 use Rattle.std.proofs.lemmas.List.{drop_more}

@@ -1,4 +1,4 @@
--- What is known of a value is so.
+-- Proves that what is statically known of a value holds.
 use Rattle.std.proofs.Common.{◌≡◌, ℕ, ℤ, pos, ◌-ℤ◌, neg_ℤ, ◌==◌, ◌&&◌, ◌||◌, not, bit_and, bit_or, bit_xor, Bool, true, false, if◌then◌else◌, List, Option, Some, None, refl, sym, subst}
 use Rattle.std.specs.Int.{Width, w32, w64}
 use Rattle.ti_base.specs.declared.place.Place.{Place}

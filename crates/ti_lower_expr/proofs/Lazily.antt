@@ -1,4 +1,4 @@
--- Operators that may leave out their right operand, and those that never do.
+-- Proves that the code of short-circuit operators, and of those that aren't, carries out their evaluation.
 use Rattle.std.proofs.Common.{◌≡◌, ℕ, ◌+◌, Bool, true, false, not, if◌then◌else◌, List, Some, None, refl, ap, sym, ◌∙◌}
 use Rattle.ti_base.specs.declared.place.Place.{Place}
 use Rattle.ti_base.specs.declared.entry.Answer.{Answer}

@@ -1,4 +1,4 @@
--- The lemmas of this crate that other crates may cite; no other module of its proofs is seen outside.
+-- The lemmas of this crate that other crates may cite; no other module of its proofs is visible outside.
 pub use Rattle.ti_lower_expr.proofs.Constants.{AllCome, IsLowered, all_come, both_come, code_comes, conversion_comes, formed_from_comes}
 pub use Rattle.ti_lower_expr.proofs.Constants.{is_simple, loaded_comes, next_comes, own_simple, pops_come, simple_come, then_come}
 pub use Rattle.ti_lower_expr.proofs.Doing.{Alike, behind_both, does_after, does_behind, does_it, does_one, does_then, does_value}

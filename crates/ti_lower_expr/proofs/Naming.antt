@@ -1,4 +1,4 @@
--- The names of slots, the newest first.
+-- Proves that the search in the table of slots finds the newest slot that a variable denotes, and whether there is a `this`.
 use Rattle.std.proofs.Common.{◌≡◌, ◌∙◌, ap, refl, sym, ℕ, ◌+◌, ◌-◌, ◌<◌, ◌≤◌, List, [], ◌∷◌, ◌++◌, take, drop, map, reverse, length, get_or, zero, suc, Bool, true, false, if◌then◌else◌, ◌==◌, ◌&&◌, Option, Some, arith}
 use Rattle.std.proofs.Math.Seq.{take-suc}
 use Rattle.std.proofs.lemmas.List.{reverse-append, length-map, length-reverse, length-take-le, length-drop, take-append-drop, map-append, drop_at, take_all}

@@ -1,4 +1,4 @@
--- A range without a step is one with the step 1.
+-- Proves that a range without a step is one with the step 1.
 use Rattle.std.proofs.Common.{◌≡◌, ℕ, ℤ, pos, zero, suc, ◌≤◌, nat_le, if◌then◌else◌, true, [], ◌∷◌, map, take, refl, ap, ap₂, ◌∙◌, arith}
 use Rattle.ti_base.specs.declared.value.Value.TheVariants as v
 use Rattle.ti_lang.specs.Meaning.Held.{Held, Plain, Dm}

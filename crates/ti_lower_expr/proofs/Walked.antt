@@ -1,4 +1,4 @@
--- What is written behind code is the code of the expression.
+-- Proves that what the generator appends is the code of the expression.
 use Rattle.std.proofs.Common.{◌≡◌, ◌∙◌, refl, sym, ap, ℕ, ◌+◌, Bool, List, [], ◌∷◌, ◌++◌, length, set, append_assoc, arith, Option, unwrap_or, option_and_then}
 use Rattle.std.proofs.Math.Seq.{set-append_seam}
 use Rattle.std.proofs.lemmas.List.{length-append, append-nil}

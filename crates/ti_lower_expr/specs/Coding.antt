@@ -36,22 +36,22 @@ use Rattle.ti_lower_expr.specs.declared.kinds.Laziness.TheVariants.{Never, Where
 use Rattle.ti_lower_expr.specs.Knowing.{known_of}
 use Rattle.ti_lower_expr.specs.Slots.{Name, find_slot, has_this}
 
--- a value that the text tells
+-- Pushes a constant.
 abbrev pub constant : Held → Instr
 constant (Plain value) = i.Const value
 constant (Dm dim points) = i.EmptyDom dim
 
--- the value of a variable: what its slot holds, or the zero of its type where it has none
+-- Pushes the value of a variable: that of its slot, or the zero of its type if it has no slot.
 abbrev pub loaded : Option ℕ → VariableUse → Instr
 loaded (Some k) x = i.Load k
 loaded None x = constant (zero_declared x.declared)
 
--- `this`, which is in slot 0 where there is one
+-- Pushes `this`, which is in slot 0, if there is one.
 abbrev pub own : Bool → Instr
 own true = i.Load 0
 own false = i.Const (v.Obj None)
 
--- What goes into an int, a long, an object or a grid and is known to stay the same there needs no instruction.
+-- Conversions to int, long, object and grid. A value that is known to have the type already needs no instruction.
 abbrev pub into_int : Known → List Instr
 into_int known.Int = []
 into_int k = i.Narrow ∷ []
@@ -68,7 +68,7 @@ abbrev pub into_grid : Known → List Instr
 into_grid known.Grid = []
 into_grid k = i.AsGrid ∷ []
 
--- a value, of which so much is known, as one of a type
+-- Converts a value of which this is known to a type.
 abbrev pub conversion : Place → ValueType → Known → List Instr
 conversion at (t.Dm dim) k = i.ToDom at ∷ []
 conversion at t.Long k = into_long k
@@ -77,21 +77,21 @@ conversion at (t.Class class is_local) k = into_object k
 conversion at (t.Grid element dim is_local) k = into_grid k
 conversion at type k = []
 
--- a reference of local type names a thing of the own process
+-- Checks that a reference of local type is null or refers to an object or array of the process itself.
 abbrev pub local_test : Place → Bool → List Instr
 local_test at true = i.CastLocal at ∷ []
 local_test at false = []
 
 -- ---- names of operators
 
--- what a type is, as far as the names of operators tell it
+-- The kind of a type, as far as the names of operators depend on it.
 abbrev pub kind_of_type : ValueType → Kind
 kind_of_type (t.Pt dim) = Points
 kind_of_type (t.Rc dim) = Rects
 kind_of_type (t.Dm dim) = Domains
 kind_of_type type = Numbers
 
--- the name of an operator between such operands
+-- The name of an operator for operands of these kinds.
 abbrev pub operation : BinaryOperator → Kind → Kind → Operation
 operation op.Add Numbers y = o.Add
 operation op.Add Points y = o.PtAdd
@@ -120,28 +120,28 @@ operation op.GreaterEqual x y = o.Ge
 operation op.AndThen x y = o.AndThen
 operation op.OrElse x y = o.OrElse
 
--- an operator of one operand; `+` changes nothing
+-- A unary operator; `+` changes nothing.
 abbrev pub alone_code : UnaryOperator → List Instr
 alone_code un.Minus = i.Alone one.Neg ∷ []
 alone_code un.Plus = []
 alone_code un.Not = i.Alone one.Not ∷ []
 alone_code un.Complement = i.Alone one.Com ∷ []
 
--- ---- operators that may leave out their right operand
+-- ---- short-circuit operators
 
--- by which value of the left operand the right one may be left out
+-- The value of the left operand for which the right one isn't evaluated.
 abbrev pub laziness : BinaryOperator → Laziness
 laziness op.OrElse = Where true
 laziness op.AndThen = Where false
 laziness other = Never
 
--- jumps where the operand is this
+-- Jumps if the operand has this value.
 abbrev pub jump_where : Bool → ℕ → Instr
 jump_where true target = i.JumpIf target
 jump_where false target = i.JumpIfNot target
 
--- An operator behind its left operand, with the code of its right operand from any instruction on. Where this one is left out, the result
--- is pushed behind it.
+-- A short-circuit operator after its left operand, given the code of its right operand from any position on. If the right operand isn't
+-- evaluated, the result is pushed after it.
 abbrev pub lazy_code : Bool → ℕ → (ℕ → List Instr) → List Instr
 lazy_code left at right =
     jump_where left (behind (at + 1) (right (at + 1)) + 1) ∷ right (at + 1)
@@ -153,7 +153,7 @@ operator_code (Where left) name p at right = lazy_code left at right
 
 -- ---- members
 
--- the member that code shows, where it has a value
+-- The member as an instruction knows it, if it has a value.
 abbrev pub kind_of : b.BuiltIn → Option Member
 kind_of b.Size = Some kind.Size
 kind_of b.Min = Some kind.Min
@@ -165,7 +165,7 @@ kind_of b.Translate = Some kind.Translate
 kind_of b.Slice = Some kind.Slice
 kind_of _ = None
 
--- so many operands are dropped
+-- Drops n operands.
 abbrev pub pops : ℕ → List Instr
 pops zero = []
 pops (suc n) = i.Pop ∷ pops n
@@ -181,19 +181,19 @@ shown_member None = None
 abbrev pub member_code : Option b.BuiltIn → ℕ → Place → List Instr
 member_code m n at = kind_code (shown_member m) n at
 
--- behind a point or a grid and its indices
+-- Indexing, after a point or a grid and its indices.
 abbrev pub index_code : Bool → ℕ → Place → List Instr
 index_code true n at = i.Coord n at ∷ []
 index_code false n at = i.MakePt n ∷ i.GetElem at ∷ []
 
 -- ---- ranges
 
--- the rectangular domain of so many ranges: of numbers, or of points where there is one of these
+-- Makes the rectangular domain of n ranges: of numbers, or of points, if there is one range of these.
 abbrev pub rect_instr : Kind → ℕ → Place → Instr
 rect_instr Points (suc zero) at = i.RectOfPts at
 rect_instr kind n at = i.MakeRect n at
 
--- what the low bound of the first range is
+-- The low bound of a range.
 abbrev pub low_bound : NumberedRange → NumberedExp
 low_bound (e.Plain low high) = low
 low_bound (e.Stepped low high step) = low
@@ -204,11 +204,11 @@ how_many_ranges (e.MoreRange r rs) = how_many_ranges rs + 1
 
 -- ---- expressions
 
--- what an expression is in the text
+-- The kind of an expression's static type.
 abbrev pub kind_in : NumberedProgram → Option ℕ → NumberedExp → Kind
 kind_in program this x = kind_of_type (type_in_text program this x)
 
--- the name of an operator between these operands
+-- The name of an operator for these operands.
 abbrev pub operation_in : NumberedProgram → Option ℕ → BinaryOperator → NumberedExp → NumberedExp → Operation
 operation_in program this op x y = operation op (kind_in program this x) (kind_in program this y)
 
@@ -218,7 +218,7 @@ kind_of_ranges program this (e.MoreRange r rs) = kind_in program this (low_bound
 
 module _ (program : NumberedProgram) (this : Option ℕ) (names : List Name) where
   abbrev mutual
-    -- the code of an expression from an instruction on
+    -- The code of an expression from a position on.
     pub code_of : NumberedExp → ℕ → List Instr
     code_of (e.Int p n) at = i.Const (v.Int n) ∷ []
     code_of (e.Long p n) at = i.Const (v.Long n) ∷ []
@@ -247,19 +247,19 @@ module _ (program : NumberedProgram) (this : Option ℕ) (names : List Name) whe
     code_of (e.Call p method args) at = i.Const (v.Bool false) ∷ []
     code_of (e.OwnCall p method args) at = i.Const (v.Bool false) ∷ []
 
-    -- of expressions, in order
+    -- The code of expressions, in order.
     pub code_of_all : NumberedExps → ℕ → List Instr
     code_of_all e.NoExp at = []
     code_of_all (e.MoreExp x xs) at = code_of x at ++ code_of_all xs (behind at (code_of x at))
 
-    -- the bounds of a range and its step
+    -- The code of the bounds of a range and of its step.
     pub code_of_range : NumberedRange → ℕ → List Instr
     code_of_range (e.Plain low high) at = code_of low at ++ (code_of high (behind at (code_of low at)) ++ i.Step ∷ [])
     code_of_range (e.Stepped low high step) at =
         code_of low at ++ (code_of high (behind at (code_of low at))
         ++ code_of step (behind (behind at (code_of low at)) (code_of high (behind at (code_of low at)))))
 
-    -- of ranges, in order
+    -- The code of ranges, in order.
     pub code_of_ranges : NumberedRanges → ℕ → List Instr
     code_of_ranges e.NoRange at = []
     code_of_ranges (e.MoreRange r rs) at = code_of_range r at ++ code_of_ranges rs (behind at (code_of_range r at))

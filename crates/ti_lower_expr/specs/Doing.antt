@@ -1,4 +1,4 @@
--- When instructions do what a computation of the meaning comes to.
+-- When instructions carry out a computation of the semantics.
 use Rattle.std.specs.Prelude.{◌≡◌, ℕ, List, ◌∷◌}
 use Rattle.ti_base.specs.declared.entry.Answer.{Answer}
 use Rattle.ti_lang.specs.Meaning.Held.{Held}
@@ -9,7 +9,7 @@ use Rattle.ti_code.specs.Effects.{Spot, Who}
 use Rattle.ti_code.specs.Leading.{next_effect, Leads}
 use Rattle.ti_lower_expr.specs.Methods.{receivers_of}
 
--- the same is asked for, at the same place
+-- The computation requests this action at this place.
 pub record AsksFor (g : Got Spot) (q : Request) : Type 0 where
   pub request : Request
   pub is : g ≡ Asks request
@@ -17,20 +17,20 @@ pub record AsksFor (g : Got Spot) (q : Request) : Type 0 where
   pub action : request.action ≡ q.action
 
 module _ (w : Who) (c : List Instr) where
-  -- what a computation comes to is what the instructions do from the spot on, on these answers
+  -- On these answers, the instructions have the computation's result from the given state of the frame on.
   abbrev pub Outcome : {A : Type 0} → (A → Spot → Type 0) → Spot → List Answer → Got A → Type 0
   Outcome P s rs (Gives a rest) = (t : Spot) × Leads w c s rs t rest × P a t
   Outcome P s rs (Asks q) = (t : Spot) × (left : List Answer) × Leads w c s rs t left × AsksFor (next_effect w c t left) q
   Outcome P s rs (Fails kind at) = (t : Spot) × (left : List Answer) × Leads w c s rs t left × (next_effect w c t left ≡ Fails kind at)
 
-  -- the instructions do the computation from the spot on
+  -- The instructions carry out the computation from the given state of the frame on.
   abbrev pub Does : {A : Type 0} → Spot → Asking A → (A → Spot → Type 0) → Type 0
   Does s m P = (rs : List Answer) → Outcome P s rs (m rs)
 
--- the process that an expression sees
+-- The process as the semantics of instructions sees it, from the environment of an expression.
 abbrev pub who_in : Env → Who
 who_in env = record { number = env.number; procs = env.procs; receivers = receivers_of env.program }
 
--- the value is pushed on these operands, the slots are left as they were, and the frame goes on at that instruction
+-- The value is pushed on these operands, the slots are unchanged, and the frame is at that instruction.
 abbrev pub Pushes : List Held → ℕ → List Held → Held → Spot → Type 0
 Pushes slots at stack h s = s ≡ record { at = at; slots = slots; stack = h ∷ stack }

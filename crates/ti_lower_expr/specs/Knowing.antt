@@ -1,4 +1,4 @@
--- What the text tells of a value for certain, whatever the process holds: a conversion that it makes idle needs no instruction.
+-- What is statically known of a value, whatever the process holds: if it makes a conversion idle, that needs no instruction.
 use Rattle.std.specs.Prelude.{◌≡◌, ℕ, Bool, true, false, Option, Some}
 use Rattle.ti_syntax.specs.declared.tree.exprs.BinaryOperator.{BinaryOperator}
 use Rattle.ti_syntax.specs.declared.tree.exprs.BinaryOperator.TheVariants as op
@@ -18,8 +18,8 @@ use Rattle.ti_base.specs.declared.value.Value.TheVariants as v
 use Rattle.ti_lower_expr.specs.declared.kinds.Known.{Known}
 use Rattle.ti_lower_expr.specs.declared.kinds.Known.TheVariants as known
 
--- What is so of a value of which this is known: it stays the same as an int, as a long, as an object, as a grid. So what is known to be an
--- int is no long, whatever else it is.
+-- What holds of a value of which this is known: converting it to int, to long, to an object or to a grid doesn't change it. So what is
+-- known to be an int is no long, whatever else it is.
 abbrev pub IsKnown : Known → Held → Type 0
 IsKnown known.Int h = as_type t.Int h ≡ h
 IsKnown known.Long h = as_type t.Long h ≡ h
@@ -27,7 +27,7 @@ IsKnown known.Object h = Plain (v.Obj (thing_of h)) ≡ h
 IsKnown known.Grid h = Plain (v.Grid (thing_of h)) ≡ h
 IsKnown known.Other h = Unit {0}
 
--- what is known of each value that became one of a type
+-- What is known of each value that has been converted to a type.
 abbrev pub known_of_type : ValueType → Known
 known_of_type t.Int = known.Int
 known_of_type t.Long = known.Long
@@ -35,24 +35,24 @@ known_of_type (t.Class class is_local) = known.Object
 known_of_type (t.Grid element dim is_local) = known.Grid
 known_of_type type = known.Other
 
--- what is known of each value that a variable holds which is declared so
+-- What is known of each value of a variable with this declaration.
 abbrev pub known_declared : Declaration → Known
 known_declared (Typed is_single type) = known_of_type type
 known_declared Foreach = known.Other
 
--- what an operator gives that makes a long where an operand is one
+-- The result of an operator that yields a long if an operand is one.
 abbrev pub joined_known : Known → Known → Known
 joined_known known.Long y = known.Long
 joined_known x known.Long = known.Long
 joined_known known.Int known.Int = known.Int
 joined_known x y = known.Other
 
--- what gives no long where the operand is none; of a long nothing is told, since that is known to be no int, and no more
+-- The result of an operator that yields no long unless the operand is one. Nothing is known for a long operand.
 abbrev pub narrow_known : Known → Known
 narrow_known known.Int = known.Int
 narrow_known x = known.Other
 
--- what an operator gives
+-- What is known of the result of a binary operator.
 abbrev pub operated_known : BinaryOperator → Known → Known → Known
 operated_known op.Add x y = joined_known x y
 operated_known op.Subtract x y = joined_known x y
@@ -73,18 +73,18 @@ alone_known un.Complement x = narrow_known x
 alone_known un.Plus x = x
 alone_known un.Not x = known.Other
 
--- a member that gives an int
+-- `size` yields an int.
 abbrev pub member_known : Option b.BuiltIn → Known
 member_known (Some b.Size) = known.Int
 member_known m = known.Other
 
--- a coordinate of a point is an int; of an element nothing is told
+-- A coordinate of a point is an int; nothing is known of an element of a grid.
 abbrev pub index_known : Bool → Known
 index_known true = known.Int
 index_known false = known.Other
 
 module _ (program : NumberedProgram) (this : Option ℕ) where
-  -- what is known of the value of an expression
+  -- What is known of the value of an expression.
   abbrev pub known_of : NumberedExp → Known
   known_of (e.Int p n) = known.Int
   known_of (e.Long p n) = known.Long

@@ -1,4 +1,4 @@
--- What a method's frame begins with, and where the receiver of a call lies.
+-- The initial slots of a method's frame, and the position of the receiver at a call.
 use Rattle.std.specs.Prelude.{ℕ, if◌then◌else◌, Bool, true, false, List, [], ◌∷◌, length, map, Option, Some, None}
 use Rattle.ti_lang.specs.Program.Types.{VariableUse}
 use Rattle.ti_lang.specs.Program.Classes.{NumberedMethod, NumberedProgram}
@@ -6,23 +6,23 @@ use Rattle.ti_lang.specs.Program.Scope.{this_of}
 use Rattle.ti_lang.specs.Meaning.Calls.{parameters_of}
 use Rattle.ti_lower_expr.specs.Slots.{Name, This, Of}
 
--- how many parameters a method has besides `this`
+-- How many parameters a method has besides `this`.
 abbrev pub params_of : NumberedMethod → ℕ
 params_of m = length (parameters_of m.params)
 
--- it has a `this`
+-- The method has a `this`.
 abbrev pub is_instance : Option ℕ → Bool
 is_instance None = false
 is_instance (Some class) = true
 
--- how many operands lie on the receiver at a call of a method, where it has a `this`
+-- How many operands are above the receiver at a call of a method, if it has a `this`.
 abbrev pub receiver_in : NumberedMethod → Option ℕ
 receiver_in m = if is_instance (this_of m) then Some (params_of m) else None
 
 abbrev pub receivers_of : NumberedProgram → List (Option ℕ)
 receivers_of program = map receiver_in program.methods
 
--- the slots of a frame at its begin: `this`, and on it the parameters
+-- The slots of a frame when it begins: `this`, if there is one, and above it the parameters.
 abbrev pub this_names : Option ℕ → List Name
 this_names None = []
 this_names (Some class) = This ∷ []

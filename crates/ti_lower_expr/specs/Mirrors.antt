@@ -1,4 +1,4 @@
--- What the functions that write expressions make of the code that stands there. Nobody has to believe it: what the code of an expression
--- is, is said by `Coding`, and `lower_expr` says that it is that.
+-- Mirrors the code: how the functions that generate code extend it. No public claim depends on it: `Coding` says what the code of an
+-- expression is, and the contract of `lower_expr` refers to that.
 pub mod Walking
 pub mod Sites

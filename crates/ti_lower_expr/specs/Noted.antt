@@ -1,15 +1,15 @@
--- Where the slots of variables are noted, so that they are found at once.
+-- The index by which the slots of variables are found at once.
 use Rattle.std.specs.Prelude.{◌≡◌, ℕ, ◌<◌, List, length, get_or, Option, Some, None}
 use Rattle.ti_lower_expr.specs.declared.slots.SlotName.{SlotName}
 use Rattle.ti_lower_expr.specs.declared.slots.SlotName.TheVariants as slot
 
--- the number of the variable that a slot is for
+-- The number of the variable that a slot is for.
 abbrev pub number_of : SlotName → Option ℕ
 number_of slot.This = None
 number_of (slot.Of number single ty) = Some number
 number_of (slot.Point number) = Some number
 number_of slot.Hidden = None
 
--- each slot for a variable lies before the slot that is noted for the variable's number
+-- Each slot for a variable is before the position noted for the variable's number.
 abbrev pub AreNoted : List SlotName → List ℕ → Type 0
 AreNoted names noted = (k n : ℕ) → k < length names → number_of (get_or names k slot.Hidden) ≡ Some n → k < get_or noted n 0

@@ -1,4 +1,4 @@
--- What clauses see of the slots of the code.
+-- What contracts see of the generator's table of slots.
 use Rattle.std.specs.Prelude.{List, map, reverse}
 use Rattle.ti_lang.specs.Program.Types.{Typed}
 use Rattle.ti_lang.specs.Program.Views.{value_type_of}
@@ -12,6 +12,6 @@ name_of (slot.Of number single ty) = Of (record { number = number; declared = Ty
 name_of (slot.Point number) = Point number
 name_of slot.Hidden = Hidden
 
--- the names, the newest first
+-- The names, the newest first.
 abbrev pub names_of : List SlotName → List Name
 names_of names = map name_of (reverse names)

@@ -1,4 +1,4 @@
-// The code of an expression, and what it does.
+// The code of an expression, as other crates generate it, and the theorem that it is correct.
 
 ghost use Rattle.std.specs.Prelude.{◌≡◌, ◌++◌, ℕ, List, OnOk, OnErr, length, map};
 ghost use Rattle.ti_lang.specs.Program.Expressions.{NumberedExp, rect};
@@ -20,7 +20,8 @@ use ti_base::{Memory, Place};
 use ti_code::Instr;
 use ti_lang::program::{Expr, Range};
 
-/// Appends the code of an expression to that of its method. Out of memory, `out` is what it was, followed by some instructions or none.
+/// Appends the code of an expression to that of its method. After out of memory, `out` is its old value followed by some instructions or
+/// none.
 pub fn lower_expr(site: &Site, e: &Expr, out: &mut Vec<Instr>) -> Result<(), Memory>
     ensures code { OnOk result (out.new.items ≡ out.old.items ++ code_of (program_of site.now.program.now) site.now.this
         (names_in site.now.slots.now) (expression_of e.now) (length out.old.items)) }
@@ -30,7 +31,7 @@ pub fn lower_expr(site: &Site, e: &Expr, out: &mut Vec<Instr>) -> Result<(), Mem
     Ok(())
 }
 
-/// Appends the code of the rectangular domain of these ranges, whose place is that of their `[`. Out of memory, `out` is what it was,
+/// Appends the code of the rectangular domain of these ranges; `place` is that of their `[`. After out of memory, `out` is its old value
 /// followed by some instructions or none.
 pub fn lower_rect(
     site: &Site,
@@ -45,9 +46,9 @@ pub fn lower_rect(
     walk_rect(site, place, ranges, out)
 }
 
-/// Wherever the code of an expression stands, it does what the expression comes to: entered where the slots hold `this`, the variables in
-/// scope and the points of the turns, it asks for the actions and has the faults of the meaning, in order and at their places. Where no
-/// fault comes, it pushes the value, leaves the slots as they were, and ends behind its last instruction.
+/// The code of an expression is correct wherever it occurs. If it is entered while the slots hold `this`, the variables in scope and the
+/// points of the current iterations, it requests the same actions and has the same faults as the semantics, in the same order and at the
+/// same places. Without a fault it pushes the value, leaves the slots unchanged, and ends after its last instruction.
 pub fn expressions_are_done()
     ensures { (c : List OneInstr) (env : Env) (names : List Name) (slots : List Held) → Holds env.this names env.variables env.turns slots
         → (x : NumberedExp) (at : ℕ) (stack : List Held) → Stands c at (code_of env.program (this_of env.method) names x at)

@@ -1,4 +1,4 @@
-// Which field a name means.
+// Resolves the name of a field.
 
 ghost use Rattle.std.specs.Prelude.{◌≡◌, ◌^◌, ◌≤◌, IfOk, IfErr};
 ghost use Rattle.std.specs.Option.{option_and_then, unwrap_or};
@@ -12,8 +12,8 @@ use ti_base::Memory;
 use ti_lang::program::Parts;
 use ti_lang::typing::{Seen, field_number};
 
-/// The number of the field that a name means behind a value of the type; 0 where it means none. Out of memory comes exactly where the
-/// number doesn't fit.
+/// The number of the field that a name denotes in an object of the type; 0 if there is no such field. Out of memory iff the number doesn't
+/// fit into 32 bits.
 pub fn field_behind(program: &Parts, t: Seen, name: u32) -> Result<u32, Memory>
     ensures value { IfOk result (λ n. n ≡ unwrap_or (option_and_then (field_numbered_spec (program_of program.now) name)
         (class_of_type (seen t.entry))) 0) }

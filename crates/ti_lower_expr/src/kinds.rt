@@ -1,4 +1,5 @@
-// The names of operators and members.
+// Which instruction an operator or a member becomes, and what is statically known of its result: a conversion that can't change the value
+// is left out.
 
 ghost use Rattle.std.specs.Prelude.{◌≡◌, option_map, Some};
 ghost use Rattle.ti_syntax.specs.declared.tree.exprs.BinaryOperator.TheVariants as op;
@@ -13,7 +14,7 @@ use ti_lang::program::{Declared, Expr, Parts, Ty};
 use ti_lang::tree::{BinaryOperator, UnaryOperator};
 use ti_lang::typing::{BuiltIn, Seen, member_called, type_in_text};
 
-/// What a type is, as far as the names of operators tell it.
+/// The kind of a type, as far as the names of operators depend on it.
 #[derive(Clone, Copy)]
 pub enum Kind {
     Numbers,
@@ -22,7 +23,7 @@ pub enum Kind {
     Domains,
 }
 
-/// What the text tells of a value for certain: that it stays as it is where it goes into an int, a long, an object or a grid.
+/// What is statically known of a value: that it is already an int, a long, an object or a grid, so that a conversion to this is idle.
 #[derive(Clone, Copy)]
 pub enum Known {
     Int,
@@ -32,14 +33,14 @@ pub enum Known {
     Other,
 }
 
-/// Whether an operator may leave out its right operand, and by which value of the left one.
+/// Whether an operator is short-circuit, and for which value of the left operand the right one isn't evaluated.
 #[derive(Clone, Copy)]
 pub enum Laziness {
     Never,
     Where(bool),
 }
 
-/// Whether an operator may leave out its right operand.
+/// Whether an operator is short-circuit: `||` and `&&` are.
 pub fn laziness_of(operator: BinaryOperator) -> Laziness
     ensures { result ≡ coding.laziness operator }
 {
@@ -66,7 +67,7 @@ pub fn laziness_of(operator: BinaryOperator) -> Laziness
     }
 }
 
-/// What a type is.
+/// The kind of a type.
 pub fn kind_of_seen(t: Seen) -> Kind
     ensures { result ≡ coding.kind_of_type (seen t.entry) }
 {
@@ -78,7 +79,7 @@ pub fn kind_of_seen(t: Seen) -> Kind
     }
 }
 
-/// What an expression is in the text of a method with this class.
+/// The kind of an expression's static type, in a method of the class `this`, if it has one.
 pub fn kind_in(program: &Parts, this: Option<u32>, e: &Expr) -> Kind
     ensures { result ≡ coding.kind_in (program_of program.now) this (expression_of e.now) }
 {
@@ -126,7 +127,7 @@ fn product_name(left: Kind, right: Kind) -> Operation
     }
 }
 
-/// The name of an operator between such operands.
+/// The name of an operator for operands of these kinds.
 pub fn operation_of(operator: BinaryOperator, left: Kind, right: Kind) -> Operation
     ensures { result ≡ coding.operation operator left right }
 {
@@ -153,7 +154,7 @@ pub fn operation_of(operator: BinaryOperator, left: Kind, right: Kind) -> Operat
     }
 }
 
-// The member that code shows, where it has a value.
+// The built-in member as an instruction knows it, if it has a value.
 fn shown(b: BuiltIn) -> Option<Member>
     ensures { result ≡ coding.kind_of (built_in_of b) }
 {
@@ -172,7 +173,7 @@ fn shown(b: BuiltIn) -> Option<Member>
     }
 }
 
-/// The same of the member that is called, if there is one.
+/// The called member as an instruction knows it, if there is one and it has a value.
 pub fn shown_member(called: Option<BuiltIn>) -> Option<Member>
     ensures { result ≡ coding.shown_member (option_map built_in_of called) }
 {
@@ -182,9 +183,9 @@ pub fn shown_member(called: Option<BuiltIn>) -> Option<Member>
     }
 }
 
-// ---- what is known of values
+// ---- what is statically known of values
 
-// What is known of each value that became one of a type.
+// What is known of each value that has been converted to a type.
 fn known_of_type(ty: &Ty) -> Known
     ensures { result ≡ knowing.known_of_type (value_type_of ty.now) }
 {
@@ -207,7 +208,7 @@ fn known_of_type(ty: &Ty) -> Known
     }
 }
 
-/// What is known of each value that a variable holds which is declared so.
+/// What is known of each value of a variable with this declaration.
 pub fn known_declared(declared: &Declared) -> Known
     ensures { result ≡ knowing.known_declared (declared_of declared.now) }
 {
@@ -217,7 +218,7 @@ pub fn known_declared(declared: &Declared) -> Known
     }
 }
 
-// What gives no long where the operand is none.
+// The result of an operator that yields a long only if its operand is one.
 fn narrow(k: Known) -> Known
     ensures { result ≡ knowing.narrow_known k }
 {
@@ -227,7 +228,7 @@ fn narrow(k: Known) -> Known
     }
 }
 
-// What gives a long where an operand is one.
+// The result of an operator that yields a long if an operand is one.
 fn joined(left: Known, right: Known) -> Known
     ensures { result ≡ knowing.joined_known left right }
 {
@@ -245,7 +246,7 @@ fn joined(left: Known, right: Known) -> Known
     }
 }
 
-/// What is known of what an operator gives.
+/// What is known of the result of a binary operator.
 pub fn known_operated(operator: BinaryOperator, left: Known, right: Known) -> Known
     ensures { result ≡ knowing.operated_known operator left right }
 {
@@ -272,7 +273,7 @@ pub fn known_operated(operator: BinaryOperator, left: Known, right: Known) -> Kn
     }
 }
 
-/// The same of an operator of one operand.
+/// What is known of the result of a unary operator.
 pub fn known_alone(operator: UnaryOperator, k: Known) -> Known
     ensures { result ≡ knowing.alone_known operator k }
 {
@@ -283,7 +284,7 @@ pub fn known_alone(operator: UnaryOperator, k: Known) -> Known
     }
 }
 
-// The same of a member of the language.
+// What is known of the value of a built-in member.
 fn known_built_in(b: BuiltIn) -> Known
     ensures { result ≡ knowing.member_known (Some (built_in_of b)) }
 {
@@ -302,7 +303,7 @@ fn known_built_in(b: BuiltIn) -> Known
     }
 }
 
-/// The same of a member that is called, if there is one.
+/// What is known of the value of a called member, if there is one.
 pub fn known_member(called: Option<BuiltIn>) -> Known
     ensures { result ≡ knowing.member_known (option_map built_in_of called) }
 {
@@ -312,14 +313,14 @@ pub fn known_member(called: Option<BuiltIn>) -> Known
     }
 }
 
-/// The same of an index of a point, or of a grid.
+/// What is known of an indexed value: a coordinate of a point, or an element of a grid.
 pub fn known_indexed(is_point: bool) -> Known
     ensures { result ≡ knowing.index_known is_point }
 {
     if is_point { Known::Int } else { Known::Other }
 }
 
-/// A point.
+/// Whether the type is that of a point.
 pub fn is_point(t: Seen) -> bool
     ensures { result ≡ is_point_spec (seen t.entry) }
 {
@@ -329,7 +330,7 @@ pub fn is_point(t: Seen) -> bool
     }
 }
 
-/// What is known of the value of an expression in a method with this class.
+/// What is known of the value of an expression, in a method of the class `this`, if it has one.
 pub fn known_of(program: &Parts, this: Option<u32>, e: &Expr) -> Known
     ensures { result ≡ knowing.known_of (program_of program.now) this (expression_of e.now) }
 {

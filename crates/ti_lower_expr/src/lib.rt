@@ -1,4 +1,4 @@
-//! The code of an expression.
+//! Generates the code of expressions.
 #![tactic(auto)]
 
 mod entry;

@@ -1,4 +1,4 @@
-// The code of the parts of an expression that are no expressions themselves.
+// The instructions of an expression besides those of its subexpressions: literals, variables, operators, conversions and members.
 
 ghost use Rattle.std.specs.Prelude.{◌≡◌, ◌∷◌, ◌++◌, ◌+◌, ◌^◌, ◌≤◌, [], IfOk, IfErr, OnOk, OnErr, false, map};
 ghost use Rattle.ti_base.specs.declared.value.Value.TheVariants as v;
@@ -25,8 +25,8 @@ use ti_lang::program::{Declared, Expr, Ty, Variable};
 use ti_lang::tree::UnaryOperator;
 use ti_lang::typing::Seen;
 
-/// Adds an instruction. This and each call below that adds to `out` leaves there, out of memory, what it held, followed by some
-/// instructions or none.
+/// Appends an instruction. After out of memory, each function here that appends to `out` leaves its old value followed by some instructions
+/// or none.
 pub fn add(instr: Instr, out: &mut Vec<Instr>) -> Result<(), Memory>
     ensures code { OnOk result (out.new.items ≡ out.old.items ++ instr ∷ []) }
     ensures err { OnErr result (BeginsWith out.new.items out.old.items) }
@@ -35,7 +35,7 @@ pub fn add(instr: Instr, out: &mut Vec<Instr>) -> Result<(), Memory>
     Ok(())
 }
 
-/// How many there are, as instructions count; out of memory exactly where that doesn't fit.
+/// A count as an operand of an instruction; out of memory iff it doesn't fit into 32 bits.
 pub fn counted(n: usize) -> Result<u32, Memory>
     ensures value { IfOk result (λ m. m ≡ n) }
     ensures large { IfErr result (λ _. 2 ^ 32 ≤ n) }
@@ -46,7 +46,7 @@ pub fn counted(n: usize) -> Result<u32, Memory>
     }
 }
 
-/// The sum, as instructions count; out of memory exactly where that doesn't fit.
+/// The sum as an operand of an instruction; out of memory iff it doesn't fit into 32 bits.
 pub fn number_behind(n: usize, more: usize) -> Result<u32, Memory>
     ensures value { IfOk result (λ m. m ≡ n + more) }
     ensures large { IfErr result (λ _. 2 ^ 32 ≤ n + more) }
@@ -65,7 +65,7 @@ fn has_dim(dim: u8) -> bool
     1 <= dim && dim <= 3
 }
 
-// The rectangular domain without points.
+// The empty rectangular domain of the given number of dimensions.
 fn empty_rect(dim: u8) -> Rect
     requires { IsDim dim }
     ensures { result ≡ empty_spec dim }
@@ -88,7 +88,7 @@ fn empty_rect(dim: u8) -> Rect
     }
 }
 
-// Pushes the zero of a type with so many dimensions.
+// Pushes the zero of points of the given number of dimensions.
 fn zero_point(dim: u8) -> Instr
     ensures { result ≡ coding.constant (zero_of (value_type_of (Ty.Pt dim))) }
 {
@@ -144,7 +144,7 @@ fn zero(ty: &Ty) -> Instr
     }
 }
 
-/// Pushes the zero of what is written where a variable is declared.
+/// Pushes the initial value of a variable with this declaration.
 pub fn declared_zero(declared: &Declared) -> Instr
     ensures { result ≡ coding.constant (zero_declared (declared_of declared.now)) }
 {
@@ -154,7 +154,7 @@ pub fn declared_zero(declared: &Declared) -> Instr
     }
 }
 
-/// Adds the push of what a variable holds.
+/// Appends the push of a variable's value.
 pub fn add_variable(slots: &Slots, v: &Variable, out: &mut Vec<Instr>) -> Result<(), Memory>
     ensures code { OnOk result (out.new.items ≡ out.old.items ++ coding.loaded (find_slot (variable_of v.now) (names_in slots.now))
         (variable_of v.now) ∷ []) }
@@ -182,7 +182,7 @@ pub fn own(slots: &Slots) -> Instr
 
 // ---- literals
 
-/// Makes the point of so many parts.
+/// Appends the instruction that makes a point of as many coordinates as there are parts.
 pub fn add_point(parts: &[Expr], out: &mut Vec<Instr>) -> Result<(), Memory>
     ensures code { OnOk result (out.new.items ≡ out.old.items ++ i.MakePt (how_many (numbered_exps (map expression_of parts.now))) ∷ []) }
     ensures err { OnErr result (BeginsWith out.new.items out.old.items) }
@@ -191,7 +191,7 @@ pub fn add_point(parts: &[Expr], out: &mut Vec<Instr>) -> Result<(), Memory>
     add(Instr::MakePt(n), out)
 }
 
-/// Makes the rectangular domain of so many ranges; out of memory only where they can't be counted.
+/// The instruction that makes the rectangular domain of `n` ranges; out of memory iff `n` doesn't fit into 32 bits.
 pub fn rect_instr(kind: Kind, n: usize, place: Place) -> Result<Instr, Memory>
     ensures value { IfOk result (λ i. i ≡ coding.rect_instr kind n place) }
     ensures large { IfErr result (λ _. 2 ^ 32 ≤ n) }
@@ -210,7 +210,7 @@ pub fn rect_instr(kind: Kind, n: usize, place: Place) -> Result<Instr, Memory>
 
 // ---- operators and casts
 
-/// An operator of one operand.
+/// Appends a unary operator.
 pub fn add_alone(operator: UnaryOperator, out: &mut Vec<Instr>) -> Result<(), Memory>
     ensures code { OnOk result (out.new.items ≡ out.old.items ++ coding.alone_code operator) }
     ensures err { OnErr result (BeginsWith out.new.items out.old.items) }
@@ -223,7 +223,7 @@ pub fn add_alone(operator: UnaryOperator, out: &mut Vec<Instr>) -> Result<(), Me
     }
 }
 
-/// Jumps where the operand is this.
+/// Jumps if the operand is `left`.
 pub fn jump_where(left: bool, target: u32) -> Instr
     ensures { result ≡ coding.jump_where left target }
 {
@@ -234,7 +234,7 @@ pub fn jump_where(left: bool, target: u32) -> Instr
     }
 }
 
-// A value that goes into an int, a long, an object or a grid, and may change there.
+// Appends a conversion to int, unless it is known to be idle.
 fn add_narrow(known: Known, out: &mut Vec<Instr>) -> Result<(), Memory>
     ensures code { OnOk result (out.new.items ≡ out.old.items ++ coding.into_int known) }
     ensures err { OnErr result (BeginsWith out.new.items out.old.items) }
@@ -275,7 +275,7 @@ fn add_as_grid(known: Known, out: &mut Vec<Instr>) -> Result<(), Memory>
     }
 }
 
-/// The value on top, of which so much is known, as one of a type.
+/// Appends the conversion of the top operand, of which this is known, to a type.
 pub fn add_conversion(
     place: Place,
     ty: Seen,
@@ -300,7 +300,7 @@ pub fn add_conversion(
     }
 }
 
-// A local reference.
+// Whether the type is that of a local reference.
 fn is_local(ty: &Ty) -> bool
     ensures { result ≡ is_local (value_type_of ty.now) }
 {
@@ -315,7 +315,7 @@ fn is_local(ty: &Ty) -> bool
     }
 }
 
-// A reference of local type names a thing of the own process.
+// Appends the check of a reference of local type.
 fn add_local_test(place: Place, is_local: bool, out: &mut Vec<Instr>) -> Result<(), Memory>
     ensures code { OnOk result (out.new.items ≡ out.old.items ++ coding.local_test place is_local) }
     ensures err { OnErr result (BeginsWith out.new.items out.old.items) }
@@ -327,7 +327,7 @@ fn add_local_test(place: Place, is_local: bool, out: &mut Vec<Instr>) -> Result<
     }
 }
 
-/// A cast of a value, of which so much is known, to a type.
+/// Appends the cast of the top operand, of which this is known, to a type.
 pub fn add_cast(place: Place, ty: &Ty, known: Known, out: &mut Vec<Instr>) -> Result<(), Memory>
     ensures code { OnOk result (out.new.items ≡ out.old.items ++ coding.conversion place (value_type_of ty.now) known
         ++ coding.local_test place (is_local (value_type_of ty.now))) }
@@ -339,7 +339,7 @@ pub fn add_cast(place: Place, ty: &Ty, known: Known, out: &mut Vec<Instr>) -> Re
 
 // ---- members
 
-/// Drops so many operands.
+/// Appends `n` pops.
 pub fn add_pops(n: usize, out: &mut Vec<Instr>) -> Result<(), Memory>
     ensures code { OnOk result (out.new.items ≡ out.old.items ++ coding.pops n) }
     ensures err { OnErr result (BeginsWith out.new.items out.old.items) }
@@ -352,7 +352,7 @@ pub fn add_pops(n: usize, out: &mut Vec<Instr>) -> Result<(), Memory>
     Ok(())
 }
 
-// No member that has a value: its operands are dropped.
+// Appends the code for a call of no member that has a value: it drops the `n` arguments and the receiver, and pushes `false`.
 fn add_no_member(n: usize, out: &mut Vec<Instr>) -> Result<(), Memory>
     ensures code { OnOk result (out.new.items ≡ out.old.items ++ (i.Pop ∷ coding.pops n ++ i.Const (v.Bool false) ∷ [])) }
     ensures err { OnErr result (BeginsWith out.new.items out.old.items) }
@@ -362,7 +362,7 @@ fn add_no_member(n: usize, out: &mut Vec<Instr>) -> Result<(), Memory>
     add(Instr::Const(Value::Bool(false)), out)
 }
 
-/// A member behind its receiver and so many arguments.
+/// Appends a member after its receiver and `n` arguments.
 pub fn add_member(
     member: Option<Member>,
     n: usize,
@@ -381,7 +381,7 @@ pub fn add_member(
     }
 }
 
-/// An index behind a point or a grid and so many indices.
+/// Appends an indexing after a point or a grid and `n` indices.
 pub fn add_index(is_point: bool, n: usize, place: Place, out: &mut Vec<Instr>) -> Result<(), Memory>
     ensures code { OnOk result (out.new.items ≡ out.old.items ++ coding.index_code is_point n place) }
     ensures err { OnErr result (BeginsWith out.new.items out.old.items) }

@@ -1,11 +1,11 @@
-// Where expressions stand, and what their code tells besides.
+// The context of an expression, and what is statically known of its value.
 
 use crate::kinds::Known;
 use crate::slots::Slots;
 use ti_lang::program::Parts;
 use ti_lang::typing::Seen;
 
-/// Where an expression stands: in a method of a program with this class of `this`, if it has one, where the slots are for these names.
+/// The context of an expression: the program, the class of `this` in its method, if there is a `this`, and what the slots are for.
 #[derive(Clone, Copy)]
 pub struct Site<'s, 'p> {
     pub program: &'p Parts,
@@ -13,7 +13,7 @@ pub struct Site<'s, 'p> {
     pub slots: &'s Slots<'p>,
 }
 
-/// What the text tells of the value of an expression: its type, and what is known of it for certain.
+/// What is statically known of the value of an expression: its type, and which conversions are idle.
 #[derive(Clone, Copy)]
 pub struct KnownValue<'a> {
     pub ty: Seen<'a>,

@@ -1,4 +1,4 @@
-// What the slots of a frame are for.
+// The generator's table of slots: what each slot of the frame is for, and by which slot a variable is found.
 
 ghost use Rattle.std.specs.Prelude.{◌≡◌, ◌∷◌, ◌-◌, ◌<◌, ◌≤◌, ℕ, Some, [], OnOk, OnErr, drop, get_or, length};
 ghost use Rattle.ti_lang.specs.Program.Views.{variable_of};
@@ -12,8 +12,8 @@ use ti_base::Memory;
 use ti_lang::program::{Declared, Ty, Variable};
 use ti_lang::typing::same_elements;
 
-/// What a slot is for: `this`, a variable of a type, the point of a foreach with the variable of this number, or something that no
-/// name means.
+/// What a slot is for: `this`, a variable of a type, the point of the foreach whose variable has this number, or a temporary that no name
+/// denotes.
 #[derive(Clone, Copy, Drop)]
 pub enum SlotName<'p> {
     This,
@@ -26,8 +26,8 @@ pub enum SlotName<'p> {
     Hidden,
 }
 
-/// What the slots of a frame are for, the oldest first. It is noted for the number of each variable behind which slot none is for it, so
-/// that the newest one is found at once where variables differ in their numbers.
+/// What the slots of a frame are for, the oldest first. `latest` holds for the number of each variable a position from which on no slot is
+/// for it. So the newest slot is found at once if variables differ in their numbers.
 #[derive(Drop)]
 pub struct Slots<'p> {
     pub names: Vec<SlotName<'p>>,
@@ -47,7 +47,7 @@ fn number_of(name: &SlotName) -> Option<u32>
     }
 }
 
-// Makes room for what is noted for a number, where nothing is noted yet.
+// Extends the index, so that a position can be noted for this number.
 fn make_room(latest: &mut Vec<usize>, number: usize) -> Result<(), Memory>
     ensures same { (n : ℕ) → get_or latest.new.items n 0 ≡ get_or latest.old.items n 0 }
     ensures room { OnOk result (number < length latest.new.items) }
@@ -58,7 +58,7 @@ fn make_room(latest: &mut Vec<usize>, number: usize) -> Result<(), Memory>
     Ok(())
 }
 
-// Whether the slot is what the variable means.
+// Whether the slot is the one that the variable denotes.
 fn is_meant(v: &Variable, name: &SlotName) -> bool
     ensures { result ≡ is_meant (variable_of v.now).declared (variable_of v.now) (name_of name.now) }
 {
@@ -106,14 +106,14 @@ impl<'p> Slots<'p> {
         }
     }
 
-    /// How many there are.
+    /// How many slots there are.
     pub fn len(&self) -> usize
         ensures { result ≡ length (names_of self.now.names.items) }
     {
         self.names.len()
     }
 
-    /// A new slot.
+    /// Adds a slot. After out of memory the slots are unchanged.
     pub fn push(&mut self, name: SlotName<'p>) -> Result<(), Memory>
         ensures added { OnOk result (names_of self.new.names.items ≡ name_of name.entry ∷ names_of self.old.names.items) }
         ensures err { OnErr result (names_of self.new.names.items ≡ names_of self.old.names.items) }
@@ -130,14 +130,14 @@ impl<'p> Slots<'p> {
         Ok(())
     }
 
-    /// Keeps the oldest so many slots.
+    /// Keeps the `len` oldest slots.
     pub fn cut(&mut self, len: usize)
         ensures { names_of self.new.names.items ≡ drop (length (names_of self.old.names.items) - len) (names_of self.old.names.items) }
     {
         self.names.truncate(len);
     }
 
-    // Behind which slot none is for a variable of this number.
+    // A position from which on no slot is for a variable of this number.
     fn end(&self, number: u32) -> usize
         ensures within { result ≤ length self.now.names.items }
         ensures none_behind { (k : ℕ) → result ≤ k → k < length self.now.names.items → number_of (get_or self.now.names.items k slot.Hidden)
@@ -151,7 +151,7 @@ impl<'p> Slots<'p> {
         }
     }
 
-    /// The newest slot that a variable means, counted from the oldest.
+    /// The newest slot that a variable denotes, counted from the oldest.
     pub fn find(&self, v: &Variable) -> Option<usize>
         ensures { result ≡ find_slot (variable_of v.now) (names_of self.now.names.items) }
     {
@@ -165,7 +165,7 @@ impl<'p> Slots<'p> {
         None
     }
 
-    /// Whether there is a `this`.
+    /// Whether there is a slot of `this`.
     pub fn has_this(&self) -> bool
         ensures { result ≡ has_this (names_of self.now.names.items) }
     {

@@ -1,6 +1,5 @@
-// The code of an expression, part by part. What the text tells of its value is handed up, so that
-// the walk reads each part once. Callers get the code alone: to know the value's type, they read the
-// expression again.
+// Generates the code of an expression by recursion over it. What is statically known of its value is returned, so that each part is visited
+// once. Callers of `lower_expr` get only the code: to know the value's type, they compute it again.
 
 ghost use Rattle.std.specs.Prelude.{◌≡◌, ◌∷◌, ◌++◌, [], OnOk, OnErr, IfOk, take, map, option_map, option_and_then, unwrap_or};
 ghost use Rattle.ti_base.specs.declared.value.Value.TheVariants as v;
@@ -39,9 +38,9 @@ use ti_lang::typing::{
     BuiltIn, Seen, built_in, element_seen, field_seen, member_seen, operator_type, type_in_text,
 };
 
-// ---- what the text tells
+// ---- static types
 
-// The declared type of a variable; that of a foreach, of which the text tells no dimensions, is a point of one.
+// The type of a variable as an operand. The dimensions of a foreach's point aren't known here; it counts as one-dimensional.
 fn used_type<'a>(v: &'a Variable) -> Seen<'a>
     ensures { seen result ≡ used_spec (λ _. 1) (variable_of v.now).number (variable_of v.now).declared }
 {
@@ -51,7 +50,7 @@ fn used_type<'a>(v: &'a Variable) -> Seen<'a>
     }
 }
 
-// Of an expression that has its type of itself.
+// What is statically known of the value of an expression, computed on its own.
 fn told<'s, 'a>(s: &Site<'s, 'a>, e: &'a Expr) -> KnownValue<'a>
     ensures ty { seen result.ty ≡ type_in s.now (expression_of e.now) }
     ensures known { result.known ≡ known_in s.now (expression_of e.now) }
@@ -62,7 +61,7 @@ fn told<'s, 'a>(s: &Site<'s, 'a>, e: &'a Expr) -> KnownValue<'a>
     }
 }
 
-// The member of the language that a name means behind a value of the type.
+// The built-in member that a name denotes after a value of the type.
 fn member_behind(s: &Site, t: Seen, name: u32) -> Option<BuiltIn>
     ensures { option_map built_in_of result ≡ called_behind s.now (seen t.entry) name }
 {
@@ -73,7 +72,7 @@ fn member_behind(s: &Site, t: Seen, name: u32) -> Option<BuiltIn>
     }
 }
 
-// What the low bound of the first range is.
+// The kind of the low bound of the first range; numbers if there is no range.
 fn kind_of_ranges(s: &Site, ranges: &[Range]) -> Kind
     ensures { result ≡ coding.kind_of_ranges (program_of s.now.program.now) s.now.this (numbered_ranges (map bound_of ranges.now)) }
 {
@@ -92,7 +91,7 @@ fn kind_of_ranges(s: &Site, ranges: &[Range]) -> Kind
 
 // ---- parts
 
-// An expression of one instruction.
+// Generates an expression of one instruction.
 fn leaf<'s, 'a>(
     s: &Site<'s, 'a>,
     e: &'a Expr,
@@ -108,7 +107,7 @@ fn leaf<'s, 'a>(
     Ok(told(s, e))
 }
 
-// The rectangular domain of its ranges.
+// Appends the instruction that makes the rectangular domain of its ranges.
 #[tactic(auto, using(crate::proofs::Growing::counts))]
 fn add_rect(s: &Site, place: Place, ranges: &[Range], out: &mut Vec<Instr>) -> Result<(), Memory>
     ensures code { OnOk result (out.new.items ≡ out.old.items ++ coding.rect_instr
@@ -120,7 +119,7 @@ fn add_rect(s: &Site, place: Place, ranges: &[Range], out: &mut Vec<Instr>) -> R
     add(rect_instr(kind, ranges.len(), place)?, out)
 }
 
-// The jumps around a right operand that may be left out, of which the first has this number.
+// Completes the jumps around a right operand that may be skipped; `jump` is the position of the first of them.
 fn close(left: bool, jump: usize, out: &mut Vec<Instr>) -> Result<(), Memory>
     ensures code { OnOk result (out.new.items ≡ around left jump out.old.items) }
     ensures err { OnErr result (BeginsWith out.new.items (take jump out.old.items)) }
@@ -134,7 +133,7 @@ fn close(left: bool, jump: usize, out: &mut Vec<Instr>) -> Result<(), Memory>
     add(Instr::Const(Value::Bool(left)), out)
 }
 
-// The right operand of an operator, and the operator behind it.
+// Generates the right operand of an operator, and the operator after it.
 #[cycle(walk)]
 fn operated<'s, 'a>(
     s: &Site<'s, 'a>,
@@ -169,7 +168,7 @@ fn operated<'s, 'a>(
     }
 }
 
-// A field of the own object.
+// Generates a field of `this`.
 fn own_field(s: &Site, place: Place, field: u32, out: &mut Vec<Instr>) -> Result<(), Memory>
     ensures code { OnOk result (out.new.items ≡ walked_in s.now (x.OwnField place field) out.old.items) }
     ensures err { OnErr result (BeginsWith out.new.items out.old.items) }
@@ -180,7 +179,7 @@ fn own_field(s: &Site, place: Place, field: u32, out: &mut Vec<Instr>) -> Result
 
 // ---- lists
 
-/// Expressions, in order.
+/// Generates expressions, in order.
 #[cycle(walk)]
 fn walk_all<'s, 'a>(s: &Site<'s, 'a>, xs: &'a [Expr], out: &mut Vec<Instr>) -> Result<(), Memory>
     ensures code { OnOk result (out.new.items ≡ all_in s.now (numbered_exps (map expression_of xs.now)) out.old.items) }
@@ -192,7 +191,7 @@ fn walk_all<'s, 'a>(s: &Site<'s, 'a>, xs: &'a [Expr], out: &mut Vec<Instr>) -> R
     Ok(())
 }
 
-// The bounds of a range and its step.
+// Generates the bounds of a range and its step.
 #[cycle(walk)]
 fn walk_range<'s, 'a>(s: &Site<'s, 'a>, r: &'a Range, out: &mut Vec<Instr>) -> Result<(), Memory>
     ensures code { OnOk result (out.new.items ≡ range_in s.now (bound_of r.now) out.old.items) }
@@ -213,7 +212,7 @@ fn walk_range<'s, 'a>(s: &Site<'s, 'a>, r: &'a Range, out: &mut Vec<Instr>) -> R
     }
 }
 
-// Ranges, in order.
+// Generates ranges, in order.
 #[cycle(walk)]
 fn walk_ranges<'s, 'a>(
     s: &Site<'s, 'a>,
@@ -231,7 +230,7 @@ fn walk_ranges<'s, 'a>(
 
 // ---- expressions
 
-// A field of an object.
+// Generates the access to a field of an object, after the object.
 fn field<'s, 'a>(
     s: &Site<'s, 'a>,
     place: Place,
@@ -256,7 +255,7 @@ fn field<'s, 'a>(
     })
 }
 
-// A member form behind its receiver and its arguments.
+// Generates the call of a built-in member, after its receiver and its arguments.
 #[tactic(auto, using(ti_lang::proofs::Lemmas::many_arguments))]
 fn member<'s, 'a>(
     s: &Site<'s, 'a>,
@@ -280,7 +279,7 @@ fn member<'s, 'a>(
     })
 }
 
-// An index of a point or a grid behind it and its indices.
+// Generates an indexing, after the point or the grid and its indices.
 #[tactic(auto, using(ti_lang::proofs::Lemmas::many_arguments))]
 fn index<'a>(
     place: Place,
@@ -302,7 +301,7 @@ fn index<'a>(
     })
 }
 
-// A whole number of 32 bits.
+// Generates an int.
 fn number<'a>(n: i32, out: &mut Vec<Instr>) -> Result<KnownValue<'a>, Memory>
     ensures code { OnOk result (out.new.items ≡ out.old.items ++ i.Const (v.Int n) ∷ []) }
     ensures ty { IfOk result (λ t. seen t.ty ≡ IntType) }
@@ -316,7 +315,7 @@ fn number<'a>(n: i32, out: &mut Vec<Instr>) -> Result<KnownValue<'a>, Memory>
     })
 }
 
-// A variable.
+// Generates a variable.
 fn load<'s, 'a>(
     s: &Site<'s, 'a>,
     v: &'a Variable,
@@ -335,7 +334,8 @@ fn load<'s, 'a>(
     })
 }
 
-/// An expression. What the text tells of its value comes out. The commonest need not pay for what the others want.
+/// Generates an expression and returns what is statically known of its value. The commonest forms are handled here, so that they don't pay
+/// for the large stack frame of the others.
 #[cycle(walk)]
 #[tactic(auto, using(ti_lang::proofs::Lemmas::program_bridges))]
 pub fn walk<'s, 'a>(
@@ -380,7 +380,7 @@ pub fn walk<'s, 'a>(
     }
 }
 
-// An expression of any form.
+// Generates an expression of any form.
 #[cycle(walk)]
 #[inline(never)]
 #[tactic(auto, using(ti_lang::proofs::Lemmas::program_bridges))]
@@ -479,7 +479,7 @@ fn form<'s, 'a>(
     }
 }
 
-/// The rectangular domain of ranges, in order.
+/// Generates the rectangular domain of ranges.
 pub fn walk_rect<'s, 'a>(
     s: &Site<'s, 'a>,
     place: Place,

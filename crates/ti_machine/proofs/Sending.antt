@@ -1,4 +1,4 @@
--- What a process consists of may go to another thread.
+-- Proves that the parts of a process can be sent to another thread.
 use denote.Param.Send.{IsSend, owning_send, sendable}
 use Rattle.std.proofs.Crossing.{crosses}
 use Rattle.ti_eval.proofs.held.Held.TheSendSync as held

@@ -1,4 +1,4 @@
--- Computations that ask for one action at most, and then give the value of its answer.
+-- Computations that request at most one action and then yield the value of its answer.
 use Rattle.std.specs.Prelude.{◌≡◌, List, [], ◌∷◌}
 use Rattle.ti_base.specs.declared.place.Place.{Place}
 use Rattle.ti_base.specs.declared.fault.FaultKind.{FaultKind}
@@ -6,7 +6,7 @@ use Rattle.ti_base.specs.declared.entry.Answer.{Answer}
 use Rattle.ti_lang.specs.Meaning.Held.{Held}
 use Rattle.ti_lang.specs.Meaning.Asking.{Request, Asking, Gives, Asks, Fails, told}
 
--- the same value or the same fault whatever answers there are, of which none are used, or the value of the first of them
+-- The computation yields the same value or fault whatever the answers are and uses none of them, or it yields the value of the first one.
 pub data Tells (m : Asking Held) : Type 0 where
   value : (h : Held) → ((rs : List Answer) → m rs ≡ Gives h rs) → Tells m
   fault : (kind : FaultKind) (at : Place) → ((rs : List Answer) → m rs ≡ Fails kind at) → Tells m

@@ -1,4 +1,5 @@
-// The instructions that ask for an action.
+// The instructions that request an action of the store. Each leaves the frame at the next instruction and returns the request as
+// `Stop::Asks`; what the answer does to the frame is said by `Hears`.
 
 ghost use Rattle.std.specs.Prelude.{◌≡◌, ◌+◌};
 ghost use Rattle.ti_code.specs.Effects.{Who, process_at};
@@ -11,7 +12,7 @@ use crate::desk::Desk;
 use ti_base::{Action, FaultKind, Place, Zero};
 use ti_eval::{Held, Stop};
 
-// The number of the process whose element has this point.
+// The number of the process whose element of a grid has this point; 0 if the coordinate is negative.
 fn process_of(h: &Held) -> u32
     ensures { result ≡ process_at h.now }
 {
@@ -20,7 +21,7 @@ fn process_of(h: &Held) -> u32
 }
 
 impl Desk {
-    /// What a field of an object holds.
+    /// Reads a field of an object. A null reference is a fault.
     pub(crate) fn get_field(&mut self, field: u32, at: Place, next: usize) -> Result<(), Stop>
         requires next { next ≡ self.old.at + 1 }
         ensures { (w : Who) → Makes w (i.GetField field at) result (spot_of self.old) (spot_of self.new) }
@@ -34,7 +35,7 @@ impl Desk {
         }
     }
 
-    /// A field of an object is written.
+    /// Writes a field of an object. A null reference is a fault.
     pub(crate) fn put_field(&mut self, field: u32, at: Place, next: usize) -> Result<(), Stop>
         requires next { next ≡ self.old.at + 1 }
         ensures { (w : Who) → Makes w (i.PutField field at) result (spot_of self.old) (spot_of self.new) }
@@ -50,7 +51,7 @@ impl Desk {
         }
     }
 
-    /// What an element of a grid holds.
+    /// Reads an element of a grid. A null reference is a fault.
     pub(crate) fn get_element(&mut self, at: Place, next: usize) -> Result<(), Stop>
         requires next { next ≡ self.old.at + 1 }
         ensures { (w : Who) → Makes w (i.GetElem at) result (spot_of self.old) (spot_of self.new) }
@@ -66,7 +67,7 @@ impl Desk {
         }
     }
 
-    /// An element of a grid is written.
+    /// Writes an element of a grid. A null reference is a fault.
     pub(crate) fn put_element(&mut self, at: Place, next: usize) -> Result<(), Stop>
         requires next { next ≡ self.old.at + 1 }
         ensures { (w : Who) → Makes w (i.PutElem at) result (spot_of self.old) (spot_of self.new) }
@@ -93,7 +94,7 @@ impl Desk {
         }
     }
 
-    /// A new object.
+    /// Makes a new object of a class in the region on top.
     pub(crate) fn new_object(&mut self, class: u32, at: Place, next: usize) -> Result<(), Stop>
         requires next { next ≡ self.old.at + 1 }
         ensures { (w : Who) → Makes w (i.NewObj class at) result (spot_of self.old) (spot_of self.new) }
@@ -103,7 +104,7 @@ impl Desk {
         Err(Stop::Asks(at, Action::NewObj { class, region }))
     }
 
-    /// A new grid.
+    /// Makes a new grid over the domain on top, in the region below it.
     pub(crate) fn new_grid(&mut self, zero: Zero, at: Place, next: usize) -> Result<(), Stop>
         requires next { next ≡ self.old.at + 1 }
         ensures { (w : Who) → Makes w (i.NewGrid zero at) result (spot_of self.old) (spot_of self.new) }
@@ -115,7 +116,7 @@ impl Desk {
         Err(Stop::Asks(at, Action::NewGrid { zero, dom, region }))
     }
 
-    /// A print, whose value is the operand where it has one.
+    /// Prints a line; if `valued`, the top operand is its value.
     pub(crate) fn print(
         &mut self,
         literal: Option<u32>,
@@ -147,7 +148,7 @@ impl Desk {
         ))
     }
 
-    /// What the process whose point is the operand gave.
+    /// Takes what the process whose point is the top operand contributed to the last exchange.
     pub(crate) fn take(&mut self, at: Place, next: usize) -> Result<(), Stop>
         requires next { next ≡ self.old.at + 1 }
         ensures { (w : Who) → Makes w (i.Take at) result (spot_of self.old) (spot_of self.new) }

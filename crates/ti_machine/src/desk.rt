@@ -1,11 +1,12 @@
-// A frame of the machine.
+// The activation state of a call: program counter, slots and operand stack.
 
 ghost use Rattle.std.specs.Prelude.{◌≡◌, []};
 
 use crate::operand::Operand;
 use ti_eval::Held;
 
-/// Where a frame stands: its next instruction, its slots, the oldest first, and its operands, the last pushed last.
+/// The mutable state of a frame: the number of the next instruction, the slots, the oldest first (`this` is slot 0, if there is one), and
+/// the operand stack, whose top is the last element.
 #[derive(Drop)]
 pub struct Desk {
     pub at: usize,
@@ -14,7 +15,7 @@ pub struct Desk {
 }
 
 impl Desk {
-    /// Its room, with nothing in it.
+    /// An empty frame that reuses the memory of this one.
     pub(crate) fn cleared(self) -> Desk
         ensures slots { result.slots.items ≡ [] }
         ensures stack { result.stack.items ≡ [] }
@@ -35,13 +36,13 @@ impl Desk {
     }
 }
 
-/// What an instruction that asks for an action makes of its answer.
+/// How an instruction uses the answer to the action that it requested.
 #[derive(Clone, Copy)]
 pub enum Hears {
-    /// Nothing.
+    /// The answer is ignored.
     Keeps,
-    /// It pushes the value.
+    /// The value of the answer is pushed; `false` if the answer has no value.
     Pushes,
-    /// It pushes the value, if it is one.
+    /// The value of the answer is pushed, if the answer has one.
     Takes,
 }

@@ -1,4 +1,4 @@
-// Points, ranges and rectangular domains from operands.
+// Points, ranges and rectangular domains from operands: what the instructions that make them share.
 
 ghost use Rattle.std.specs.Prelude.{◌≡◌, ◌++◌, [], IfOk, OnOk};
 ghost use Rattle.ti_base.specs.Points.{IsDim};
@@ -14,7 +14,7 @@ use ti_domain::{DomErr, dom_of};
 use ti_eval::{Bounds, Held, empty_rect};
 use ti_rect::rect_meet;
 
-/// The domain without points.
+/// The empty domain of the given number of dimensions. The only error is out of memory.
 pub(crate) fn no_points(alloc: Global, dim: u8) -> Result<Held, Memory>
     requires { IsDim dim }
     ensures { IfOk result (λ h. h ≡ Dm dim []) }
@@ -26,7 +26,7 @@ pub(crate) fn no_points(alloc: Global, dim: u8) -> Result<Held, Memory>
     }
 }
 
-/// The points that are in both rectangular domains, which are of one dimension.
+/// The intersection of two rectangular domains; the empty domain if they have different numbers of dimensions.
 pub(crate) fn common(alloc: Global, r: &Rect, s: &Rect) -> Result<Held, Memory>
     requires first { IsRect r.now }
     requires second { IsRect s.now }
@@ -39,7 +39,7 @@ pub(crate) fn common(alloc: Global, r: &Rect, s: &Rect) -> Result<Held, Memory>
     }
 }
 
-// Adds the coordinates of a point, or a number alone.
+// Appends the coordinates of a point, or the number if the operand is one.
 #[tactic(auto, using(crate::proofs::Numbers::numbers))]
 fn add_numbers(found: &mut Vec<i32>, h: &Held) -> Result<(), Memory>
     ensures { OnOk result (found.new.items ≡ found.old.items ++ literal.numbers_in h.now) }
@@ -58,7 +58,7 @@ fn add_numbers(found: &mut Vec<i32>, h: &Held) -> Result<(), Memory>
     }
 }
 
-/// The numbers that operands stand for.
+/// The numbers that operands denote: numbers, or coordinates of points.
 pub(crate) fn numbers_of(alloc: Global, args: &[Held]) -> Result<Vec<i32>, Memory>
     ensures { IfOk result (λ v. v.items ≡ effects.numbers_of args.now) }
 {
@@ -69,7 +69,7 @@ pub(crate) fn numbers_of(alloc: Global, args: &[Held]) -> Result<Vec<i32>, Memor
     Ok(found)
 }
 
-// Adds a range.
+// Appends the bounds and the step of a range.
 fn add_range(b: &mut Bounds, low: &Held, high: &Held, step: &Held) -> Result<(), Memory>
     ensures { OnOk result (bounds_of b.new ≡ literal.joined (bounds_of b.old) (literal.stepped_bounds low.now high.now step.now)) }
 {
@@ -79,7 +79,7 @@ fn add_range(b: &mut Bounds, low: &Held, high: &Held, step: &Held) -> Result<(),
     Ok(())
 }
 
-/// The bounds of ranges, each with its step.
+/// The bounds of ranges, of which each is three operands: low bound, high bound and step.
 pub(crate) fn bounds(alloc: Global, args: &[Held]) -> Result<Bounds, Memory>
     ensures { IfOk result (λ b. bounds_of b ≡ effects.bounds_of args.now) }
 {

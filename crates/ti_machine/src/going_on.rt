@@ -1,4 +1,4 @@
-// How a process begins, and goes on to what it has next.
+// How a process begins, and how it runs silent steps up to the next action, end or fault.
 
 ghost use Rattle.std.specs.Prelude.{◌≡◌, ◌↔◌, ◌<◌, [], length, IfOk, IfSome, IfNone, IsSome, OnOk, vec_len, vec_capacity};
 ghost use Rattle.ti_base.specs.declared.entry.Next.{Next as Shown};
@@ -15,7 +15,8 @@ use ti_base::{Memory, Next};
 use ti_code::Code;
 use ti_eval::Team;
 
-/// What a process has come to: what it has next, how it uses the answer of an action, and how many instructions it has finished on the way.
+/// The result of a run of silent steps: what the process has next, how it uses the answer if that is an action, and how many instructions
+/// it has finished on the way.
 #[derive(Clone, Copy)]
 pub struct Way {
     pub next: Next,
@@ -49,7 +50,7 @@ impl Machine {
         }
     }
 
-    /// The same; `None` exactly where the code has no method in which a run begins.
+    /// A process before its first instruction, without a precondition. Returns `None` iff the code has no method with the number of `main`.
     pub(crate) fn begin_there(alloc: Global, code: &Code, team: Team, fuel: u32) -> Option<Machine>
         ensures some { IsSome result ↔ (code.now.main < length code.now.methods) }
         ensures value { IfSome result (λ m. machine_of code.now m ≡ first code.now team.procs fuel team.number) }
@@ -74,11 +75,12 @@ impl Machine {
         })
     }
 
-    /// Silent instructions, up to what it has next.
+    /// Runs silent steps up to what the process has next.
     pub(crate) fn go_on(&mut self, alloc: Global, code: &Code) -> Result<Way, Memory>
         requires goes { (n : Shown) × HasNext code.now (machine_of code.now self.old) [] n }
         ensures { IfOk result (λ w. IsWay code.now (machine_of code.now self.old) w (machine_of code.now self.new)) }
     {
+        // For the prover: brings the rule on jumps into scope.
         let _rule = code.methods();
         let mut count: u64 = 0;
         'steps: loop {
@@ -92,8 +94,8 @@ impl Machine {
         }
     }
 
-    /// The same, where it needn't have anything next. `None` comes only where it has nothing next, or at least `turns` silent instructions
-    /// lie in front of that.
+    /// Like `go_on`, without its precondition: gives up once it has executed at least `turns` silent steps. So it returns `None` only if
+    /// the process never has anything next or at least `turns` silent steps come before that.
     pub(crate) fn go_on_within(
         &mut self,
         alloc: Global,
@@ -119,7 +121,7 @@ impl Machine {
         Ok(None)
     }
 
-    /// There is room for an answer.
+    /// Reserves capacity for one more operand, so that an answer can be pushed without allocating.
     pub(crate) fn make_room(&mut self) -> Result<(), Memory>
         ensures same { OnOk result ((c : Methods) → machine_of c self.new ≡ machine_of c self.old) }
         ensures tick { self.new.spent ≡ self.old.spent }

@@ -1,4 +1,5 @@
-// The instructions that move values and jump.
+// The instructions that move values between constants, slots and operands, and those that jump. `next` is the position after the
+// instruction, where the frame continues unless it jumps.
 
 ghost use Rattle.std.specs.Prelude.{◌≡◌, ◌+◌, ℕ, List, Option};
 ghost use Rattle.ti_base.specs.Points.{IsDim};
@@ -15,7 +16,7 @@ use ti_base::Value;
 use ti_eval::{Held, Stop, Team};
 
 impl Desk {
-    /// A value is pushed.
+    /// Pushes a constant.
     pub(crate) fn constant(&mut self, value: Value, next: usize) -> Result<(), Stop>
         requires next { next ≡ self.old.at + 1 }
         requires form { IsFormedValue value }
@@ -26,7 +27,7 @@ impl Desk {
         Ok(())
     }
 
-    /// A domain without points is pushed.
+    /// Pushes the empty domain of the given number of dimensions.
     pub(crate) fn empty_domain(&mut self, alloc: Global, dim: u8, next: usize) -> Result<(), Stop>
         requires next { next ≡ self.old.at + 1 }
         requires form { IsDim dim }
@@ -37,7 +38,7 @@ impl Desk {
         Ok(())
     }
 
-    /// The last operand is dropped.
+    /// Drops the top operand.
     #[tactic(auto, using(crate::proofs::Reversed::reversed))]
     pub(crate) fn drop_one(&mut self, next: usize) -> Result<(), Stop>
         requires next { next ≡ self.old.at + 1 }
@@ -48,7 +49,7 @@ impl Desk {
         Ok(())
     }
 
-    /// The last operand is pushed once more.
+    /// Pushes a copy of the top operand.
     #[tactic(auto, using(crate::proofs::Reversed::reversed))]
     pub(crate) fn double(&mut self, alloc: Global, next: usize) -> Result<(), Stop>
         requires next { next ≡ self.old.at + 1 }
@@ -63,7 +64,7 @@ impl Desk {
         Ok(())
     }
 
-    /// What a slot holds is pushed.
+    /// Pushes the value of a slot.
     pub(crate) fn load(&mut self, alloc: Global, k: u32, next: usize) -> Result<(), Stop>
         requires next { next ≡ self.old.at + 1 }
         ensures { (w : Who) → Makes w (i.Load k) result (spot_of self.old) (spot_of self.new) }
@@ -74,7 +75,7 @@ impl Desk {
         Ok(())
     }
 
-    /// The operand goes into a slot.
+    /// Pops the top operand into a slot.
     pub(crate) fn keep(&mut self, k: u32, next: usize) -> Result<(), Stop>
         requires next { next ≡ self.old.at + 1 }
         ensures { (w : Who) → Makes w (i.Keep k) result (spot_of self.old) (spot_of self.new) }
@@ -85,7 +86,7 @@ impl Desk {
         Ok(())
     }
 
-    /// The oldest so many slots are kept.
+    /// Keeps the `k` oldest slots.
     pub(crate) fn trim(&mut self, k: u32, next: usize) -> Result<(), Stop>
         requires next { next ≡ self.old.at + 1 }
         ensures { (w : Who) → Makes w (i.Trim k) result (spot_of self.old) (spot_of self.new) }
@@ -95,7 +96,7 @@ impl Desk {
         Ok(())
     }
 
-    /// The own number is pushed.
+    /// Pushes the number of the process.
     pub(crate) fn this_proc(&mut self, team: Team, next: usize) -> Result<(), Stop>
         requires next { next ≡ self.old.at + 1 }
         ensures { (receivers : List (Option ℕ)) → Makes (who team receivers) i.ThisProc result (spot_of self.old) (spot_of self.new) }
@@ -105,7 +106,7 @@ impl Desk {
         Ok(())
     }
 
-    /// The number of processes is pushed.
+    /// Pushes the number of processes.
     pub(crate) fn num_procs(&mut self, team: Team, next: usize) -> Result<(), Stop>
         requires next { next ≡ self.old.at + 1 }
         ensures { (receivers : List (Option ℕ)) → Makes (who team receivers) i.NumProcs result (spot_of self.old) (spot_of self.new) }
@@ -115,7 +116,7 @@ impl Desk {
         Ok(())
     }
 
-    /// It goes on at an instruction.
+    /// Continues at the target.
     pub(crate) fn jump(&mut self, target: u32) -> Result<(), Stop>
         ensures { (w : Who) → Makes w (i.Jump target) result (spot_of self.old) (spot_of self.new) }
     {
@@ -123,7 +124,7 @@ impl Desk {
         Ok(())
     }
 
-    /// It goes on at an instruction where the operand is true.
+    /// Pops a boolean and jumps if it is true.
     pub(crate) fn jump_if(&mut self, target: u32, next: usize) -> Result<(), Stop>
         requires next { next ≡ self.old.at + 1 }
         ensures { (w : Who) → Makes w (i.JumpIf target) result (spot_of self.old) (spot_of self.new) }
@@ -137,7 +138,7 @@ impl Desk {
         Ok(())
     }
 
-    /// It goes on at an instruction where the operand isn't true.
+    /// Pops a boolean and jumps if it is false.
     pub(crate) fn jump_if_not(&mut self, target: u32, next: usize) -> Result<(), Stop>
         requires next { next ≡ self.old.at + 1 }
         ensures { (w : Who) → Makes w (i.JumpIfNot target) result (spot_of self.old) (spot_of self.new) }
@@ -151,7 +152,7 @@ impl Desk {
         Ok(())
     }
 
-    /// The first point of the domain on top goes into a slot, and the others stay; without a point it goes on at an instruction.
+    /// Moves the first point of the domain on top into a slot and leaves the other points; jumps if the domain is empty.
     #[tactic(auto, using(crate::proofs::Reversed::reversed))]
     pub(crate) fn next_point(&mut self, k: u32, target: u32, next: usize) -> Result<(), Stop>
         requires next { next ≡ self.old.at + 1 }

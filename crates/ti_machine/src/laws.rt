@@ -1,4 +1,4 @@
-// What holds of every process of code.
+// Theorems on every process that executes code; their functions do nothing.
 
 ghost use Rattle.std.specs.Prelude.{◌≡◌, ◌<◌, ◌≤◌};
 ghost use Rattle.ti_base.specs.declared.entry.Next.{Next};
@@ -10,12 +10,12 @@ ghost use Rattle.ti_machine.specs.Standing.{CodeStanding, HasNext};
 
 use crate::proc::Proc;
 
-/// A process has one thing next, and that hangs on what it began with and the answers that it was told alone.
+/// What a process has next is unique: it is determined by its initial configuration and the answers that it has received.
 pub fn has_one_next()
     ensures { (s : CodeStanding) (m n : Next) → HasNext s m → HasNext s n → m ≡ n }
 {}
 
-/// Where the code follows a program, a process has next what that of the program has after the same answers, as long as each fits.
+/// If the code follows a program, a process has next what that of the program has after the same answers, as long as each of these fits.
 pub fn following_code_goes_on()
     ensures { (s : CodeStanding) (program : NumberedProgram) → Follows s.code program
         → 1 ≤ s.procs → s.procs ≤ 32 → 1 ≤ s.fuel → s.fuel ≤ 4000000 → s.number < s.procs
@@ -25,7 +25,7 @@ pub fn following_code_goes_on()
 
 fn sent<T: Send>() {}
 
-/// A process may go to another thread. Nothing calls this: the claim is that it compiles, since `sent` has the bound `Send`.
+/// A process can be sent to another thread. Nothing calls this: the claim is that it compiles, since `sent` has the bound `Send`.
 pub fn process_is_sent() {
     sent::<Proc>();
 }

@@ -1,4 +1,4 @@
-//! A machine that executes code: what its process does next.
+//! A virtual machine that executes code: it says what a process does next.
 #![tactic(auto)]
 
 mod cells;

@@ -1,4 +1,4 @@
-// Processes: their calls in progress, and what an instruction makes of them.
+// The state of a process, and the execution of a single instruction.
 
 ghost use Rattle.std.specs.Prelude.{◌≡◌, ℕ, ◌+◌, ◌<◌, true, false, [], ◌++◌, ◌∷◌, reverse, List, Some, Err, IfOk, MatchOption, slice_get, vec_len, vec_capacity};
 ghost use Rattle.ti_lang.specs.Meaning.Asking.{Asking};
@@ -22,15 +22,15 @@ use ti_base::{Action, Answer, FaultKind, Memory, Next, Place, Value};
 use ti_code::{Code, Instr};
 use ti_eval::{Held, Stop, Team};
 
-/// A call in progress: the number of its method, and where it stands.
+/// A call in progress: the number of its method, and the state of its frame.
 #[derive(Drop)]
 pub struct Frame {
     pub method: usize,
     pub desk: Desk,
 }
 
-/// A process: which one, the ticks that it may spend and those that it has spent, its innermost call, and those below, the outermost
-/// first. Beside them it keeps the desks of calls that have returned, whose room the next calls take.
+/// A process: its number and that of processes, its fuel in ticks and the ticks spent, its innermost frame, and the frames below, the
+/// outermost first. `spare` holds empty frames of calls that have returned, whose memory later calls reuse.
 #[derive(Drop)]
 pub struct Machine {
     pub team: Team,
@@ -41,21 +41,21 @@ pub struct Machine {
     pub spare: Vec<Desk>,
 }
 
-/// What an instruction has made of a process.
+/// The result of executing one instruction.
 #[derive(Clone, Copy)]
 pub enum Turn {
-    /// It went on silently.
+    /// A silent step: the process continues.
     Went,
-    /// It stands at what it has next; an action's answer is then used so.
+    /// The process is suspended with this next. If that is an action, its answer is used as `Hears` says.
     Stands(Next, Hears),
-    /// It never has anything next.
+    /// The process never has anything next.
     Stuck,
 }
 
-// The most calls that can be below the innermost.
+// The most frames that can be below the innermost one.
 const MOST_BELOW: usize = 199;
 
-// The value that an instruction pushes at its answer, if it pushes one.
+// The value that an instruction pushes when it gets the answer, if it pushes one.
 fn pushed(hears: Hears, answer: Answer) -> Option<Held>
     requires { IsFormedAnswer answer }
     ensures { (s : Spot) → MatchOption result (heard hears answer s ≡ s) (λ h. heard hears answer s ≡ record s { stack = h ∷ s.stack }) }
@@ -74,7 +74,7 @@ fn pushed(hears: Hears, answer: Answer) -> Option<Held>
     }
 }
 
-// What an instruction makes of its answer.
+// How an instruction uses the answer to its action.
 fn hears(instr: &Instr) -> Hears
     ensures { result ≡ hears_of instr.now }
 {
@@ -88,7 +88,7 @@ fn hears(instr: &Instr) -> Hears
     }
 }
 
-// An empty desk, in the room of one that isn't used any more, if there is one.
+// An empty frame; it reuses the memory of a spare one, if there is one.
 fn emptied(alloc: Global, spare: Option<Desk>) -> Desk
     ensures slots { result.slots.items ≡ [] }
     ensures stack { result.stack.items ≡ [] }
@@ -105,7 +105,7 @@ fn emptied(alloc: Global, spare: Option<Desk>) -> Desk
 }
 
 impl Machine {
-    // It asks for an action, where a tick is left.
+    // Requests an action if a tick is left; otherwise the fault is out of fuel.
     pub(crate) fn asks(&self, at: Place, action: Action, hears: Hears) -> Turn
         ensures { (c : Methods) (e : Asking seen.Turn)
             → AsksAt e at action hears (machine_of c self.now) → IsTurn c e result (machine_of c self.now) }
@@ -117,7 +117,7 @@ impl Machine {
         }
     }
 
-    // Its instruction has come to no end.
+    // Turns an interrupted instruction into a suspension, a fault or out of memory.
     fn stopped(&self, stop: Stop, hears: Hears) -> Result<Turn, Memory>
         ensures { IfOk result (λ t. (c : Methods) (s : Spot) (e : Asking Spot)
             → Made {A = Unit {0}} (Err stop) hears e (spot_of self.now.top.desk) → IsWithin c self.now s e t) }
@@ -129,7 +129,7 @@ impl Machine {
         }
     }
 
-    // An instruction that stays in its frame.
+    // Executes an instruction that stays in its frame.
     fn within(&mut self, alloc: Global, instr: &Instr, next: usize) -> Result<Turn, Memory>
         requires next { next ≡ self.old.top.desk.at + 1 }
         requires form { IsFormedInstr instr.now }
@@ -143,7 +143,7 @@ impl Machine {
         }
     }
 
-    // A tick.
+    // Spends a tick, or faults if none is left.
     fn tick(&mut self, at: Place, next: usize) -> Turn
         requires { next ≡ self.old.top.desk.at + 1 }
         ensures { (c : Methods) → IsDone c self.old (i.Tick at) result self.new }
@@ -156,7 +156,7 @@ impl Machine {
         Turn::Went
     }
 
-    // The call returns nothing.
+    // Returns from a call without a value.
     fn back(&mut self) -> Turn
         ensures { (c : Methods) → IsDone c self.old i.Return result self.new }
     {
@@ -170,7 +170,7 @@ impl Machine {
         }
     }
 
-    // The call returns its last operand.
+    // Returns from a call with the top operand as its value.
     fn back_with(&mut self) -> Result<Turn, Memory>
         ensures { IfOk result (λ t. (c : Methods) → IsDone c self.old i.ReturnValue t self.new) }
     {
@@ -186,7 +186,7 @@ impl Machine {
         }
     }
 
-    // A call is entered with these slots, and in this room for operands.
+    // Enters a method with these slots and this empty operand stack. Faults if no tick is left or the calls are too deep.
     fn enter(
         &mut self,
         method: usize,
@@ -219,7 +219,7 @@ impl Machine {
         Ok(Turn::Went)
     }
 
-    // A call.
+    // Executes a call: pops the arguments and the receiver, if the method has a `this`, and enters the method.
     fn call(
         &mut self,
         alloc: Global,
@@ -255,7 +255,7 @@ impl Machine {
         self.enter(method, slots, stack, at, next)
     }
 
-    // An instruction.
+    // Executes one instruction.
     fn act(
         &mut self,
         alloc: Global,
@@ -280,7 +280,7 @@ impl Machine {
         }
     }
 
-    /// Its next instruction.
+    /// Executes the next instruction. The only error is out of memory.
     pub(crate) fn step(&mut self, alloc: Global, code: &Code) -> Result<Turn, Memory>
         ensures { IfOk result (λ t. IsTurn code.now (seen.turn code.now (machine_of code.now self.old)) t (machine_of code.now self.new)) }
     {
@@ -297,7 +297,7 @@ impl Machine {
         self.act(alloc, code, &instrs[at], at + 1)
     }
 
-    /// What the answer to its action makes of it.
+    /// Applies the answer to the action that the process had next; this spends a tick.
     pub(crate) fn hear(&mut self, hears: Hears, answer: Answer)
         requires form { IsFormedAnswer answer }
         requires room { vec_len self.old.top.desk.stack < vec_capacity self.old.top.desk.stack }

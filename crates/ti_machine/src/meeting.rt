@@ -1,4 +1,5 @@
-// Arrivals and departures.
+// Arrivals at collectives and departures. An arrival takes the contribution of the process from the operand stack; the contribution to the
+// deletion of a region is the number of slots that still refer to something in it.
 
 ghost use Rattle.std.specs.Prelude.{◌≡◌, ◌+◌, ◌^◌, ◌≤◌, ◌≤ℤ◌, ℕ, pos, count_by, Some, IfOk, IfErr};
 ghost use Rattle.ti_base.specs.Ranges.{natural};
@@ -16,9 +17,10 @@ use crate::machine::{Frame, Machine, Turn};
 use ti_base::{Action, CollKind, Deposit, Id, Memory, Place};
 use ti_eval::Held;
 
-// What a process gives at its arrival.
+// What a process passes on at an arrival: the argument of the collective and its contribution.
 #[derive(Clone, Copy)]
 pub struct Gift {
+    /// The root of a broadcast, or the region that is deleted.
     pub arg: Option<u32>,
     pub deposit: Deposit,
 }
@@ -28,7 +30,7 @@ const NO_GIFT: Gift = Gift {
     deposit: Deposit::Nothing,
 };
 
-// Whether something lies in a region.
+// Whether a reference refers to something in a region.
 fn lies_in(region: u32, id: Option<Id>) -> bool
     ensures { result ≡ lies_in_spec region id }
 {
@@ -38,7 +40,7 @@ fn lies_in(region: u32, id: Option<Id>) -> bool
     }
 }
 
-// The sum, or out of memory exactly where it doesn't fit.
+// The sum; out of memory iff it doesn't fit into 32 bits.
 fn add(n: u32, more: usize) -> Result<u32, Memory>
     ensures value { IfOk result (λ m. m ≡ n + more) }
     ensures large { IfErr result (λ _. 2 ^ 32 ≤ n + more) }
@@ -49,7 +51,7 @@ fn add(n: u32, more: usize) -> Result<u32, Memory>
     Ok(n + more as u32)
 }
 
-// A number that isn't negative, or 0 for one that is; out of memory exactly where it doesn't fit.
+// The number, or 0 if it is negative; out of memory iff it doesn't fit into 32 bits.
 fn as_number(n: i64) -> Result<u32, Memory>
     ensures value { IfOk result (λ m. m ≡ natural n) }
     ensures large { IfErr result (λ _. pos (2 ^ 32) ≤ℤ n) }
@@ -64,7 +66,7 @@ fn as_number(n: i64) -> Result<u32, Memory>
 }
 
 impl Desk {
-    // How many of its slots name something in a region.
+    // How many slots of the frame refer to something in a region.
     fn named(&self, region: u32) -> usize
         ensures { result ≡ count_by (λ (h : Seen). lies_in_spec region (thing_of h)) (spot_of self.now).slots }
     {
@@ -79,7 +81,7 @@ impl Desk {
 }
 
 impl Machine {
-    // How many slots of all its calls name something in a region.
+    // How many slots of all frames refer to something in a region.
     fn named(&self, region: u32) -> Result<u32, Memory>
         ensures { IfOk result (λ n. (c : Methods) → n ≡ seen.named_in region (machine_of c self.now).frames) }
     {
@@ -90,7 +92,7 @@ impl Machine {
         Ok(count)
     }
 
-    // What it gives to a broadcast: the root's number, and its value, if it is the root.
+    // The contribution to a broadcast: the root's number, and the value, if this process is the root.
     fn gift_to_broadcast(&mut self) -> Result<Gift, Memory>
         ensures gift { IfOk result (λ g. (c : Methods) → IsGift c coll.Broadcast self.old g self.new) }
         ensures rest { IfOk result (λ _. (c : Methods) → KeepsRest c self.old self.new) }
@@ -108,7 +110,7 @@ impl Machine {
         })
     }
 
-    // What it gives at the end of a region: how many of its slots name something there.
+    // The contribution to the deletion of a region: how many slots of the process refer to something in it.
     fn gift_to_delete(&mut self) -> Result<Gift, Memory>
         ensures gift { IfOk result (λ g. (c : Methods) → IsGift c coll.DeleteRegion self.old g self.new) }
         ensures rest { IfOk result (λ _. (c : Methods) → KeepsRest c self.old self.new) }
@@ -121,7 +123,7 @@ impl Machine {
         })
     }
 
-    // What it gives to an exchange: a value.
+    // The contribution to an exchange: a value.
     fn gift_to_exchange(&mut self) -> Result<Gift, Memory>
         ensures gift { IfOk result (λ g. (c : Methods) → IsGift c coll.Exchange self.old g self.new) }
         ensures rest { IfOk result (λ _. (c : Methods) → KeepsRest c self.old self.new) }
@@ -133,7 +135,7 @@ impl Machine {
         })
     }
 
-    // What it gives at its arrival.
+    // The contribution at an arrival.
     fn gift(&mut self, kind: CollKind) -> Result<Gift, Memory>
         ensures gift { IfOk result (λ g. (c : Methods) → IsGift c kind self.old g self.new) }
         ensures rest { IfOk result (λ _. (c : Methods) → KeepsRest c self.old self.new) }
@@ -147,7 +149,7 @@ impl Machine {
         }
     }
 
-    /// It arrives at a collective.
+    /// Arrives at a collective.
     pub(crate) fn arrive(&mut self, kind: CollKind, at: Place, next: usize) -> Result<Turn, Memory>
         requires { next ≡ self.old.top.desk.at + 1 }
         ensures { IfOk result (λ t. (c : Methods) → IsDone c self.old (i.Arrive kind at) t self.new) }
@@ -162,7 +164,7 @@ impl Machine {
         Ok(self.asks(at, action, Hears::Keeps))
     }
 
-    /// It leaves the collective.
+    /// Leaves the collective.
     pub(crate) fn depart(&mut self, at: Place, next: usize) -> Turn
         requires { next ≡ self.old.top.desk.at + 1 }
         ensures { (c : Methods) → IsDone c self.old (i.Depart at) result self.new }

@@ -1,4 +1,4 @@
-// Operands.
+// Operands. The domain of a foreach is consumed lazily: what is left of it is kept as the domain and the last point taken.
 
 ghost use Rattle.std.specs.Prelude.{◌≡◌, List, IfOk, IfSome};
 ghost use Rattle.ti_base.specs.Points.{IsPoint};
@@ -18,15 +18,15 @@ use std::marker::Model;
 use ti_base::{Id, Memory, Place, Point, Value};
 use ti_eval::{Held, Scalar, next_point};
 
-/// An operand: a value or a domain as it is, or the points of a domain that are above one of them.
+/// The representation of an operand: a value or a domain as a whole, or the points of a domain after the given one.
 #[derive(Drop)]
 pub enum Kept {
     Whole(Held),
     Above(Held, Point),
 }
 
-/// An operand. Contracts see the value or the domain that it is. What is left of a domain whose first points were taken is kept as the
-/// domain and the last point taken, since it may have more points than a domain of its own can have.
+/// An operand. Contracts see the value or the domain that it denotes. What is left of a domain whose first points were taken is kept as the
+/// domain and the last point taken, since as rectangles it might need more than a domain can have.
 #[derive(Drop)]
 pub struct Operand {
     kept: Kept,
@@ -42,7 +42,7 @@ impl Model for Operand {
     ghost view = { λ o. operand_of o.kept };
 }
 
-// The point whose coordinates are 1, of the same dimension.
+// The point of the same number of dimensions whose coordinates are all 1.
 fn ones(p: &Point) -> Point
     requires { IsPoint p.now }
     ensures value { result ≡ ones_of p.now }
@@ -66,7 +66,7 @@ impl Operand {
         }
     }
 
-    /// It as a value. What is left of a domain would be a domain of its own, for which there is no room.
+    /// The operand as a value. Out of memory for a partly consumed domain, which isn't rebuilt.
     pub(crate) fn into_held(self) -> Result<Held, Memory>
         ensures { IfOk result (λ h. h ≡ self) }
     {
@@ -76,7 +76,7 @@ impl Operand {
         }
     }
 
-    /// The number or the boolean that it is, as far as that is seen at once.
+    /// The number or the boolean that it is, if that can be seen cheaply.
     pub(crate) fn scalar(&self) -> Option<Scalar>
         ensures { IfSome result (λ s. held_of_scalar s ≡ self.now) }
     {
@@ -97,7 +97,7 @@ impl Operand {
         }
     }
 
-    /// The object or the grid that it names, if it names one.
+    /// The object or the grid that it refers to, if there is one.
     pub(crate) fn thing(&self) -> Option<Id>
         ensures { result ≡ thing_of self.now }
     {
@@ -107,7 +107,7 @@ impl Operand {
         }
     }
 
-    /// The value that goes into a cell or an action.
+    /// The value for a cell or an action; `false` for a partly consumed domain.
     pub(crate) fn value(&self) -> Value
         ensures { result ≡ plain_of self.now }
     {
@@ -117,7 +117,7 @@ impl Operand {
         }
     }
 
-    /// The point that it is.
+    /// The point that it is; the one-dimensional point 0 for another operand.
     pub(crate) fn point(&self) -> Point
         ensures { result ≡ point_of self.now }
     {
@@ -147,7 +147,7 @@ impl Operand {
         }
     }
 
-    /// A coordinate of the point that it is, if it is one and has it.
+    /// A coordinate of the point that it is, if it is a point with this coordinate.
     pub(crate) fn coordinate(&self, at: Place, k: Number) -> Option<Scalar>
         ensures { IfSome result (λ x. (rest : List Answer) → coordinate at (point_of self.now) k.n rest ≡ Gives (held_of_scalar x) rest) }
     {
@@ -157,7 +157,7 @@ impl Operand {
         }
     }
 
-    /// The same.
+    /// A copy.
     pub(crate) fn copy(&self, alloc: Global) -> Result<Operand, Memory>
         ensures { IfOk result (λ o. o ≡ self.now) }
     {
@@ -177,7 +177,7 @@ impl Operand {
         }
     }
 
-    /// The step of a range that says none, from this low bound.
+    /// The default step of a range with this low bound: 1, or the point whose coordinates are all 1.
     pub(crate) fn one_step(&self) -> Held
         ensures { result ≡ one_step_of self.now }
     {
@@ -190,7 +190,7 @@ impl Operand {
         }
     }
 
-    /// Its first point, if it has one, and what the others are.
+    /// Splits a domain into its first point, if it has one, and the other points.
     pub(crate) fn step(self) -> (Operand, Option<Point>)
         ensures took { Took self result.0 result.1 }
         ensures form { IfSome result.1 IsPoint }

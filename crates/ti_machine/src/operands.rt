@@ -1,4 +1,5 @@
-// Operands and slots of a frame.
+// The operand stack and the slots of a frame. Contracts see both with the newest element first, while the vectors grow at their ends. An
+// access to something that isn't there yields `false`, as in the semantics.
 
 ghost use Rattle.std.specs.Prelude.{◌≡◌, ◌+◌, ◌<◌, ◌^◌, [], ◌∷◌, reverse, length, IfOk, vec_len, vec_capacity};
 ghost use Rattle.ti_lang.specs.Meaning.Held.{Held as Seen, plain_of, point_of, thing_of};
@@ -12,7 +13,7 @@ use ti_base::{Id, Memory, Point, Value};
 use ti_eval::Held;
 
 impl Desk {
-    /// An operand more.
+    /// Pushes an operand.
     #[tactic(auto, using(crate::proofs::Reversed::reversed))]
     pub(crate) fn push(&mut self, h: Held) -> Result<(), Memory>
         ensures { IfOk result (λ _. spot_of self.new ≡ record (spot_of self.old) { stack = h ∷ (spot_of self.old).stack }) }
@@ -21,7 +22,7 @@ impl Desk {
         Ok(())
     }
 
-    /// An operand more, for which there is room.
+    /// Pushes an operand without allocating: there is capacity for it.
     #[tactic(auto, using(crate::proofs::Reversed::reversed))]
     pub(crate) fn push_within(&mut self, h: Held)
         requires { vec_len self.old.stack < vec_capacity self.old.stack }
@@ -30,7 +31,7 @@ impl Desk {
         let _ = self.stack.push(Operand::of(h));
     }
 
-    /// The last operand pushed is taken; where there is none, `false`.
+    /// Pops the top operand; `false` if the stack is empty.
     #[tactic(auto, using(crate::proofs::Reversed::reversed))]
     pub(crate) fn pop(&mut self) -> Result<Held, Memory>
         ensures value { IfOk result (λ h. h ≡ top (spot_of self.old).stack) }
@@ -42,7 +43,7 @@ impl Desk {
         }
     }
 
-    /// The object or the grid that the last operand names, if it names one.
+    /// The object or the grid that the top operand refers to, if there is one.
     #[tactic(auto, using(crate::proofs::Reversed::lasts))]
     pub(crate) fn last_thing(&self) -> Option<Id>
         ensures { result ≡ thing_of (top (spot_of self.now).stack) }
@@ -53,7 +54,7 @@ impl Desk {
         }
     }
 
-    /// The value that the last operand is.
+    /// The value that the top operand is.
     #[tactic(auto, using(crate::proofs::Reversed::lasts))]
     pub(crate) fn last_value(&self) -> Value
         ensures { result ≡ plain_of (top (spot_of self.now).stack) }
@@ -64,7 +65,7 @@ impl Desk {
         }
     }
 
-    /// The point that the last operand is.
+    /// The point that the top operand is.
     #[tactic(auto, using(crate::proofs::Reversed::lasts))]
     pub(crate) fn last_point(&self) -> Point
         ensures { result ≡ point_of (top (spot_of self.now).stack) }
@@ -80,7 +81,7 @@ impl Desk {
         }
     }
 
-    /// The last operand is dropped.
+    /// Drops the top operand.
     #[tactic(auto, using(crate::proofs::Reversed::reversed))]
     pub(crate) fn drop_top(&mut self)
         ensures { spot_of self.new ≡ record (spot_of self.old) { stack = below (spot_of self.old).stack } }
@@ -88,7 +89,7 @@ impl Desk {
         let _dropped = self.stack.pop();
     }
 
-    /// The last two operands pushed are taken.
+    /// Pops the two top operands and returns them in the order in which they were pushed.
     pub(crate) fn pop_two(&mut self) -> Result<(Held, Held), Memory>
         ensures under { IfOk result (λ p. p.0 ≡ top (below (spot_of self.old).stack)) }
         ensures last { IfOk result (λ p. p.1 ≡ top (spot_of self.old).stack) }
@@ -99,7 +100,7 @@ impl Desk {
         Ok((x, y))
     }
 
-    /// The last so many operands pushed are taken, in the order in which they were pushed.
+    /// Pops the `n` top operands and returns them in the order in which they were pushed.
     pub(crate) fn take_args(&mut self, alloc: Global, n: u64) -> Result<Vec<Held>, Memory>
         ensures args { IfOk result (λ v. v.items ≡ taken n (spot_of self.old).stack []) }
         ensures rest { IfOk result (λ _. spot_of self.new ≡ record (spot_of self.old) { stack = under n (spot_of self.old).stack }) }
@@ -107,7 +108,7 @@ impl Desk {
         self.take_args_into(n, Vec::new(alloc))
     }
 
-    /// The same, into this room.
+    /// Pops the `n` top operands into the given empty vector, in the order in which they were pushed.
     pub(crate) fn take_args_into(&mut self, n: u64, room: Vec<Held>) -> Result<Vec<Held>, Memory>
         requires { room.items ≡ [] }
         ensures args { IfOk result (λ v. v.items ≡ taken n (spot_of self.old).stack []) }
@@ -122,7 +123,7 @@ impl Desk {
         Ok(args)
     }
 
-    /// What a slot holds.
+    /// A copy of the value in a slot; `false` if there is no such slot.
     pub(crate) fn slot(&self, alloc: Global, k: u32) -> Result<Held, Memory>
         ensures { IfOk result (λ h. h ≡ slot k (spot_of self.now).slots) }
     {
@@ -132,7 +133,7 @@ impl Desk {
         }
     }
 
-    /// A slot holds something else; one more where there are as many.
+    /// Writes a slot; adds one if there are at most `k`.
     #[tactic(auto, using(crate::proofs::Reversed::putting))]
     pub(crate) fn put(&mut self, k: usize, h: Held) -> Result<(), Memory>
         ensures { IfOk result (λ _. spot_of self.new ≡ record (spot_of self.old) { slots = put k h (spot_of self.old).slots }) }
@@ -145,7 +146,7 @@ impl Desk {
         Ok(())
     }
 
-    /// The oldest so many slots are kept.
+    /// Keeps the `k` oldest slots.
     #[tactic(auto, using(crate::proofs::Reversed::cutting))]
     pub(crate) fn cut(&mut self, k: usize)
         ensures { spot_of self.new ≡ record (spot_of self.old) { slots = trimmed k (spot_of self.old).slots } }

@@ -1,4 +1,4 @@
-// All instructions that stay in their frame.
+// The dispatch of all instructions that stay in their frame.
 
 ghost use Rattle.std.specs.Prelude.{◌≡◌, ◌+◌, ℕ, List, Option, true};
 ghost use Rattle.ti_code.specs.Forms.{IsFormedInstr};
@@ -11,7 +11,7 @@ use ti_code::Instr;
 use ti_eval::{Stop, Team};
 
 impl Desk {
-    /// An instruction that stays in its frame.
+    /// Executes an instruction that stays in its frame. `next` is the position after it.
     pub(crate) fn perform(
         &mut self,
         alloc: Global,

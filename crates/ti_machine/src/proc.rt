@@ -1,4 +1,4 @@
-// Processes of code.
+// A process that executes code, as other crates use it.
 
 ghost use Rattle.std.specs.Prelude.{◌≡◌, ◌↔◌, ◌<◌, ◌^◌, [], ◌∷◌, ◌++◌, length, true, false, IfOk, IfErr, IsOk, IfSome, IfNone, IsSome};
 ghost use Rattle.std.specs.Option.{option_map_or};
@@ -14,26 +14,28 @@ use ti_base::{Answer, Memory, Next};
 use ti_code::Code;
 use ti_eval::Team;
 
-/// How far a process has come.
+/// The control state of a process.
 #[derive(Clone, Copy)]
 pub enum State {
-    /// It stands somewhere behind its last answer.
+    /// Runnable: it is after its last answer.
     Goes,
-    /// It has this next; the answer of an action is then used so.
+    /// Suspended with this next. If that is an action, its answer is used as `Hears` says.
     Stands(Next, Hears),
-    /// Memory was wanting, or it was given up, and it stands nowhere.
+    /// Unusable, after out of memory or after `advance_within` gave up.
     Spent,
 }
 
-/// A process of code.
+/// A process that executes code.
 ///
-/// Contracts see the code, the number of processes, the fuel of each, which of them this is, the answers that it was told so far, and
-/// whether it stands at an action. The code itself it doesn't keep, but is given at each call.
+/// Contracts see the code, the number of processes, the fuel of each, the number of this process, the answers that it has received so far,
+/// and whether it waits for the answer to an action. It doesn't keep the code, which is passed at each call.
 #[derive(Drop)]
 pub struct Proc {
     machine: Machine,
     state: State,
+    /// How many instructions it has finished so far; saturates.
     steps: u64,
+    /// `steps` at the last answer.
     finished: u64,
     past: Past,
 }
@@ -56,7 +58,7 @@ impl Model for Proc {
 }
 
 impl Proc {
-    /// The process of a number before its first instruction.
+    /// Process `p` of `procs` before its first instruction.
     pub fn start(alloc: Global, code: &Code, p: u32, procs: u32, fuel: u32) -> Result<Proc, Memory>
         requires number { p < 2 ^ 31 }
         requires procs { procs < 2 ^ 31 }
@@ -74,7 +76,8 @@ impl Proc {
         })
     }
 
-    /// The same where nothing is known of what it has next; `None` exactly where the code has no method in which a run begins.
+    /// Process `p` of `procs` before its first instruction, if nothing is known of what it has next. Returns `None` iff the code has no
+    /// method with the number of `main`.
     pub fn start_there(alloc: Global, code: &Code, p: u32, procs: u32, fuel: u32) -> Option<Proc>
         requires number { p < 2 ^ 31 }
         requires procs { procs < 2 ^ 31 }
@@ -92,9 +95,10 @@ impl Proc {
         })
     }
 
-    /// What it has next: an action, its end or a fault of its own. Until it is answered this is the same again.
+    /// Runs the process up to what it has next: an action, its end or a fault of its own. Until it is answered, later calls return the
+    /// same.
     ///
-    /// After want of memory it isn't used further: each later call wants memory too.
+    /// After out of memory the process is unusable: each later call is out of memory, too.
     pub fn advance(&mut self, alloc: Global, code: &Code) -> Result<Next, Memory>
         requires code { code.now ≡ self.old.code }
         requires goes { GoesOn self.old }
@@ -116,8 +120,8 @@ impl Proc {
         Ok(way.next)
     }
 
-    /// The same where nothing is known of what it has next. `None` comes only where it has nothing next, or at least `turns` instructions
-    /// that ask for nothing lie in front of that; then it isn't used further, as after out of memory.
+    /// Like `advance`, without its precondition. Returns `None` only if the process never has anything next or at least `turns` silent
+    /// steps come before that; the process is then unusable, as after out of memory.
     pub fn advance_within(
         &mut self,
         alloc: Global,
@@ -147,7 +151,7 @@ impl Proc {
         Ok(Some(way.next))
     }
 
-    /// It has got the answer to the action at which it stands.
+    /// Passes the answer to the action for which the process waits.
     pub fn answer(&mut self, a: Answer)
         requires asks { self.old.asks ≡ true }
         requires form { IsFormedAnswer a }
@@ -163,8 +167,8 @@ impl Proc {
         self.past = self.past.and(&a);
     }
 
-    /// How many instructions it has finished with the last answer, that action's instruction among them; none without answers. From
-    /// 2^64 - 1 on it stays there.
+    /// How many instructions the process has finished with the last answer, that of the action included; 0 before the first answer.
+    /// Saturates at 2^64 - 1.
     pub fn finished(&self) -> u64
         ensures { HasFinished self.now result }
     {

@@ -1,4 +1,4 @@
-// The instructions that make a value of operands.
+// The instructions that compute a value from operands, by the functions of ti_eval that the tree interpreter uses, too.
 
 ghost use Rattle.std.specs.Prelude.{◌≡◌, ◌+◌, ◌^◌, ◌<◌, ℕ, List, [], ◌∷◌, Option};
 ghost use Rattle.ti_lang.specs.Meaning.Held.{Held as Seen};
@@ -24,7 +24,7 @@ use ti_lang::program::Ty;
 use ti_lang::typing::BuiltIn;
 use ti_syntax::tree::{BinaryOperator, UnaryOperator};
 
-/// The operator of the language that a name means.
+/// The operator of the language that a name denotes.
 pub(crate) fn operator(o: Operation) -> BinaryOperator
     ensures { result ≡ operator_of o }
 {
@@ -82,7 +82,7 @@ fn built_in(k: Member) -> BuiltIn
     }
 }
 
-/// The value that has come out of a computation with no answers, or why there is none.
+/// The result of a computation without its list of answers.
 pub(crate) fn value_of<'a>(got: Result<(Held, &'a [Told]), Stop>) -> Result<Held, Stop>
     ensures { (m : Asking Seen) → Tells m → Comes got.entry (m []) → Given result m }
 {
@@ -93,7 +93,7 @@ pub(crate) fn value_of<'a>(got: Result<(Held, &'a [Told]), Stop>) -> Result<Held
 }
 
 impl Desk {
-    /// What has come out is pushed, or will be.
+    /// Pushes the value of a computation. If it is interrupted by an action, the answer will be pushed.
     pub(crate) fn push_got(&mut self, got: Result<Held, Stop>, next: usize) -> Result<(), Stop>
         ensures { (s : Spot) (st : List Seen) (m : Asking Seen)
             → spot_of self.old ≡ record s { stack = st } → next ≡ s.at + 1 → Given got m
@@ -105,7 +105,7 @@ impl Desk {
         Ok(())
     }
 
-    /// An operator of two operands.
+    /// Applies a binary operator.
     pub(crate) fn operate(
         &mut self,
         alloc: Global,
@@ -121,7 +121,7 @@ impl Desk {
         self.push_got(got, next)
     }
 
-    /// An operator of one operand.
+    /// Applies a unary operator.
     pub(crate) fn operate_alone(&mut self, o: OneOperand, next: usize) -> Result<(), Stop>
         requires next { next ≡ self.old.at + 1 }
         ensures { (w : Who) → Makes w (i.Alone o) result (spot_of self.old) (spot_of self.new) }
@@ -132,7 +132,7 @@ impl Desk {
         Ok(())
     }
 
-    /// An int becomes a long.
+    /// Converts an int to a long.
     pub(crate) fn widen(&mut self, next: usize) -> Result<(), Stop>
         requires next { next ≡ self.old.at + 1 }
         ensures { (w : Who) → Makes w i.Widen result (spot_of self.old) (spot_of self.new) }
@@ -143,7 +143,7 @@ impl Desk {
         Ok(())
     }
 
-    /// A long becomes an int.
+    /// Converts a long to an int.
     pub(crate) fn narrow(&mut self, next: usize) -> Result<(), Stop>
         requires next { next ≡ self.old.at + 1 }
         ensures { (w : Who) → Makes w i.Narrow result (spot_of self.old) (spot_of self.new) }
@@ -154,7 +154,7 @@ impl Desk {
         Ok(())
     }
 
-    /// `null` becomes a reference to an object.
+    /// Makes `null` a reference to an object.
     pub(crate) fn as_object(&mut self, next: usize) -> Result<(), Stop>
         requires next { next ≡ self.old.at + 1 }
         ensures { (w : Who) → Makes w i.AsObj result (spot_of self.old) (spot_of self.new) }
@@ -165,7 +165,7 @@ impl Desk {
         Ok(())
     }
 
-    /// `null` becomes a reference to a grid.
+    /// Makes `null` a reference to a grid.
     pub(crate) fn as_grid(&mut self, next: usize) -> Result<(), Stop>
         requires next { next ≡ self.old.at + 1 }
         ensures { (w : Who) → Makes w i.AsGrid result (spot_of self.old) (spot_of self.new) }
@@ -176,7 +176,7 @@ impl Desk {
         Ok(())
     }
 
-    /// The point of so many coordinates.
+    /// Pushes the point of the `n` top operands as coordinates.
     pub(crate) fn make_point(&mut self, alloc: Global, n: u32, next: usize) -> Result<(), Stop>
         requires next { next ≡ self.old.at + 1 }
         ensures { (w : Who) → Makes w (i.MakePt n) result (spot_of self.old) (spot_of self.new) }
@@ -188,7 +188,7 @@ impl Desk {
         Ok(())
     }
 
-    /// A coordinate of a point.
+    /// Pushes a coordinate of a point by the `n` top operands as indices.
     pub(crate) fn coordinate(
         &mut self,
         alloc: Global,
@@ -206,7 +206,7 @@ impl Desk {
         self.push_got(got, next)
     }
 
-    /// The step of a range that says none.
+    /// Pushes the default step of a range.
     #[tactic(auto, using(crate::proofs::Reversed::reversed))]
     pub(crate) fn step(&mut self, next: usize) -> Result<(), Stop>
         requires next { next ≡ self.old.at + 1 }
@@ -227,7 +227,7 @@ impl Desk {
         Ok(())
     }
 
-    /// The rectangular domain of so many ranges.
+    /// Pushes the rectangular domain of the `n` ranges on top.
     pub(crate) fn make_rect(
         &mut self,
         alloc: Global,
@@ -244,7 +244,7 @@ impl Desk {
         self.push_got(got, next)
     }
 
-    /// The points that are in both of two rectangular domains.
+    /// Pushes the intersection of two rectangular domains.
     pub(crate) fn meet(&mut self, alloc: Global, next: usize) -> Result<(), Stop>
         requires next { next ≡ self.old.at + 1 }
         ensures { (w : Who) → Makes w i.Common result (spot_of self.old) (spot_of self.new) }
@@ -256,7 +256,7 @@ impl Desk {
         Ok(())
     }
 
-    /// A rectangular domain becomes the domain of its points.
+    /// Converts a rectangular domain to a general domain.
     pub(crate) fn as_domain(&mut self, alloc: Global, at: Place, next: usize) -> Result<(), Stop>
         requires next { next ≡ self.old.at + 1 }
         ensures { (w : Who) → Makes w (i.ToDom at) result (spot_of self.old) (spot_of self.new) }
@@ -266,7 +266,7 @@ impl Desk {
         self.push_got(got, next)
     }
 
-    /// A member of the language.
+    /// Evaluates a built-in member.
     pub(crate) fn member(
         &mut self,
         alloc: Global,
@@ -284,7 +284,7 @@ impl Desk {
         self.push_got(got, next)
     }
 
-    /// The reference names a thing of the own process, or nothing.
+    /// Casts to a local reference: a fault unless it is null or refers to an object of this process.
     pub(crate) fn cast_local(&mut self, team: Team, at: Place, next: usize) -> Result<(), Stop>
         requires next { next ≡ self.old.at + 1 }
         ensures { (receivers : List (Option ℕ)) → Makes (who team receivers) (i.CastLocal at) result (spot_of self.old) (spot_of self.new) }
@@ -298,7 +298,7 @@ impl Desk {
         self.push_got(got, next)
     }
 
-    /// The operand is the number of a process.
+    /// Checks that the top operand is the number of a process; otherwise a fault.
     pub(crate) fn root_test(&mut self, team: Team, at: Place, next: usize) -> Result<(), Stop>
         requires next { next ≡ self.old.at + 1 }
         ensures { (receivers : List (Option ℕ)) → Makes (who team receivers) (i.RootTest at) result (spot_of self.old) (spot_of self.new) }
@@ -312,7 +312,7 @@ impl Desk {
         Ok(())
     }
 
-    /// The operand is the domain that has one point for each process.
+    /// Checks that the top operand is the domain with one point for each process; otherwise a fault.
     pub(crate) fn grid_test(&mut self, team: Team, at: Place, next: usize) -> Result<(), Stop>
         requires next { next ≡ self.old.at + 1 }
         ensures { (receivers : List (Option ℕ)) → Makes (who team receivers) (i.GridTest at) result (spot_of self.old) (spot_of self.new) }

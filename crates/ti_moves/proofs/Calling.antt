@@ -1,4 +1,4 @@
--- Parameters and their arguments, one by one.
+-- Proves that parameters are bound to their arguments one by one, as in the semantics.
 use Rattle.std.proofs.Common.{◌≡◌, ◌∙◌, refl, sym, ap, subst, ℕ, ◌+◌, ◌<◌, ◌≤◌, List, [], ◌∷◌, map, drop, drop-cons, drop_of_length-le, add-one, length, get_or}
 use Rattle.ti_base.specs.declared.entry.Answer.{Answer}
 use Rattle.ti_lang.specs.declared.program.exprs.Expr.{Expr}

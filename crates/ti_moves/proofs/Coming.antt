@@ -1,4 +1,4 @@
--- What statements come to.
+-- Proves that the outcomes of statements in the code are those of the semantics.
 use Rattle.std.proofs.Common.{◌≡◌, ◌∙◌, ap, refl, sym, subst, ℕ, List, ◌++◌, ◌∷◌, map, Option, Some, None, Result}
 use Rattle.std.specs.Borrow.{Bor}
 use Rattle.std.specs.declared.alloc.Global.{Global}

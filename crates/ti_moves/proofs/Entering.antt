@@ -1,4 +1,4 @@
--- Where a call stands in the text.
+-- Proves that the code finds the statement at the position of a call.
 use Rattle.std.proofs.Common.{◌≡◌, ◌∙◌, ap, sym, refl, ℕ, List, [], ◌∷◌, map, slice_get, unwrap_or, length, reverse, arith}
 use Rattle.std.proofs.lemmas.List.{length-map}
 use Rattle.std.proofs.lemmas.Option.{slice_get-map}

@@ -1,4 +1,4 @@
--- What comes behind a computation that gives something.
+-- Proves what follows a computation that yields a value.
 use Rattle.std.proofs.Common.{◌≡◌, ap, List}
 use Rattle.ti_base.specs.declared.entry.Answer.{Answer}
 use Rattle.ti_lang.specs.Meaning.Asking.{Asking, Got, Gives, followed}

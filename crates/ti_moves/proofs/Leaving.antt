@@ -1,4 +1,4 @@
--- The variables that leave, which are kept in the order of their declarations.
+-- Proves which variables leave at the end of a scope; the others keep the order of their declarations.
 use Rattle.std.proofs.Common.{◌≡◌, ◌∙◌, ap, sym, refl, List, [], ◌∷◌, ◌++◌, map, reverse, filter, not, Bool, true, false, cond}
 use Rattle.std.proofs.lemmas.List.{reverse-append, append-nil}
 use Rattle.std.proofs.lemmas.List.Elements.{filter-append}

@@ -1,4 +1,4 @@
--- The methods of a program by their numbers.
+-- Proves facts on the methods of a program and their numbers.
 use Rattle.std.proofs.Common.{◌≡◌, ◌∙◌, refl, sym, ap, ℕ, ◌<◌, ◌≤◌, ◌==◌, nat_lt, ◌&&◌, cond, Bool, true, false, List, map, length, get_or, slice_get, option_map, find, position, Some, None, arith}
 use Rattle.std.specs.Prelude.{unwrap_or}
 use Rattle.std.specs.List.{position_or_len}

@@ -8,13 +8,13 @@ use Rattle.ti_lang.specs.Meaning.Processes.{Variable}
 use Rattle.ti_lang.specs.Meaning.Scoping.{Env, declared_type}
 use Rattle.ti_lang.specs.Meaning.Evaluation.{eval}
 
--- the value of an argument, made one of its parameter's type
+-- The value of an argument, converted to its parameter's type.
 abbrev pub argument : Env → VariableUse → NumberedExp → Asking Held
 argument env p x = do
   h ← eval env x
   converted (place_of_numbered x) (declared_type p.declared) h
 
--- a parameter with the value of its argument
+-- A parameter with the value of its argument.
 abbrev pub given : Env → VariableUse → NumberedExp → Asking Variable
 given env p x = do
   h ← argument env p x

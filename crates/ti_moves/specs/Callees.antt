@@ -1,4 +1,4 @@
--- What clauses see of calls in the code.
+-- What contracts see of calls in the code.
 use Rattle.std.specs.Prelude.{map, Option, None, Some}
 use Rattle.ti_base.specs.declared.place.Place.{Place}
 use Rattle.ti_lang.specs.Program.Expressions.{NumberedExp, numbered_exps}
@@ -11,7 +11,7 @@ use Rattle.ti_moves.specs.declared.calls.Object.{Object}
 use Rattle.ti_moves.specs.declared.calls.Object.TheVariants as o
 use Rattle.ti_moves.specs.Moves.{method_at}
 
--- the object of a call at a place
+-- The object of a call at a place, if it has one.
 abbrev pub object_seen : Place → Object → Option NumberedExp
 object_seen at o.Missing = None
 object_seen at o.This = Some (e.This at)

@@ -1,4 +1,4 @@
--- What clauses see of moves in the code.
+-- What contracts see of the outcomes of statements (moves) in the code.
 use Rattle.std.specs.Prelude.{ℕ, List, [], ◌∷◌, slice_get, unwrap_or}
 use Rattle.ti_lang.specs.Program.Types.{ValueType}
 use Rattle.ti_lang.specs.Program.Types as t
@@ -22,7 +22,7 @@ use Rattle.ti_moves.specs.declared.moves.Move.{Move}
 use Rattle.ti_moves.specs.declared.moves.Move.TheVariants as m
 use Rattle.ti_moves.specs.Receiving.{receiver_of}
 
--- the variables in scope after a change
+-- The variables in scope after a change.
 abbrev pub changed : Change → List Variable → List Variable
 changed c.Same ws = ws
 changed (c.New slot) ws = with_new (variable_of slot.variable) slot.held ws
@@ -31,12 +31,12 @@ changed (c.Changed v h) ws = with_changed (variable_of v.now) h ws
 abbrev pub site_in : Env → Site
 site_in env = record { program = env.program; this = this_of env.method; procs = env.procs }
 
--- the work that is left of a statement
+-- The pending work of a statement.
 abbrev pub works_of : Site → NumberedStm → Left → List Work
 works_of site x (l.Of t) = work_of site x t
 works_of site x (l.Part p t) = Do (part_of x p) ∷ work_of site x t
 
--- the method of a number
+-- The method with this number.
 abbrev pub method_at : NumberedProgram → ℕ → NumberedMethod
 method_at program number = unwrap_or (slice_get program.methods number) no_method
 
@@ -45,12 +45,12 @@ method_at program number = unwrap_or (slice_get program.methods number) no_metho
 abbrev pub wait_of : Meeting → Wanted → Receiver → Wait
 wait_of m wanted receiver = record { place = m.place; kind = m.kind; arg = m.arg; wanted = wanted; receiver = receiver }
 
--- the type of the value that a right side gets from a collective
+-- The type of the value that a right side gets from a collective.
 abbrev pub type_given : Env → NumberedInit → ValueType
 type_given env (s.Broadcast at x root) = type_here env x
 type_given env value = t.Region
 
--- the type of the value that a statement waits for at a collective
+-- The type of the value for which a statement waits at a collective.
 abbrev pub type_received : Env → NumberedStm → ValueType
 type_received env (s.Declare at type variable value) = type_given env value
 type_received env (s.Assign at target value) = type_given env value
@@ -61,7 +61,7 @@ expected env x m = wait_of m (ValueOf (type_received env x)) (receiver_of x)
 
 -- ---- moves
 
--- the move of a statement
+-- The outcome of a statement.
 abbrev pub move_of : Env → NumberedStm → Move → move.Move
 move_of env x (m.Goes change left) = move.Goes (changed change env.variables) (works_of (site_in env) x left)
 move_of env x m.Breaks = move.Breaks

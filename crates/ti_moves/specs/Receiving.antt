@@ -1,4 +1,4 @@
--- What clauses see of receivers and right sides in the code.
+-- What contracts see of receivers and right sides in the code.
 use Rattle.std.specs.Prelude.{Option, None, Some}
 use Rattle.std.specs.Borrow.{Bor}
 use Rattle.ti_lang.specs.declared.program.stmts.Stmt.{Stmt}
@@ -16,7 +16,7 @@ use Rattle.ti_moves.specs.declared.receiving.Receiver.TheVariants as r
 use Rattle.ti_moves.specs.declared.receiving.Right.{Right}
 use Rattle.ti_moves.specs.declared.receiving.Right.TheVariants as right
 
--- a statement; one that isn't there is empty
+-- A statement; a missing one is empty.
 abbrev pub stm_seen : Option (Bor Stmt) → NumberedStm
 stm_seen None = s.Empty
 stm_seen (Some b) = statement_of b.now
@@ -27,7 +27,7 @@ receiver_seen (r.Declared at ty variable) = process.Declared at (declared_as (ty
 receiver_seen (r.Assigned at target) = process.Assigned at (expression_of target.now)
 receiver_seen (r.Updated at op target) = process.Updated at op (expression_of target.now)
 
--- where the value of a statement's right side goes
+-- The receiver of the value of a statement's right side.
 abbrev pub receiver_of : NumberedStm → process.Receiver
 receiver_of (s.Declare at type variable value) = process.Declared at (declared_as type variable)
 receiver_of (s.Assign at target value) = process.Assigned at target
@@ -35,7 +35,7 @@ receiver_of (s.Update at op target x) = process.Updated at op target
 receiver_of (s.Step at op target) = process.Updated at (one_more op) target
 receiver_of x = process.Nowhere
 
--- what a right side comes to
+-- The evaluation of a right side.
 abbrev pub right_seen : Env → Right → Asking Held
 right_seen env (right.Value x) = eval env (expression_of x.now)
 right_seen env (right.Known h) = gives h.now

@@ -1,4 +1,4 @@
--- What clauses see of the targets of assignments in the code.
+-- What contracts see of the targets of assignments in the code.
 use Rattle.std.specs.Prelude.{List}
 use Rattle.ti_base.specs.declared.place.Place.{Place}
 use Rattle.ti_base.specs.declared.value.Id.{Id}
@@ -16,20 +16,20 @@ use Rattle.ti_lang.specs.Meaning.Targets as target
 use Rattle.ti_moves.specs.declared.targets.Target.{Target}
 use Rattle.ti_moves.specs.declared.targets.Target.TheVariants as t
 
--- a target, where the reference that names its thing has this type in the text
+-- A target whose reference has this static type.
 abbrev pub target_of : ValueType → Target → target.Target
 target_of through (t.Variable variable) = target.InVariable (variable_of variable.now)
 target_of through (t.Field object field) = target.InPart (Field object through field)
 target_of through (t.Element grid index) = target.InPart (Element grid through index)
 
--- the type in the text of the reference in an expression that names a target; `Void` where there is none
+-- The static type of the reference in an expression that is a target; `Void` if it has none.
 abbrev pub through_of : Env → NumberedExp → ValueType
 through_of env (e.OwnField at field) = type_of env (e.This at)
 through_of env (e.Select at x name) = type_of env x
 through_of env (e.Index at x parts) = type_of env x
 through_of env x = Void
 
--- these variables are in scope after a write into a cell of the thing that a value of this type names
+-- A write to a field or an element through a reference of this type, which leaves these variables in scope.
 abbrev pub written : Place → ValueType → Held → (Id → Action) → List Variable → Asking (List Variable)
 written at through h put ws = do
   r ← needed at through h

@@ -1,4 +1,4 @@
-// Calls of declared methods.
+// Calls of declared methods: which method is called, the binding of its parameters, and the outcome.
 
 ghost use Rattle.std.specs.Prelude.{◌≡◌, ◌==◌, ◌&&◌, [], Some, map, not, find, slice_get, option_map};
 ghost use Rattle.std.specs.declared.vec.Vec.{Vec as Row};
@@ -35,7 +35,7 @@ use ti_lang::typing::{Seen as Kind, type_in_text};
 
 // ---- which method
 
-/// The method of a number; none stands for one that isn't there.
+/// The method with this number, if there is one.
 #[tactic(auto, using(ti_lang::proofs::Lemmas::method_lookups))]
 pub fn method<'p>(program: &'p Parts, number: usize) -> Option<&'p Method>
     ensures { method_seen result ≡ method_at (program_of program.now) number }
@@ -47,7 +47,7 @@ pub fn method<'p>(program: &'p Parts, number: usize) -> Option<&'p Method>
     }
 }
 
-/// The statements of a method; none, where it isn't there.
+/// The statements of a method; none if there is no method.
 pub fn body_of<'p>(method: Option<&'p Method>) -> &'p [Stmt]
     ensures { map statement_of result.now ≡ (method_seen method.entry).body }
 {
@@ -57,7 +57,7 @@ pub fn body_of<'p>(method: Option<&'p Method>) -> &'p [Stmt]
     }
 }
 
-// A number, where it is that of a method.
+// The number, if a method has it.
 #[tactic(auto, using(crate::proofs::MethodLaws::method_numbers))]
 fn declared(program: &Parts, number: u32) -> Option<usize>
     ensures { slice_get (program_of program.now).methods number ≡ option_map (method_at (program_of program.now)) result }
@@ -87,7 +87,7 @@ fn is_instance(m: Option<&Method>) -> bool
     }
 }
 
-// The number of the first method of a class and a name, where it's an instance method.
+// The number of the first method of a class and a name, if it is an instance method.
 #[tactic(auto, unfolding(ti_lang::specs::Typing::Declared::instance_method))]
 fn instance_named(program: &Parts, class: u32, name: u32) -> Option<usize>
     ensures { instance_method (program_of program.now) class name ≡ option_map (method_at (program_of program.now)) result }
@@ -100,7 +100,7 @@ fn instance_named(program: &Parts, class: u32, name: u32) -> Option<usize>
     }
 }
 
-// The number of the instance method of a name, behind an object.
+// The number of the instance method that a name denotes after an object.
 fn named_behind<'p>(program: &'p Parts, t: Kind<'p>, name: u32) -> Option<usize>
     ensures { method_behind (program_of program.now) (seen t.entry) name ≡ option_map (method_at (program_of program.now)) result }
 {
@@ -130,13 +130,13 @@ pub fn number_called(program: &Parts, this: Option<u32>, e: &Expr) -> Option<usi
 /// The object of a call.
 #[derive(Clone, Copy)]
 pub enum Object<'p> {
-    /// A static method has none.
+    /// A call of a static method has none.
     Missing,
     This,
     Of(&'p Expr),
 }
 
-/// A call of the method of a number.
+/// A call of the method with this number.
 #[derive(Clone, Copy)]
 pub struct Call<'p> {
     pub place: Place,
@@ -145,7 +145,7 @@ pub struct Call<'p> {
     pub args: &'p [Expr],
 }
 
-// The call that an expression is, of the method of a number.
+// The call that an expression is, of the method with this number.
 #[tactic(auto, using(ti_lang::proofs::Lemmas::program_bridges))]
 fn call_by<'p>(method: usize, e: &'p Expr) -> Option<Call<'p>>
     ensures { (program : NumberedProgram) → call_by_spec (expression_of e.now) (Some (method_at program method))
@@ -179,7 +179,7 @@ fn call_by<'p>(method: usize, e: &'p Expr) -> Option<Call<'p>>
     }
 }
 
-/// The call that an expression is, if it is one of a declared method.
+/// The call that an expression is, if it calls a declared method.
 pub fn called<'p>(env: &Env, e: &'p Expr) -> Option<Call<'p>>
     ensures { called_spec (env_of env.now) (expression_of e.now) ≡ option_map (call_seen (program_of env.now.program.now)) result }
 {
@@ -189,8 +189,8 @@ pub fn called<'p>(env: &Env, e: &'p Expr) -> Option<Call<'p>>
 
 // ---- arguments
 
-/// The parameter of a number, with the value of its argument, made one of its type at once. A number that 32 bits
-/// don't hold is want of memory.
+/// The parameter of this number with the value of its argument, which is converted to the parameter's type at once. Out of memory, too, if
+/// the number doesn't fit into 32 bits.
 #[tactic(auto, using(ti_eval::proofs::Lemmas::steps))]
 pub fn argument<'a>(
     alloc: Global,
@@ -213,7 +213,7 @@ pub fn argument<'a>(
     Ok((new_slot(alloc, &param.ty, number, held)?, answers))
 }
 
-// The parameters with the values of their arguments, as far as both go.
+// The parameters with the values of their arguments, as far as there are both.
 fn bind<'a>(
     alloc: Global,
     env: &Env,
@@ -237,7 +237,7 @@ fn bind<'a>(
     Ok((found, left))
 }
 
-// The same, of a method; `String[] x` is no variable, and a method that isn't there has no parameter.
+// The parameters of a method with the values of their arguments. `String[] x` is no variable, and a missing method has no parameter.
 fn parameters<'a>(
     alloc: Global,
     env: &Env,
@@ -259,7 +259,7 @@ fn parameters<'a>(
 
 // ---- the call
 
-// The object that an instance method needs.
+// The object of a call, if it has one. A null reference is a fault.
 #[tactic(auto, using(ti_eval::proofs::Lemmas::steps))]
 fn maybe_needed<'a>(
     at: Place,
@@ -277,7 +277,7 @@ fn maybe_needed<'a>(
     }
 }
 
-// The value of the object of a call, where it has one.
+// The value of the object of a call, if it has one.
 #[tactic(auto, using(ti_eval::proofs::Lemmas::steps))]
 fn object_of<'a>(
     alloc: Global,
@@ -297,7 +297,7 @@ fn object_of<'a>(
     }
 }
 
-/// What a call comes to: its object and its arguments are evaluated in order, and then `null` is refused.
+/// The outcome of a call. Its object and its arguments are evaluated in order; then an object that is null is a fault.
 #[tactic(auto, using(ti_eval::proofs::Lemmas::steps))]
 pub fn calling<'a, 'c>(
     alloc: Global,

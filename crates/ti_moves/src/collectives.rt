@@ -1,4 +1,4 @@
-// What processes do together, up to their arrival.
+// The collectives, up to the arrival of a process.
 
 ghost use Rattle.std.specs.Prelude.{◌≡◌, ℕ, List, map, None};
 ghost use Rattle.ti_base.specs.declared.entry.Answer.{Answer};
@@ -53,7 +53,7 @@ pub fn meets<'c>(at: Place) -> Move<'c>
     }
 }
 
-/// `new SharedRegion()`, whose departure gives the region.
+/// `new SharedRegion()`, whose departure yields the region.
 pub fn makes_region<'c>(at: Place) -> Move<'c>
     ensures { (env : Where) (x : NumberedStm) (rest : List Answer) → type_received env x ≡ Region
         → collectives.makes_region (receiver_of x) at rest ≡ Gives (move_of env x result) rest }
@@ -83,7 +83,7 @@ pub fn delete<'a, 'c>(
 
 // ---- broadcasts
 
-/// The number of a process, or else the fault.
+/// The number of a process; another number is a fault.
 pub fn root_among<'a>(
     procs: u32,
     at: Place,
@@ -100,7 +100,7 @@ pub fn root_among<'a>(
     }
 }
 
-// The root gives its value, and no other process does.
+// The root contributes its value, other processes nothing.
 #[tactic(auto, using(ti_eval::proofs::Lemmas::steps))]
 fn root_gives<'a>(
     alloc: Global,
@@ -119,7 +119,7 @@ fn root_gives<'a>(
     }
 }
 
-/// `broadcast e from p`, whose departure gives the root's value.
+/// `broadcast e from p`, whose departure yields the root's value.
 #[tactic(auto, using(ti_eval::proofs::Lemmas::steps))]
 pub fn broadcasts<'a, 'c>(
     alloc: Global,
@@ -146,7 +146,7 @@ pub fn broadcasts<'a, 'c>(
 
 // ---- exchanges
 
-// A value as that of an element.
+// Converts a value to the element type of a grid.
 fn as_element<'p>(t: Kind<'p>, h: Held) -> Held
     ensures { result ≡ as_type_spec (element_of (seen t.entry)) h }
 {

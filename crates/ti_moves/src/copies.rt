@@ -1,4 +1,4 @@
-// Copies of grids, and what an exchange puts into its grid.
+// Copies of grids, and the writes of an exchange into its grid.
 
 ghost use Rattle.std.specs.Prelude.{◌≡◌, ◌<◌, ◌^◌, ℕ, List, [], ◌∷◌, map};
 ghost use Rattle.ti_base.specs.declared.point.Point.{Point as At};
@@ -28,7 +28,7 @@ use ti_rect::rect_meet;
 
 // ---- copies
 
-// The points of both, where they are of one dimension.
+// The intersection of two rectangular domains; if they have different numbers of dimensions, a value without points.
 fn common(r: &Rect, s: &Rect) -> Held
     requires first { IsRect r.now }
     requires second { IsRect s.now }
@@ -41,7 +41,7 @@ fn common(r: &Rect, s: &Rect) -> Held
     }
 }
 
-/// `a.copy(b)`, at its place: both grids and the points of both.
+/// `a.copy(b)`, at its place: both grids and the intersection of their domains.
 #[tactic(auto, using(ti_eval::proofs::Lemmas::steps))]
 pub fn copies<'a, 'c>(
     alloc: Global,
@@ -68,7 +68,7 @@ pub fn copies<'a, 'c>(
 
 // ---- elements
 
-/// The element at a point is read from one grid and written into the other; the other points are left.
+/// Copies the element at a point from one grid to the other.
 #[tactic(auto, using(ti_eval::proofs::Lemmas::steps))]
 pub fn copy_element<'a>(
     at: Place,
@@ -91,7 +91,7 @@ pub fn copy_element<'a>(
     Ok(((), answers))
 }
 
-/// The value of a process is taken and written into the grid; those of the other processes are left.
+/// Takes the value of a process and writes it into the grid.
 #[tactic(auto, using(ti_eval::proofs::Lemmas::steps))]
 pub fn take_element<'a>(
     at: Place,

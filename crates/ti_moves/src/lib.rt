@@ -1,4 +1,4 @@
-//! What statements come to, from the answers that their actions have got so far: moves of their process.
+//! The execution of single statements: their outcome (a move of the process), given the answers that their actions have received so far.
 #![tactic(auto)]
 
 mod calls;

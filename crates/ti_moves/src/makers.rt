@@ -1,4 +1,4 @@
-// New objects and grids.
+// The values of `new`: new objects and grids.
 
 ghost use Rattle.std.specs.Prelude.{◌≡◌};
 ghost use Rattle.ti_syntax.specs.Trees.Views.{maybe_of};
@@ -15,7 +15,7 @@ use ti_lang::typing::zero_of_type;
 
 // ---- the region
 
-// The region in which a new thing is placed; 0 is none.
+// The region of a new object or grid; 0 if none is given.
 #[tactic(auto, using(ti_eval::proofs::Lemmas::steps))]
 fn region_for<'a>(
     alloc: Global,
@@ -36,7 +36,7 @@ fn region_for<'a>(
 
 // ---- objects
 
-/// `new C()`, in a region or in none.
+/// `new C()`, in a region or not.
 #[tactic(auto, using(ti_eval::proofs::Lemmas::steps))]
 pub fn new_object<'a>(
     alloc: Global,
@@ -54,7 +54,7 @@ pub fn new_object<'a>(
 
 // ---- grids
 
-// The domain that a new grid spreads over.
+// The domain of a new grid.
 fn spread<'a>(
     alloc: Global,
     env: &Env,
@@ -70,7 +70,7 @@ fn spread<'a>(
     }
 }
 
-/// `new T [D]`, in a region or in none.
+/// `new T [D]`, in a region or not.
 #[tactic(auto, using(ti_eval::proofs::Lemmas::steps))]
 pub fn new_grid<'a>(
     alloc: Global,

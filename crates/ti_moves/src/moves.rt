@@ -1,67 +1,68 @@
-// What a statement comes to.
+// The outcomes of statements: what a statement does to its process is returned as a value, which ti_exec applies.
 
 use ti_base::{CollKind, Deposit, Id, Place};
 use ti_eval::{Held, Part, Slot, Todo};
 use ti_lang::program::Variable;
 
-/// What becomes of the variables in scope.
+/// The change of the variables in scope.
 #[derive(Drop)]
 pub enum Change<'c> {
-    /// They stay.
+    /// They are unchanged.
     Same,
-    /// There is one more.
+    /// There is a new one.
     New(Slot),
-    /// The newest of these holds something else, where it is in scope.
+    /// The newest variable that is the same gets this value, if it is in scope.
     Changed(&'c Variable, Held),
 }
 
-/// A collective at which a process arrives.
+/// An arrival at a collective.
 #[derive(Clone, Copy)]
 pub struct Meeting {
     pub place: Place,
     pub kind: CollKind,
+    /// The root of a broadcast, or the region that is deleted.
     pub arg: Option<u32>,
 }
 
-/// What is left of a statement, behind which its process goes on.
+/// The pending work of a statement.
 #[derive(Drop)]
 pub enum Left {
-    /// This.
+    /// This work.
     Of(Todo),
-    /// A part of it comes first, and behind that this.
+    /// A part of the statement, and then this work.
     Part(Part, Todo),
 }
 
-/// What a statement comes to.
+/// The outcome of a statement.
 #[derive(Drop)]
 pub enum Move<'c> {
-    /// The variables change, and this is left.
+    /// The variables change, and this work is pending.
     Goes(Change<'c>, Left),
-    /// Out of the innermost loop.
+    /// A break out of the innermost loop.
     Breaks,
-    /// To the next turn of the innermost loop.
+    /// A continue with the next iteration of the innermost loop.
     Continues,
-    /// A call of the method of a number, with the object that `this` will be; the statement waits for its value.
+    /// A call of the method with this number, for whose value the statement waits; `this` is its object.
     Calls {
         at: Place,
         method: usize,
         this: Option<Id>,
         parameters: Vec<Slot>,
     },
-    /// Out of the method, with a value or without one.
+    /// A return from the method, with a value or without one.
     Returns(Option<Held>),
-    /// An arrival at a collective without a value; behind it this is left.
+    /// An arrival at a collective that yields no value; afterwards this work is pending.
     Meets {
         meeting: Meeting,
         deposit: Deposit,
         todo: Todo,
     },
-    /// An arrival at a collective whose value the statement waits for.
+    /// An arrival at a collective for whose value the statement waits.
     Expects {
         meeting: Meeting,
         deposit: Deposit,
     },
-    /// The arrival at the delete of a region, whose deposit is counted over all frames.
+    /// An arrival at the deletion of a region. The contribution is counted over all frames by the caller.
     Deletes {
         at: Place,
         region: u32,

@@ -1,4 +1,4 @@
-// Prints.
+// The execution of prints.
 
 ghost use Rattle.std.specs.Prelude.{Some};
 ghost use Rattle.ti_lang.specs.Program.Views.{printed_of};
@@ -18,7 +18,7 @@ use ti_base::{Action, Place, Value};
 use ti_eval::{Env, Held, Stop, Todo, Told, asked, evaluate};
 use ti_lang::program::Printed;
 
-// A line, behind which nothing is left of the statement.
+// Prints a line, which completes the statement.
 #[tactic(auto, using(ti_eval::proofs::Lemmas::steps))]
 fn prints<'a, 'c>(
     at: Place,
@@ -32,7 +32,7 @@ fn prints<'a, 'c>(
     Ok((goes(Todo::Inside), answers))
 }
 
-/// A print: first its value, then the line.
+/// A print: its value is evaluated, then the line is printed.
 #[tactic(auto, using(ti_eval::proofs::Lemmas::steps))]
 pub fn printed<'a, 'c>(
     alloc: Global,

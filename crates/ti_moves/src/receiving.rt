@@ -1,4 +1,4 @@
-// Where the values of right sides go.
+// The receivers of values: where the values of right sides are stored.
 
 ghost use Rattle.std.specs.Prelude.{◌≡◌, IfOk};
 ghost use Rattle.ti_lang.specs.Program.Types.{ValueType};
@@ -26,22 +26,22 @@ use ti_eval::{Env, Held, Slot, Stop, Todo, Told, converted, evaluate, operated, 
 use ti_lang::program::{Declared, Expr, Stmt, TypeUse, Variable};
 use ti_lang::tree::{BinaryOperator, StepOperator};
 
-/// Where the value of a right side goes.
+/// The receiver of the value of a right side: where it is stored.
 #[derive(Clone, Copy)]
 pub enum Receiver<'c> {
     Nowhere,
-    /// Into a new variable of a number.
+    /// In a new variable with this number.
     Declared {
         at: Place,
         ty: &'c TypeUse,
         variable: u32,
     },
-    /// Into what an assignment names.
+    /// In the target of an assignment.
     Assigned {
         at: Place,
         target: &'c Expr,
     },
-    /// There by an operator.
+    /// In the target of an assignment, by an operator on its old value.
     Updated {
         at: Place,
         operator: BinaryOperator,
@@ -49,14 +49,14 @@ pub enum Receiver<'c> {
     },
 }
 
-/// A right side: an expression whose value is asked for, or a value that is known.
+/// A right side: an expression to be evaluated, or a value that is known already.
 #[derive(Clone, Copy)]
 pub enum Right<'r> {
     Value(&'r Expr),
     Known(&'r Held),
 }
 
-/// `++` adds 1, and `--` subtracts it.
+/// The operator of `++` is `+`, and that of `--` is `-`.
 pub fn one_more(operator: StepOperator) -> BinaryOperator
     ensures { result ≡ one_more_spec operator }
 {
@@ -66,7 +66,7 @@ pub fn one_more(operator: StepOperator) -> BinaryOperator
     }
 }
 
-// Where the value of a statement's right side goes.
+// The receiver of the value of a statement's right side.
 fn receiver_in<'c>(s: &'c Stmt) -> Receiver<'c>
     ensures { receiver_seen result ≡ receiver_of (statement_of s.now) }
 {
@@ -105,7 +105,7 @@ fn receiver_in<'c>(s: &'c Stmt) -> Receiver<'c>
     }
 }
 
-/// Where the value of a statement's right side goes; an empty one stands for none.
+/// The receiver of the value of a statement's right side; a missing statement has none.
 pub fn receiver_at<'c>(x: Option<&'c Stmt>) -> Receiver<'c>
     ensures { receiver_seen result ≡ receiver_of (stm_seen x.entry) }
 {
@@ -144,7 +144,7 @@ pub fn new_slot(alloc: Global, ty: &TypeUse, number: u32, held: Held) -> Result<
     Ok(Slot { variable, held })
 }
 
-// What a right side comes to goes into a new variable, as one of its type.
+// Stores the value of a right side in a new variable, converted to its type.
 #[tactic(auto, using(ti_eval::proofs::Lemmas::steps))]
 fn declared<'a, 'c>(
     alloc: Global,
@@ -167,7 +167,7 @@ fn declared<'a, 'c>(
 
 // ---- into a target
 
-// What a right side comes to goes into a target, as one of its type.
+// Stores the value of a right side in a target, converted to its type.
 #[tactic(auto, using(ti_eval::proofs::Lemmas::steps))]
 fn assigned<'a, 'c>(
     alloc: Global,
@@ -187,7 +187,7 @@ fn assigned<'a, 'c>(
     stored(at, &place, k, answers)
 }
 
-// What the target that an expression names holds.
+// The value of the target that an expression denotes.
 fn held_at<'a>(
     alloc: Global,
     env: &Env,
@@ -201,7 +201,7 @@ fn held_at<'a>(
     held_in(alloc, env, e.place(), target, answers)
 }
 
-// The same by an operator, of what the target held before and of what the right side comes to.
+// Stores the result of an operator on the old value of a target and the value of the right side.
 #[tactic(auto, using(ti_eval::proofs::Lemmas::steps))]
 fn updated<'a, 'c>(
     alloc: Global,
@@ -226,7 +226,7 @@ fn updated<'a, 'c>(
 
 // ---- any receiver
 
-/// What becomes of the variables in scope when what a right side comes to has gone to its receiver.
+/// Stores the value of a right side in its receiver, and returns the change of the variables in scope.
 #[tactic(auto, using(ti_eval::proofs::Lemmas::steps))]
 pub fn into<'a, 'c>(
     alloc: Global,
@@ -255,7 +255,7 @@ pub fn into<'a, 'c>(
     }
 }
 
-/// The statement goes on when what a right side comes to has gone to its receiver.
+/// Stores the value of a right side in its receiver, which completes the statement.
 #[tactic(auto, using(ti_eval::proofs::Lemmas::steps))]
 pub fn receives<'a, 'c>(
     alloc: Global,

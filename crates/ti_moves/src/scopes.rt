@@ -1,4 +1,4 @@
-// The variables that leave.
+// The end of a scope: which variables leave.
 
 ghost use Rattle.std.specs.Prelude.{◌≡◌, not, map};
 ghost use Rattle.ti_lang.specs.Program.Statements.{numbered_stms};
@@ -15,7 +15,7 @@ use ti_eval::Slot;
 use ti_lang::program::{Declared, Stmt, TypeUse, Variable};
 use ti_lang::typing::same_elements;
 
-// Whether a declaration of this type is that of a variable.
+// Whether a declaration of this type is that of the variable.
 fn same_declared(t: &TypeUse, declared: &Declared) -> bool
     ensures { result ≡ same_declaration (Typed (type_use_of t.now).is_single (type_use_of t.now).type) (declared_of declared.now) }
 {
@@ -26,14 +26,14 @@ fn same_declared(t: &TypeUse, declared: &Declared) -> bool
     }
 }
 
-// Whether a declaration of a number makes a variable.
+// Whether a declaration with this number declares the variable.
 fn makes(t: &TypeUse, number: u32, v: &Variable) -> bool
     ensures { result ≡ same_variable (declared_as (type_use_of t.now) number) (variable_of v.now) }
 {
     number == v.number && same_declared(t, &v.declared)
 }
 
-// Whether a statement itself declares a variable.
+// Whether a statement itself declares the variable.
 fn declares_alone(s: &Stmt, v: &Variable) -> bool
     ensures { result ≡ is_among (declared_alone (statement_of s.now)) (variable_of v.now) }
 {
@@ -48,7 +48,7 @@ fn declares_alone(s: &Stmt, v: &Variable) -> bool
     }
 }
 
-// Whether a statement of a list declares it.
+// Whether a statement of a list declares the variable.
 fn declares_among(body: &[Stmt], v: &Variable) -> bool
     ensures { result ≡ is_among (declared_among (numbered_stms (map statement_of body.now))) (variable_of v.now) }
 {
@@ -60,7 +60,7 @@ fn declares_among(body: &[Stmt], v: &Variable) -> bool
     false
 }
 
-// Whether a block or a `for` declares it.
+// Whether a block or a `for` declares the variable.
 #[tactic(auto, using(ti_lang::proofs::Lemmas::program_bridges))]
 fn declares(x: Option<&Stmt>, v: &Variable) -> bool
     ensures { result ≡ is_among (declared_in (stm_seen x.entry)) (variable_of v.now) }
@@ -78,7 +78,7 @@ fn declares(x: Option<&Stmt>, v: &Variable) -> bool
     }
 }
 
-/// What a block or a `for` declared leaves at its end.
+/// Removes the variables of a block or a `for` at its end.
 pub fn leave(variables: &mut Vec<Slot>, x: Option<&Stmt>)
     ensures { slots_of variables.new.items ≡ without (declared_in (stm_seen x.entry)) (slots_of variables.old.items) }
 {

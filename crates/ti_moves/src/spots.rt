@@ -1,4 +1,5 @@
-// Where a call stands in the text.
+// The statement at the position of a call, and the parts of loops. Positions are indices rather than references, so a process doesn't
+// borrow its program.
 
 ghost use Rattle.std.specs.Prelude.{◌≡◌, ◌<◌, [], ◌∷◌, length, map, reverse, slice_get, unwrap_or, if◌then◌else◌};
 ghost use Rattle.ti_syntax.specs.Trees.Views.{maybe_of};
@@ -19,7 +20,7 @@ use ti_base::Place;
 use ti_eval::{Env, Held, Level, Part, Stop, Told, evaluate};
 use ti_lang::program::{Expr, Stmt};
 
-// The statement of a number in a list, if there is one.
+// The statement of this number in a list, if there is one.
 #[tactic(auto, using(crate::proofs::Entering::entering))]
 fn item<'c>(list: &'c [Stmt], n: usize) -> Option<&'c Stmt>
     ensures { stm_seen result ≡ unwrap_or (slice_get (map statement_of list.now) n) Empty }
@@ -27,7 +28,7 @@ fn item<'c>(list: &'c [Stmt], n: usize) -> Option<&'c Stmt>
     list.get(n)
 }
 
-// The part of a body of a method.
+// A part of the body of a method.
 #[tactic(auto, using(crate::proofs::Entering::entering))]
 fn part_of_body<'c>(body: &'c [Stmt], inner: Part) -> Option<&'c Stmt>
     ensures { stm_seen result ≡ part_of (Block (numbered_stms (map statement_of body.now))) inner }
@@ -38,7 +39,7 @@ fn part_of_body<'c>(body: &'c [Stmt], inner: Part) -> Option<&'c Stmt>
     }
 }
 
-// The part of a statement.
+// A part of a statement, if the statement has it.
 #[tactic(auto, using(crate::proofs::Entering::entering))]
 fn part<'c>(s: &'c Stmt, inner: Part) -> Option<&'c Stmt>
     ensures { stm_seen result ≡ part_of (statement_of s.now) inner }
@@ -74,7 +75,7 @@ fn part<'c>(s: &'c Stmt, inner: Part) -> Option<&'c Stmt>
     }
 }
 
-// The same, of a statement that may not be there.
+// A part of a statement that may be missing.
 fn part_in<'c>(x: Option<&'c Stmt>, inner: Part) -> Option<&'c Stmt>
     ensures { stm_seen result ≡ part_of (stm_seen x.entry) inner }
 {
@@ -84,7 +85,7 @@ fn part_in<'c>(x: Option<&'c Stmt>, inner: Part) -> Option<&'c Stmt>
     }
 }
 
-/// The innermost statement of those entered in the body of a method; none stands for an empty one.
+/// The innermost statement of those entered in the body of a method; a missing one counts as empty.
 pub fn statement_at<'c>(body: &'c [Stmt], levels: &[Level]) -> Option<&'c Stmt>
     requires { 0 < length levels.now }
     ensures { stm_seen result ≡ inside (numbered_stms (map statement_of body.now)) (reverse levels.now) }
@@ -96,7 +97,7 @@ pub fn statement_at<'c>(body: &'c [Stmt], levels: &[Level]) -> Option<&'c Stmt>
     x
 }
 
-// How many statements a block has.
+// How many statements a block has; 0 for another statement.
 #[tactic(auto, using(crate::proofs::Entering::entering))]
 fn count_in(x: Option<&Stmt>) -> usize
     ensures { result ≡ length (list_in (stm_seen x.entry)) }
@@ -122,7 +123,7 @@ pub fn count(body: &[Stmt], levels: &[Level]) -> usize
     }
 }
 
-// The condition of a `for`.
+// The condition of a `for`; a missing one is true.
 fn given<'a>(
     alloc: Global,
     env: &Env,
@@ -171,7 +172,7 @@ pub fn loop_place(x: Option<&Stmt>) -> Place
     }
 }
 
-/// Whether each turn of a loop ends with an update.
+/// Whether each iteration of a loop ends with an update.
 pub fn has_update(x: Option<&Stmt>) -> bool
     ensures { maybe_do (update_in (stm_seen x.entry)) ≡ (if result then Do (part_of (stm_seen x.entry) Update) ∷ [] else []) }
 {
@@ -184,7 +185,7 @@ pub fn has_update(x: Option<&Stmt>) -> bool
     }
 }
 
-/// Whether it is a `for`.
+/// Whether the statement is a `for`.
 pub fn is_for(x: Option<&Stmt>) -> bool
     ensures { end_of_for (stm_seen x.entry) ≡ (if result then End (stm_seen x.entry) ∷ [] else []) }
 {

@@ -1,4 +1,4 @@
-// What statements come to.
+// The execution of statements by their forms.
 
 ghost use Rattle.std.specs.Prelude.{◌≡◌, ℕ, [], ◌∷◌, map, None, Some, pos, true, false, if◌then◌else◌};
 ghost use Rattle.std.specs.Option.{option_map_or};
@@ -45,7 +45,7 @@ use ti_eval::{Env, Held, Part, Stop, Todo, Told, called_member, converted, evalu
 use ti_lang::program::{Expr, Init, Method, ResultType, Stmt, Ty};
 use ti_lang::typing::BuiltIn;
 
-/// The statement goes on with what is left of it.
+/// The outcome of a statement that continues with this pending work and changes no variable.
 pub fn goes<'c>(todo: Todo) -> Move<'c>
     ensures { (env : Where) (x : NumberedStm) → move_of env x result ≡ move.Goes env.variables (work_of (site_in env) x todo) }
 {
@@ -54,7 +54,7 @@ pub fn goes<'c>(todo: Todo) -> Move<'c>
 
 // ---- right sides
 
-// A call comes first, and where it leads; any other value goes to where the statement wants it.
+// An expression as a right side: a call leads into the method, the value of another expression is stored.
 fn valued<'a, 'c>(
     alloc: Global,
     env: &Env,
@@ -121,9 +121,9 @@ fn initialized<'a, 'c>(
     }
 }
 
-// ---- expressions that stand alone
+// ---- expression statements
 
-// The value of an expression is dropped.
+// An expression whose value is dropped.
 fn dropped<'a, 'c>(
     alloc: Global,
     env: &Env,
@@ -136,7 +136,7 @@ fn dropped<'a, 'c>(
     receives(alloc, env, Receiver::Nowhere, Right::Value(e), answers)
 }
 
-// A member form: three have no value, the value of another is dropped.
+// A member call; copy, exchange and delete have no value, the value of another member is dropped.
 fn member_alone<'a, 'c>(
     alloc: Global,
     env: &Env,
@@ -162,7 +162,7 @@ fn member_alone<'a, 'c>(
     }
 }
 
-// An expression that is no call of a declared method.
+// An expression statement that calls no declared method.
 #[tactic(auto, using(ti_lang::proofs::Lemmas::program_bridges))]
 fn uncalled<'a, 'c>(
     alloc: Global,
@@ -184,7 +184,7 @@ fn uncalled<'a, 'c>(
     }
 }
 
-// A call, or a member form.
+// An expression statement.
 fn alone<'a, 'c>(
     alloc: Global,
     env: &Env,
@@ -202,7 +202,7 @@ fn alone<'a, 'c>(
 
 // ---- returns
 
-// The type of a method's result, where it has one.
+// The type of a method's result, if it has one.
 fn result_in<'a>(method: Option<&'a Method>) -> Option<&'a Ty>
     ensures { option_map_or (λ (t : Bor Kind). value_type_of t.now) result Void ≡ result_type (method_seen method.entry) }
 {
@@ -215,7 +215,7 @@ fn result_in<'a>(method: Option<&'a Method>) -> Option<&'a Ty>
     }
 }
 
-// A value as one of the method's result.
+// Converts a value to the type of the method's result.
 fn as_result<'a>(
     alloc: Global,
     env: &Env,
@@ -231,7 +231,7 @@ fn as_result<'a>(
     }
 }
 
-/// `return`, of a value or of none.
+/// A return, with a value or without one.
 #[tactic(auto, using(ti_eval::proofs::Lemmas::steps))]
 pub fn returns<'a, 'c>(
     alloc: Global,
@@ -255,7 +255,7 @@ pub fn returns<'a, 'c>(
 
 // ---- branches and loops
 
-// What is left of an `if`, with `else` or without, behind its condition.
+// The pending work of an `if`, with `else` or without, after its condition.
 fn branch(taken: bool, with_else: bool) -> Left
     ensures alone { with_else ≡ false → (site : Site) (at : At) (c : NumberedExp) (x : NumberedStm) → works_of site (stm.If at c x) result
         ≡ (if taken then Do x ∷ [] else []) }
@@ -292,7 +292,7 @@ fn branches<'a, 'c>(
     Ok((Move::Goes(Change::Same, left), answers))
 }
 
-// `foreach`, before its first turn.
+// `foreach`, before its first iteration.
 #[tactic(auto, using(ti_eval::proofs::Lemmas::steps))]
 fn foreach<'a, 'c>(
     alloc: Global,
@@ -329,7 +329,7 @@ fn step<'a, 'c>(
     received(alloc, env, Some(s), &one, answers)
 }
 
-// A statement that is there.
+// A statement that exists.
 #[tactic(auto, using(crate::proofs::Coming::before_list))]
 fn present<'a, 'c>(
     alloc: Global,
@@ -375,7 +375,7 @@ fn present<'a, 'c>(
     }
 }
 
-/// What a statement comes to; none stands for an empty one.
+/// The outcome of a statement; a missing one counts as empty.
 pub fn statement<'a, 'c>(
     alloc: Global,
     env: &Env,
@@ -391,7 +391,7 @@ pub fn statement<'a, 'c>(
     }
 }
 
-/// What it comes to when a value that a call or a collective gave has gone to where the statement wants it.
+/// The outcome of a statement that has received the value of a call or a collective: the value is stored.
 pub fn received<'a, 'c>(
     alloc: Global,
     env: &Env,

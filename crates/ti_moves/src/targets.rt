@@ -1,4 +1,4 @@
-// What assignments write.
+// The targets of assignments: their references and indices, their values, and the writes.
 
 ghost use Rattle.std.specs.Prelude.{◌≡◌, List};
 ghost use Rattle.ti_base.specs.declared.value.Id.{Id as Thing};
@@ -29,7 +29,7 @@ use ti_eval::{
 use ti_lang::program::{Expr, Variable};
 use ti_lang::typing::Seen;
 
-/// What an assignment names: a variable or a cell.
+/// The target of an assignment: a variable, a field or an element.
 #[derive(Drop)]
 pub enum Target<'c> {
     Variable(&'c Variable),
@@ -41,7 +41,7 @@ pub enum Target<'c> {
 
 // ---- targets
 
-/// The target that an expression names: its reference and its index are evaluated.
+/// The target that an expression denotes; its reference and its index are evaluated.
 #[tactic(auto, using(ti_eval::proofs::Lemmas::evaluating))]
 pub fn located<'a, 'c>(
     alloc: Global,
@@ -82,7 +82,7 @@ pub fn located<'a, 'c>(
 
 // ---- what they hold
 
-/// What a target holds.
+/// The value of a target.
 pub fn held_in<'a>(
     alloc: Global,
     env: &Env,
@@ -100,7 +100,7 @@ pub fn held_in<'a>(
     }
 }
 
-// A value as one of a type in the text, where this is no domain.
+// Converts a value to a static type that isn't a domain's.
 fn as_seen<'p>(t: Seen<'p>, h: Held) -> Held
     ensures { result ≡ as_type_spec (seen t.entry) h }
 {
@@ -118,7 +118,7 @@ fn as_seen<'p>(t: Seen<'p>, h: Held) -> Held
     }
 }
 
-/// A value as one of a type in the text.
+/// Converts a value to a static type. A domain with too many points is a fault.
 pub fn as_typed<'a, 'p>(
     alloc: Global,
     at: Place,
@@ -149,7 +149,7 @@ fn put<'a, 'c>(
     Ok((Change::Same, answers))
 }
 
-// A write into a field of an object.
+// A write to a field of an object. A null reference is a fault.
 #[tactic(auto, using(ti_eval::proofs::Lemmas::steps))]
 fn put_field<'a, 'c>(
     at: Place,
@@ -166,7 +166,7 @@ fn put_field<'a, 'c>(
     put(at, Action::PutField { obj, field, value }, answers)
 }
 
-// A write into an element of a grid.
+// A write to an element of a grid. A null reference is a fault.
 #[tactic(auto, using(ti_eval::proofs::Lemmas::steps))]
 fn put_element<'a, 'c>(
     at: Place,
@@ -187,7 +187,7 @@ fn put_element<'a, 'c>(
     put(at, action, answers)
 }
 
-/// A value goes into a target.
+/// Stores a value in a target.
 pub fn stored<'a, 'c>(
     at: Place,
     target: &Target<'c>,

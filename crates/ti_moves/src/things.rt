@@ -1,4 +1,4 @@
-// The things that values name.
+// The objects and grids to which values refer.
 
 ghost use Rattle.std.specs.Prelude.{◌≡◌, slice_index_or};
 ghost use Rattle.ti_lang.specs.Program.Types.{ValueType};
@@ -10,7 +10,7 @@ ghost use Rattle.ti_moves.specs.Things.{typed_as};
 use ti_base::{FaultKind, Id, Place};
 use ti_eval::{Held, Stop, Told};
 
-/// The thing that a value names, where one is needed.
+/// The object or grid to which a value refers. A null reference is a fault.
 pub fn needed<'a>(at: Place, h: &Held, answers: &'a [Told]) -> Result<(Id, &'a [Told]), Stop>
     ensures { (type : ValueType) → ComesAs (typed_as type) result (needed_spec at type h.now answers.now) }
 {
@@ -20,7 +20,7 @@ pub fn needed<'a>(at: Place, h: &Held, answers: &'a [Told]) -> Result<(Id, &'a [
     }
 }
 
-/// The first of the values; a boolean stands for none.
+/// The first of the values; `false` if there are none.
 pub fn first(hs: Vec<Held>) -> Held
     ensures { result ≡ slice_index_or hs.items 0 nothing }
 {

@@ -1,4 +1,5 @@
--- Where the slice of a checked program comes.
+-- Proves how the slice of a checked program moves: silent steps keep it outside collectives, its actions there are arrivals, and departures
+-- end the wait.
 use Rattle.std.proofs.Common.{◌≡◌, ◌∙◌, ap, sym, refl, subst, ℕ, ◌<◌, nat_lt, Bool, true, false, ◌⊎◌, inl, inr, if◌then◌else◌, [], Some, None}
 use Rattle.ti_base.specs.declared.place.Place.{Place}
 use Rattle.ti_base.specs.declared.fault.FaultKind.TheVariants.{Fuel}

@@ -1,4 +1,4 @@
--- The effects of the work that is left.
+-- Proves that the code finds the effects of pending work.
 use Rattle.std.proofs.Common.{◌≡◌, ◌∙◌, ap, sym, refl, ℕ, zero, suc, ◌-◌, ◌<◌, ◌≤◌, Bool, false, ◌&&◌, ◌||◌, List, [], ◌∷◌, ◌++◌, map, drop, take, reverse, length, get_or, Option, None, Some, unwrap_or, arith, drop_of_length-le}
 use Rattle.std.proofs.Math.Seq.{take-suc}
 use Rattle.std.proofs.lemmas.List.{reverse-append, length-take-le}

@@ -1,4 +1,4 @@
--- How the slice goes on to its next collective and leaves it.
+-- Proves that the code runs the slice to its next collective and leaves it as the specification says.
 use Rattle.std.proofs.Common.{◌≡◌, ◌∙◌, ap, sym, refl, subst, ℕ, ◌+◌, ◌<◌, ◌≤◌, nat_lt, Bool, true, false, List, [], ◌∷◌, ◌++◌, Option, Some, None, Result, Ok, Err, IfOk, IsTrue, length, drop, get_or, drop-cons, add-one, drop_of_length-le, ltb-true}
 use Rattle.std.proofs.lemmas.Bool.{lt-ltb, le-ltb}
 use Rattle.std.specs.declared.vec.Vec.{Vec}

@@ -1,4 +1,4 @@
--- An action of the slice costs a tick, so one is left.
+-- Proves that an action of the slice costs a tick, so that one is left when it is requested.
 use Rattle.std.proofs.Common.{◌≡◌, nat_lt, Bool, true, false, if◌then◌else◌, List, [], ◌∷◌, ◌++◌, length, Option, Some, None, refl, subst}
 use Rattle.ti_base.specs.declared.place.Place.{Place}
 use Rattle.ti_base.specs.declared.fault.FaultKind.TheVariants.{Fuel, Depth}

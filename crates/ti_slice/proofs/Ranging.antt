@@ -1,4 +1,4 @@
--- How the code tells whether a range is in its one form.
+-- Proves that the code decides whether a range is canonical.
 use Rattle.std.proofs.Common.{◌≡◌, ℕ, ◌+◌, ◌*◌, ◌/◌, ◌%◌, ◌<◌, ◌==◌, pos, ◌+ℤ◌, Decides, sym, ap, ◌∙◌, arith}
 use Rattle.std.proofs.Math.Nat.{div-add-mod'}
 use Rattle.std.proofs.lemmas.Bool.Decides.{Decides-like, Decides-eqb}

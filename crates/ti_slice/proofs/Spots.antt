@@ -1,4 +1,4 @@
--- A method without statements has none inside.
+-- Proves that a method without statements has none inside.
 use Rattle.std.proofs.Common.{◌≡◌, ap, refl, ◌<◌, List, [], ◌∷◌, length, reverse, arith}
 use Rattle.std.proofs.lemmas.List.{length-reverse}
 use Rattle.ti_lang.specs.Program.Statements.{Nil}

@@ -1,4 +1,4 @@
--- The single parameters and their arguments, one by one.
+-- Proves that single parameters are bound to their arguments one by one, as in the specification of the slice.
 use Rattle.std.proofs.Common.{◌≡◌, ◌∙◌, refl, sym, ap, subst, ℕ, ◌+◌, ◌<◌, ◌≤◌, Bool, true, false, List, [], ◌∷◌, map, drop, drop-cons, drop_of_length-le, add-one, length, get_or}
 use Rattle.std.specs.Prelude.{if◌then◌else◌}
 use Rattle.ti_base.specs.declared.entry.Answer.{Answer}

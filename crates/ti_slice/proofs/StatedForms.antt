@@ -1,4 +1,4 @@
--- What expressions and statements with effects come to in the slice, by their forms.
+-- Proves that the outcomes of expressions and statements with effects in the slice are those of its specification, by their forms.
 use Rattle.std.proofs.Common.{◌≡◌, refl, sym, subst, ℕ, List, Option, Some, Result}
 use Rattle.std.specs.Borrow.{Bor}
 use Rattle.std.specs.declared.alloc.Global.{Global}

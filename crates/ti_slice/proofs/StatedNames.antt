@@ -1,4 +1,4 @@
--- What an assignment names is single, whichever definition says so.
+-- Proves that two definitions of a single target of an assignment agree.
 use Rattle.std.proofs.Common.{◌≡◌, refl, ℕ, false}
 use Rattle.ti_lang.specs.Program.Types.{Declaration, Typed, Foreach}
 use Rattle.ti_lang.specs.Program.Expressions.{NumberedExp, Variable}

@@ -1,4 +1,4 @@
--- The steps of the slice over the trees.
+-- Proves that the steps of the slice over the trees are those of its specification.
 use Rattle.std.proofs.Common.{◌≡◌, ◌∙◌, ap, sym, refl, subst, ◌<◌, true, false, List, [], ◌∷◌, ◌++◌, length, reverse, None, arith}
 use Rattle.ti_base.specs.declared.entry.Answer.{Answer}
 use Rattle.ti_lang.specs.Program.Classes.{NumberedProgram}

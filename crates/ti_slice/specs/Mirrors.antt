@@ -1,4 +1,4 @@
--- What the code does, function by function. Nobody has to believe it: the contract of `slice_next` cites `Slice` of ti_align alone.
+-- Mirrors the code, function by function. No public claim depends on it: the contract of `slice_next` cites only `Slice` of ti_align.
 pub mod FirstWork
 pub mod SingleCalls
 pub mod Step

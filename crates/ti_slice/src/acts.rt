@@ -1,4 +1,4 @@
-// Whether the work at hand has global effects.
+// Whether the work at hand has global effects. The program slice skips work that has none.
 
 ghost use Rattle.std.specs.Prelude.{◌≡◌, ◌<◌, ℕ, true, false, List, ◌∷◌, ◌++◌, Some, length, reverse, unwrap_or};
 ghost use Rattle.ti_base.specs.declared.point.Point.{Point};
@@ -28,7 +28,7 @@ use ti_single::{
 
 // ---- loops
 
-// Whether a loop has effects whose body and update do so much.
+// Whether a loop has effects, given those of its body and update.
 fn acts_in_loop(p: &Program, m: &Method, d: Doings) -> bool
     ensures { result ≡ jump_acts_spec (return_acts_spec (program_of p.now.parts) (numbered_method_of m.now)) (doings_of d) }
 {
@@ -67,7 +67,7 @@ fn foreach_acts(p: &Program, m: &Method, x: &Stmt) -> bool
 
 // ---- jumps
 
-// Whether a jump to the mark with which what is left of a statement begins has an effect.
+// Whether a jump has an effect that leads to the mark with which this pending work begins: whether the loop has effects.
 fn mark_acts(p: &Program, m: &Method, x: Option<&Stmt>, t: &Todo) -> bool
     requires { is_mark_spec t.now ≡ true }
     ensures { (site : Site) (ws : List Work) → jump_at (program_of p.now.parts) (numbered_method_of m.now)
@@ -83,7 +83,7 @@ fn mark_acts(p: &Program, m: &Method, x: Option<&Stmt>, t: &Todo) -> bool
     }
 }
 
-// Whether a jump to the innermost mark behind a statement has an effect.
+// Whether a jump out of the innermost statement to the innermost mark has an effect.
 fn jump_acts(p: &Program, m: &Method, levels: &[Level]) -> bool
     ensures { (site : Site) → result ≡ unwrap_or (jump_at (program_of p.now.parts) (numbered_method_of m.now)
         (rest_of site (numbered_stms (numbered_method_of m.now).body) (reverse levels.now))) false }
@@ -101,7 +101,7 @@ fn jump_acts(p: &Program, m: &Method, levels: &[Level]) -> bool
 
 // ---- work
 
-// Whether a statement has global effects inside these levels.
+// Whether a statement inside these levels has global effects.
 fn statement_acts(p: &Program, m: &Method, levels: &[Level], x: &Stmt) -> bool
     ensures { (site : Site) → result ≡ work_acts_spec (program_of p.now.parts) (numbered_method_of m.now)
         (rest_of site (numbered_stms (numbered_method_of m.now).body) (reverse levels.now)) (Do (statement_of x.now)) }
@@ -110,7 +110,7 @@ fn statement_acts(p: &Program, m: &Method, levels: &[Level], x: &Stmt) -> bool
     acts_in_loop(p, m, d) || d.jumps && jump_acts(p, m, levels)
 }
 
-// Whether the work at hand has global effects, where this is left of a statement inside these levels.
+// Whether the work at hand has global effects, given the pending work of a statement inside these levels.
 fn acts_at(p: &Program, m: &Method, levels: &[Level], x: &Stmt, t: &Todo) -> bool
     requires inner { 0 < length levels.now }
     requires at_hand { IsAtHand (statement_of x.now) (length levels.now) t.now }
@@ -131,7 +131,7 @@ fn acts_at(p: &Program, m: &Method, levels: &[Level], x: &Stmt, t: &Todo) -> boo
     }
 }
 
-/// Whether the work at hand, the first piece of what is left of a call, has global effects.
+/// Whether the work at hand, the first piece of the pending work of a call, has global effects.
 pub(crate) fn work_acts(c: &Checked, call: &Call, todo: &Todo) -> bool
     requires inner { 0 < length call.now.levels.items }
     requires at_hand { IsAtHand (here (program_of c.now.program.parts) call.now) (length call.now.levels.items) todo.now }
@@ -147,7 +147,7 @@ pub(crate) fn work_acts(c: &Checked, call: &Call, todo: &Todo) -> bool
     }
 }
 
-/// What is left of a statement behind its first piece of work, where that is at hand inside so many levels.
+/// The pending work of a statement after its first piece, which is at hand.
 pub(crate) fn past(x: Option<&Stmt>, todo: &Todo) -> Todo
     ensures { (site : Site) (levels : ℕ) → 0 < levels → IsAtHand (stm_seen x.entry) levels todo.now → (w : Work)
         × (work_of site (stm_seen x.entry) todo.now ≡ w ∷ work_of site (stm_seen x.entry) result) }
@@ -161,7 +161,7 @@ pub(crate) fn past(x: Option<&Stmt>, todo: &Todo) -> Todo
 
 // ---- values on their way
 
-// A variable that is declared single.
+// Whether the expression is a variable that is declared single.
 fn is_single_named(e: &Expr) -> bool
     ensures { result ≡ is_single_named_spec (expression_of e.now) }
 {
@@ -174,7 +174,7 @@ fn is_single_named(e: &Expr) -> bool
     }
 }
 
-// The value of a statement's right side goes into a single variable.
+// Whether the value of a statement's right side goes into a single variable.
 fn gives_single(x: &Stmt) -> bool
     ensures { result ≡ is_single_receiver (receiver_of (statement_of x.now)) }
 {

@@ -1,4 +1,4 @@
-// What the slice comes to after the outcomes of its departures so far.
+// What the program slice has next after the outcomes of its departures so far.
 
 ghost use Rattle.std.specs.Prelude.{◌≡◌, ℕ, ◌<◌, ◌^◌, [], ◌++◌, IfOk, OnOk};
 ghost use Rattle.ti_base.specs.declared.entry.Answer.TheVariants.{Done};
@@ -26,14 +26,15 @@ use ti_lang::program::{Parts, Stmt};
 use ti_moves::Meeting;
 use ti_rules::Checked;
 
-/// The slice between its collectives, with the regions that are gone.
+/// The state of the program slice between its collectives.
 #[derive(Drop)]
 pub struct Slice {
     pub walker: Walker,
+    /// The numbers of the regions that have been deleted, the last one first.
     pub gone: Vec<u32>,
 }
 
-// What the slice comes to at a fault.
+// What the slice has next at a fault: `NoFuel` if it is out of fuel, and the fault otherwise.
 fn at_fault(kind: FaultKind, place: Place) -> SliceStep
     ensures { result ≡ slice.at_fault kind place }
 {
@@ -43,7 +44,7 @@ fn at_fault(kind: FaultKind, place: Place) -> SliceStep
     }
 }
 
-// The region that is gone behind a collective, if it deletes one.
+// The region that a collective deletes, if it deletes one.
 fn deleted_at(meeting: &Meeting) -> Option<u32>
     ensures { listed result ≡ slice.deleted_at meeting.now.kind meeting.now.arg }
 {
@@ -53,7 +54,7 @@ fn deleted_at(meeting: &Meeting) -> Option<u32>
     }
 }
 
-// That at which it waits.
+// The region that is deleted by the collective at which the slice waits, if there is one.
 fn deleted(mode: &Mode) -> Option<u32>
     ensures { (c : NumberedProgram) (w : Walker) → listed result ≡ deleted_by (wait_in c w mode.now) }
 {
@@ -64,7 +65,7 @@ fn deleted(mode: &Mode) -> Option<u32>
     }
 }
 
-// The statement whose value it waits for.
+// The statement that waits for the collective's value.
 fn waiting<'c>(w: &Walker, c: &'c Parts) -> Option<&'c Stmt>
     ensures { (env : Where) → type_received env (stm_seen result) ≡ type_received env (here (program_of c.now) w.now.top) }
 {
@@ -74,7 +75,7 @@ fn waiting<'c>(w: &Walker, c: &'c Parts) -> Option<&'c Stmt>
     w.top.stands(c)
 }
 
-// Whether an outcome fits the departure from the collective at which it waits.
+// Whether an outcome fits the departure from the collective at which the slice waits.
 fn fits(w: &Walker, alloc: Global, c: &Parts, outcome: &Answer) -> Result<bool, Memory>
     requires { IsWaiting w.now.mode }
     ensures { IfOk result (λ b. Fits (wanted_of (wait_in (program_of c.now) w.now w.now.mode)) outcome.now b) }
@@ -86,7 +87,7 @@ fn fits(w: &Walker, alloc: Global, c: &Parts, outcome: &Answer) -> Result<bool, 
     }
 }
 
-// The answer to its action.
+// Applies the answer to the action that the slice had next.
 fn hear(w: &mut Walker, pending: Pending, a: Answer) -> Result<(), Memory>
     requires form { IsFormedAnswer a }
     requires tick { w.old.spent < w.old.fuel }
@@ -98,7 +99,7 @@ fn hear(w: &mut Walker, pending: Pending, a: Answer) -> Result<(), Memory>
 }
 
 impl Slice {
-    // Before its first step.
+    // The slice before its first step. It runs as process 0.
     fn begin(alloc: Global, c: &Checked, procs: u32, fuel: u32) -> Slice
         requires { procs < 2 ^ 31 }
         ensures process { process_of (program_of c.now.program.parts) result.walker
@@ -112,7 +113,7 @@ impl Slice {
         }
     }
 
-    // It leaves the collective at which it waits.
+    // Leaves the collective at which the slice waits.
     fn leaves(&mut self, outcome: &Answer) -> Result<(), Memory>
         requires form { IsFormedAnswer outcome.now }
         requires tick { self.old.walker.spent < self.old.walker.fuel }
@@ -127,7 +128,7 @@ impl Slice {
         hear(&mut self.walker, Pending::Left, *outcome)
     }
 
-    // It leaves the collective at which it waits, if a tick is left and the outcome fits.
+    // Leaves the collective at which the slice waits, if a tick is left and the outcome fits. Says whether it did.
     fn departs(&mut self, alloc: Global, c: &Checked, outcome: &Answer) -> Result<bool, Memory>
         requires { IsWaiting self.old.walker.mode }
         ensures { IfOk result (λ b. Departs (program_of c.now.program.parts) self.old outcome.now self.new b) }
@@ -143,7 +144,7 @@ impl Slice {
         Ok(false)
     }
 
-    // It comes to its next collective and leaves it, if there is one and the outcome fits.
+    // Runs to the next collective and leaves it, if there is one and the outcome fits. Says whether it did.
     fn meets(&mut self, alloc: Global, c: &Checked, outcome: &Answer) -> Result<bool, Memory>
         requires { IsFree (program_of c.now.program.parts) (process_of (program_of c.now.program.parts) self.old.walker) }
         ensures { IfOk result (λ b. SliceMeets (program_of c.now.program.parts) self.old outcome.now self.new b) }
@@ -158,7 +159,7 @@ impl Slice {
         }
     }
 
-    // What it comes to where no outcome is left.
+    // What the slice has next without further outcomes.
     fn comes_to(&mut self, alloc: Global, c: &Checked) -> Result<SliceStep, Memory>
         requires { IsFree (program_of c.now.program.parts) (process_of (program_of c.now.program.parts) self.old.walker) }
         ensures { IfOk result (λ x. (k : ℕ) → Comes (process_of (program_of c.now.program.parts) self.old.walker) self.old.gone.items k []
@@ -172,20 +173,20 @@ impl Slice {
     }
 }
 
-/// What the slice of a checked program comes to after the outcomes of its departures so far.
+/// What the program slice of a checked program has next after the outcomes of its departures so far.
 ///
-/// The slice is what all processes do alike, run by itself: it has the single variables alone, leaves out each statement
-/// without global effects, and of the others evaluates the single operands. An outcome is the answer to a departure: the
-/// value of a broadcast, the new region, and else that it is done.
+/// The slice is what all processes do alike, run by itself: it has only the single variables, skips each statement without global effects,
+/// and evaluates only the single operands of the others. An outcome is the answer to a departure: the value of a broadcast, the new region,
+/// or that the collective is done.
 ///
 /// - `At`: it arrives at this collective, at this place and with this argument;
 /// - `Ended`: it ends;
-/// - `Faults`: a single expression, a root, the depth of its calls or the delete of a region that is gone is at fault;
-/// - `NoFuel`: it needs more than `fuel` ticks, one for each turn of a loop with effects, each call of a single method,
-///   each arrival and each departure;
-/// - `Unfit`: the outcome of this number, counted from 0, is the first that doesn't fit its departure or that none asks for.
+/// - `Faults`: a single expression, a root, the depth of its calls or the deletion of a deleted region is at fault;
+/// - `NoFuel`: it needs more than `fuel` ticks, one for each iteration of a loop with effects, each call of a single method, each arrival
+/// and each departure;
+/// - `Unfit`: the outcome of this number, counted from 0, is the first one that doesn't fit its departure or has none.
 ///
-/// No process is asked for anything; `procs` is how many there are. Behind want of memory nothing is known.
+/// It depends on no run; `procs` is the number of processes. The only error is out of memory.
 pub fn slice_next(
     alloc: Global,
     c: &Checked,

@@ -1,4 +1,4 @@
-// Whether an outcome fits the departure at which the slice stands.
+// Whether an outcome fits the departure for which the program slice waits.
 
 ghost use Rattle.std.specs.Prelude.{◌≡◌, ◌↔◌, IsTrue, IfOk};
 ghost use Rattle.ti_lang.specs.Program.Views.{initial_of};
@@ -17,7 +17,7 @@ use ti_eval::Env;
 use ti_lang::program::{Init, Stmt};
 use ti_lang::typing::Seen;
 
-/// Whether an answer is a value with the form of a type.
+/// Whether an answer is a value of a type's form.
 pub fn fits_form(t: Seen, a: &Answer) -> bool
     ensures { IsTrue result ↔ FitsWanted (ValueOf (seen t.entry)) a.now }
 {
@@ -27,7 +27,7 @@ pub fn fits_form(t: Seen, a: &Answer) -> bool
     }
 }
 
-/// Whether an answer says no more than that something is done.
+/// Whether an answer has no value, but says that something is done.
 pub fn is_done(a: &Answer) -> bool
     ensures { IsTrue result ↔ FitsWanted ToBeDone a.now }
 {
@@ -47,7 +47,7 @@ fn type_given<'a>(alloc: Global, env: &Env<'a>, value: &'a Init) -> Result<Seen<
     }
 }
 
-// The type of the value that a statement waits for at a collective.
+// The type of the value for which a statement waits at a collective.
 fn type_received<'a>(alloc: Global, env: &Env<'a>, x: Option<&'a Stmt>) -> Result<Seen<'a>, Memory>
     ensures { IfOk result (λ t. seen t ≡ type_received (env_of env.now) (stm_seen x.entry)) }
 {
@@ -61,7 +61,7 @@ fn type_received<'a>(alloc: Global, env: &Env<'a>, x: Option<&'a Stmt>) -> Resul
     }
 }
 
-/// Whether an answer fits the departure from a collective whose value a statement waits for.
+/// Whether an answer fits the departure from a collective for whose value a statement waits.
 pub fn fits_departure(
     alloc: Global,
     env: &Env,

@@ -1,4 +1,4 @@
-// Whether values have the forms of types; points and rectangular domains have one form each.
+// Whether values have the forms of types, and whether points and rectangular domains are canonical.
 
 ghost use Rattle.std.specs.Prelude.{◌≡◌, ◌↔◌, IsTrue};
 ghost use Rattle.ti_base.specs.Points.{IsDim, IsPoint};
@@ -13,7 +13,7 @@ use ti_lang::typing::Seen;
 use ti_rect::axis::{Axis, NONE, UNUSED, distance};
 use ti_rect::rect::{first, of_axes, second, third};
 
-// Whether coordinates that are not used are 0.
+// Whether a point has one to three dimensions and its unused coordinates are 0.
 fn is_point(p: Point) -> bool
     ensures { IsTrue result ↔ IsPoint p }
 {
@@ -25,14 +25,14 @@ fn is_point(p: Point) -> bool
     }
 }
 
-// Whether it is a point of a dimension, in its one form.
+// Whether it is a canonical point of a dimension.
 fn is_point_of(dim: usize, p: Point) -> bool
     ensures { IsTrue result ↔ IsPointOf dim p }
 {
     usize::from(p.dim) == dim && is_point(p)
 }
 
-// Whether the range ends with a number, with step 1 where there is but one.
+// Whether a range is canonical: it isn't empty, its high bound is one of its numbers, and its step is 1 if it has only one number.
 fn is_range(a: Axis) -> bool
     ensures { IsTrue result ↔ IsRange (range a) }
 {
@@ -47,7 +47,7 @@ fn is_range(a: Axis) -> bool
     }
 }
 
-// Whether it is the rectangle without points of its dimension.
+// Whether it is the canonical empty rectangle of its dimension.
 fn is_empty_form(r: &Rect) -> bool
     requires { IsDim r.now.dim }
     ensures { IsTrue result ↔ (r.now ≡ empty_rect r.now.dim) }
@@ -55,14 +55,14 @@ fn is_empty_form(r: &Rect) -> bool
     *r == of_axes(r.dim, NONE, UNUSED, UNUSED)
 }
 
-// Whether each coordinate of a rectangle has a range in its one form.
+// Whether each coordinate of a rectangle has a canonical range.
 fn has_ranges(r: &Rect) -> bool
     ensures { IsTrue result ↔ (IsRange (first_range r.now) × IsRange (second_range r.now) × IsRange (third_range r.now)) }
 {
     is_range(first(r)) && is_range(second(r)) && is_range(third(r))
 }
 
-// Whether it is a rectangular domain of a dimension, in its one form.
+// Whether it is a canonical rectangular domain of a dimension.
 fn is_rect_of(dim: usize, r: &Rect) -> bool
     ensures { IsTrue result ↔ IsRectOf dim r.now }
 {

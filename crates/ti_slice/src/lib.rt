@@ -1,4 +1,4 @@
-//! The slice of a checked program run by itself: the next collective as a function of the outcomes of its departures so far.
+//! The program slice of a checked program, run by itself: the next collective as a function of the outcomes of its departures so far.
 #![tactic(auto)]
 
 mod acts;

@@ -1,4 +1,4 @@
-// Where the slice stands when it goes on by itself no more.
+// Runs the program slice up to its next arrival, its end or its fault.
 
 ghost use Rattle.std.specs.Prelude.{◌≡◌, IfOk};
 ghost use Rattle.ti_base.specs.declared.action.Deposit.{Deposit};
@@ -17,16 +17,16 @@ use ti_base::{Action, CollKind, FaultKind, Memory, Place};
 use ti_exec::{Asking, Pending, Turn, Walker};
 use ti_rules::Checked;
 
-/// Where the slice stands when it goes on by itself no more.
+/// The suspension of the slice: what it has next.
 #[derive(Drop)]
 pub enum Stand {
-    /// At its arrival at a collective, whose answer makes this of it.
+    /// It requests the arrival at a collective of this kind, with this argument and at this place; the answer has this effect.
     Arrives(CollKind, Option<u32>, Place, Pending),
     Ends,
     Fails(FaultKind, Place),
 }
 
-// Whether the collective of a kind and an argument is a delete of a region.
+// Whether the collective of this kind and with this argument deletes the region.
 fn deletes(region: u32, kind: CollKind, arg: Option<u32>) -> bool
     ensures { result ≡ rounds.deletes region kind arg }
 {
@@ -39,7 +39,7 @@ fn deletes(region: u32, kind: CollKind, arg: Option<u32>) -> bool
     }
 }
 
-// Whether it is a delete of a region that is gone.
+// Whether the collective deletes a region that has been deleted.
 fn deletes_gone(gone: &[u32], kind: CollKind, arg: Option<u32>) -> bool
     ensures { (given : Deposit) → result ≡ deletes_one gone.now (Arrive kind arg given) }
 {
@@ -51,7 +51,7 @@ fn deletes_gone(gone: &[u32], kind: CollKind, arg: Option<u32>) -> bool
     false
 }
 
-// Where it stands at an arrival: that at a delete of a region that is gone is a fault.
+// The suspension at an arrival; at the deletion of a deleted region it is a fault.
 fn stand_at(w: &Walker, gone: &[u32], asking: Box<Asking>) -> Stand
     requires { IsArrival asking.value.action }
     ensures { (c : NumberedProgram) → Stands (slice_step_spec (process_of c w.now)) (Act asking.value.place asking.value.action)
@@ -74,7 +74,7 @@ fn stand_at(w: &Walker, gone: &[u32], asking: Box<Asking>) -> Stand
     }
 }
 
-/// Silent steps, up to where it stands.
+/// Runs silent steps up to where the slice is suspended.
 pub fn goes_on(w: &mut Walker, alloc: Global, c: &Checked, gone: &[u32]) -> Result<Stand, Memory>
     requires { IsFree (program_of c.now.program.parts) (process_of (program_of c.now.program.parts) w.old) }
     ensures { IfOk result (λ s. GoesOn (program_of c.now.program.parts) w.old gone.now s w.new) }

@@ -1,4 +1,4 @@
-// What a statement with effects comes to in the slice, from single values alone.
+// The outcomes of statements with effects in the program slice, computed from single values only.
 
 ghost use Rattle.std.specs.Prelude.{◌≡◌, pos, [], Option, None, Some, map};
 ghost use Rattle.std.specs.declared.vec.Vec.{Vec as Row};
@@ -40,7 +40,7 @@ use ti_single::{has_single_result, is_single_target};
 
 // ---- what is single
 
-// Whether what goes there goes into a single variable.
+// Whether the receiver of a value is a single variable.
 fn is_single_receiver(receiver: Receiver) -> bool
     ensures { result ≡ slice.is_single_receiver (receiver_seen receiver.entry) }
 {
@@ -60,7 +60,7 @@ fn is_single_receiver(receiver: Receiver) -> bool
     }
 }
 
-// Whether a method gives a single value.
+// Whether the result of a method is single.
 fn gives_single(m: Option<&Method>) -> bool
     ensures { result ≡ has_single_result_spec (method_seen m.entry) }
 {
@@ -72,7 +72,7 @@ fn gives_single(m: Option<&Method>) -> bool
 
 // ---- arguments
 
-// The parameter of a number beside those found so far, if it is single.
+// Adds the parameter of this number to those found so far, if it is single.
 #[tactic(auto, using(ti_eval::proofs::Lemmas::steps, ti_eval::proofs::Lemmas::one_more))]
 fn found_with<'a>(
     alloc: Global,
@@ -96,7 +96,7 @@ fn found_with<'a>(
     Ok((found, answers))
 }
 
-// The single parameters with the values of their arguments, as far as both go.
+// The single parameters with the values of their arguments, as far as there are both.
 fn bind<'a>(
     alloc: Global,
     env: &Env,
@@ -120,7 +120,7 @@ fn bind<'a>(
     Ok((found, left))
 }
 
-// The parameters of a method. One that isn't there has none; `String[] x` is no variable.
+// The parameters of a method. A missing method has none; `String[] x` is no variable.
 fn params_in<'p>(m: Option<&'p Method>) -> &'p [Param]
     ensures { parameters_from 0 (map numbered_param_of result.now) ≡ parameters_of (method_seen m.entry).params }
 {
@@ -135,7 +135,7 @@ fn params_in<'p>(m: Option<&'p Method>) -> &'p [Param]
 
 // ---- calls
 
-// The single parameters of a method.
+// The single parameters of a method with the values of their arguments.
 fn parameters<'a>(
     alloc: Global,
     env: &Env,
@@ -150,7 +150,7 @@ fn parameters<'a>(
     bind(alloc, env, params_in(m), args, answers)
 }
 
-// The call of the method of a number; its object is left out.
+// The call of the method with this number. Its object isn't evaluated.
 #[tactic(auto, using(ti_eval::proofs::Lemmas::steps))]
 fn calls<'a, 'c>(
     alloc: Global,
@@ -175,7 +175,7 @@ fn calls<'a, 'c>(
     Ok((call, answers))
 }
 
-// The call that an expression is, of the method of a number.
+// The outcome of the call that an expression is, of the method with this number; `None` if it isn't a call.
 fn call_of<'a, 'c>(
     alloc: Global,
     env: &Env,
@@ -194,7 +194,7 @@ fn call_of<'a, 'c>(
     }
 }
 
-// What an expression comes to that is a call of a declared method; none where it is no such call.
+// The outcome of an expression that is a call of a declared method; `None` if it isn't one.
 fn call<'a, 'c>(
     alloc: Global,
     env: &Env,
@@ -211,7 +211,7 @@ fn call<'a, 'c>(
 
 // ---- right sides
 
-// What a right side comes to goes to where the statement wants it, if that is single.
+// Stores the value of a right side in the statement's receiver, if that is single.
 fn received<'a, 'c>(
     alloc: Global,
     env: &Env,
@@ -230,7 +230,7 @@ fn received<'a, 'c>(
     }
 }
 
-// A call is made; any other value goes to a single receiver.
+// Calls a method, or stores another value in a single receiver.
 fn valued<'a, 'c>(
     alloc: Global,
     env: &Env,
@@ -262,7 +262,7 @@ fn step<'a, 'c>(
     received(alloc, env, s, Right::Known(&one), answers)
 }
 
-// The statement waits for the value of the root of a broadcast; what it gives is left out.
+// A broadcast: the statement waits for the root's value. The contribution isn't evaluated.
 #[tactic(auto, using(ti_eval::proofs::Lemmas::steps))]
 fn broadcast<'a, 'c>(
     alloc: Global,
@@ -286,7 +286,7 @@ fn broadcast<'a, 'c>(
     Ok((Move::Expects { meeting, deposit }, answers))
 }
 
-// The right side of a declaration or an assignment. A new object or grid is left out.
+// The right side of a declaration or an assignment. A new object or grid is skipped.
 fn initialized<'a, 'c>(
     alloc: Global,
     env: &Env,
@@ -321,9 +321,9 @@ fn initialized<'a, 'c>(
     }
 }
 
-// ---- expressions that stand alone
+// ---- expression statements
 
-// The arrival at an exchange; what it gives is left out.
+// The arrival at an exchange, without a contribution.
 fn exchange<'c>(place: Place) -> Move<'c>
     ensures { (env : Where) (x : NumberedStm) → move_of env x result ≡ move.Meets (slice.exchanging place) deposit.Nothing [] }
 {
@@ -338,7 +338,7 @@ fn exchange<'c>(place: Place) -> Move<'c>
     }
 }
 
-// A member form: two are collectives, and any other is left out.
+// A member call: exchange and delete are collectives, any other one is skipped.
 fn member_alone<'a, 'c>(
     alloc: Global,
     env: &Env,
@@ -361,7 +361,7 @@ fn member_alone<'a, 'c>(
     }
 }
 
-// An expression that is no call of a declared method.
+// An expression statement that calls no declared method.
 #[tactic(auto, using(ti_lang::proofs::Lemmas::program_bridges))]
 fn alone_uncalled<'a, 'c>(
     alloc: Global,
@@ -383,7 +383,7 @@ fn alone_uncalled<'a, 'c>(
     }
 }
 
-// A call, or a member form.
+// An expression statement.
 fn alone<'a, 'c>(
     alloc: Global,
     env: &Env,
@@ -401,7 +401,7 @@ fn alone<'a, 'c>(
 
 // ---- statements
 
-// `return`, with its value where the result is single.
+// A return, with its value if the result is single.
 fn returned<'a, 'c>(
     alloc: Global,
     env: &Env,
@@ -419,7 +419,7 @@ fn returned<'a, 'c>(
     }
 }
 
-// A statement that is there.
+// A statement that exists.
 fn present<'a, 'c>(
     alloc: Global,
     env: &Env,
@@ -440,7 +440,7 @@ fn present<'a, 'c>(
     }
 }
 
-/// What a statement with effects comes to in the slice; none stands for an empty one.
+/// The outcome of a statement with effects in the program slice; a missing statement counts as empty.
 pub fn single_statement<'a, 'c>(
     alloc: Global,
     env: &Env,

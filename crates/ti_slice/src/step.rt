@@ -1,5 +1,5 @@
-// The steps of the slice: those of a process over the trees, but that work without effects is left out, and that of a statement
-// with effects the single operands alone are evaluated.
+// The steps of the program slice: those of the tree interpreter, except that work without effects is skipped and that only the single
+// operands of a statement with effects are evaluated.
 
 ghost use Rattle.std.specs.Prelude.{◌≡◌, ◌<◌, [], length, IfOk};
 ghost use Rattle.ti_lang.specs.Program.Views.{program_of};
@@ -21,7 +21,7 @@ use ti_lang::program::Parts;
 use ti_moves::Move;
 use ti_rules::Checked;
 
-// What the innermost statement comes to, where it has effects.
+// The outcome of the innermost statement, which has effects.
 fn stated<'a, 'c>(
     w: &'a Walker,
     alloc: Global,
@@ -34,7 +34,7 @@ fn stated<'a, 'c>(
     single_statement(alloc, &w.env(c), w.top.stands(c), &w.answers)
 }
 
-// The step at the innermost statement, where it has effects.
+// The step at the beginning of the innermost statement, which has effects.
 fn at_statement(w: &mut Walker, alloc: Global, c: &Parts) -> Result<Turn, Memory>
     requires inner { 0 < length w.old.top.levels.items }
     requires mode { w.old.mode ≡ Walks Here }
@@ -66,7 +66,7 @@ fn acts(w: &mut Walker, alloc: Global, c: &Parts) -> Result<Turn, Memory>
     }
 }
 
-// The step where the slice walks on.
+// The step of a slice that executes pending work; work without effects is skipped.
 fn walks(w: &mut Walker, alloc: Global, c: &Checked) -> Result<Turn, Memory>
     requires mode { IsWalking w.old.mode }
     requires settled { IsSettled (program_of c.now.program.parts) w.old }
@@ -90,7 +90,7 @@ fn walks(w: &mut Walker, alloc: Global, c: &Checked) -> Result<Turn, Memory>
     }
 }
 
-// The step with a value on its way, which is left out where it goes into no single variable.
+// The step with a value on its way; it is dropped unless it goes into a single variable.
 fn receives(w: &mut Walker, alloc: Global, c: &Checked) -> Result<Turn, Memory>
     requires mode { IsReceiving w.old.mode }
     requires new { w.old.answers.items ≡ [] }
@@ -103,7 +103,7 @@ fn receives(w: &mut Walker, alloc: Global, c: &Checked) -> Result<Turn, Memory>
     Ok(Turn::Went)
 }
 
-// The step at what is at hand.
+// The step at the work at hand.
 fn act(w: &mut Walker, alloc: Global, c: &Checked) -> Result<Turn, Memory>
     requires settled { IsSettled (program_of c.now.program.parts) w.old }
     requires new { w.old.answers.items ≡ [] }
@@ -118,7 +118,7 @@ fn act(w: &mut Walker, alloc: Global, c: &Checked) -> Result<Turn, Memory>
     }
 }
 
-/// One step of the slice.
+/// One step of the program slice.
 pub fn slice_step(w: &mut Walker, alloc: Global, c: &Checked) -> Result<Turn, Memory>
     requires { w.old.answers.items ≡ [] }
     ensures { IfOk result (λ t. IsSliceTurn (program_of c.now.program.parts) w.old t w.new) }

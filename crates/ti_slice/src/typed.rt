@@ -1,4 +1,4 @@
-// The types that expressions have where a call stands, with the dimensions of the foreach loops around.
+// The static types of expressions at the position of a call, given the dimensions of the foreach loops around it.
 
 ghost use Rattle.std.specs.Prelude.{◌≡◌, ◌<◌, IfOk, reverse};
 ghost use Rattle.ti_lang.specs.Program.Scope.{this_of};
@@ -19,7 +19,7 @@ use ti_lang::program::{Expr, Stmt};
 use ti_lang::typing::{ForeachDims, Seen, dims_of, type_over};
 use ti_moves::{body_of, statement_at};
 
-// How many dimensions the domain of a `foreach` has, where these are those of the loops around it.
+// How many dimensions the domain of a `foreach` has, given those of the loops around it.
 fn dims_of_domain(env: &Env, dims: &[ForeachDims], x: Option<&Stmt>) -> usize
     ensures { result ≡ dim_of_type (type_at (program_of env.now.program.now) (this_of (method_seen env.now.method))
         (dims_in (reverse dims.now)) (domain_in (stm_seen x.entry))) }
@@ -54,7 +54,7 @@ pub fn dims_around(alloc: Global, env: &Env) -> Result<Vec<ForeachDims>, Memory>
     Ok(dims)
 }
 
-/// The type that an expression has in the innermost statement.
+/// The static type of an expression in the innermost statement.
 pub fn type_here<'a>(alloc: Global, env: &Env<'a>, e: &'a Expr) -> Result<Seen<'a>, Memory>
     ensures { IfOk result (λ t. seen t ≡ scoping.type_here (env_of env.now) (expression_of e.now)) }
 {

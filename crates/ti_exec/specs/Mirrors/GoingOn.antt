@@ -1,4 +1,4 @@
--- Nobody has to believe what stands here: it mirrors the code, and only contracts of private functions and the invariant speak of it.
+-- Mirrors the code: only contracts of private functions and the invariant use these definitions.
 use Rattle.std.specs.Prelude.{◌≡◌, ℕ, Bool, true, false, List, [], None, Some}
 use Rattle.ti_base.specs.declared.entry.Next.{Next}
 use Rattle.ti_lang.specs.Program.Classes.{NumberedProgram}
@@ -12,7 +12,7 @@ use Rattle.ti_exec.specs.declared.going_on.State.TheVariants as state
 use Rattle.ti_exec.specs.States.{process_of, told, Stands}
 use Rattle.ti_exec.specs.Standing.{is_act}
 
--- a process before its first step, with these frames
+-- A process before its first step, with these frames.
 abbrev pub fresh_process : NumberedProgram → Team → ℕ → List Frame → Process
 fresh_process c team fuel frames = record {
   setting = record { program = c; procs = team.procs; fuel = fuel };
@@ -23,23 +23,23 @@ fresh_process c team fuel frames = record {
   answers = [];
 }
 
--- memory was wanting
+-- The process ran out of memory.
 abbrev pub spent_in : State → Bool
 spent_in state.Spent = true
 spent_in s = false
 
--- it stands at an action
+-- The process waits for the answer to an action.
 abbrev pub asks_in : State → Bool
 asks_in (state.Asks asking) = true
 asks_in s = false
 
--- a process that has come so far stands where it has this next
+-- The process has this next, as its state says.
 abbrev pub Rests : NumberedProgram → Walker → Next → State → Type 0
 Rests c w n state.Goes = (shown (step (process_of c w)) ≡ Some n) × (is_act n ≡ false)
 Rests c w n (state.Asks asking) = Stands (step (process_of c w)) n (told c w asking.value.pending) × (is_act n ≡ true)
 Rests c w n state.Spent = ⊥
 
--- silent steps lead from the first process to the second, which has this next and has come so far
+-- Silent steps lead from the first process to the second, which has this next and is in this state.
 pub record GoesOn (c : NumberedProgram) (old : Walker) (n : Next) (s : State) (new : Walker) : Type 0 where
   pub reaches : Reaches (process_of c old) (process_of c new)
   pub rests : Rests c new n s

@@ -1,11 +1,11 @@
--- Nobody has to believe what stands here: it tells how the logic stores what contracts see of a process, and changes no contract.
+-- Mirrors the code: says how the logic encodes what contracts see of a process, and changes no contract.
 use Rattle.std.specs.Prelude.{ℕ, Bool, List, refl}
 use Rattle.std.specs.Coded.{Coded, code_by, coded×, coded_ℕ, coded_bool, coded_list}
 use Rattle.ti_base.specs.declared.entry.Answer.{Answer}
 use Rattle.ti_lang.specs.declared.program.classes.Parts.{Parts}
 use Rattle.ti_exec.specs.Standing.{TreeStanding}
 
--- it is stored as its parts
+-- It is encoded as the tuple of its fields.
 abbrev pub standing_code : Coded Parts → Coded Answer → Coded TreeStanding
 standing_code parts answer =
     code_by (Parts × (ℕ × (ℕ × (ℕ × (List Answer × Bool))))) (coded× parts

@@ -1,4 +1,4 @@
--- What clauses see of the code of a method as far as it is written, and what the functions that write statements make of it.
+-- What contracts see of the code of a method as far as it is generated, and how the functions that generate statements extend it.
 use Rattle.std.specs.Prelude.{ℕ, List, Option}
 use Rattle.ti_base.specs.declared.place.Place.{Place}
 use Rattle.ti_lang.specs.Program.Expressions.{NumberedExp}

@@ -1,4 +1,4 @@
--- The code of a method's body as it is written, of whose forward jumps these targets are known.
+-- The code of a method's body as it is generated, given the targets of its forward jumps as far as they are known.
 use Rattle.std.specs.Prelude.{ℕ, List, [], None}
 use Rattle.ti_lang.specs.Program.Statements.{numbered_stms}
 use Rattle.ti_lang.specs.Program.Classes.{NumberedMethod, NumberedProgram}

@@ -1,4 +1,4 @@
--- Where code is written, and what of it is handed on.
+-- The context in which code is generated, and the parameters of the functions that generate it.
 use Rattle.std.specs.Prelude.{ℕ, zero, suc, List, ◌∷◌, map, Option, None, Some}
 use Rattle.ti_lang.specs.Program.Classes.{NumberedProgram}
 use Rattle.ti_lang.specs.Program.Expressions.{NumberedExp, numbered_exps}
@@ -22,13 +22,13 @@ use Rattle.ti_lower.specs.declared.calls.CallSite.{CallSite}
 use Rattle.ti_lower.specs.Receivers.{TargetKind, InSlot, InField, InElement}
 use Rattle.ti_base.specs.declared.place.Place.{Place}
 
--- in a method of a program with this class, where slots have these names
+-- A method of a program with this class of `this`, while the slots have these names.
 pub record Where : Type 0 where
   pub program : NumberedProgram
   pub this : Option ℕ
   pub names : List Name
 
--- these names, and behind them slots of so many values that wait
+-- These names, and after them n slots of temporaries.
 abbrev pub hidden : ℕ → List Name → List Name
 hidden zero names = names
 hidden (suc n) names = Hidden ∷ hidden n names
@@ -36,11 +36,11 @@ hidden (suc n) names = Hidden ∷ hidden n names
 abbrev pub where_of : Position → Where
 where_of p = record { program = program_of p.site.program.now; this = p.site.this; names = hidden p.waiting (names_in p.site.slots.now) }
 
--- one more value waits
+-- One more temporary.
 abbrev pub one_waits : Where → Where
 one_waits w = record w { names = Hidden ∷ w.names }
 
--- a right side: an expression, or a value that waits in a slot
+-- A right side: an expression, or a value in a temporary slot.
 pub data Source : Type 0 where
   Computed : (x : NumberedExp) → Source
   Kept : (k : ℕ) → Source
@@ -60,7 +60,7 @@ receiver_of (receiver.Declared at variable ty) = to.Declared at (declared_as (ty
 receiver_of (receiver.Assigned at target) = to.Assigned at (expression_of target.now)
 receiver_of (receiver.Updated at op target) = to.Updated at op (expression_of target.now)
 
--- the object of a call at a place, where it has one
+-- The object of a call at a place, if it has one.
 abbrev pub object_of : Place → Object → Option NumberedExp
 object_of at object.None = None
 object_of at object.This = Some (e.This at)

@@ -1,5 +1,5 @@
--- Code with that of statements behind it. Where forward jumps of statements lead is known only behind what they jump over: so code is
--- written twice. Each time the targets are noted in order, and the second time those that the first one noted are known.
+-- Code with that of statements appended. The target of a forward jump is known only after what it jumps over, so code is generated in two
+-- passes: each pass notes the targets in order, and the second one knows those that the first one noted.
 use Rattle.std.specs.Prelude.{ℕ, ◌+◌, ◌-◌, true, false, List, [], ◌∷◌, ◌++◌, length, drop, set, get_or, pos, Option, None, Some}
 use Rattle.ti_base.specs.declared.place.Place.{Place}
 use Rattle.ti_base.specs.declared.action.CollKind.TheVariants as coll
@@ -19,32 +19,32 @@ use Rattle.ti_lower.specs.Laying.{Labels, break_code, continue_code}
 use Rattle.ti_lower.specs.Mirrors.Positions.{Where}
 use Rattle.ti_lower.specs.Mirrors.Values.{value_on, init_on, stands_on, print_on, returned_on}
 
--- the code of a method as far as it is written: the slots, the instructions, and where the forward jumps of its statements lead
+-- The code of a method as far as it is generated: the names of the slots, the instructions, and the targets of the forward jumps.
 pub record Written : Type 0 where
   pub names : List Name
   pub code : List Instr
   pub targets : List ℕ
 
--- the same with this code
+-- With this code instead.
 abbrev pub coded : Written → List Instr → Written
 coded w code = record w { code = code }
 
--- a jump's target is noted once it is reached
+-- Reserves an entry for a jump's target, which is noted once it is reached.
 abbrev pub reserved : Written → Written
 reserved w = record w { targets = w.targets ++ 0 ∷ [] }
 
 abbrev pub landed : ℕ → Written → Written
 landed k w = record w { targets = set w.targets k (length w.code) }
 
--- so many slots are left
+-- Keeps the n oldest slots.
 abbrev pub cut : ℕ → Written → Written
 cut n w = record w { names = drop (length w.names - n) w.names }
 
--- and the code says so
+-- Keeps the n oldest slots, and emits the instruction for it.
 abbrev pub trimming : ℕ → Written → Written
 trimming n w = coded (cut n w) (w.code ++ i.Trim n ∷ [])
 
--- what was written behind a jump leaves so many slots, and the jump's target, of this number, is reached
+-- What is jumped over leaves n slots, and target k is reached.
 abbrev pub closed : ℕ → ℕ → Written → Written
 closed k n w = landed k (cut n w)
 
@@ -52,7 +52,7 @@ module _ (program : NumberedProgram) (this : Option ℕ) (result : ValueType) (k
   abbrev pub where_in : Written → Where
   where_in w = record { program = program; this = this; names = w.names }
 
-  -- the target of a number, where it is known
+  -- Target k, if it is known.
   abbrev pub target_at : ℕ → ℕ
   target_at k = get_or known k 0
 
@@ -60,14 +60,14 @@ module _ (program : NumberedProgram) (this : Option ℕ) (result : ValueType) (k
   condition_on None w = w.code ++ i.Const (v.Bool true) ∷ []
   condition_on (Some c) w = value_on (where_in w) c w.code
 
-  -- the labels of a loop, whose targets have numbers from this one on
+  -- The labels of a loop whose targets are numbered from k on.
   abbrev pub loop_labels : ℕ → ℕ → Option Labels
   loop_labels k n = Some (record { again = target_at k; kept = n; exit = target_at (k + 2); left = n; walks = false })
 
   abbrev pub walk_labels : ℕ → ℕ → Option Labels
   walk_labels k n = Some (record { again = target_at k; kept = n + 1; exit = target_at k + 4; left = n; walks = true })
 
-  -- before the first turn of a loop
+  -- Before the first iteration of a loop.
   abbrev pub loop_begun : Place → Written → Written
   loop_begun p w =
       coded (reserved (reserved (reserved w))) (w.code ++ i.Jump (target_at (length w.targets + 1)) ∷ i.Tick p ∷ [])
@@ -79,22 +79,22 @@ module _ (program : NumberedProgram) (this : Option ℕ) (result : ValueType) (k
     targets = w.targets ++ 0 ∷ [];
   }
 
-  -- behind the body and the update of a loop that began with so many targets and instructions
+  -- After the body and the update of a loop whose targets are numbered from k on and whose code begins at this position.
   abbrev pub loop_ended : ℕ → ℕ → Option NumberedExp → Written → Written
   loop_ended k at c w = landed (k + 2) (coded w (condition_on c w ++ i.JumpIf (at + 1) ∷ []))
 
   abbrev pub walk_ended : ℕ → ℕ → Written → Written
   walk_ended n at w = coded w (w.code ++ i.Trim n ∷ i.Next n (length w.code + 3) ∷ i.Jump (at + 1) ∷ i.Pop ∷ [])
 
-  -- what an `if` writes before its branch, which has so many targets of its own
+  -- The code of an `if` before its branches, with a target reserved.
   abbrev pub tested : NumberedExp → Written → Written
   tested c w = coded (reserved w) (value_on (where_in w) c w.code ++ i.JumpIfNot (target_at (length w.targets)) ∷ [])
 
-  -- between two branches
+  -- Between two branches.
   abbrev pub otherwise : ℕ → ℕ → Written → Written
   otherwise k n w = landed k (coded (cut n w) (w.code ++ i.Jump (target_at (k + 1)) ∷ []))
 
-  -- an `if` without `else`, and one with it, with what their branches write
+  -- An `if` without `else`, and one with it, given how their branches extend the code.
   abbrev pub branch_on : NumberedExp → (Written → Written) → Written → Written
   branch_on c inner w = closed (length w.targets) (length w.names) (inner (tested c w))
 
@@ -103,7 +103,7 @@ module _ (program : NumberedProgram) (this : Option ℕ) (result : ValueType) (k
       closed (length w.targets + 1) (length w.names)
       (other (otherwise (length w.targets) (length w.names) (inner (reserved (tested c w)))))
 
-  -- loops, with what their bodies and updates write
+  -- Loops, given how their bodies and updates extend the code.
   abbrev pub turn_on : Place → (Option Labels → Written → Written) → Written → Written
   turn_on p body w = closed (length w.targets) (length w.names) (body (loop_labels (length w.targets) (length w.names)) (loop_begun p w))
 

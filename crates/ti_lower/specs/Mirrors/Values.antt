@@ -1,4 +1,4 @@
--- Code with that of expressions, of the ways of values, and of right sides behind it.
+-- Code with that of expressions, of stores, and of right sides appended.
 use Rattle.std.specs.Prelude.{ℕ, ◌+◌, Bool, true, false, List, [], ◌∷◌, ◌++◌, length, set, Option, None, Some}
 use Rattle.ti_base.specs.declared.place.Place.{Place}
 use Rattle.ti_base.specs.declared.action.CollKind.TheVariants as coll
@@ -55,11 +55,11 @@ place_on w (e.Select q x name) code = value_on w x code
 place_on w (e.Index q x parts) code = values_on w parts (value_on w x code) ++ i.MakePt (how_many parts) ∷ []
 place_on w other code = code ++ i.Const (v.Bool false) ∷ []
 
--- the value on top goes into a target
+-- The top operand is stored in a target.
 abbrev pub stored_on : Where → Place → ValueType → Known → TargetKind → List Instr → List Instr
 stored_on w p type k target code = code ++ conversion p type k ++ store_code w.names p target
 
--- a right side, and an operator that makes one value of it and of the operand under it
+-- A right side, and an operator on it and the operand below it.
 abbrev pub operated_on : Where → Place → Operation → Source → List Instr → List Instr
 operated_on w p name right code = source_on w right code ++ i.Operate name p ∷ []
 
@@ -73,13 +73,13 @@ update_on w p q name k type InElement right code =
     ++ conversion p type k
     ++ i.Keep (length w.names + 1) ∷ i.Load (length w.names) ∷ i.Load (length w.names + 1) ∷ i.PutElem p ∷ i.Trim (length w.names) ∷ []
 
--- ---- ways of values
+-- ---- stores
 
--- a value goes into a new variable
+-- The top operand is stored in a new variable.
 abbrev pub declared_on : Where → Place → ValueType → Known → List Instr → List Instr
 declared_on w p type k code = code ++ conversion p type k ++ i.Keep (length w.names) ∷ []
 
--- a right side goes into what an assignment names
+-- A right side is stored in the target of an assignment.
 abbrev pub assigned_on : Where → Place → NumberedExp → Known → Source → List Instr → List Instr
 assigned_on w p target k right code =
     stored_on w p (type_in_text w.program w.this target) k (kind_of_target w.program w.this target)
@@ -135,7 +135,7 @@ abbrev pub spread_on : Where → Place → NumberedDims → List Instr → List 
 spread_on w p (s.Domain x) code = value_on w x code
 spread_on w p (s.Ranges ranges) code = value_on w (e.Rect p (numbered_ranges ranges)) code
 
--- the jump around the right side of a broadcast, once it is known where it leads
+-- The jump around the right side of a broadcast, once its target is known.
 abbrev pub root_on : Where → Place → NumberedExp → List Instr → List Instr
 root_on w p x code =
     let start = code ++ i.RootTest p ∷ i.Dup ∷ i.ThisProc ∷ i.Operate o.Eq p ∷ [] in
@@ -151,12 +151,12 @@ init_on w r (s.NewGrid p region element q dims) code =
     late_on w r Numbers known.Other (spread_on w q dims (region_on w region code) ++ i.NewGrid (zero_of_type element.type) p ∷ [])
 init_on w r (s.Broadcast p x root) code = late_on w r (kind_in w.program w.this x) known.Other (root_on w p x (value_on w root code))
 
--- ---- expressions that stand alone
+-- ---- expression statements
 
 abbrev pub both_on : Where → NumberedExp → NumberedExps → List Instr → List Instr
 both_on w x args code = values_on w args (value_on w x code) ++ first_code (how_many args)
 
--- a loop over the points of the domain on top
+-- A loop over the points of the domain on top.
 abbrev pub elements_on : Place → ℕ → List Instr → List Instr → List Instr
 elements_on p n read code = code ++ elements_code p n read (length code)
 

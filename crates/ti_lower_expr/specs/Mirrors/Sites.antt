@@ -1,4 +1,4 @@
--- What the functions that write expressions make of code, where a site is.
+-- How the functions that generate code extend it at a site.
 use Rattle.std.specs.Prelude.{ℕ, if◌then◌else◌, List, Option, None}
 use Rattle.ti_lang.specs.Program.Expressions.{NumberedExp, NumberedExps, NumberedRange, NumberedRanges}
 use Rattle.ti_lang.specs.Program.Types.{ValueType}
@@ -32,6 +32,6 @@ module _ (s : Site) where
   abbrev pub ranges_in : NumberedRanges → List Instr → List Instr
   ranges_in = on.walked_ranges (program_of s.program.now) s.this (names_in s.slots.now)
 
-  -- the member of the language that a name means behind a value of the type
+  -- The built-in member that a name denotes after a value of the type.
   abbrev pub called_behind : ValueType → ℕ → Option BuiltIn
   called_behind type name = if is_object type then None else built_in (program_of s.program.now) name

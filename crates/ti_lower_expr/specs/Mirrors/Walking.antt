@@ -1,4 +1,4 @@
--- Code with that of expressions behind it, as it is written.
+-- Code with that of expressions appended, as it is generated.
 use Rattle.std.specs.Prelude.{ℕ, ◌+◌, Bool, List, [], ◌∷◌, ◌++◌, length, set, false, Option, None, unwrap_or, option_and_then}
 use Rattle.ti_base.specs.declared.place.Place.{Place}
 use Rattle.ti_base.specs.declared.value.Value.TheVariants as v
@@ -18,18 +18,18 @@ use Rattle.ti_lower_expr.specs.declared.kinds.Laziness.TheVariants.{Never, Where
 use Rattle.ti_lower_expr.specs.Knowing.{known_of}
 use Rattle.ti_lower_expr.specs.Coding as coding
 
--- the jumps around a right operand, once it is known where they lead; the first of them has this number
+-- Completes the jumps around a right operand once their targets are known; `jump` is the position of the first of them.
 abbrev pub around : Bool → ℕ → List Instr → List Instr
 around left jump code = set code jump (coding.jump_where left (length code + 1)) ++ i.Jump (length code + 2) ∷ i.Const (v.Bool left) ∷ []
 
--- an operator, and the code with its right operand, behind its left one
+-- Code with the right operand of an operator and the operator appended, given the code with its left operand.
 abbrev pub operated : Laziness → Operation → Place → (List Instr → List Instr) → List Instr → List Instr
 operated Never name p right code = right code ++ i.Operate name p ∷ []
 operated (Where left) name p right code = around left (length code) (right (code ++ coding.jump_where left 0 ∷ []))
 
 module _ (program : NumberedProgram) (this : Option ℕ) (names : List Name) where
   abbrev mutual
-    -- code with that of an expression behind it
+    -- Code with that of an expression appended.
     pub walked : NumberedExp → List Instr → List Instr
     walked (e.Int p n) code = code ++ i.Const (v.Int n) ∷ []
     walked (e.Long p n) code = code ++ i.Const (v.Long n) ∷ []

@@ -1,4 +1,4 @@
--- The outcomes that the slice looks at, and the collectives at which it stands.
+-- The outcomes that the program slice consumes, and the collectives that it reaches.
 use Rattle.std.specs.Prelude.{◌≡◌, ℕ, ◌+◌, Bool, true, false, List, [], ◌∷◌, ◌++◌, Option, Some, None}
 use Rattle.ti_base.specs.declared.place.Place.{Place}
 use Rattle.ti_base.specs.declared.action.CollKind.{CollKind}
@@ -24,31 +24,31 @@ use Rattle.ti_slice.specs.declared.stands.Stand.{Stand}
 use Rattle.ti_slice.specs.declared.stands.Stand.TheVariants as stand
 use Rattle.ti_slice.specs.declared.answer.Slice.{Slice}
 
--- ---- where the slice comes
+-- ---- which processes the slice reaches
 
--- the slice comes to this process, which waits nowhere, by steps of its own and by departures, whatever their outcomes
+-- The slice reaches this process, which waits at no collective, by steps of its own and by departures, whatever their outcomes.
 pub data Free : Setting → Process → Type 0 where
   begins : {n : Setting} → Free n (begin n 0)
   goes : {n : Setting} {p q : Process} → Free n p → slice_step p ≡ To q → Free n q
   leaves : {n : Setting} {p : Process} {request leave : Request} {go back : Answer → Process} {r : Answer} →
       Free n p → slice_step p ≡ At request go → slice_step (go Done) ≡ At leave back → Free n (back r)
 
--- so does that of this program, in some setting
+-- The slice of this program reaches this process in some setting.
 abbrev pub IsFree : NumberedProgram → Process → Type 0
 IsFree c p = (n : Setting) × (n.program ≡ c) × Free n p
 
--- what the slice comes to from the second process, it comes to from the first
+-- What the slice has next from the second process, it has next from the first.
 abbrev pub Leads : Process → Process → Type 0
 Leads p q = (gone : List ℕ) (k : ℕ) (rest : List Answer) (x : SliceStep) → Comes q gone k rest x → Comes p gone k rest x
 
--- ---- where it stands
+-- ---- where the slice is suspended
 
--- the action is an arrival
+-- The action is an arrival.
 abbrev pub IsArrival : Action → Type 0
 IsArrival (act.Arrive kind arg given) = Unit {0}
 IsArrival a = ⊥
 
--- it stands at its arrival at a collective, which deletes no region that is gone
+-- The slice requests the arrival at a collective, which isn't the deletion of a deleted region.
 pub record Arrives (c : NumberedProgram) (w : Walker) (gone : List ℕ) (kind : CollKind) (arg : Option ℕ) (at : Place)
     (pending : Pending) : Type 0 where
   pub request : Request
@@ -60,13 +60,13 @@ pub record Arrives (c : NumberedProgram) (w : Walker) (gone : List ℕ) (kind : 
   pub stays : deletes_one gone request.action ≡ false
   pub goes : (r : Answer) → go r ≡ told c w pending r
 
--- where the code says that it stands
+-- The suspension of the slice, as the code represents it.
 abbrev pub IsStand : NumberedProgram → Walker → List ℕ → Stand → Type 0
 IsStand c w gone (stand.Arrives kind arg at pending) = Arrives c w gone kind arg at pending
 IsStand c w gone stand.Ends = (at : Place) × (judged gone (slice_step (process_of c w)) ≡ Ends at)
 IsStand c w gone (stand.Fails kind at) = judged gone (slice_step (process_of c w)) ≡ Faults kind at
 
--- it goes on by itself, up to where it stands
+-- The slice runs silent steps up to where it is suspended.
 pub record GoesOn (c : NumberedProgram) (old : Walker) (gone : List ℕ) (s : Stand) (new : Walker) : Type 0 where
   pub free : IsFree c (process_of c new)
   pub leads : Leads (process_of c old) (process_of c new)
@@ -74,28 +74,28 @@ pub record GoesOn (c : NumberedProgram) (old : Walker) (gone : List ℕ) (s : St
 
 -- ---- collectives
 
--- it waits at a collective
+-- The process waits at a collective.
 abbrev pub IsWaiting : Mode → Type 0
 IsWaiting (mode.Waits meeting t) = Unit {0}
 IsWaiting (mode.Expects meeting) = Unit {0}
 IsWaiting m = ⊥
 
--- what a departure asks for
+-- What the answer to a departure must be.
 abbrev pub wanted_of : Option Wait → Wanted
 wanted_of None = ToBeDone
 wanted_of (Some w) = w.wanted
 
--- whether an outcome fits what is wanted, as the code says it
+-- Whether an outcome fits what is expected, as the code represents it.
 abbrev pub Fits : Wanted → Answer → Bool → Type 0
 Fits wanted r true = FitsWanted wanted r
 Fits wanted r false = FitsWanted wanted r → ⊥
 
--- the regions that are gone behind a collective, as the code says it
+-- The region that a collective deletes, as a list.
 abbrev pub listed : Option ℕ → List ℕ
 listed None = []
 listed (Some r) = r ∷ []
 
--- it leaves the collective at which it waits, with this outcome
+-- The slice leaves the collective at which it waits, with this outcome.
 pub record Leaves (c : NumberedProgram) (old : Slice) (r : Answer) (new : Slice) : Type 0 where
   pub request : Request
   pub go : Answer → Process
@@ -105,12 +105,12 @@ pub record Leaves (c : NumberedProgram) (old : Slice) (r : Answer) (new : Slice)
   pub behind : go r ≡ process_of c new.walker
   pub gone : new.gone.items ≡ deleted_by (process_of c old.walker).wait ++ old.gone.items
 
--- whether it leaves it so
+-- Whether the slice leaves the collective with this outcome.
 abbrev pub Departs : NumberedProgram → Slice → Answer → Slice → Bool → Type 0
 Departs c old r new true = Leaves c old r new
 Departs c old r new false = (k : ℕ) (rest : List Answer) → Comes (process_of c old.walker) old.gone.items k (r ∷ rest) (answer.Unfit k)
 
--- whether it comes to its next collective and leaves it so
+-- Whether the slice reaches its next collective and leaves it with this outcome.
 abbrev pub SliceMeets : NumberedProgram → Slice → Answer → Slice → Bool → Type 0
 SliceMeets c old r new true =
     IsFree c (process_of c new.walker)

@@ -1,4 +1,4 @@
--- What clauses see of calls and of values on their way in the slice.
+-- What contracts see of calls and of values on their way in the program slice.
 use Rattle.std.specs.Prelude.{◌≡◌, if◌then◌else◌, List, ◌∷◌, Option, None, Some, Result}
 use Rattle.std.specs.Borrow.{Bor}
 use Rattle.ti_base.specs.declared.entry.Answer.{Answer}
@@ -21,16 +21,16 @@ use Rattle.ti_moves.specs.Arguments.{given}
 use Rattle.ti_moves.specs.Moves.{move_of}
 use Rattle.ti_moves.specs.Receiving.{receiver_of}
 
--- a parameter with the value of its argument beside those found so far, if it is single
+-- A parameter with the value of its argument is added to those found so far, if it is single.
 abbrev pub single_found : Env → VariableUse → NumberedExp → List Variable → Asking (List Variable)
 single_found env p x found = if is_single_declared p.declared then (given env p x >>= λ w. gives (w ∷ found)) else gives found
 
--- what a statement comes to in the slice that is a call, if it is one
+-- The outcome of a call as a statement of the slice, if the expression is a call.
 abbrev pub SingleCallComes : Env → NumberedStm → List Answer → Option (Result (Move × Bor (List Answer)) Stop) → Option Call → Type 0
 SingleCallComes env x answers None call = call ≡ None
 SingleCallComes env x answers (Some r) call =
     (c : Call) × (call ≡ Some c) × ComesAs (move_of env x) r (single_calling env (receiver_of x) c answers)
 
--- what a right side comes to goes to a single receiver
+-- The value of a right side is stored if its receiver is single.
 abbrev pub single_received : Env → Receiver → Asking Held → Asking move.Move
 single_received env receiver right = if is_single_receiver receiver then receives env receiver right else goes_on env
