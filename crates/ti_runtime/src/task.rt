@@ -94,16 +94,40 @@ fn act<J: Terms + CodeOf>(
     store.act(alloc, number, place, action)
 }
 
-// Whether a process arrives at a collective next, so that others may continue after it. Only speed depends on it.
-fn arrives(next: Next) -> bool {
-    matches!(next, Next::Act(_, Action::Arrive { .. }))
+// How a worker leaves the turnstile. Only speed depends on it.
+#[derive(Clone, Copy)]
+enum Leaving {
+    // Waking nobody: this worker is likely to go in again at once.
+    Quietly,
+    // Letting in one of those who wait to go in: this process may have to wait for them.
+    PassingOn,
+    // And waking those who wait for an arrival, or for the end of the run.
+    Waking,
 }
 
-// Leaves the turnstile, and with `wakes` wakes the threads that sleep there.
-fn leave_after<J: Terms + CodeOf>(
+// How to leave after this action of a process.
+fn leaving_after(next: Next) -> Leaving {
+    match next {
+        Next::Act(_, Action::Arrive { .. }) => Leaving::Waking,
+        Next::Act(_, Action::Depart) => Leaving::PassingOn,
+        _ => Leaving::Quietly,
+    }
+}
+
+// How to leave after an action that the store didn't perform.
+fn leaving_refused(why: ActErr) -> Leaving {
+    match why {
+        ActErr::Faulted(_) => Leaving::Waking,
+        ActErr::NotYet => Leaving::PassingOn,
+        ActErr::Halted | ActErr::Memory => Leaving::Quietly,
+    }
+}
+
+// Leaves the turnstile.
+fn leave<J: Terms + CodeOf>(
     turnstile: &Turnstile<Store<J>>,
     inside: Inside<Store<J>>,
-    wakes: bool,
+    leaving: Leaving,
 ) -> Pass<Store<J>>
     requires turnstile { turnstile_around inside ≡ identity_of turnstile.now }
     requires grown { GrownBy (number_inside inside) (found_inside inside) (log_of (value_inside inside).entries) }
@@ -111,10 +135,10 @@ fn leave_after<J: Terms + CodeOf>(
     ensures number { number_of result ≡ number_inside inside }
     ensures seen { seen_by result ≡ log_of (value_inside inside).entries }
 {
-    if wakes {
-        turnstile.leave_and_wake(inside)
-    } else {
-        turnstile.leave(inside)
+    match leaving {
+        Leaving::Quietly => turnstile.leave(inside),
+        Leaving::PassingOn => turnstile.leave_and_pass_on(inside),
+        Leaving::Waking => turnstile.leave_and_wake(inside),
     }
 }
 
@@ -204,7 +228,7 @@ impl<J: Terms + CodeOf> Task<J> {
         let acted = act(alloc, next, number, inside.value());
         match acted {
             Ok(answer) => {
-                let pass = leave_after(turnstile, inside, arrives(next));
+                let pass = leave(turnstile, inside, leaving_after(next));
                 let _turn = pending.hear(next, answer);
                 (
                     Task {
@@ -216,7 +240,7 @@ impl<J: Terms + CodeOf> Task<J> {
                 )
             }
             Err(why) => {
-                let pass = leave_after(turnstile, inside, matches!(why, ActErr::Faulted(_)));
+                let pass = leave(turnstile, inside, leaving_refused(why));
                 Task {
                     number,
                     pending,

@@ -1241,6 +1241,7 @@ reads_nothing job c x from = record {
   whole_at_seven = λ is. absurd (never NoMemory c 7 from (λ e. omega arith) (λ e. omega arith) is);
   nothing_of_missing = λ _. x.text;
   four_only_where = λ is. absurd (never NoMemory c 4 from (λ e. omega arith) (λ e. omega arith) is);
+  failed = λ _. yields NoMemory c from (λ same. inr (inl same)) inr;
   missing = λ _. yields NoMemory c from (λ same. inr (inl same)) inr;
   lacking = λ _. yields NoMemory c from (λ same. inr (inl same)) inr;
   same_files = subst (λ s. SameFiles c.source s) (sym x.source) (record { tells = refl; files = refl });

@@ -8,7 +8,7 @@ use Rattle.ti_top.specs.declared.ending.Ending.TheVariants.{NoCommand, CantRead,
 use Rattle.ti_words.specs.declared.job.Job.{Job}
 use Rattle.ti_top.specs.Mirrors.Reading.{ReadsWhole}
 use Rattle.ti_top.specs.Ending.{status_of}
-use Rattle.ti_top.specs.Call.{Call, Yields}
+use Rattle.ti_top.specs.Call.{Call, SourceFailed, Yields}
 use Rattle.ti_top.specs.Clauses.{IsReadWhole, ReadsText}
 use Rattle.ti_top.specs.Run.{Verifies}
 use Rattle.ti_top.proofs.StatusFrom.{StatusFrom, not_five, is_no_command, is_cant_read}
@@ -52,6 +52,14 @@ missing_is_told Read.CantRead before job c read fits from missing =
 missing_is_told Read.NoMemory before job c read fits from missing =
     elim from [ inl same ↦ inr (inl (same ∙ ap status_of fits)) | inr cut ↦ inr (inr (cut.0, inr cut.1)) ]
 
+-- where a call of the source failed, the reading ended as one that can't read
+failed_is_told : (end : ReadEnd) (before : Ending) (job : Job) (c : Call) → ReadsWhole job.file c.source c.source_after c.text end
+    → EndsAs end before → StatusFrom before c → SourceFailed c → (c.status ≡ 4) ⊎ Yields c
+failed_is_told Read.Whole before job c read fits from failed = elim read.failed [ inl same ↦ absurd (omega (arith, same, failed)) | inr e ↦ absurd (let x = e in cc) ]
+failed_is_told Read.CantRead before job c read fits from failed =
+    elim from [ inl same ↦ inl (same ∙ ap status_of fits) | inr cut ↦ inr (inr (cut.0, inr cut.1)) ]
+failed_is_told Read.NoMemory before job c read fits from failed = elim read.failed [ inl same ↦ absurd (omega (arith, same, failed)) | inr e ↦ absurd (let x = e in cc) ]
+
 pub reads_text : (end : ReadEnd) (before : Ending) (job : Job) (c : Call) → (Verifies job.mode → ⊥) → ReadsWhole job.file c.source c.source_after c.text end → EndsAs end before → StatusFrom before c
     → ReadsText job c
 reads_text end before job c unverified read fits from = record {
@@ -66,6 +74,7 @@ reads_text end before job c unverified read fits from = record {
     | inl missing ↦ inl missing
     | inr rose ↦ inr (inr rose)
   ];
+  failed = failed_is_told end before job c read fits from;
   missing = missing_is_told end before job c read fits from;
   lacking = λ lack. absurd (unverified lack.mode);
   same_files = read.same;

@@ -1,5 +1,5 @@
 -- From what became of a trace to what became of the text.
-use Rattle.std.proofs.Common.{◌≡◌, ℕ, List, [], arith, refl, sym, subst}
+use Rattle.std.proofs.Common.{◌≡◌, ℕ, ◌<◌, List, [], arith, refl, sym, subst}
 use Rattle.ti_base.specs.declared.entry.Entry.{Entry}
 use Rattle.ti_io.specs.Source.{SourceState}
 use Rattle.ti_lang.specs.Program.Classes.{NumberedProgram}
@@ -40,14 +40,15 @@ unheld ends job text old new es ended none = subst (λ (e : Ending). HeldSays e 
 
 -- the file was read whole, and the trace was held against it
 pub verified_whole : (job : Job) (ends : Ending) (old mid new : SourceState) (text : List ℕ) (es : List Entry)
-    → ReadsWhole job.file old mid text Read.Whole → WasRead mid new → HeldSays ends job text mid new es
+    → ReadsWhole job.file old mid text Read.Whole → WasRead mid new
+    → (mid.faults < new.faults → ends ≡ CantRead) → HeldSays ends job text mid new es
     → Verified job ends old new text es
-verified_whole job ends old mid new text es read later says = record { end = Read.Whole; middle = mid; read = read; later = later; says = says }
+verified_whole job ends old mid new text es read later failed says = record { end = Read.Whole; middle = mid; read = read; later = later; failed = failed; says = says }
 
 pub verified_unread : (job : Job) (ends : Ending) (old new : SourceState) (text : List ℕ) (es : List Entry)
     → ReadsWhole job.file old new text Read.CantRead → ends ≡ CantRead → es ≡ [] → Verified job ends old new text es
-verified_unread job ends old new text es read is none = record { end = Read.CantRead; middle = new; read = read; later = never_read new; says = (is, refl, none) }
+verified_unread job ends old new text es read is none = record { end = Read.CantRead; middle = new; read = read; later = never_read new; failed = λ _. is; says = (is, refl, none) }
 
 pub verified_short : (job : Job) (ends : Ending) (old new : SourceState) (text : List ℕ) (es : List Entry)
     → ReadsWhole job.file old new text Read.NoMemory → ends ≡ NoMemory → es ≡ [] → Verified job ends old new text es
-verified_short job ends old new text es read is none = record { end = Read.NoMemory; middle = new; read = read; later = never_read new; says = (is, none) }
+verified_short job ends old new text es read is none = record { end = Read.NoMemory; middle = new; read = read; later = never_read new; failed = λ rose. absurd (omega (arith, rose)); says = (is, none) }

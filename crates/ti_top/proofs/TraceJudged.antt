@@ -1,5 +1,5 @@
 -- From the verdict of the check of a trace to what became of the trace.
-use Rattle.std.proofs.Common.{◌≡◌, ◌⊎◌, ℕ, true, List, [], Option, Some, None, sym, ◌∙◌, subst}
+use Rattle.std.proofs.Common.{◌≡◌, ◌⊎◌, ℕ, ◌<◌, true, List, [], Option, Some, None, sym, ◌∙◌, subst}
 use Rattle.ti_base.specs.declared.entry.Entry.{Entry}
 use Rattle.ti_io.specs.Faults.{Rose}
 use Rattle.ti_io.specs.Source.{SourceState, IsMissing, Holds, content_of}
@@ -50,9 +50,10 @@ says_by s name old new (NoRun line es) found laws keeps judges = record {
 
 -- there is a verdict
 pub judged : (s : Setting) (name : List ℕ) (old new : SourceState) (v : Verdict) (ends : Ending) (es : List Entry) → WasRead old new → IsFound old name → Laws s → Keeps s v
-    → (old.tells ≡ true → Judges s old.left v) → ends ≡ ending_by v → es ≡ run_by v → HeldTrace ends s name old new es
-judged s name old new v ends es read found laws keeps judges is are = record {
+    → (old.tells ≡ true → Judges s old.left v) → ends ≡ ending_by v → es ≡ run_by v → (old.faults < new.faults → ⊥) → HeldTrace ends s name old new es
+judged s name old new v ends es read found laws keeps judges is are unfailed = record {
   read = read;
+  failed = λ rose. absurd (unfailed rose);
   says = subst (λ (e : Ending). TraceSays e s name old new es) (sym is)
       (subst (λ (xs : List Entry). TraceSays (ending_by v) s name old new xs) (sym are) (says_by s name old new v found laws keeps judges));
 }
@@ -63,12 +64,15 @@ pub unread : (s : Setting) (name : List ℕ) (old new : SourceState) (ends : End
     → HeldTrace ends s name old new es
 unread s name old new ends es read cause is none = record {
   read = read;
+  failed = λ _. is;
   says = subst (λ (e : Ending). TraceSays e s name old new es) (sym is) (cause, none);
 }
 
 -- it ran out of memory
-pub unjudged : (s : Setting) (name : List ℕ) (old new : SourceState) (ends : Ending) (es : List Entry) → WasRead old new → ends ≡ ending.NoMemory → es ≡ [] → HeldTrace ends s name old new es
-unjudged s name old new ends es read is none = record {
+pub unjudged : (s : Setting) (name : List ℕ) (old new : SourceState) (ends : Ending) (es : List Entry) → WasRead old new → ends ≡ ending.NoMemory → es ≡ []
+    → (old.faults < new.faults → ⊥) → HeldTrace ends s name old new es
+unjudged s name old new ends es read is none unfailed = record {
   read = read;
+  failed = λ rose. absurd (unfailed rose);
   says = subst (λ (e : Ending). TraceSays e s name old new es) (sym is) none;
 }

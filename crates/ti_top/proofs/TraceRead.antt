@@ -1,5 +1,5 @@
 -- From what became of a trace to the clause on the text, and to why something can't be read.
-use Rattle.std.proofs.Common.{◌≡◌, ◌⊎◌, inl, inr, ℕ, true, false, List, arith, refl, sym, ◌∙◌, ap, subst}
+use Rattle.std.proofs.Common.{◌≡◌, ◌⊎◌, inl, inr, ℕ, ◌<◌, true, false, List, arith, refl, sym, ◌∙◌, ap, subst}
 use Rattle.ti_base.specs.declared.entry.Entry.{Entry}
 use Rattle.ti_io.specs.Faults.{Rose}
 use Rattle.ti_io.specs.Source.{SourceState, SameFiles, IsMissing, Holds, content_of}
@@ -14,7 +14,7 @@ use Rattle.ti_top.specs.declared.ending.Ending.{Ending}
 use Rattle.ti_top.specs.declared.ending.Ending.TheVariants.{Done, Refused, Faulted, NoCommand, CantRead, CantWrite, NoMemory, NoRun}
 use Rattle.ti_top.specs.Ending.{status_of}
 use Rattle.ti_top.specs.Run.{Verifies}
-use Rattle.ti_top.specs.Call.{Call, SourceRose, Yields}
+use Rattle.ti_top.specs.Call.{Call, SourceFailed, SourceRose, Yields}
 use Rattle.ti_top.specs.Traces.{LacksTrace, IsUnreadable}
 use Rattle.ti_top.specs.Clauses.{IsReadWhole, ReadsText, IsAccepted}
 use Rattle.ti_top.specs.Mirrors.Reading.{ReadsWhole}
@@ -68,8 +68,8 @@ both_read old mid new a b = record {
 }
 
 pub held_before : (ending : Ending) (s : Setting) (name : List ℕ) (old mid new : SourceState) (es : List Entry) → WasRead old mid
-    → HeldTrace ending s name mid new es → HeldTrace ending s name old new es
-held_before ending s name old mid new es read held = record { read = both_read old mid new read held.read; says = says_before ending s name old mid new es read held.says }
+    → mid.faults ≡ old.faults → HeldTrace ending s name mid new es → HeldTrace ending s name old new es
+held_before ending s name old mid new es read still held = record { read = both_read old mid new read held.read; failed = λ rose. held.failed (omega (arith, still, rose)); says = says_before ending s name old mid new es read held.says }
 
 -- ---- how the call ends
 
@@ -173,6 +173,14 @@ lacking_short Read.Whole before job c mid read says lack =
 lacking_short Read.CantRead before job c mid read says lack = inl says.0
 lacking_short Read.NoMemory before job c mid read says lack = inr says.0
 
+-- where a call of the source failed, the reading or the check of the trace did
+failed_short : (end : ReadEnd) (before : Ending) (job : Job) (c : Call) (mid : SourceState) → ReadsWhole job.file c.source mid c.text end → ReadSays end before job c.text mid c.source_after c.history
+    → (mid.faults < c.source_after.faults → before ≡ CantRead) → SourceFailed c → IsShort before
+failed_short Read.Whole before job c mid read says later failed =
+    elim read.failed [ inl same ↦ inl (later (omega (arith, same, failed))) | inr e ↦ absurd (let x = e in cc) ]
+failed_short Read.CantRead before job c mid read says later failed = inl says.0
+failed_short Read.NoMemory before job c mid read says later failed = inr says.0
+
 pub reads_traced : (before : Ending) (job : Job) (c : Call) → Verifies job.mode → Verified job before c.source c.source_after c.text c.history → StatusFrom before c → ReadsText job c
 reads_traced before job c mode v from = record {
   front = v.read.front;
@@ -183,6 +191,7 @@ reads_traced before job c mode v from = record {
   whole_at_seven = λ is. whole_at 7 v.end before job c v.middle v.read v.says from is (λ e. omega arith) (λ e. omega arith) (λ e. omega arith) (λ e. omega arith);
   nothing_of_missing = v.read.nothing;
   four_only_where = λ is. unreadable job c (cause_by v.end before job c v.middle mode v.read v.says (is_cant_read before (not_five before 4 c from is (λ e. omega arith))));
+  failed = λ failed. short_yields before c (failed_short v.end before job c v.middle v.read v.says v.failed failed) from;
   missing = λ missing. short_yields before c (missing_short v.end before job c v.middle v.read v.says missing) from;
   lacking = λ lack. short_yields before c (lacking_short v.end before job c v.middle v.read v.says lack) from;
   same_files = record { tells = v.later.same.tells ∙ v.read.same.tells; files = v.later.same.files ∙ v.read.same.files };

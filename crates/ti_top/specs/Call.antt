@@ -1,5 +1,5 @@
 -- One call of the command: its arguments and its results.
-use Rattle.std.specs.Prelude.{◌≡◌, ◌⊎◌, ℕ, ◌+◌, List, [], None, Some}
+use Rattle.std.specs.Prelude.{◌≡◌, ◌⊎◌, ℕ, ◌<◌, ◌+◌, List, [], None, Some}
 use Rattle.std.specs.declared.option.Option.{Option}
 use Rattle.ti_base.specs.declared.entry.Entry.{Entry}
 use Rattle.ti_io.specs.Faults.{Rose}
@@ -54,6 +54,10 @@ file_of c = file_in (job_of c.words)
 -- a count of faults rose in the call
 abbrev pub SourceRose : Call → Type 0
 SourceRose c = Rose c.source.faults c.source_after.faults
+
+-- a read of the source failed in the call: its count of faults is greater after it
+abbrev pub SourceFailed : Call → Type 0
+SourceFailed c = c.source.faults < c.source_after.faults
 
 abbrev pub OutRose : Call → Type 0
 OutRose c = Rose c.out.faults c.out_after.faults

@@ -27,7 +27,7 @@ use Rattle.ti_top.specs.Run.{HasFile, Runs, HasCode, Verifies, Infers, HasHistor
 use Rattle.ti_top.specs.Ending.{status_of, err_line}
 use Rattle.ti_top.specs.Flushing.{FlushesOut, FlushesErr}
 use Rattle.ti_top.specs.Reports.{wanted, output, WroteFew}
-use Rattle.ti_top.specs.Call.{most_read, Call, IsCommand, IsNoCommand, file_of, SourceRose, OutRose, ErrRose, SinkRose, Yields, WantsReport}
+use Rattle.ti_top.specs.Call.{most_read, Call, IsCommand, IsNoCommand, file_of, SourceRose, SourceFailed, OutRose, ErrRose, SinkRose, Yields, WantsReport}
 use Rattle.ti_top.specs.Inference.{HasMarking, HasSomeMarking, IsUnmarkedRefusal, marks_text}
 use Rattle.ti_top.specs.Traces.{LacksTrace, IsUnreadable, IsWrongTrace, VerifiesTrace, TraceDecides}
 
@@ -64,7 +64,7 @@ abbrev pub HasText : Job → Call → Type 0
 HasText job c = IsWholeIn job.mode job c
 
 -- Reading, in the modes that name a file: the text is a prefix of the file, and with status 0, 1, 2 or 7 the whole file. With status 4 the
--- file, or in mode verify the trace, can't be read.
+-- file, or in mode verify the trace, can't be read; and conversely, if one is missing or a read failed.
 pub record ReadsText (job : Job) (c : Call) : Type 0 where
   pub front : (bytes : List ℕ) → Holds c.source job.file bytes → IsFront c.text bytes
   pub bound : length c.text ≤ most_read
@@ -74,6 +74,7 @@ pub record ReadsText (job : Job) (c : Call) : Type 0 where
   pub whole_at_seven : c.status ≡ 7 → IsReadWhole job c
   pub nothing_of_missing : IsMissing c.source job.file → c.text ≡ []
   pub four_only_where : c.status ≡ 4 → IsUnreadable job c
+  pub failed : SourceFailed c → (c.status ≡ 4) ⊎ Yields c
   pub missing : IsMissing c.source job.file → (c.status ≡ 4) ⊎ Yields c
   pub lacking : LacksTrace job c → (c.status ≡ 4) ⊎ Yields c
   pub same_files : SameFiles c.source c.source_after

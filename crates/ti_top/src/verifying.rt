@@ -1,8 +1,9 @@
 // Mode verify: a trace is checked against a program.
-ghost use Rattle.std.specs.Prelude.{◌≡◌, [], true, Some};
+ghost use Rattle.std.specs.Prelude.{◌≡◌, ◌<◌, [], true, Some};
 ghost use Rattle.ti_io.specs.Source.{content_of};
 ghost use Rattle.ti_lang.specs.Program.Views.{program_of};
 ghost use Rattle.ti_store.specs.Conditions.{IsWithin};
+ghost use Rattle.ti_top.specs.declared.ending.Ending.TheVariants.{CantRead};
 ghost use Rattle.ti_top.specs.Mirrors.Verifying.{ending_by, run_by, HeldTrace, HeldSays, WasRead, Verified as VerifiedBy};
 ghost use Rattle.ti_top.specs.Run.{run_of};
 
@@ -90,6 +91,7 @@ fn verify_named<S: Source>(alloc: Global, job: &Job, checked: &Checked, source: 
 fn verify_text<S: Source>(alloc: Global, job: &Job, text: &[u8], source: &mut S) -> Verified
     requires { IsWithin job.now.procs job.now.fuel }
     ensures read { WasRead (S.state source.old) (S.state source.new) }
+    ensures failed { (S.state source.old).faults < (S.state source.new).faults → result.ending ≡ CantRead }
     ensures says { HeldSays result.ending job.now text.now (S.state source.old) (S.state source.new) result.history.items }
 {
     match compile(alloc, text) {

@@ -38,6 +38,6 @@ table_sync S V K P g s = struct_sync (shape (table.the_type S V K P heap.the_row
 count_sync : IsSync count.the_field.row
 count_sync = search (sendable, crosses) depth 14
 
--- a turnstile holds a table, and a count of those who sleep
+-- a turnstile holds a table, and counts of those who sleep
 pub turnstile_sync : (V I : RattleType) (g : Ghosts V.Denot I.Denot) → IsSend V → IsSync (turnstile.the_field V I g).row
-turnstile_sync V I g s = struct_sync (shape (turnstile.the_type V I g)) (table_sync (option.the_row V) (view.the_row I) u32 (law.the_row V) (rule.ghosts V I g rule.no_dict) (option_send V s), (count_sync, tt))
+turnstile_sync V I g s = struct_sync (shape (turnstile.the_type V I g)) (table_sync (option.the_row V) (view.the_row I) u32 (law.the_row V) (rule.ghosts V I g rule.no_dict) (option_send V s), (count_sync, (count_sync, tt)))

@@ -17,7 +17,7 @@ use std::time::Duration;
 use ti_base::Memory;
 
 // How often a pass tries to go in before it sleeps, with a longer pause after each try.
-const TRIES: u32 = 6;
+const TRIES: u32 = 8;
 
 // The longest sleep, in microseconds: who misses a wake goes on after it.
 const NAP: u64 = 50;
@@ -28,8 +28,9 @@ const NAP: u64 = 50;
 #[derive(Drop)]
 pub struct Turnstile<V: Kept> {
     table: Table<Option<V>, View<V::Item>, u32, Law<V>, Global>,
-    // How many threads sleep, or are about to. It decides only whether threads are woken.
-    asleep: AtomicUsize,
+    // How many threads sleep until they can go in, and how many nap, or are about to. These counts decide only whether threads are woken.
+    entering: AtomicUsize,
+    napping: AtomicUsize,
     ghost shape: { (table.shared.table_id.words ≡ 2) × (table.shared.table_id.slots ≡ 1) × (0 < table.shared.key) },
 }
 
@@ -92,7 +93,8 @@ impl<V: Kept> Turnstile<V> {
         };
         let turnstile = Turnstile {
             table,
-            asleep: AtomicUsize::new(0),
+            entering: AtomicUsize::new(0),
+            napping: AtomicUsize::new(0),
         };
         let passes = turnstile.cut_passes(alloc, &mut dealer, n)?;
         Ok((turnstile, passes))
@@ -181,7 +183,7 @@ impl<V: Kept> Turnstile<V> {
             if self.try_for_a_while(&mut seat) {
                 break;
             }
-            self.sleep(rt, 0, 1);
+            self.sleep(rt, &self.entering, 0, 1);
         }
         self.take_value(seat)
     }
@@ -266,8 +268,20 @@ impl<V: Kept> Turnstile<V> {
         self.leave_hint(inside, self.hint())
     }
 
-    /// Goes out like `leave`, after something that others may wait for: the hint changes, and all threads that sleep at this
-    /// turnstile are woken. Where none sleeps, nothing is asked of the system.
+    /// Goes out like `leave`, and wakes one of the threads that sleep until they can go in: for a thread that is about to wait.
+    pub fn leave_and_pass_on(&self, inside: Inside<V>) -> Pass<V>
+        requires turnstile { turnstile_around inside ≡ identity_of self.now }
+        requires grown { GrownBy (number_inside inside) (found_inside inside) (V.log (value_inside inside)) }
+        ensures turnstile { turnstile_of result ≡ turnstile_around inside }
+        ensures number { number_of result ≡ number_inside inside }
+        ensures seen { seen_by result ≡ V.log (value_inside inside) }
+    {
+        let pass = self.leave(inside);
+        self.wake_one_entering();
+        pass
+    }
+
+    /// Goes out like `leave_and_pass_on`, after something that others may wait for: the hint changes, and all threads that nap are woken.
     pub fn leave_and_wake(&self, inside: Inside<V>) -> Pass<V>
         requires turnstile { turnstile_around inside ≡ identity_of self.now }
         requires grown { GrownBy (number_inside inside) (found_inside inside) (V.log (value_inside inside)) }
@@ -276,11 +290,18 @@ impl<V: Kept> Turnstile<V> {
         ensures seen { seen_by result ≡ V.log (value_inside inside) }
     {
         let pass = self.leave_hint(inside, self.hint().wrapping_add(1));
-        if self.asleep.load(Ordering::SeqCst) > 0 {
-            self.table.shared.wake_one(0);
+        if self.napping.load(Ordering::SeqCst) > 0 {
             self.table.shared.wake_all(1);
         }
+        self.wake_one_entering();
         pass
+    }
+
+    // Wakes one of the threads that sleep until they can go in. If none sleeps, the system isn't called.
+    fn wake_one_entering(&self) {
+        if self.entering.load(Ordering::SeqCst) > 0 {
+            self.table.shared.wake_one(0);
+        }
     }
 
     /// The value, once all passes are back. Its log is legal with each of them.
@@ -299,7 +320,11 @@ impl<V: Kept> Turnstile<V> {
         while let Some(pass) = passes.pop() {
             seat = self.joined(pass, seat);
         }
-        let Turnstile { table, asleep: _ } = self;
+        let Turnstile {
+            table,
+            entering: _,
+            napping: _,
+        } = self;
         let mut closed = table.close_with(seat);
         let value = closed.take(0);
         closed.free();
@@ -332,16 +357,16 @@ impl<V: Kept> Turnstile<V> {
 
     /// Sleeps until it is woken, for a moment at most, unless the hint is another number by now.
     pub fn nap<R: Wait>(&self, rt: &R, hint: u64) {
-        self.sleep(rt, 1, (hint & 0xffff_ffff) as u32);
+        self.sleep(rt, &self.napping, 1, (hint & 0xffff_ffff) as u32);
     }
 
-    // Sleeps until it is woken, for a moment at most, unless the word has another number by now.
-    fn sleep<R: Wait>(&self, rt: &R, word: usize, number: u32)
+    // Sleeps until it is woken, for a moment at most, unless the word has another number by now. It is counted as asleep meanwhile.
+    fn sleep<R: Wait>(&self, rt: &R, asleep: &AtomicUsize, word: usize, number: u32)
         requires { word < 2 }
     {
         let moment = Duration::from_micros(NAP);
-        self.asleep.fetch_add(1, Ordering::SeqCst);
+        asleep.fetch_add(1, Ordering::SeqCst);
         self.table.shared.park_timeout(rt, word, number, moment);
-        self.asleep.fetch_sub(1, Ordering::SeqCst);
+        asleep.fetch_sub(1, Ordering::SeqCst);
     }
 }

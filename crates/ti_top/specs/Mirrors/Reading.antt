@@ -18,4 +18,6 @@ pub record ReadsWhole (name : List ℕ) (old new : SourceState) (text : List ℕ
   -- it can't be read only where the name is missing or a call failed, and a missing name can't be read
   pub cause : end ≡ CantRead → IsMissing old name ⊎ Rose old.faults new.faults
   pub missing : IsMissing old name → end ≡ CantRead
+  -- no call failed, or the file can't be read
+  pub failed : (new.faults ≡ old.faults) ⊎ (end ≡ CantRead)
   pub nothing : IsMissing old name → text ≡ []

@@ -1,6 +1,6 @@
 -- Nobody has to believe this: it mirrors code, and only contracts of private functions speak of it.
 -- What holding a trace against the program of a text leaves.
-use Rattle.std.specs.Prelude.{◌≡◌, ◌⊎◌, ℕ, ◌+◌, ◌≤◌, List, [], length}
+use Rattle.std.specs.Prelude.{◌≡◌, ◌⊎◌, ℕ, ◌+◌, ◌<◌, ◌≤◌, List, [], length}
 use Rattle.ti_base.specs.declared.entry.Entry.{Entry}
 use Rattle.ti_io.specs.Faults.{Rose}
 use Rattle.ti_io.specs.Source.{SourceState, SameFiles, IsMissing, Holds}
@@ -76,6 +76,7 @@ pub record WasRead (old new : SourceState) : Type 0 where
 -- a trace was held against a run's setting
 pub record HeldTrace (ending : Ending) (s : Setting) (name : List ℕ) (old new : SourceState) (es : List Entry) : Type 0 where
   pub read : WasRead old new
+  pub failed : old.faults < new.faults → ending ≡ CantRead
   pub says : TraceSays ending s name old new es
 
 -- it was held against the program of the text
@@ -107,4 +108,5 @@ pub record Verified (job : Job) (ending : Ending) (old new : SourceState) (text 
   pub middle : SourceState
   pub read : ReadsWhole job.file old middle text end
   pub later : WasRead middle new
+  pub failed : middle.faults < new.faults → ending ≡ CantRead
   pub says : ReadSays end ending job text middle new es

@@ -10,5 +10,6 @@ returns-in-Err g c = record {
   whole = search rules;
   cause = λ _. inr c.in-Err.ensures.cause.rose;
   missing = search rules;
+  failed = inr (search rules);
   nothing = search rules;
 }

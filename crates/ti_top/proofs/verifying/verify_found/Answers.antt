@@ -22,3 +22,4 @@ returns-in-Ok g c =
     } in
     judged s job.against _ _ c.in-Ok.verdict c.by.result.ending c.by.result.history.items (record { never_falls = c.in-Ok.ensures.never_falls; same = c.in-Ok.ensures.same }) c.requires.found laws
     c.in-Ok.ensures.keeps c.in-Ok.ensures.judges c.by.ensures.ending c.by.ensures.history
+    (λ rose. let e = c.in-Ok.ensures.failed rose in cc)

@@ -40,8 +40,8 @@ invariant_of-result g c =
     let heard = subst (λ (x : PendingProc). Hears x next answer pending turn) c.in-Ok.ensures.asks c.hear-turn.ensures in
     let after = c.act-acted.new.store in (
       inv.0,
-      c.leave_after-pass.ensures.number ∙ c.enter-inside.ensures.number ∙ inv.1,
-      seated_seen code s after.entries me.number (seen_by c.leave_after-pass.result) pending c.leave_after-pass.ensures.seen
+      c.leave-pass.ensures.number ∙ c.enter-inside.ensures.number ∙ inv.1,
+      seated_seen code s after.entries me.number (seen_by c.leave-pass.result) pending c.leave-pass.ensures.seen
           (seated_gone code s store after me.number me.pending c.requires.may c.act-acted.ensures.terms c.act-acted.ensures.run inv.0 c.if-self.false y
           c.has_one_next.ensures next c.in-Ok.ensures.next answer c.in-Ok-acted.ensures.done (is_act next) pending turn heard),
     )
@@ -58,8 +58,8 @@ invariant_of-refused g c =
     let next = c.in-Ok.next in
     let after = c.act-acted.new.store in (
       inv.0,
-      c.leave_after-pass-in-Err.ensures.number ∙ c.enter-inside.ensures.number ∙ inv.1,
-      seated_seen code s after.entries me.number (seen_by c.leave_after-pass-in-Err.result) c.advance.new.self c.leave_after-pass-in-Err.ensures.seen
+      c.leave-pass-in-Err.ensures.number ∙ c.enter-inside.ensures.number ∙ inv.1,
+      seated_seen code s after.entries me.number (seen_by c.leave-pass-in-Err.result) c.advance.new.self c.leave-pass-in-Err.ensures.seen
           (seated_refused code s store after me.number c.advance.new.self next c.in-Err.why c.in-Err.ensures.refused
           (seated_advanced code s store.entries me.number me.pending c.advance.new.self (is_act next) c.in-Ok.ensures.asks y)),
     )
