@@ -1,5 +1,5 @@
-//! Alignment: in every run of a program that breaks no rule, all processes that reach their nth
-//! collective reach the same one.
+//! Theorems about every run of a checked program. The main one is alignment: all processes that reach their nth collective reach the same
+//! one. Nothing here is executed, except that `SliceStep` is a type that other crates use.
 #![tactic(auto)]
 
 mod laws;
