@@ -147,7 +147,8 @@ fn residues(alloc: Global, a: Axis, c: Axis, ratio: u32) -> Result<Vec<Axis>, Me
     Ok(parts)
 }
 
-/// The numbers of `a` that aren't on `c`, all of whose numbers are on `a`; the representation with fewer ranges is chosen.
+/// The numbers of `a` that aren't on `c`, all of whose numbers are on `a`: as gaps if `c` has at most as many steps as there are
+/// steps of `a` in one of `c`, otherwise as residues.
 pub fn complement(alloc: Global, a: Axis, c: Axis) -> Result<Vec<Axis>, Memory>
     requires first { IsRange (range a) }
     requires second { IsRange (range c) }
