@@ -16,8 +16,11 @@ use ti_base::Value;
 #[derive(Drop)]
 pub struct Cells<'a> {
     region: u32,
+    // What is left of the current object's or block's values.
     values: &'a [Value],
+    // What is left of the current share.
     things: &'a [Thing],
+    // The shares after the current one.
     shares: &'a [Share],
 }
 

@@ -15,6 +15,7 @@ pub const LIMIT: u64 = 1_048_576;
 #[derive(Drop)]
 pub struct Share {
     things: Vec<Thing>,
+    // The total cost of `things`.
     cost: u64,
 }
 
