@@ -32,8 +32,11 @@ use ti_turnstile::Kept;
 #[derive(Drop)]
 pub struct Store<J: Terms> {
     ledger: Ledger,
+    // The fuel of each process, in ticks; only contracts speak of it.
     fuel: u32,
+    // The history ends with a fault.
     faulted: bool,
+    // Memory ran out elsewhere: see `halt_for_memory`.
     halted: bool,
     of: PhantomData<J>,
 }
