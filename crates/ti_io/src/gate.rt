@@ -21,7 +21,9 @@ impl Gate for OpenGate {
 #[derive(Drop)]
 struct Held {
     process: u32,
+    // How often the process has passed.
     passes: AtomicU32,
+    // Whether its second pass has begun.
     has_begun: AtomicBool,
 }
 
@@ -59,6 +61,7 @@ impl Held {
 pub struct HoldGate {
     one: Held,
     other: Held,
+    // How often each process may poll.
     limit: u64,
     has_given_up: AtomicBool,
 }
