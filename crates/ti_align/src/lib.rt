@@ -1,5 +1,5 @@
-//! Theorems about every run of a checked program. The main one is alignment: all processes that reach their nth collective reach the same
-//! one. Nothing here is executed, except that `SliceStep` is a type that other crates use.
+//! Theorems about every run of a checked program. The main one is alignment: all processes that reach their nth collective reach the
+//! same one. Only the type `SliceStep` exists at run time.
 #![tactic(auto)]
 
 mod laws;
