@@ -1,4 +1,4 @@
--- Alignment by single values.
+-- All runs of a checked program are aligned, and none of their actions is impossible: single values are equal in all processes.
 pub mod Single
 pub mod Slice
 pub mod Fine

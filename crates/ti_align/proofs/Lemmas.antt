@@ -1,4 +1,4 @@
--- The lemmas of this crate that other crates may cite; no other module of its proofs is seen outside.
+-- The lemmas of this crate that other crates may use; other modules of its proofs aren't visible outside.
 pub use Rattle.ti_align.proofs.RunTypes.Acting.{next_handed, next_there}
 pub use Rattle.ti_align.proofs.Alignment.Aligning.{way_next}
 pub use Rattle.ti_align.proofs.Runs.Arrived.{Comes, at_other, back, before, comes, is_own, more_other, more_own, now, quiet, reached, stays}

@@ -1,4 +1,4 @@
--- Regions, and what dangles.
+-- Proofs that regions in variables were made, and that no action of a run names an object or grid in a deleted region.
 pub mod Living
 pub mod Leaving
 pub mod Lasting

@@ -1,4 +1,4 @@
--- Types of runs: work, steps, the heap, entries, answers.
+-- Type soundness of the runs of a checked program: work, steps, the heap, entries and answers agree with the static types.
 pub mod Ranged
 pub mod Placed
 pub mod Giving

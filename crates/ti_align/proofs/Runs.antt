@@ -1,4 +1,4 @@
--- Runs, ways and what is counted.
+-- Proofs about all runs of a program: which entries a run can have, and how many arrivals, departures and ticks are counted.
 pub mod Vars
 pub mod Asks
 pub mod Ways

@@ -1,4 +1,4 @@
--- Variables in scope.
+-- Proof that the variables that a process uses are in scope in its frame.
 pub mod Scoped
 pub mod Found
 pub mod Suited

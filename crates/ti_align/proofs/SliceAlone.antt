@@ -1,4 +1,4 @@
--- The slice, run by itself.
+-- Proofs that the program slice has exactly one answer for each list of outcomes, and what it determines of runs.
 pub mod Sure
 pub mod Sliced
 pub mod FitWays

@@ -1,4 +1,4 @@
--- Types of the text: what the rules have said.
+-- Proofs that a program accepted by the type rules fits the types that the proofs about runs rely on.
 pub mod Meant
 pub mod Forming
 pub mod Written

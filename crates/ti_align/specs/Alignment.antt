@@ -1,5 +1,4 @@
--- Alignment: in every run, all processes that reach their nth collective reach the same one, with
--- equal single values.
+-- Alignment: in every run, all processes that reach their nth collective reach the same one, with equal single values.
 use Rattle.std.specs.Prelude.{◌≡◌, ℕ, ◌≤◌, ◌<◌, true, false, List, ◌∷◌, ◌++◌, Option}
 use Rattle.ti_base.specs.declared.place.Place.{Place}
 use Rattle.ti_base.specs.declared.action.Action.TheVariants as act
@@ -15,22 +14,22 @@ use Rattle.ti_lang.specs.Meaning.Histories.{arrivals, has_end, has_fault}
 use Rattle.ti_lang.specs.Meaning.Runs.{World, CanTake, IsRun, AllEnded}
 use Rattle.ti_align.specs.SinglePart.{SingleFrame, single_part}
 
--- a run has at most so many processes
+-- the maximal number of processes of a run
 abbrev pub most_procs : ℕ
 most_procs = 32
 
--- and each process at most so many ticks
+-- the maximal fuel of each process, in ticks
 abbrev pub most_fuel : ℕ
 most_fuel = 4000000
 
--- which collective a process arrives at, and what it then has in common with the others
+-- an arrival at a collective: where it is, which collective, and the single part of the process then
 pub record Arrival : Type 0 where
   pub place : Place
   pub kind : CollKind
   pub arg : Option ℕ
   pub single : List SingleFrame
 
--- in these entries, arrival number k of process i, counted from 0, is this one
+-- in these entries, the arrival with index k (counted from 0) of process i is this one
 pub record ArrivesAt (s : Setting) (es : List Entry) (i k : ℕ) (arrival : Arrival) : Type 0 where
   pub before : List Entry
   pub rest : List Entry
@@ -39,22 +38,22 @@ pub record ArrivesAt (s : Setting) (es : List Entry) (i k : ℕ) (arrival : Arri
   pub split : es ≡ before ++ record { proc = i; place = arrival.place; act = act.Arrive arrival.kind arrival.arg deposit; answer = answer }
       ∷ rest
   pub count : arrivals i before ≡ k
-  -- the process that makes it
+  -- the process that arrives, before it settles on its arrival
   pub process : Process
   pub world : World s before i process
   pub settled : Process
   pub settles : Settles process settled (next.Act arrival.place (act.Arrive arrival.kind arrival.arg deposit))
   pub single : arrival.single ≡ single_part settled
 
--- the nth arrivals of two processes are the same, for every n
+-- the nth arrivals of any two processes are equal, for every n
 abbrev pub ArrivalsAgree : Setting → List Entry → Type 0
 ArrivalsAgree s es = (i j k : ℕ) (a b : Arrival) → ArrivesAt s es i k a → ArrivesAt s es j k b → a ≡ b
 
--- where a process has its end, no process has arrived more often
+-- no process arrives more often than one that has ended
 abbrev pub NoneAfterEnd : Setting → List Entry → Type 0
 NoneAfterEnd s es = (i j : ℕ) → i < s.procs → j < s.procs → has_end i es ≡ true → arrivals j es ≤ arrivals i es
 
--- where there is no fault and no process can take an entry, all processes have their end
+-- if there is no fault and no process can append an entry, all processes have ended
 abbrev pub NoneStuck : Setting → List Entry → Type 0
 NoneStuck s es = has_fault es ≡ false → ((i : ℕ) (e : Entry) → CanTake s es i e → ⊥) → AllEnded s es
 
@@ -64,7 +63,7 @@ pub record IsAlignedRun (s : Setting) (es : List Entry) : Type 0 where
   pub none_after_end : NoneAfterEnd s es
   pub none_stuck : NoneStuck s es
 
--- the fact of every run of a program, for every number of processes and every fuel
+-- the fact holds of every run of a program, for every allowed number of processes and every allowed fuel
 abbrev pub OfEveryRun : (Setting → List Entry → Type 0) → NumberedProgram → Type 0
 OfEveryRun fact program =
     (procs fuel : ℕ) (es : List Entry) → 1 ≤ procs → procs ≤ most_procs → 1 ≤ fuel → fuel ≤ most_fuel →

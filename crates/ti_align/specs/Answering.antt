@@ -1,4 +1,4 @@
--- What the processes of a run are answered.
+-- That the answers in a run fit the actions that processes performed.
 use Rattle.std.specs.Prelude.{◌≡◌, true, List, ◌∷◌, ◌++◌}
 use Rattle.ti_base.specs.declared.entry.Entry.{Entry}
 use Rattle.ti_lang.specs.Meaning.Answers.{FitsAction}
@@ -6,7 +6,7 @@ use Rattle.ti_lang.specs.Meaning.Histories.{is_answered}
 use Rattle.ti_lang.specs.Meaning.Processes.{Setting, Process}
 use Rattle.ti_lang.specs.Meaning.Runs.{World}
 
--- the answer in each entry of an action fits what the process of the entry has next after the entries before it
+-- the answer in each entry of an action fits the action that the entry's process performs after the entries before it
 abbrev pub AnswersFit : Setting → List Entry → Type 0
 AnswersFit s es = (before rest : List Entry) (e : Entry) (p : Process) → es ≡ before ++ e ∷ rest → World s before e.proc p → is_answered e
     ≡ true → FitsAction p e.answer

@@ -1,4 +1,4 @@
--- Cells that are counted among those of a run: whatever is said of all cells is said of these.
+-- That `cells_of` lists all cells of a run, so that what is stated of all listed cells holds of each of these.
 use Rattle.std.specs.Prelude.{◌≡◌, ℕ, true, Contains, Some}
 use Rattle.ti_base.specs.declared.point.Point.{Point}
 use Rattle.ti_base.specs.declared.value.Id.{Id}
@@ -9,7 +9,7 @@ use Rattle.ti_lang.specs.Program.Classes.{NumberedProgram}
 use Rattle.ti_lang.specs.Meaning.Histories.{History}
 use Rattle.ti_lang.specs.Meaning.HeapOf.{grid_of, cells_of, last_written, cell_value}
 
--- Each cell that was written is one of the run, each field that holds something, and each that a grid has for a point of its domain.
+-- The list has each cell that was written, each field that has a value, and each element at a point of a grid's domain.
 pub record CellsCounted (p : NumberedProgram) (h : History) : Type 0 where
   pub written : (cell : Cell) (value : Value) → last_written cell h ≡ Some value → Contains (cells_of p h) cell
   pub fields : (obj : Id) (field : ℕ) (value : Value) → cell_value p (Field obj field) h ≡ Some value

@@ -1,4 +1,4 @@
--- Nothing dangles: whatever a process of a run has next, no thing that it names lies in a region that is gone.
+-- No dangling references: an action of a process never names an object or grid in a deleted region.
 use Rattle.std.specs.Prelude.{◌≡◌, ℕ, ◌<◌, false, List, Option, Some, None}
 use Rattle.ti_base.specs.declared.place.Place.{Place}
 use Rattle.ti_base.specs.declared.value.Id.{Id}
@@ -15,9 +15,9 @@ use Rattle.ti_lang.specs.Meaning.Histories.{History, history_of}
 use Rattle.ti_lang.specs.Meaning.RegionsOf.{is_gone}
 use Rattle.ti_lang.specs.Meaning.Runs.{World}
 
--- ---- the things that an action names
+-- ---- the objects and grids that an action names
 
--- the thing whose cells an action reads or writes, of which it makes a view or asks the domain
+-- the object or grid whose cells an action reads or writes, of which it makes a view, or whose domain it reads
 abbrev pub used_by : Action → Option Id
 used_by (act.GetField obj field) = Some obj
 used_by (act.PutField obj field value) = Some obj
@@ -27,35 +27,36 @@ used_by (act.MakeView grid how) = Some grid
 used_by (act.DomainOf grid) = Some grid
 used_by a = None
 
--- the thing that is deposited, if one is
+-- the object or grid that is contributed to a collective, if one is
 abbrev pub deposited_by : Deposit → Option Id
 deposited_by (deposit.One value) = named_by value
 deposited_by given = None
 
--- the thing that an action hands on as a value: one that is written, or deposited at a collective
+-- the object or grid that an action passes on as a value: one that is written to a cell or contributed to a collective
 abbrev pub handed_by : Action → Option Id
 handed_by (act.PutField obj field value) = named_by value
 handed_by (act.PutElem grid at value) = named_by value
 handed_by (act.Arrive kind arg given) = deposited_by given
 handed_by a = None
 
--- ---- things that are there
+-- ---- existence
 
--- the thing lies in no region that is gone
+-- the object or grid is in no deleted region
 abbrev pub Lives : History → Id → Type 0
 Lives h id = is_gone id.region h ≡ false
 
--- so does what is named, if anything is
+-- if the option names an object or grid, it is in no deleted region
 abbrev pub IfNamedLives : History → Option Id → Type 0
 IfNamedLives h None = Unit {0}
 IfNamedLives h (Some id) = Lives h id
 
--- what an action uses lives, and so does what it hands on
+-- what an action uses and what it passes on is in no deleted region
 pub record NamesLiving (h : History) (a : Action) : Type 0 where
   pub used : IfNamedLives h (used_by a)
   pub handed : IfNamedLives h (handed_by a)
 
--- Whatever a process of the run has next, all that it names lives; and 0, which is no region, isn't gone.
+-- Whatever a process of the run does next, all that the action names is in no deleted region; and 0, which means no region, isn't
+-- deleted.
 pub record NothingDangles (s : Setting) (es : List Entry) : Type 0 where
   pub actions : (i : ℕ) (p : Process) (at : Place) (a : Action) → i < s.procs → World s es i p → IsNext p (next.Act at a)
       → NamesLiving (history_of es) a

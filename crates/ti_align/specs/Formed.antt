@@ -1,4 +1,4 @@
--- Actions whose values and domains are in their one form.
+-- Actions whose values and domains are canonical.
 use Rattle.std.specs.Prelude.{ℕ, ◌<◌, List}
 use Rattle.ti_base.specs.declared.place.Place.{Place}
 use Rattle.ti_base.specs.declared.value.Value.{Value}
@@ -17,24 +17,24 @@ use Rattle.ti_lang.specs.Meaning.Processes.{Setting, Process}
 use Rattle.ti_lang.specs.Meaning.NextStep.{IsNext}
 use Rattle.ti_lang.specs.Meaning.Runs.{World}
 
--- a point or a rectangular domain is in its one form
+-- a point or a rectangular domain is canonical; other values always are
 abbrev pub IsFormed : Value → Type 0
 IsFormed (v.Pt p) = IsPoint p
 IsFormed (v.Rc r) = IsRect r
 IsFormed value = Unit {0}
 
--- so is the value that is handed in
+-- the contributed value is canonical
 abbrev pub IsFormedDeposit : Deposit → Type 0
 IsFormedDeposit (deposit.One value) = IsFormed value
 IsFormedDeposit given = Unit {0}
 
--- and what a view is made by
+-- the domain or point by which a view is made is canonical
 abbrev pub IsFormedView : ViewHow → Type 0
 IsFormedView (Restrict r) = IsRect r
 IsFormedView (Translate by) = IsPoint by
 IsFormedView (Slice k j) = Unit {0}
 
--- the values and domains that an action of the heap or an arrival hands in are in their one form
+-- the values, points and domains of a heap action or an arrival are canonical
 abbrev pub IsFormedAction : Action → Type 0
 IsFormedAction (act.PutField obj field value) = IsFormed value
 IsFormedAction (act.NewGrid zero domain region) = IsRect domain
@@ -44,7 +44,7 @@ IsFormedAction (act.MakeView grid how) = IsFormedView how
 IsFormedAction (act.Arrive kind arg given) = IsFormedDeposit given
 IsFormedAction a = Unit {0}
 
--- all that processes have next is in its form
+-- the next actions of all processes are canonical
 abbrev pub ActionsFormed : Setting → List Entry → Type 0
 ActionsFormed s es =
     (i : ℕ) (p : Process) (at : Place) (a : Action) → i < s.procs → World s es i p → IsNext p (next.Act at a) → IsFormedAction a

@@ -1,4 +1,4 @@
--- When what the heap of a history holds is of the types that the program gives it.
+-- When the heap of a history agrees with the static types of a program.
 use Rattle.std.specs.Prelude.{◌≡◌, ℕ, Bool, true, false, ◌∷◌, Option, Some, if◌then◌else◌}
 use Rattle.ti_base.specs.declared.place.Place.{Place}
 use Rattle.ti_base.specs.declared.value.Id.{Id}
@@ -23,33 +23,34 @@ use Rattle.ti_lang.specs.Program.Types as t
 use Rattle.ti_align.specs.Things.{Things, IsStorable, IsOf, Grows, DimsFine}
 use Rattle.ti_align.specs.There.{IsFieldOf, FitsAsked}
 
--- the types of the elements of blocks
+-- the types of the elements of blocks (a block is a grid that is no view of another)
 abbrev pub Elements : Type 0
 Elements = Id → Option ValueType
 
--- what is there for a process after a history, where the elements of blocks have these types
+-- what exists for process i after a history, if the elements of blocks have these types
 abbrev pub things_of : ℕ → Elements → History → Things
 things_of i elements h =
     record { owner = i; class_at = λ id. class_of id h; grid_at = λ id. grid_of id h; element_at = elements; is_made = λ r. is_made r h }
 
--- the block is a grid of zeros of the type of its elements, which may have it
+-- the block is a grid of zeros of the type of its elements, which elements may have
 abbrev pub IsBlock : History → Id → ValueType → Type 0
 IsBlock h block type = (g : Grid) × (grid_of block h ≡ Some g) × (g.zero ≡ zero_of_type type) × IsStorable type
 
--- the fields of all classes have one to three dimensions, wherever they have any
+-- in the types of all fields, points, domains and grids have one to three dimensions
 abbrev pub FieldsFit : NumberedProgram → Type 0
 FieldsFit p = (class field : ℕ) (type : ValueType) → field_type p class field ≡ Some type → DimsFine type
 
--- the types of fields are such that fields may have
+-- all fields have types that fields may have
 abbrev pub FieldsStorable : NumberedProgram → Type 0
 FieldsStorable p = (class field : ℕ) (type : ValueType) → field_type p class field ≡ Some type → IsStorable type
 
--- the cell may hold the value: a field or an element of its type
+-- the cell may hold the value: it is a field or an element of the value's type
 abbrev pub MayHold : NumberedProgram → Things → Cell → Value → Type 0
 MayHold p w (Field obj field) value = (type : ValueType) × IsFieldOf p w obj field type × IsOf w type (Plain value)
 MayHold p w (Element block at) value = (type : ValueType) × (w.element_at block ≡ Some type) × IsOf w type (Plain value)
 
--- what was written to cells is of their types in the memory in which they lie; each block is a grid of zeros of the type of its elements
+-- what was written to cells is of their types, as the process sees them whose memory they are in; each block is a grid of zeros of its
+-- elements' type
 pub record HeapFits (p : NumberedProgram) (elements : Elements) (h : History) : Type 0 where
   pub cells : (cell : Cell) (value : Value) → last_written cell h ≡ Some value
       → MayHold p (things_of (thing_of cell).owner elements h) cell value
@@ -57,13 +58,13 @@ pub record HeapFits (p : NumberedProgram) (elements : Elements) (h : History) : 
 
 -- ---- an action
 
--- the types of the elements behind an entry: a new grid is a block of its own
+-- the types of elements after an action: a new grid is a block of its own
 abbrev pub elements_behind : Elements → Action → Wanted → Answer → Elements
 elements_behind elements (act.NewGrid zero domain region) (NewThing (t.Grid element n is_local)) (Val (v.Grid (Some new))) =
     λ id. if same_id id new then Some element else elements id
 elements_behind elements a wanted answer = elements
 
--- an action of the heap: it makes a thing, or is done to one
+-- an action of the heap: one that makes, reads or writes an object or grid
 abbrev pub is_of_heap : Action → Bool
 is_of_heap (act.Print literal value) = false
 is_of_heap (act.Arrive kind arg given) = false
@@ -73,8 +74,8 @@ is_of_heap act.End = false
 is_of_heap (act.Fault kind) = false
 is_of_heap a = true
 
--- What an action names is there: then it is possible, and behind it the heap still fits, all is there that was there, and the
--- answer fits, unless it is one that another process gave.
+-- What follows if what an action names exists: it is possible, after it the heap still agrees with the types, all that existed still
+-- exists, and the answer fits. The last is stated of heap actions only: other answers come from other processes.
 pub record KeepsTypes (p : NumberedProgram) (elements : Elements) (h : History) (i : ℕ) (a : Action) (wanted : Wanted) : Type 0 where
   pub possible : is_of_heap a ≡ true → heap_answer p h i a ≡ Impossible → ⊥
   pub kept : (place : Place) (r : Answer) → heap_answer p h i a ≡ Answers r

@@ -1,4 +1,4 @@
--- What proofs carry from step to step. Nobody has to believe it: the laws of runs say what holds of every run without it.
+-- Invariants that the proofs carry from step to step. The theorems on runs don't mention them, so a reader needn't know them.
 pub mod Fitting
 pub mod Sound
 pub mod Work

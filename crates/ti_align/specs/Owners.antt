@@ -1,4 +1,4 @@
--- Owners: what a reference of local type names lies in the memory of its own process.
+-- Owners: what a reference of local type names is in the memory of its own process.
 use Rattle.std.specs.Prelude.{◌≡◌, ℕ, ◌<◌, Bool, true, List, [], ◌∷◌, ◌++◌, Some}
 use Rattle.ti_base.specs.declared.place.Place.{Place}
 use Rattle.ti_base.specs.declared.point.Point.{Point}
@@ -31,29 +31,29 @@ use Rattle.ti_align.specs.Dangling.{used_by}
 
 -- ---- actions
 
--- an action of a process through a reference of this type uses a thing in its own memory, where the type is local
+-- an action of a process through a reference of local type uses an object or grid in its own memory
 abbrev pub IsOwnAction : ℕ → ValueType → Action → Type 0
 IsOwnAction i through a = is_local through ≡ true → is_own i (used_by a) ≡ true
 
 -- ---- variables
 
--- what a variable of local type names, if it names something, lies in the memory of the process
+-- what a variable of local type names, if it isn't null, is in the memory of the process
 abbrev pub IsOwnVariable : ℕ → Variable → Type 0
 IsOwnVariable i x = is_local (declared_type x.named.declared) ≡ true → is_own i (thing_of x.held) ≡ true
 
--- so with each of these variables
+-- this holds of each of these variables
 abbrev pub AllOwn : ℕ → List Variable → Type 0
 AllOwn i [] = Unit {0}
 AllOwn i (x ∷ xs) = IsOwnVariable i x × AllOwn i xs
 
--- and in each of these frames
+-- and of the variables of each of these frames
 abbrev pub AllOwnIn : ℕ → List Frame → Type 0
 AllOwnIn i [] = Unit {0}
 AllOwnIn i (f ∷ fs) = AllOwn i f.variables × AllOwnIn i fs
 
 -- ---- elements
 
--- A new grid of the run, whose elements have this type: an entry of it made the grid, and there its process asked for a grid of such
+-- A new grid of the run whose elements have this type: an entry of the run made it, and there the process requested a grid of such
 -- elements.
 pub record MadeWith (s : Setting) (es : List Entry) (grid : Id) (element : ValueType) : Type 0 where
   pub before : List Entry
@@ -87,8 +87,8 @@ pub record MadeWith (s : Setting) (es : List Entry) (grid : Id) (element : Value
 
 -- ---- runs
 
--- Whatever process of the run, wherever it stands between its actions, its local variables and its actions through local references
--- are its own; and what a field or an element of local type names lies in the memory in which the field or the element lies.
+-- For each process of the run, at any point between its actions, its local variables and its actions through local references name
+-- objects and grids of its own; and what a field or an element of local type names is in the memory that the field or element is in.
 pub record OwnersKept (s : Setting) (es : List Entry) : Type 0 where
   pub variables : (i : ℕ) (p q : Process) → i < s.procs → World s es i p → Reaches p q → AllOwnIn i q.frames
   pub fields : (obj : Id) (class field : ℕ) (type : ValueType) (value : Value) → class_of obj (history_of es) ≡ Some class

@@ -1,4 +1,4 @@
--- Variables that are in scope where they are used.
+-- Variables are in scope when they are used.
 use Rattle.std.specs.Prelude.{◌≡◌, ◌<◌, ℕ, Bool, true, List, [], ◌∷◌, Option, Some, None}
 use Rattle.std.specs.List.{list_any}
 use Rattle.ti_base.specs.declared.entry.Entry.{Entry}
@@ -14,7 +14,7 @@ use Rattle.ti_lang.specs.Meaning.Runs.{World}
 
 -- ---- names
 
--- which variables are in scope; those of a foreach are no part of it
+-- which variables are in scope, those of foreach loops left out
 abbrev pub Names : Type 0
 Names = VariableUse → Bool
 
@@ -54,7 +54,7 @@ module _ (names : Names) where
     RangesScoped e.NoRange = Unit {0}
     RangesScoped (e.MoreRange r rest) = RangeScoped r × RangesScoped rest
 
-  -- an expression, if there is one
+  -- the variables of an expression are in scope, if there is one
   abbrev pub OptionScoped : Option NumberedExp → Type 0
   OptionScoped None = Unit {0}
   OptionScoped (Some x) = ExpScoped x
@@ -78,13 +78,13 @@ module _ (names : Names) where
 
 -- ---- work
 
--- what a value goes to
+-- the variables of what receives a value are in scope
 abbrev pub ReceiverScoped : Names → Receiver → Type 0
 ReceiverScoped names (Assigned at target) = ExpScoped names target
 ReceiverScoped names (Updated at op target) = ExpScoped names target
 ReceiverScoped names receiver = Unit {0}
 
--- the variables that a statement uses itself are in scope
+-- the variables that a statement itself uses are in scope; those of its sub-statements aren't considered
 abbrev pub StmUses : Names → NumberedStm → Type 0
 StmUses names (s.Declare at type variable value) = InitScoped names value
 StmUses names (s.Assign at target value) = ExpScoped names target × InitScoped names value
@@ -98,7 +98,7 @@ StmUses names (s.IfElse at c x y) = ExpScoped names c
 StmUses names (s.Foreach at variable domain body) = ExpScoped names domain
 StmUses names x = Unit {0}
 
--- those that a piece of work uses
+-- the variables that a piece of work uses are in scope
 abbrev pub WorkUses : Names → Work → Type 0
 WorkUses names (Do x) = StmUses names x
 WorkUses names (Before (While at c update body)) = OptionScoped names c
@@ -107,11 +107,11 @@ WorkUses names w = Unit {0}
 
 -- ---- runs
 
--- the variable is found among these
+-- the variable is one of these
 abbrev pub found : VariableUse → List Variable → Bool
 found v vs = list_any (λ (w : Variable). same_variable v w.named) vs
 
--- those that the first piece of work of the innermost frame uses are found there
+-- the variables that the first piece of a frame's work uses are among the frame's variables
 abbrev pub FirstUses : List Variable → List Work → Type 0
 FirstUses vs [] = Unit {0}
 FirstUses vs (w ∷ left) = WorkUses (λ v. found v vs) w

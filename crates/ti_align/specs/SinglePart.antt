@@ -5,24 +5,24 @@ use Rattle.ti_lang.specs.Program.Classes.{NumberedMethod}
 use Rattle.ti_lang.specs.Meaning.Processes.{Variable, Frame, Process}
 use Rattle.ti_lang.specs.Meaning.Turns.{Turn, turns_at}
 
--- a variable is declared single; one of a foreach is none of these, it has its place among the turns
+-- a variable is declared single; a foreach variable isn't, as its point is part of `turns`
 abbrev pub is_single_declared : Declaration → Bool
 is_single_declared (Typed is_single type) = is_single
 is_single_declared Foreach = false
 
--- the single variables with what they hold
+-- the single variables with their values
 abbrev pub singles : List Variable → List Variable
 singles variables = filter (λ (w : Variable). is_single_declared w.named.declared) variables
 
--- what a call in progress has in common with those of other processes
+-- what a call in progress has in common with the corresponding calls of other processes
 pub record SingleFrame : Type 0 where
   pub method : NumberedMethod
   -- the single variables in scope, the newest first
   pub variables : List Variable
-  -- the points at which all foreach loops around the work that is left stand, the innermost first
+  -- the current points of all foreach loops around the pending work, the innermost first
   pub turns : List Turn
 
--- that of a call in progress
+-- the single part of a call in progress
 abbrev pub single_frame : Frame → SingleFrame
 single_frame f = record { method = f.method; variables = singles f.variables; turns = turns_at f.left }
 

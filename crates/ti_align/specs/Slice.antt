@@ -1,5 +1,5 @@
--- The slice: what all processes do alike, run by itself. Of the variables it has the single ones, of the statements those with global
--- effects, and of these it evaluates the single operands alone.
+-- The program slice: what all processes do alike, executed by itself. It has only the single variables and only the statements with
+-- global effects, and evaluates only their single operands.
 use Rattle.std.specs.Prelude.{◌≡◌, ℕ, ◌+◌, Bool, true, false, if◌then◌else◌, pos, unwrap_or, List, [], ◌∷◌, ◌++◌, map, filter, length, Option, Some, None}
 use Rattle.std.specs.List.{list_any}
 use Rattle.ti_base.specs.declared.place.Place.{Place}
@@ -52,7 +52,7 @@ abbrev pub is_single_named : NumberedExp → Bool
 is_single_named (e.Variable at variable) = is_single_declared variable.declared
 is_single_named x = false
 
--- what goes there goes into a single variable
+-- the receiver is a single variable
 abbrev pub is_single_receiver : Receiver → Bool
 is_single_receiver Nowhere = false
 is_single_receiver (Declared at variable) = is_single_declared variable.declared
@@ -61,18 +61,18 @@ is_single_receiver (Updated at op target) = is_single_named target
 
 -- ---- work with effects
 
--- whether a loop has effects
+-- whether a loop has global effects
 abbrev pub loop_effects : NumberedProgram → NumberedMethod → Loop → Bool
 loop_effects p m (While at c update body) = loop_acts p m update body
 loop_effects p m (Foreach at variable domain points body) = loop_acts p m NoStm body
 
--- whether a jump to the innermost mark has an effect, if there is one
+-- whether a jump to the innermost enclosing loop has a global effect, if there is one
 abbrev pub jump_at : NumberedProgram → NumberedMethod → List Work → Option Bool
 jump_at p m [] = None
 jump_at p m (Behind loop ∷ left) = Some (loop_effects p m loop)
 jump_at p m (w ∷ left) = jump_at p m left
 
--- whether a piece of work before this work has global effects; a value on its way has one where it goes into a single variable
+-- whether a piece of work followed by this work has global effects; the storing of a computed value has one if its receiver is single
 abbrev pub work_acts : NumberedProgram → NumberedMethod → List Work → Work → Bool
 work_acts p m left (Do x) = has_global_effects (return_acts p m) (unwrap_or (jump_at p m left) false) (doings p (this_of m) x)
 work_acts p m left (End x) = has_global_effects (return_acts p m) (unwrap_or (jump_at p m left) false) (doings p (this_of m) x)
@@ -82,9 +82,9 @@ work_acts p m left (Receive receiver held) = is_single_receiver receiver
 work_acts p m left (CopyAll at to from points) = false
 work_acts p m left (TakeAll at grid procs) = false
 
--- ---- what work with effects comes to, from single values alone
+-- ---- evaluation of work with global effects, from single values only
 
--- the single parameters with the values of their arguments
+-- the single parameters, bound to the values of their arguments
 abbrev pub single_bound : Env → List VariableUse → NumberedExps → List Variable → Asking (List Variable)
 single_bound env (p ∷ ps) (e.MoreExp x xs) found =
     if is_single_declared p.declared
@@ -93,56 +93,56 @@ single_bound env (p ∷ ps) (e.MoreExp x xs) found =
     else single_bound env ps xs found
 single_bound env ps xs found = gives found
 
--- a call, of which the object and the plain arguments are left out
+-- a call, without its receiving object and its plain arguments
 abbrev pub single_calling : Env → Receiver → Call → Asking move.Move
 single_calling env receiver c = do
   parameters ← single_bound env (parameters_of c.method.params) c.args []
   gives (move.Calls c.place c.method None parameters receiver)
 
--- an arrival without a deposit
+-- an arrival without a contribution
 abbrev pub arriving : Wait → Asking move.Move
 arriving wait = gives (move.Meets wait deposit.Nothing [])
 
--- a broadcast, of which the value is left out
+-- a broadcast, without its value
 abbrev pub single_broadcast : Env → Receiver → Place → NumberedExp → NumberedExp → Asking move.Move
 single_broadcast env receiver at x p = do
   h ← eval env p
   root ← root_among env.procs at h
   arriving (record { place = at; kind = coll.Broadcast; arg = Some root; wanted = ValueOf (type_here env x); receiver = receiver })
 
--- a value goes to a single receiver; a call is made
+-- a value is stored if the receiver is single; a call is made
 abbrev pub single_value : Env → Receiver → NumberedExp → Option Call → Asking move.Move
 single_value env receiver x None = if is_single_receiver receiver then receives env receiver (eval env x) else goes_on env
 single_value env receiver x (Some c) = single_calling env receiver c
 
--- a right side
+-- an initializer or right-hand side
 abbrev pub single_initial : Env → Receiver → NumberedInit → Asking move.Move
 single_initial env receiver (s.Value x) = single_value env receiver x (called env x)
 single_initial env receiver (s.NewRegion at) = makes_region receiver at
 single_initial env receiver (s.Broadcast at x root) = single_broadcast env receiver at x root
 single_initial env receiver value = goes_on env
 
--- the collective at which an exchange arrives
+-- the wait for an exchange
 abbrev pub exchanging : Place → Wait
 exchanging at = record { place = at; kind = coll.Exchange; arg = None; wanted = ToBeDone; receiver = Nowhere }
 
--- a member form that stands alone
+-- a member form as an expression statement
 abbrev pub single_member : Env → Place → NumberedExp → Option BuiltIn → Asking move.Move
 single_member env at x (Some Exchange) = arriving (exchanging at)
 single_member env at x (Some Delete) = deletes env at x
 single_member env at x other = goes_on env
 
--- an expression that stands alone
+-- an expression statement
 abbrev pub single_alone : Env → NumberedExp → Option Call → Asking move.Move
 single_alone env x (Some c) = single_calling env Nowhere c
 single_alone env (e.Member at x name args) None = single_member env at x (member_called env.program (this_of env.method) x name)
 single_alone env x None = goes_on env
 
--- a `return`, with its value where the result is single
+-- a `return`, with its value only if the method's result is single
 abbrev pub single_return : Env → Place → Option NumberedExp → Asking move.Move
 single_return env at value = if has_single_result env.method then returns env at value else gives (move.Returns None)
 
--- a statement with effects
+-- a statement with global effects
 abbrev pub single_statement : Env → NumberedStm → Asking move.Move
 single_statement env (s.Declare at type variable value) = single_initial env (Declared at (declared_as type variable)) value
 single_statement env (s.Assign at target value) = single_initial env (Assigned at target) value
@@ -152,14 +152,14 @@ single_statement env (s.Call x) = single_alone env x (called env x)
 single_statement env (s.Return at value) = single_return env at value
 single_statement env x = statement env x
 
--- a piece of work with effects
+-- a piece of work with global effects
 abbrev pub single_performed : Env → Work → Asking move.Move
 single_performed env (Do x) = single_statement env x
 single_performed env w = performed env w
 
 -- ---- the steps of the slice
 
--- The slice goes on in a frame as a process does, but that work without effects is left out. A single expression asks for nothing.
+-- The slice executes a frame as a process does, except that work without global effects is skipped. Single expressions request nothing.
 abbrev pub slice_works : Process → Frame → List Frame → List Work → Step
 slice_works p f fs [] = moves p f fs [] (move.Returns None)
 slice_works p f fs (w ∷ left) =
@@ -167,18 +167,18 @@ slice_works p f fs (w ∷ left) =
     then valued p (single_performed (env_of p f left) w []) (moves p f fs left)
     else To (going p f fs f.variables left)
 
--- its step where it waits nowhere
+-- its step if it isn't waiting
 abbrev pub slice_runs : Process → List Frame → Step
 slice_runs p [] = Ends (end_of p.setting.program)
 slice_runs p (f ∷ fs) = slice_works p f fs f.left
 
--- the same where it may wait at a collective, which it can then only leave
+-- its step if it may be waiting at a collective, from which its only step is the departure
 abbrev pub slice_steps : Process → Option Wait → Step
 slice_steps p None = slice_runs p p.frames
 slice_steps p (Some w) = departs p w
 
--- One step of the slice. The turn of a loop with effects, the call of a single method, an arrival and a departure take a tick each, and
--- a call has at most as many frames, as in a process.
+-- One step of the slice. An iteration of a loop with global effects, a call of a single method, an arrival and a departure cost one tick
+-- each, and the call depth has the same limit as in a process.
 abbrev pub slice_step : Process → Step
 slice_step p = slice_steps p p.wait
 
@@ -189,40 +189,40 @@ abbrev pub deletes_one : List ℕ → Action → Bool
 deletes_one gone (act.Arrive kind arg given) = list_any (λ r. rounds.deletes r kind arg) gone
 deletes_one gone a = false
 
--- a step, where these regions are gone: to arrive at a delete of one of them is a fault
+-- a step, if these regions are deleted: to arrive at a delete of one of them is a fault
 abbrev pub judged : List ℕ → Step → Step
 judged gone (At request go) = if deletes_one gone request.action then Faults RegionGone request.place else At request go
 judged gone step = step
 
--- the region that is gone behind a collective, if it deletes one
+-- the region that a collective deletes, if it deletes one
 abbrev pub deleted_at : CollKind → Option ℕ → List ℕ
 deleted_at coll.DeleteRegion (Some r) = r ∷ []
 deleted_at kind arg = []
 
--- the regions that a process deletes by leaving what it waits at, if it waits
+-- the regions that are deleted when a process leaves what it waits at, if it waits
 abbrev pub deleted_by : Option Wait → List ℕ
 deleted_by None = []
 deleted_by (Some w) = deleted_at w.kind w.arg
 
 -- ---- the answer
 
--- a fault of the slice's own, or that no tick is left
+-- a fault of the slice itself; `Fuel` is reported as having run out of fuel
 abbrev pub at_fault : FaultKind → Place → SliceStep
 at_fault Fuel place = answer.NoFuel
 at_fault kind place = answer.Faults kind place
 
--- What the slice comes to from here, where these regions are gone, so many departures have got their outcomes, and these outcomes are
--- left.
+-- The answer x of the slice from a state p on, if the regions `gone` are deleted, k departures have got their outcomes, and these
+-- outcomes are left.
 pub data Comes : Process → List ℕ → ℕ → List Answer → SliceStep → Type 0 where
-  -- it goes on by itself
+  -- it makes a step that requests nothing
   silent : {p q : Process} {gone : List ℕ} {k : ℕ} {outcomes : List Answer} {x : SliceStep} → judged gone (slice_step p) ≡ To q
       → Comes q gone k outcomes x → Comes p gone k outcomes x
-  -- it arrives where no outcome is left
+  -- it arrives at a collective, and no outcome is left
   stands : {p : Process} {gone : List ℕ} {k : ℕ} {request : Request} {go : Answer
       → Process} {kind : CollKind} {arg : Option ℕ} {given : Deposit} →
       judged gone (slice_step p) ≡ At request go → request.action ≡ act.Arrive kind arg given
       → Comes p gone k [] (answer.At kind request.place arg)
-  -- it arrives, and goes on to its departure
+  -- it arrives at a collective, and continues to its departure
   arrives : {p : Process} {gone : List ℕ} {k : ℕ} {request : Request} {go : Answer
       → Process} {kind : CollKind} {arg : Option ℕ} {given : Deposit} {r : Answer} {rest : List Answer} {x : SliceStep} →
       judged gone (slice_step p) ≡ At request go → request.action ≡ act.Arrive kind arg given → Comes (go Done) gone k (r ∷ rest) x
@@ -237,17 +237,17 @@ pub data Comes : Process → List ℕ → ℕ → List Answer → SliceStep → 
   unfit : {p : Process} {gone : List ℕ} {k : ℕ} {request : Request} {go : Answer → Process} {r : Answer} {rest : List Answer} →
       judged gone (slice_step p) ≡ At request go → request.action ≡ act.Depart → (FitsWanted request.wanted r → ⊥)
       → Comes p gone k (r ∷ rest) (answer.Unfit k)
-  -- it ends, or is at fault, where no outcome is left
+  -- it ends or faults, and no outcome is left
   ends : {p : Process} {gone : List ℕ} {k : ℕ} {place : Place} → judged gone (slice_step p) ≡ Ends place → Comes p gone k [] answer.Ended
   faults : {p : Process} {gone : List ℕ} {k : ℕ} {kind : FaultKind} {place : Place} → judged gone (slice_step p) ≡ Faults kind place
       → Comes p gone k [] (at_fault kind place)
-  -- and so asks for no outcome that is left
+  -- it ends or faults, though outcomes are left
   ended : {p : Process} {gone : List ℕ} {k : ℕ} {place : Place} {r : Answer} {rest : List Answer} → judged gone (slice_step p) ≡ Ends place
       → Comes p gone k (r ∷ rest) (answer.Unfit k)
   faulted : {p : Process} {gone : List ℕ} {k : ℕ} {kind : FaultKind} {place : Place} {r : Answer} {rest : List Answer} →
       judged gone (slice_step p) ≡ Faults kind place → Comes p gone k (r ∷ rest) (answer.Unfit k)
 
--- what the slice of a program comes to after these outcomes of its departures
+-- the answer of a program's slice after these outcomes of its departures
 abbrev pub SliceAnswers : Setting → List Answer → SliceStep → Type 0
 SliceAnswers n outcomes x = Comes (begin n 0) [] 0 outcomes x
 
@@ -258,17 +258,17 @@ abbrev pub AllFit : SliceStep → Type 0
 AllFit (answer.Unfit k) = ⊥
 AllFit x = Unit {0}
 
--- what the departures of a process in a run were answered
+-- the answers that a process received at its departures in a run
 abbrev pub answers_at_departures : ℕ → List Entry → List Answer
 answers_at_departures i es = map (λ (e : Entry). e.answer) (filter (λ (e : Entry). is_departure e.act) (entries_of i es))
 
--- what the slice says of a run
+-- what the slice determines of a run
 pub record SliceTells (s : Setting) (es : List Entry) : Type 0 where
-  -- what the departures of a process were answered are outcomes that fit
+  -- the outcomes of a process's departures fit
   pub fits : (i : ℕ) (x : SliceStep) → SliceAnswers s (answers_at_departures i es) x → AllFit x
-  -- the arrival of a process that comes behind so many departures is the one at which the slice arrives behind their outcomes
+  -- the arrival of a process after n departures is the one at which the slice arrives after their outcomes
   pub arrives : (i : ℕ) (outcomes others : List Answer) (x : SliceStep) (a : Arrival) → SliceAnswers s outcomes x
       → answers_at_departures i es ≡ outcomes ++ others
       → ArrivesAt s es i (length outcomes) a → x ≡ answer.At a.kind a.place a.arg
-  -- where a process has its end, the slice ends behind the outcomes of all its departures
+  -- if a process has ended, the slice ends after the outcomes of all its departures
   pub ends : (i : ℕ) (x : SliceStep) → SliceAnswers s (answers_at_departures i es) x → has_end i es ≡ true → x ≡ answer.Ended

@@ -1,4 +1,4 @@
--- What no process of a run comes to, which rounds it has left, and which regions it holds.
+-- That no action of a run is impossible, which collectives a process has left, and which regions its variables hold.
 use Rattle.std.specs.Prelude.{◌≡◌, ℕ, ◌+◌, ◌<◌, Bool, true, false, if◌then◌else◌, List, [], ◌∷◌, Option, Some}
 use Rattle.ti_base.specs.declared.place.Place.{Place}
 use Rattle.ti_base.specs.declared.value.Value.TheVariants as v
@@ -23,12 +23,12 @@ abbrev pub is_delete : Action → Bool
 is_delete (act.Arrive coll.DeleteRegion arg given) = true
 is_delete a = false
 
--- a process has left each round that it reached, but for the round that it leaves next
+-- a process has left each collective that it reached, except the one that it leaves next, if it leaves one next
 abbrev pub RoundsBalance : Setting → List Entry → Type 0
 RoundsBalance s es = (i : ℕ) (p : Process) (at : Place) (a : Action) → World s es i p → IsNext p (next.Act at a) → arrivals i es
     ≡ departures i es + (if is_departure a then 1 else 0)
 
--- each action for which its process needn't wait comes to an answer or a fault
+-- each action for which its process needn't wait yields an answer or a fault
 abbrev pub NoneImpossible : Setting → List Entry → Type 0
 NoneImpossible s es =
     (i : ℕ) (p : Process) (at : Place) (a : Action) → i < s.procs → World s es i p → IsNext p (next.Act at a)
@@ -37,18 +37,18 @@ NoneImpossible s es =
 
 -- ---- regions
 
--- each variable that holds a region holds one that was made
+-- each variable of type region holds a region that was made
 abbrev pub HoldMade : History → List Variable → Type 0
 HoldMade h [] = Unit {0}
 HoldMade h (x ∷ xs) =
     (declared_type x.named.declared ≡ t.Region → (r : ℕ) × (x.held ≡ Plain (v.Region r)) × (is_made r h ≡ true)) × HoldMade h xs
 
--- so do those of all these frames
+-- so do the variables of all these frames
 abbrev pub AllHoldMade : History → List Frame → Type 0
 AllHoldMade h [] = Unit {0}
 AllHoldMade h (f ∷ fs) = HoldMade h f.variables × AllHoldMade h fs
 
--- each region that a variable holds was made, and each that a process comes to delete
+-- each region that a variable holds, and each that a process is about to delete, was made
 pub record RegionsMade (s : Setting) (es : List Entry) : Type 0 where
   pub held : (i : ℕ) (p : Process) → i < s.procs → World s es i p → AllHoldMade (history_of es) p.frames
   pub deleted : (i : ℕ) (p : Process) (at : Place) (arg : Option ℕ) (given : Deposit) → i < s.procs → World s es i p

@@ -1,4 +1,4 @@
--- What is there for an action, and what it is answered.
+-- What must exist for an action, and which answers fit it.
 use Rattle.std.specs.Prelude.{◌≡◌, ℕ, Bool, true, List, Some, ◌<◌, ◌-◌}
 use Rattle.std.specs.Int.{w32}
 use Rattle.ti_base.specs.declared.value.Id.{Id}
@@ -23,9 +23,9 @@ use Rattle.ti_align.specs.Things.{Things, IsStorable, IsGridOf, IsPlaced, IsOf, 
 use Rattle.ti_align.specs.Dangling.{used_by}
 use Rattle.ti_align.specs.Owners.{IsOwnAction}
 
--- ---- what is asked for
+-- ---- requests
 
--- how a view is taken of a grid of so many dimensions: what it says is in its form
+-- how a view of a grid of n dimensions is taken: the domain, point or numbers are valid for n
 abbrev pub SuitsView : ViewHow → ℕ → Type 0
 SuitsView (Restrict r) n = IsRectOf n r
 SuitsView (Translate by) n = IsPointOf n by
@@ -36,11 +36,11 @@ abbrev pub dims_viewed : ViewHow → ℕ → ℕ
 dims_viewed (Slice k j) n = n - 1
 dims_viewed how n = n
 
--- a field of an object of a class, of this type
+-- a field of this type of an existing object
 abbrev pub IsFieldOf : NumberedProgram → Things → Id → ℕ → ValueType → Type 0
 IsFieldOf p w obj field type = (class : ℕ) × (w.class_at obj ≡ Some class) × (field_type p class field ≡ Some type)
 
--- what an action names is there; what is written to a cell is of its type in the memory in which the cell lies
+-- what an action names exists; what is written to a cell is of its type, as the process sees it whose memory the cell is in
 abbrev pub IsAtHand : NumberedProgram → Things → Action → Wanted → Type 0
 IsAtHand p w (act.GetField obj field) wanted = (type : ValueType) × IsFieldOf p w obj field type
 IsAtHand p w (act.PutField obj field value) wanted =
@@ -56,16 +56,16 @@ IsAtHand p w (act.MakeView grid how) wanted = (element : ValueType) × (n : ℕ)
 IsAtHand p w (act.DomainOf grid) wanted = (element : ValueType) × (n : ℕ) × IsGridOf w element n grid
 IsAtHand p w a wanted = Unit {0}
 
--- two types whose values have one form: they are the same, but for whether they are local
+-- two types whose values have one form: they are equal, up to being local
 abbrev pub SameForm : ValueType → ValueType → Type 0
 SameForm a b = as_global a ≡ as_global b
 
--- a new grid is wanted, of some elements and dimensions
+-- the process expects a new grid, of some elements and dimensions
 abbrev pub WantsGrid : Wanted → Type 0
 WantsGrid wanted = (element : ValueType) × (n : ℕ) × (is_local : Bool) × (wanted ≡ NewThing (t.Grid element n is_local))
 
--- What is wanted is what the action gives: a value in the form of the cell that is read, a domain of the dimensions of the grid, a new
--- object or grid, a value that an element may have, and else nothing. What a departure gives is told by its round.
+-- What a process expects is what the action yields: a value in the form of the cell that is read, a domain of the grid's dimensions, a
+-- new object or grid, a value that an element may have, and otherwise nothing. What a departure yields is determined by its collective.
 abbrev pub SuitsWanted : NumberedProgram → Things → Action → Wanted → Type 0
 SuitsWanted p w (act.GetField obj field) wanted =
     (type : ValueType) × (u : ValueType) × IsFieldOf p w obj field type × (wanted ≡ ValueOf u) × SameForm u type
@@ -79,14 +79,14 @@ SuitsWanted p w (act.Take who) wanted = (type : ValueType) × (wanted ≡ ValueO
 SuitsWanted p w act.Depart wanted = Unit {0}
 SuitsWanted p w a wanted = wanted ≡ ToBeDone
 
--- the action goes through a reference of this type: it uses a thing of the type, which lies in the memory of the process where the type
--- is local
+-- the action goes through a reference of this type: it uses an object or grid of the type, which is in the memory of the process if the
+-- type is local
 abbrev pub GoesThrough : Things → ValueType → Action → Type 0
 GoesThrough w through a = IsOwnAction w.owner through a × ((id : Id) → used_by a ≡ Some id → IsThingOf w through id)
 
--- ---- what is answered
+-- ---- answers
 
--- the answer fits the action; what is read from a cell is of its type in the memory in which the cell lies
+-- the answer fits the action; what is read from a cell is of its type, as the process sees it whose memory the cell is in
 abbrev pub FitsAsked : NumberedProgram → Things → Action → Wanted → Answer → Type 0
 FitsAsked p w (act.GetField obj field) wanted r =
     (type : ValueType) → IsFieldOf p w obj field type → IsOf (seen_by obj.owner w) type (told r)

@@ -1,4 +1,4 @@
--- What is there at a moment of a run, and which values are of which type then.
+-- Which objects, grids and regions exist at a moment of a run, and which values are of which type then.
 use Rattle.std.specs.Prelude.{◌≡◌, ℕ, Bool, true, false, List, [], ◌∷◌, Option, Some, None, ◌⊎◌, ◌≤◌, ℤ, length}
 use Rattle.std.specs.Int.{w32, w64}
 use Rattle.ti_base.specs.declared.value.Id.{Id}
@@ -22,22 +22,22 @@ use Rattle.ti_lang.specs.Meaning.Conversions.{most_points}
 use Rattle.ti_lang.specs.Meaning.Evaluation.{is_own}
 use Rattle.ti_lang.specs.Program.Types as t
 
--- ---- things
+-- ---- objects and grids
 
--- for a process: the class of each object, each grid, the type of the elements of each block, and the regions that were made
+-- what exists, as seen by a process: the class of each object, each grid, the element type of each block, and the regions that were made
 pub record Things : Type 0 where
-  -- the process; its local references name things in its own memory
+  -- the process: its local references name objects and grids in its own memory
   pub owner : ℕ
   pub class_at : Id → Option ℕ
   pub grid_at : Id → Option Grid
   pub element_at : Id → Option ValueType
   pub is_made : ℕ → Bool
 
--- the same for another process
+-- what exists, as seen by process i
 abbrev pub seen_by : ℕ → Things → Things
 seen_by i w = record w { owner = i }
 
--- all that is there in the first is there in the second, for the same process
+-- all that exists in the first exists in the second, seen by the same process
 pub record Grows (u w : Things) : Type 0 where
   pub owner : u.owner ≡ w.owner
   pub classes : (id : Id) (class : ℕ) → u.class_at id ≡ Some class → w.class_at id ≡ Some class
@@ -47,18 +47,18 @@ pub record Grows (u w : Things) : Type 0 where
 
 -- ---- values of types
 
--- all points are of this dimension, with coordinates of 32 bits
+-- all points have n dimensions and coordinates of 32 bits
 abbrev pub ArePoints : ℕ → List Point → Type 0
 ArePoints n [] = Unit {0}
 ArePoints n (p ∷ ps) = IsPointOf n p × ArePoints n ps
 
--- a domain of this dimension: its list rises, and isn't longer than it may be
+-- a domain of n dimensions: its list of points is strictly increasing, and not longer than allowed
 pub record IsDomainOf (n : ℕ) (ps : List Point) : Type 0 where
   pub points : ArePoints n ps
   pub rises : Rises ps
   pub few : length ps ≤ most_points
 
--- a type that a field or an element may have; one to three dimensions, wherever it has any
+-- a type that a field or an element may have; points and rectangular domains have one to three dimensions
 abbrev pub IsStorable : ValueType → Type 0
 IsStorable (t.Pt n) = IsDim n
 IsStorable (t.Rc n) = IsDim n
@@ -68,21 +68,21 @@ IsStorable t.Null = ⊥
 IsStorable t.Void = ⊥
 IsStorable type = Unit {0}
 
--- the thing is a grid of so many dimensions, whose elements have this type; it lies in the memory in which its elements do
+-- the name is that of a grid of n dimensions, whose elements have this type; it is in the same memory as its elements
 abbrev pub IsGridOf : Things → ValueType → ℕ → Id → Type 0
 IsGridOf w element n id = (g : Grid) × (w.grid_at id ≡ Some g) × IsRectOf n g.domain × (w.element_at g.block ≡ Some element)
     × IsStorable element × (g.block.owner ≡ id.owner)
 
--- things can be placed there: in none, or in a region that was made (`is_place`, of a history)
+-- objects can be placed there: in none (0), or in a region that was made (compare `is_place`, of a history)
 abbrev pub IsPlaced : Things → ℕ → Type 0
 IsPlaced w r = (r ≡ 0) ⊎ (w.is_made r ≡ true)
 
--- what a reference names, if it names something, lies in the memory of the process, where the reference is local
+-- if the reference is local and not null, what it names is in the memory of the process
 abbrev pub IsOwn : Things → Bool → Option Id → Type 0
 IsOwn w is_local o = is_local ≡ true → is_own w.owner o ≡ true
 
--- A value of the type, in the form of its type; a reference names nothing, or a thing of the class, or of the element type and
--- dimensions, which is the own one of the process where the type is local.
+-- A value of the type, in its canonical form; a reference is null, or names an object of the class, or a grid of the element type and
+-- dimensions, which is in the process's own memory if the type is local.
 abbrev pub IsOf : Things → ValueType → Held → Type 0
 IsOf w t.Int h = (n : ℤ) × (h ≡ Plain (v.Int n)) × Fits w32 n
 IsOf w t.Long h = (n : ℤ) × (h ≡ Plain (v.Long n)) × Fits w64 n
@@ -98,13 +98,13 @@ IsOf w (t.Grid element n is_local) h =
 IsOf w t.Null h = h ≡ Plain (v.Obj None)
 IsOf w t.Void h = Unit {0}
 
--- the thing is one that a reference of the type may name: an object of the class, or a grid of the element type and dimensions
+-- a reference of the type may name this: an object of the class, or a grid of the element type and dimensions
 abbrev pub IsThingOf : Things → ValueType → Id → Type 0
 IsThingOf w (t.Class class is_local) id = w.class_at id ≡ Some class
 IsThingOf w (t.Grid element n is_local) id = IsGridOf w element n id
 IsThingOf w type id = ⊥
 
--- a type whose values name no thing and no region
+-- a type whose values name no object, grid or region
 abbrev pub NamesNothing : ValueType → Type 0
 NamesNothing t.Int = Unit {0}
 NamesNothing t.Long = Unit {0}
@@ -113,7 +113,7 @@ NamesNothing (t.Pt n) = Unit {0}
 NamesNothing (t.Rc n) = Unit {0}
 NamesNothing type = ⊥
 
--- one to three dimensions, wherever there are any
+-- points, domains and grids in the type have one to three dimensions
 abbrev pub DimsFine : ValueType → Type 0
 DimsFine (t.Pt n) = IsDim n
 DimsFine (t.Rc n) = IsDim n
@@ -121,28 +121,28 @@ DimsFine (t.Dm n) = IsDim n
 DimsFine (t.Grid element n is_local) = IsDim n × DimsFine element
 DimsFine type = Unit {0}
 
--- ---- variables and deposits
+-- ---- variables and contributions
 
--- a variable that is declared so holds a value of its type; none is declared without a type
+-- a variable with this declaration holds a value of its type; none is declared without a type
 abbrev pub HoldsOf : Things → Declaration → Held → Type 0
 HoldsOf w (t.Typed is_single type) h = IsOf w type h
 HoldsOf w t.Foreach h = ⊥
 
--- each variable does
+-- each variable holds a value of its type
 abbrev pub VariablesFit : Things → List Variable → Type 0
 VariablesFit w [] = Unit {0}
 VariablesFit w (x ∷ xs) = HoldsOf w x.named.declared x.held × VariablesFit w xs
 
--- the object that `this` is, where there is one, is of the class of the method
+-- `this`, if there is one, is an object of the method's class
 abbrev pub ThisFits : Things → NumberedMethod → Option Id → Type 0
 ThisFits w m this = (class : ℕ) → this_of m ≡ Some class → (id : Id) → this ≡ Some id → w.class_at id ≡ Some class
 
--- so with each call in progress
+-- the variables and `this` of each call in progress agree with the types
 abbrev pub FramesHold : Things → List Frame → Type 0
 FramesHold w [] = Unit {0}
 FramesHold w (f ∷ fs) = VariablesFit w f.variables × ThisFits w f.method f.this × FramesHold w fs
 
--- a deposit of this type, which isn't local
+-- a contributed value is of this type, which isn't void or local
 abbrev pub DepositFits : Things → ValueType → Deposit → Type 0
 DepositFits w type (deposit.One value) = IsOf w type (Plain value) × (is_void type ≡ false) × (is_local type ≡ false)
 DepositFits w type given = Unit {0}

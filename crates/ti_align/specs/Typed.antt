@@ -1,4 +1,4 @@
--- Types of runs: what is there in a run is as the types say.
+-- Type soundness of runs: all that exists in a run agrees with the static types.
 use Rattle.std.specs.Prelude.{◌≡◌, ℕ, Bool, true, false, List, Option, Some, ◌<◌, suc}
 use Rattle.ti_base.specs.declared.value.Id.{Id}
 use Rattle.ti_base.specs.declared.action.CollKind.{CollKind}
@@ -33,24 +33,24 @@ use Rattle.ti_align.specs.Mirrors.Processes.{ProcessFits}
 
 -- ---- runs
 
--- values of this type are handed in at the nth arrival of a process, counted from 0
+-- values of this type are contributed at the arrival with index k (counted from 0) of process i
 pub record GivesAt (s : Setting) (es : List Entry) (i k : ℕ) (type : ValueType) : Type 0 where
   pub arrival : Arrival
   pub arrives : ArrivesAt s es i k arrival
   pub gives : given_by arrives.settled ≡ Some type
 
--- the same of the last arrival of a process
+-- values of this type are contributed at the last arrival of a process
 abbrev pub GivesLast : Setting → List Entry → ℕ → ValueType → Type 0
 GivesLast s es i type = (k : ℕ) × (arrivals i es ≡ suc k) × GivesAt s es i k type
 
--- a collective at which values are handed in
+-- a collective to which values are contributed
 abbrev pub hands_in : CollKind → Bool
 hands_in coll.Broadcast = true
 hands_in coll.Exchange = true
 hands_in kind = false
 
--- All that is there in a run is as the types say: cells, processes, and what was handed in at collectives; the elements of each new
--- grid are of the type of which they were asked for.
+-- All that exists in a run agrees with the types: cells, processes, and contributions to collectives; the elements of each new grid are
+-- of the type that was requested.
 pub record RunFits (s : Setting) (es : List Entry) : Type 0 where
   pub elements : Elements
   pub made : (grid : Id) (element : ValueType) → MadeWith s es grid element → elements grid ≡ Some element
@@ -62,10 +62,10 @@ pub record RunFits (s : Setting) (es : List Entry) : Type 0 where
       → (type : ValueType) × GivesAt s es i k type × IsOf (things_of i elements (history_of es)) type (Plain value)
       × (is_local type ≡ false)
 
--- The same; wherever a process stands between its actions, each of its variables holds a value of its type, and `this` an object of its
--- class; and each field and each element of a new grid holds a value of its type, be it written or still its zero. What a process hands
--- in is of the type at which it hands it in; what it asks for is there and is what it wants; and the thing that it uses is of the type
--- through which it does.
+-- `RunFits`, and its consequences: at any point between the actions of a process, each of its variables holds a value of its type, and
+-- `this` is an object of its class; each field and each element of a new grid holds a value of its type, whether it was written or is
+-- still its zero. What a process contributes is of the type at which it contributes; what it requests exists and is what it expects; and
+-- the object or grid that it uses is of the type through which it is used.
 pub record RunTyped (s : Setting) (es : List Entry) : Type 0 where
   pub fits : RunFits s es
   pub processes : (i : ℕ) (p q : Process) → i < s.procs → World s es i p → Reaches p q
@@ -89,12 +89,12 @@ pub record RunTyped (s : Setting) (es : List Entry) : Type 0 where
       × GoesThrough (things_of i fits.elements (history_of es)) request.through request.action
       × SuitsWanted s.program (things_of i fits.elements (history_of es)) request.action request.wanted
 
--- ---- what is taken
+-- ---- receiving
 
--- What a process takes is of the type at which all processes hand in at that collective: at the departure from a broadcast, which hands
--- the value on as a global one, and from another process behind an exchange.
+-- What a process receives is of the type at which all processes contribute to that collective: at the departure from a broadcast, which
+-- passes the value on as a global one, and from another process after an exchange.
 pub record TakenAsGiven (s : Setting) (es : List Entry) : Type 0 where
-  -- the nth arrivals of two processes hand in values of one type
+  -- the nth arrivals of two processes contribute values of one type
   pub given : (i j k : ℕ) (a b : ValueType) → GivesAt s es i k a → GivesAt s es j k b → a ≡ b
   pub broadcast : (i : ℕ) (p q : Process) (wait : Wait) (request : Request) (go : Answer → Process)
       → i < s.procs → World s es i p → Reaches p q → step q ≡ At request go → q.wait ≡ Some wait → wait.kind ≡ coll.Broadcast

@@ -1,5 +1,5 @@
-//! Alignment: in every run of a program that breaks no rule, all processes that reach their nth
-//! collective reach the same one.
+//! Theorems about every run of a checked program. The main one is alignment: all processes that reach their nth collective reach the
+//! same one. Only the type `SliceStep` exists at run time.
 #![tactic(auto)]
 
 mod laws;

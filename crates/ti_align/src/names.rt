@@ -1,4 +1,4 @@
-// Laws of every run on the names of things, on the regions that they name, and on what actions are answered.
+// Theorems about every run: names of objects and grids, the regions they are in, and the answers to actions.
 ghost use Rattle.std.specs.Prelude.{◌≡◌};
 ghost use Rattle.ti_lang.specs.Program.Views.{program_of};
 ghost use Rattle.ti_align.specs.Alignment.{OfEveryRun};
@@ -8,22 +8,20 @@ ghost use Rattle.ti_align.specs.Placed.{ThingsPlaced};
 
 use ti_rules::Checked;
 
-/// In every run of a checked program all things that are there have names of 32 bits, and so have the
-/// regions that were made.
+/// In every run of a checked program, names of objects and grids and numbers of regions fit in 32 bits.
 pub fn names_fit(c: &Checked)
     ensures { OfEveryRun RunNamesFit (program_of c.now.program.parts) }
 {}
 
-/// In every run of a checked program all things that are there, views among them, lie in no region or in
-/// one that was made, and so will the things that processes make next.
+/// In every run of a checked program, each object, grid or view is in no region or in one that was made, and so is each one that a
+/// process makes next.
 pub fn regions_named(c: &Checked)
     ensures { OfEveryRun ThingsPlaced (program_of c.now.program.parts) }
 {}
 
-/// In every run of a checked program what a process is answered fits what it wants: where it reads a field,
-/// an element, a domain or what another process handed in, a value in the form of the type that the text
-/// tells, with numbers and names within their ranges; where it makes a thing or a region, the name of one;
-/// and else nothing.
+/// In every run of a checked program, the answer that a process receives fits what it expects: if it reads a field, an element, a domain
+/// or another process's contribution, a value in the form of its static type, with numbers and names within their ranges; if it makes an
+/// object, a grid or a region, the new one's name; otherwise no value.
 pub fn answers_fit(c: &Checked)
     ensures { OfEveryRun AnswersFit (program_of c.now.program.parts) }
 {}

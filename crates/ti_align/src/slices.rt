@@ -1,4 +1,4 @@
-// What the slice of a program comes to.
+// Theorems about the program slice: the part of a program that all processes execute alike (see specs/Slice).
 
 ghost use Rattle.std.specs.Prelude.{◌≡◌, ℕ, List};
 ghost use Rattle.ti_base.specs.declared.entry.Answer.{Answer};
@@ -11,29 +11,30 @@ ghost use Rattle.ti_align.specs.Slice.{SliceAnswers, SliceTells};
 use ti_base::{CollKind, FaultKind, Place};
 use ti_rules::Checked;
 
-/// What the slice of a program comes to after the outcomes of its departures so far.
+/// The state of the program slice after the outcomes of its departures so far.
 #[derive(Clone, Copy, PartialEq, Eq)]
 pub enum SliceStep {
-    /// It arrives at this collective, at its place and with its argument.
+    /// The slice arrives at a collective of this kind, at this place, with this argument.
     At(CollKind, Place, Option<u32>),
-    /// It has ended.
+    /// The slice has ended.
     Ended,
-    /// A single expression, a root, the depth of its calls or the delete of a region that is gone is at fault.
+    /// The slice faults at this place: in a single expression, by the root of a broadcast, by the depth of its calls or by the delete of
+    /// a region that is already deleted.
     Faults(FaultKind, Place),
-    /// It needs more ticks than it may spend.
+    /// The slice runs out of fuel.
     NoFuel,
-    /// The outcome of this number, counted from 0, is the first that doesn't fit or isn't asked for.
+    /// The outcome of this index, counted from 0, is the first that doesn't fit or that the slice doesn't reach.
     Unfit(u64),
 }
 
-/// In every run of a checked program the slice blames no outcome that a process got at its departures. An
-/// arrival of a process is the one at which the slice arrives behind the outcomes of the departures before
-/// it, and a process has its end only where the slice has ended behind those of all its departures.
+/// In every run of a checked program, the slice accepts all outcomes that a process received at its departures. Each arrival of a process
+/// is the one at which the slice arrives after the outcomes of the departures before it, and if a process has ended, the slice has ended
+/// after the outcomes of all that process's departures.
 pub fn slice_tells(c: &Checked)
     ensures { OfEveryRun SliceTells (program_of c.now.program.parts) }
 {}
 
-/// The slice of a checked program comes to an answer, whatever the outcomes, and to one alone.
+/// The slice of a checked program has exactly one answer (a `SliceStep`) for each list of outcomes.
 pub fn one_slice_answer(c: &Checked)
     ensures some { (procs fuel : ℕ) (outcomes : List Answer) → (x : Step)
         × SliceAnswers (record { program = program_of c.now.program.parts; procs = procs; fuel = fuel }) outcomes x }

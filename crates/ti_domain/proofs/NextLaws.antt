@@ -1,4 +1,4 @@
--- The next point of one set or another.
+-- The next point of a union of two sets is the smaller of the next points of each.
 use Rattle.std.proofs.Common.{◌≡◌, ◌⊎◌, inl, inr, ⊎_elim, ◌↔◌, ℕ, Bool, true, false, List, [], ◌∷◌, Option, Some, None, IfSome, All, refl, sym, subst, ◌∙◌}
 use Rattle.std.proofs.lemmas.List.Elements.{All-head, All-tail}
 use Rattle.ti_base.specs.declared.point.Point.{Point}

@@ -1,4 +1,4 @@
--- Rectangles by one coordinate, and the points of one that are not in another.
+-- The slabs that are cut off a rectangle have exactly the points that aren't in the other.
 use Rattle.std.proofs.Common.{◌≡◌, ◌⊎◌, inl, inr, ⊎_elim, ◌↔◌, ℕ, ◌<◌, ◌≤◌, ℤ, pos, Bool, true, false, List, ◌++◌, map, refl, sym, subst, ◌∙◌, arith}
 use Rattle.ti_base.specs.declared.point.Point.{Point}
 use Rattle.ti_base.specs.declared.point.Rect.{Rect}

@@ -1,4 +1,4 @@
--- The steps of loops over rectangles.
+-- What the loops over lists of rectangles keep from one iteration to the next.
 use Rattle.std.proofs.Common.{◌≡◌, inl, inr, ⊎_elim, ◌↔◌, ℕ, ◌+◌, ◌<◌, pos, List, [], ◌++◌, All, length, get_or, take, refl, sym, subst, ◌∙◌}
 use Rattle.ti_base.specs.declared.point.Point.{Point}
 use Rattle.ti_base.specs.declared.point.Rect.{Rect}

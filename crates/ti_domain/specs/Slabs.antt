@@ -1,4 +1,4 @@
--- Rectangles by one coordinate.
+-- Rectangles seen by one coordinate.
 use Rattle.std.specs.Prelude.{◌≡◌, ℤ, [], ◌∷◌, slice_index}
 use Rattle.ti_base.specs.declared.point.Point.{Point}
 use Rattle.ti_base.specs.declared.point.Rect.{Rect}
@@ -17,7 +17,7 @@ range_at First r = first_range r
 range_at Second r = second_range r
 range_at Third r = third_range r
 
--- a point is in the rectangle as far as the other coordinates tell
+-- all coordinates of the point except this one are on the rectangle's ranges
 abbrev pub IsBeside : Coordinate → Rect → Point → Type 0
 IsBeside First r p = (p.dim ≡ r.dim) × IsOn (second_range r) p.x2 × IsOn (third_range r) p.x3
 IsBeside Second r p = (p.dim ≡ r.dim) × IsOn (first_range r) p.x1 × IsOn (third_range r) p.x3

@@ -1,20 +1,20 @@
--- The next point of one set or another.
+-- The next point of the union of two sets.
 use Rattle.std.specs.Prelude.{◌≡◌, ◌⊎◌, Option, Some, None, MatchOption}
 use Rattle.ti_base.specs.declared.point.Point.{Point}
 use Rattle.ti_base.specs.Points.{pt_lex_lt}
 use Rattle.ti_base.specs.PointSets.{IsNextAfter, NoneAfter}
 
--- what there is of the two points, and of both the one before the other
+-- the smaller of two points; if only one is given, that one
 abbrev pub IsSooner : Option Point → Option Point → Option Point → Type 0
 IsSooner None b r = r ≡ b
 IsSooner (Some p) None r = r ≡ Some p
 IsSooner (Some p) (Some q) r = (pt_lex_lt q p × (r ≡ Some q)) ⊎ ((pt_lex_lt q p → ⊥) × (r ≡ Some p))
 
--- both points, where there are both, have one dimension
+-- if both points are given, they have the same dimension
 abbrev pub AgreeInDim : Option Point → Option Point → Type 0
 AgreeInDim (Some p) (Some q) = q.dim ≡ p.dim
 AgreeInDim a b = Unit {0}
 
--- the first point of the set above the given one, or none where there is none
+-- the first point of the set above the given one, or None if there is none
 abbrev pub IsNext : (Point → Type 0) → Option Point → Option Point → Type 0
 IsNext Members p q = MatchOption q (NoneAfter Members p) (λ next. IsNextAfter Members p next)

@@ -1,4 +1,4 @@
-// The points of one rectangle that are not in another, as rectangles.
+// The difference of two rectangles, as disjoint rectangles: slabs are cut off in one coordinate after the other.
 
 ghost use Rattle.std.specs.Prelude.{◌≡◌, ◌++◌, ℤ, IfOk};
 ghost use Rattle.ti_base.specs.declared.point.Point.{Point};
@@ -24,7 +24,7 @@ pub enum Coordinate {
     Third,
 }
 
-/// The range of a coordinate.
+/// The range of coordinate `k`.
 fn axis_at(r: &Rect, k: Coordinate) -> Axis
     ensures { range result ≡ range_at k r.now }
 {
@@ -35,7 +35,7 @@ fn axis_at(r: &Rect, k: Coordinate) -> Axis
     }
 }
 
-/// The rectangle with another range in one coordinate.
+/// The rectangle with another range in coordinate `k`.
 fn with_axis(r: &Rect, k: Coordinate, g: Axis) -> Rect
     ensures { result ≡ with_range k (range g) r.now }
 {
@@ -82,7 +82,7 @@ fn with_third(r: &Rect, g: Axis) -> Rect
     }
 }
 
-/// The points of `r` whose coordinate isn't on `c`, all of whose numbers are on the range of that coordinate.
+/// The points of `r` whose coordinate `k` isn't on `c`, as disjoint rectangles; all numbers on `c` are on the range of that coordinate.
 fn slabs(alloc: Global, r: &Rect, k: Coordinate, c: Axis) -> Result<Vec<Rect>, Memory>
     requires piece { IsPiece r.now.dim r.now }
     requires form { IsRange (range c) }
@@ -97,14 +97,14 @@ fn slabs(alloc: Global, r: &Rect, k: Coordinate, c: Axis) -> Result<Vec<Rect>, M
     Ok(pieces)
 }
 
-/// The same rectangles.
+/// A copy of the rectangles.
 pub fn copied(alloc: Global, rects: &[Rect]) -> Result<Vec<Rect>, Memory>
     ensures { IfOk result (λ v. v.items ≡ rects.now) }
 {
     Ok(Vec::from_slice(alloc, rects)?)
 }
 
-/// The rectangles of both lists.
+/// The rectangles of both lists, appended.
 pub fn joined(mut rects: Vec<Rect>, more: &[Rect]) -> Result<Vec<Rect>, Memory>
     ensures { IfOk result (λ v. v.items ≡ rects.items ++ more.now) }
 {
@@ -112,7 +112,7 @@ pub fn joined(mut rects: Vec<Rect>, more: &[Rect]) -> Result<Vec<Rect>, Memory>
     Ok(rects)
 }
 
-/// The rectangle alone, or nothing where it is empty.
+/// The rectangle in a list, or the empty list if it has no points.
 pub fn piece_of(alloc: Global, r: &Rect) -> Result<Vec<Rect>, Memory>
     requires { IsRect r.now }
     ensures { IfOk result (λ v. v.items ≡ alone r.now) }
@@ -124,8 +124,8 @@ pub fn piece_of(alloc: Global, r: &Rect) -> Result<Vec<Rect>, Memory>
     Ok(pieces)
 }
 
-/// The points of `r` that are not in `m`, a part of it: those that leave `m` in the first coordinate, and of the
-/// others those that leave it in the second, and in the third.
+/// The points of `r` that aren't in `m`, a part of it, as disjoint rectangles: those whose first coordinate isn't on `m`'s range, of the
+/// others those whose second isn't, and of the rest those whose third isn't.
 fn cut(alloc: Global, r: &Rect, m: &Rect) -> Result<Vec<Rect>, Memory>
     requires whole { IsPiece r.now.dim r.now }
     requires part { IsPiece r.now.dim m.now }
@@ -144,7 +144,7 @@ fn cut(alloc: Global, r: &Rect, m: &Rect) -> Result<Vec<Rect>, Memory>
     joined(more, points.as_slice())
 }
 
-/// The points of `r` that are not in `other`.
+/// The points of `r` that aren't in `other`, as disjoint rectangles.
 pub fn beyond(alloc: Global, r: &Rect, other: &Rect) -> Result<Vec<Rect>, Memory>
     requires piece { IsPiece r.now.dim r.now }
     requires shape { IsShape r.now.dim other.now }

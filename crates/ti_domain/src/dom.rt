@@ -1,4 +1,4 @@
-// Domains, and those of one rectangle.
+// Domains and their representation; the domain of one rectangle.
 
 ghost use Rattle.std.specs.Prelude.{◌≡◌, ◌↔◌, ◌<◌, ◌≤◌, IsTrue, IsErrOf, IfOk, OnOk, length};
 ghost use Rattle.ti_base.specs.declared.point.Point.{Point};
@@ -17,8 +17,8 @@ use ti_rect::rect_size;
 
 /// A set of points of one dimension, at most 1,048,576.
 ///
-/// Contracts see its dimension and its points in a rising list. It is kept as rectangles that have points,
-/// no two a common one, which `dom_pieces` gives.
+/// Contracts see its dimension and the sorted list of its points. It is represented by rectangles that have points, no two a common one,
+/// which `dom_pieces` returns.
 #[derive(Drop)]
 pub struct Dom {
     dim: u8,
@@ -36,8 +36,7 @@ impl Model for Dom {
     ghost invariant = { λ d. IsKept d.dim d.pieces.items };
 }
 
-/// The rectangles that make up the domain: each has points, no two have a common one, and together they
-/// have the domain's.
+/// The rectangles that represent the domain: each has points, no two have a common one, and their union is the domain.
 pub fn dom_pieces(a: &Dom) -> &[Rect]
     ensures domain { IsDom a.now }
     ensures pieces { ArePieces a.now.dim result.now }
@@ -48,14 +47,14 @@ pub fn dom_pieces(a: &Dom) -> &[Rect]
     a.pieces.as_slice()
 }
 
-/// The dimension of its points.
+/// The dimension of the domain's points.
 pub fn dim_of(a: &Dom) -> u8
     ensures { result ≡ a.now.dim }
 {
     a.dim
 }
 
-/// The domain of these rectangles.
+/// The domain that these disjoint rectangles represent.
 pub fn made(dim: u8, pieces: Vec<Rect>) -> Dom
     requires { IsKept dim pieces.items }
     ensures { result ≡ record { dim = dim; points = points_in pieces.items; pieces = pieces.items } }
@@ -74,7 +73,7 @@ fn is_large(r: &Rect) -> bool
     }
 }
 
-/// The points of the rectangle. The error is `TooLarge` exactly where there are more than 1,048,576.
+/// The domain with the points of the rectangle. The error is `TooLarge` exactly if there are more than 1,048,576.
 pub fn dom_of(alloc: Global, r: &Rect) -> Result<Dom, DomErr>
     requires { IsRect r.now }
     ensures large { IsErrOf result DomErr.TooLarge ↔ (1048576 < length (points_of r.now)) }
@@ -89,7 +88,7 @@ pub fn dom_of(alloc: Global, r: &Rect) -> Result<Dom, DomErr>
     Ok(made(r.dim, pieces))
 }
 
-/// The same domain.
+/// A copy of the domain.
 pub fn dom_copy(alloc: Global, a: &Dom) -> Result<Dom, Memory>
     ensures { IfOk result (λ d. d ≡ a.now) }
 {

@@ -1,8 +1,8 @@
-// Why there is no domain.
+// Why a domain isn't made.
 
 use ti_base::Memory;
 
-/// Why a rectangle or a union is no domain.
+/// Why a rectangle or a union doesn't give a domain.
 #[derive(Clone, Copy, Debug, PartialEq, Eq)]
 pub enum DomErr {
     /// It has more than 1,048,576 points.
@@ -11,7 +11,7 @@ pub enum DomErr {
     Memory,
 }
 
-/// Want of memory stays that, so that `?` hands it on.
+/// An allocation failure is `DomErr::Memory`, so that `?` passes it on.
 impl From<Memory> for DomErr {
     ghost use Rattle.std.specs.Prelude.{◌≡◌};
     ghost use Rattle.ti_domain.specs.declared.error.DomErr.TheVariants.{Memory};

@@ -1,13 +1,13 @@
-// What a variable holds.
+// Values of variables.
 
 use crate::dom::Dom;
 use ti_base::Value;
 
-/// What a variable holds: a value, or a domain.
+/// The value of a variable: one that can be copied, or a domain.
 #[derive(Drop)]
 pub enum Held {
-    /// A value that can be copied.
+    /// A value that can be copied; a rectangular domain is one.
     Plain(Value),
-    /// A `Domain`.
+    /// A value of type `Domain`.
     Dm(Dom),
 }

@@ -1,4 +1,4 @@
-//! Domains: sets of points of one dimension, at most 1,048,576, kept as disjoint rectangles.
+//! Domains: sets of points of one dimension, at most 1,048,576, represented by disjoint rectangles.
 #![tactic(auto)]
 
 mod cut;

@@ -1,4 +1,4 @@
-// The points that rectangles have in common with others.
+// Intersections of lists of rectangles.
 
 ghost use Rattle.std.specs.Prelude.{◌≡◌, ◌*◌, ◌≤◌, ◌++◌, IfOk, length};
 ghost use Rattle.ti_base.specs.Rects.{IsIn, IsRect};
@@ -11,7 +11,7 @@ use ti_base::{Memory, Rect};
 use ti_rect::rect::is_empty;
 use ti_rect::rect_meet;
 
-/// The rectangles, and this one where it has points.
+/// The rectangles, with `r` appended if it has points.
 fn with_filled(mut rects: Vec<Rect>, r: Rect) -> Result<Vec<Rect>, Memory>
     requires { IsRect r }
     ensures { IfOk result (λ v. v.items ≡ rects.items ++ alone r) }
@@ -23,7 +23,7 @@ fn with_filled(mut rects: Vec<Rect>, r: Rect) -> Result<Vec<Rect>, Memory>
     Ok(rects)
 }
 
-/// The points of one rectangle that are in one of the others.
+/// The points of `r` that are in one of the other rectangles, as disjoint rectangles.
 fn meets_with(alloc: Global, r: &Rect, others: &[Rect]) -> Result<Vec<Rect>, Memory>
     requires piece { IsPiece r.now.dim r.now }
     requires others { ArePieces r.now.dim others.now }
@@ -37,7 +37,8 @@ fn meets_with(alloc: Global, r: &Rect, others: &[Rect]) -> Result<Vec<Rect>, Mem
     Ok(common)
 }
 
-/// The points that are in one of the rectangles and in one of the others.
+/// The points that are in one of the rectangles and in one of the others, as disjoint rectangles. `dim` is for the prover: the dimension
+/// of all of them.
 pub fn meets(alloc: Global, dim: u8, rects: &[Rect], others: &[Rect]) -> Result<Vec<Rect>, Memory>
     requires pieces { ArePieces dim rects.now }
     requires others { ArePieces dim others.now }

@@ -1,4 +1,4 @@
-// Members, equality and size.
+// Membership, equality and size of domains.
 
 ghost use Rattle.std.specs.Prelude.{◌≡◌, ◌↔◌, pos, IsTrue, length};
 ghost use Rattle.ti_base.specs.PointSets.{IsAmong};
@@ -22,7 +22,7 @@ pub fn dom_contains(a: &Dom, p: &Point) -> bool
     false
 }
 
-/// Whether the two have the same points: as many each as in common.
+/// Whether the two domains have the same points: each has as many points as both have in common.
 pub fn dom_same(a: &Dom, b: &Dom) -> bool
     requires { b.now.dim ≡ a.now.dim }
     ensures { IsTrue result ↔ (a.now.points ≡ b.now.points) }
@@ -37,7 +37,7 @@ pub fn dom_same(a: &Dom, b: &Dom) -> bool
     common(dim, left, right) == count
 }
 
-/// How many points there are.
+/// The number of points of the domain.
 pub fn dom_size(a: &Dom) -> i32
     ensures { result ≡ pos (length a.now.points) }
 {

@@ -1,4 +1,4 @@
-// What rectangles have beyond others.
+// Differences of lists of rectangles. Rectangles that are apart by their bounds are recognized first, so that nothing is copied for them.
 
 ghost use Rattle.std.specs.Prelude.{◌≡◌, ℤ, All, IfOk, IsTrue};
 ghost use Rattle.ti_base.specs.declared.point.Point.{Point};
@@ -13,7 +13,7 @@ use ti_base::{Memory, Rect};
 use ti_rect::axis::Axis;
 use ti_rect::rect::{first, second, third};
 
-/// The points of the rectangles that are not in one other.
+/// The points of the rectangles that aren't in `other`, as disjoint rectangles.
 fn beyond_one(alloc: Global, rects: &[Rect], other: &Rect) -> Result<Vec<Rect>, Memory>
     requires form { IsShape other.now.dim other.now }
     requires pieces { ArePieces other.now.dim rects.now }
@@ -27,14 +27,14 @@ fn beyond_one(alloc: Global, rects: &[Rect], other: &Rect) -> Result<Vec<Rect>, 
     Ok(left)
 }
 
-/// Whether the one range ends before the other begins.
+/// Whether the first range ends before the second begins.
 fn ends_before(a: Axis, b: Axis) -> bool
     ensures { IsTrue result → (x : ℤ) → IsOn (range a) x → IsOn (range b) x → ⊥ }
 {
     a.high < b.low
 }
 
-/// Whether the two have no common number, as far as their bounds tell.
+/// Whether the bounds of the ranges show that they have no common number.
 fn are_apart(a: Axis, b: Axis) -> bool
     ensures { IsTrue result → (x : ℤ) → IsOn (range a) x → IsOn (range b) x → ⊥ }
 {
@@ -44,7 +44,7 @@ fn are_apart(a: Axis, b: Axis) -> bool
     ends_before(a, b)
 }
 
-/// Whether the two have no common point, as far as their bounds tell.
+/// Whether the bounds of the rectangles show that they have no common point.
 fn lies_apart(r: &Rect, other: &Rect) -> bool
     ensures { IsTrue result → (p : Point) → IsIn r.now p → IsIn other.now p → ⊥ }
 {
@@ -57,7 +57,7 @@ fn lies_apart(r: &Rect, other: &Rect) -> bool
     are_apart(third(r), third(other))
 }
 
-/// Whether none of the rectangles has a point of the other, as far as their bounds tell.
+/// Whether the bounds show that none of the rectangles has a common point with `other`.
 fn all_lie_apart(rects: &[Rect], other: &Rect) -> bool
     ensures { IsTrue result → (p : Point) → IsInSome rects.now p → IsIn other.now p → ⊥ }
 {
@@ -69,7 +69,7 @@ fn all_lie_apart(rects: &[Rect], other: &Rect) -> bool
     true
 }
 
-/// The points of the rectangles that are not in one other; where none is, the same rectangles.
+/// The points of the rectangles that aren't in `other`, as disjoint rectangles; `rects` itself if the bounds show that all are outside.
 fn without_one(alloc: Global, rects: Vec<Rect>, other: &Rect) -> Result<Vec<Rect>, Memory>
     requires form { IsShape other.now.dim other.now }
     requires pieces { ArePieces other.now.dim rects.items }
@@ -81,7 +81,8 @@ fn without_one(alloc: Global, rects: Vec<Rect>, other: &Rect) -> Result<Vec<Rect
     beyond_one(alloc, rects.as_slice(), other)
 }
 
-/// The points of the rectangles that are in none of the others.
+/// The points of the rectangles that are in none of the others, as disjoint rectangles. `dim` is for the prover: the dimension of all of
+/// them.
 pub fn beyond_all(
     alloc: Global,
     dim: u8,

@@ -1,4 +1,4 @@
-// Union, difference and meet.
+// Union, difference and intersection of domains.
 
 ghost use Rattle.std.specs.Prelude.{◌≡◌, ◌*◌, ◌<◌, ◌≤◌, IfOk, OnOk, length};
 ghost use Rattle.ti_base.specs.PointSets.{meet, minus, union};
@@ -12,8 +12,7 @@ use crate::sizes::{MAX_POINTS, total};
 use std::alloc::Global;
 use ti_base::Memory;
 
-/// The points of either. The error is `TooLarge` only where there are more than 1,048,576, and there is no
-/// domain then.
+/// The union of the domains. The error is `TooLarge` only if the union has more than 1,048,576 points, and then no domain is returned.
 pub fn dom_union(alloc: Global, a: &Dom, b: &Dom) -> Result<Dom, DomErr>
     requires { b.now.dim ≡ a.now.dim }
     ensures large { result ≡ Err DomErr.TooLarge → 1048576 < length (union a.now.points b.now.points) }
@@ -33,7 +32,7 @@ pub fn dom_union(alloc: Global, a: &Dom, b: &Dom) -> Result<Dom, DomErr>
     Ok(made(dim, pieces))
 }
 
-/// The points of the first that are not in the second.
+/// The points of `a` that aren't in `b`.
 pub fn dom_minus(alloc: Global, a: &Dom, b: &Dom) -> Result<Dom, Memory>
     requires { b.now.dim ≡ a.now.dim }
     ensures dim { IfOk result (λ d. d.dim ≡ a.now.dim) }
@@ -46,7 +45,7 @@ pub fn dom_minus(alloc: Global, a: &Dom, b: &Dom) -> Result<Dom, Memory>
     Ok(made(dim, pieces))
 }
 
-/// The points of both.
+/// The intersection of the domains.
 pub fn dom_meet(alloc: Global, a: &Dom, b: &Dom) -> Result<Dom, Memory>
     requires { b.now.dim ≡ a.now.dim }
     ensures dim { IfOk result (λ d. d.dim ≡ a.now.dim) }

@@ -1,4 +1,4 @@
-// How many points rectangles have.
+// Counting the points of rectangles.
 
 ghost use Rattle.std.specs.Prelude.{◌≡◌, ◌≤◌, All, sum_by, length};
 ghost use Rattle.ti_base.specs.Rects.{IsRect, points_of};
@@ -8,10 +8,10 @@ ghost use Rattle.ti_domain.specs.Pieces.{IsShape, point_count, total_count};
 use ti_base::Rect;
 use ti_rect::{rect_meet, rect_size};
 
-/// The most points that a domain has.
+/// The maximal number of points of a domain.
 pub const MAX_POINTS: u64 = 1_048_576;
 
-/// How many points a rectangle has that has few enough for a domain.
+/// The number of points of a rectangle, which has few enough for a domain.
 pub fn size(r: &Rect) -> u64
     requires form { IsRect r.now }
     requires small { point_count r.now ≤ 1048576 }
@@ -23,7 +23,7 @@ pub fn size(r: &Rect) -> u64
     }
 }
 
-/// How many points the rectangles have together.
+/// The total number of points of the rectangles.
 pub fn total(pieces: &[Rect]) -> u64
     requires form { All IsRect pieces.now }
     requires small { total_count pieces.now ≤ 1048576 }
@@ -36,7 +36,7 @@ pub fn total(pieces: &[Rect]) -> u64
     total
 }
 
-/// How many points one rectangle has in common with the others together.
+/// The total number of points that `r` has in common with each of the others.
 fn common_with(r: &Rect, others: &[Rect]) -> u64
     requires form { IsRect r.now }
     requires others { All (IsShape r.now.dim) others.now }
@@ -50,7 +50,8 @@ fn common_with(r: &Rect, others: &[Rect]) -> u64
     total
 }
 
-/// How many points the rectangles have in common with the others.
+/// The total number of points that each of the rectangles has in common with each of the others. `dim` is for the prover: the dimension
+/// of all of them.
 pub fn common(dim: u8, pieces: &[Rect], others: &[Rect]) -> u64
     requires pieces { All (IsShape dim) pieces.now }
     requires others { All (IsShape dim) others.now }

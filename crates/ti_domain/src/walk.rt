@@ -1,4 +1,4 @@
-// The next point of a domain.
+// The next point of a domain in lexicographic order.
 
 ghost use Rattle.std.specs.Prelude.{◌≡◌, IfSome, MatchOption, option_copied};
 ghost use Rattle.ti_base.specs.Points.{IsPoint};
@@ -9,7 +9,7 @@ use crate::dom::{Dom, dom_pieces};
 use ti_base::{Point, pt_lex_lt};
 use ti_rect::rect_next_after;
 
-/// What there is of the two points, and of both the one before the other.
+/// The lexicographically smaller of two points; if only one is given, that one.
 fn sooner(a: Option<Point>, b: Option<Point>) -> Option<Point>
     requires { AgreeInDim a b }
     ensures { IsSooner a b result }
@@ -23,8 +23,7 @@ fn sooner(a: Option<Point>, b: Option<Point>) -> Option<Point>
     }
 }
 
-/// The lexicographically first point above `p`, or the first of all where none is given; none exactly
-/// where there is no such point.
+/// The lexicographically first point above `p`, or the first of all if `p` is None; the result is None exactly if there is no such point.
 pub fn dom_next_after(a: &Dom, p: Option<&Point>) -> Option<Point>
     requires { IfSome (option_copied p) (λ q. q.dim ≡ a.now.dim) }
     ensures point { IfSome result IsPoint }

@@ -1,4 +1,4 @@
--- Slices: whether there is a point with the coordinate, and what is left of the others.
+-- Array slices: whether there is a point with the fixed coordinate, and which map remains for the other coordinates.
 use Rattle.std.proofs.Common.{◌≡◌, ◌⊎◌, inl, inr, ⊎_elim, ℕ, ◌+◌, ◌-◌, ◌*◌, ◌<◌, ◌≤◌, ◌==◌, leb, ℤ, pos, ◌≤ℤ◌, ◌<ℤ◌, Bool, true, false, not, ◌&&◌, ◌||◌, if◌then◌else◌, [], ◌∷◌, slice_index, Some, None, refl, sym, ap, subst, subst₂, ◌∙◌, arith}
 use Rattle.std.specs.Int.RustNames.{int_le}
 use Rattle.std.proofs.lemmas.Int.{ints}

@@ -1,4 +1,4 @@
--- The view of a whole block numbers the points in their rising list.
+-- The view of a whole block assigns each point its index in the sorted list of points.
 use Rattle.std.proofs.Common.{◌≡◌, ℕ, ◌+◌, ◌*◌, ◌<◌, ◌≤◌, Bool, true, false, if◌then◌else◌, ℤ, List, map, length, slice_index, Option, Some, None, IfSome, refl, sym, ap, subst, ◌∙◌, arith}
 use Rattle.std.specs.Option.{option_map}
 use Rattle.std.specs.List.{slice_get, flat_map}

@@ -1,4 +1,4 @@
--- Definitions that mirror code, as its private contracts speak of it: nobody has to believe them.
+-- Definitions that mirror the code. Only contracts of private functions and the invariant use them, so a reader needn't check them.
 pub mod Numbers
 pub mod Parts
 pub mod Slices

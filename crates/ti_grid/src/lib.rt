@@ -1,4 +1,5 @@
-//! Views of blocks: maps from the points of a domain to the numbers of a block's cells.
+//! Views of blocks: maps from the points of a domain to the indices of a block's cells. Views don't own their cells, so restricting,
+//! translating and slicing only computes a new map.
 #![tactic(auto)]
 
 mod layout;

@@ -1,4 +1,4 @@
-// The number of a point's cell.
+// The cell index of a point.
 
 ghost use Rattle.std.specs.Prelude.{◌≡◌, ◌↔◌, ◌*◌, ◌<◌, ℕ, Some, None, IsNone, IfSome};
 ghost use Rattle.ti_base.specs.declared.point.Point.{Point};
@@ -15,7 +15,7 @@ use ti_rect::axis::{Axis, distance};
 use ti_rect::rect::{first, second, third};
 use ti_rect::rect_contains;
 
-/// What a number on the range adds to the number of a cell.
+/// What the coordinate `x` on the range adds to the cell index, if one step of the range adds `step`.
 pub fn offset(a: Axis, x: i32, step: u64) -> u64
     requires positive { 0 < a.step }
     requires on { IsOn (range a) x }
@@ -25,7 +25,7 @@ pub fn offset(a: Axis, x: i32, step: u64) -> u64
     distance(a.low, i64::from(x)) / u64::from(a.step) * step
 }
 
-/// The number of the cell of a point of the domain.
+/// The cell index of a point of the domain.
 pub fn number(l: &Layout, p: &Point) -> u64
     requires laid { IsLaid l.now }
     requires inside { IsIn l.now.dom p.now }
@@ -38,8 +38,8 @@ pub fn number(l: &Layout, p: &Point) -> u64
     l.base + x + y + z
 }
 
-/// The number of the point's cell in the block, below the block's size; none exactly where the point isn't in
-/// the domain. Different points have different numbers.
+/// The index of the point's cell in the block, which is below the block's size; None exactly if the point isn't in the domain. Different
+/// points have different indices.
 pub fn index_of(v: &View, p: &Point) -> Option<u64>
     requires { p.now.dim ≡ v.now.dom.dim }
     ensures value { result ≡ cell_number v.now p.now }

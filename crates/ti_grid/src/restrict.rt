@@ -1,4 +1,4 @@
-// Views over the intersection with a rectangle.
+// Views restricted to a rectangle.
 
 ghost use Rattle.std.specs.Prelude.{◌≡◌};
 ghost use Rattle.ti_base.specs.declared.point.Point.{Point};
@@ -17,7 +17,7 @@ use ti_rect::axis::Axis;
 use ti_rect::rect::{first, is_empty, second, third};
 use ti_rect::rect_meet;
 
-/// What a step of the part of a range adds, where a step of the range adds `step`.
+/// What one step of the subrange adds to the cell index, if one step of the range adds `step`.
 fn stretched(a: Axis, part: Axis, step: u64) -> u64
     requires { IsPart (range a) (range part) step }
     ensures { IsStretched (range a) (range part) step result }
@@ -29,7 +29,7 @@ fn stretched(a: Axis, part: Axis, step: u64) -> u64
     }
 }
 
-/// The same cells, over a part of the domain that has points.
+/// The same map, restricted to a part of the domain that has points.
 fn restricted(l: &Layout, dom: &Rect) -> Layout
     requires laid { IsLaid l.now }
     requires form { HasPoints dom.now }
@@ -50,7 +50,7 @@ fn restricted(l: &Layout, dom: &Rect) -> Layout
     }
 }
 
-/// The view over the intersection with `r`: each point keeps its cell.
+/// The view over the intersection of its domain with `r`: each point keeps its cell.
 pub fn view_restrict(v: &View, r: &Rect) -> View
     requires form { IsRect r.now }
     requires dim { r.now.dim ≡ v.now.dom.dim }

@@ -1,4 +1,4 @@
-// Views with a coordinate fixed and left out.
+// Array slices: views with one coordinate fixed and left out.
 
 ghost use Rattle.std.specs.Prelude.{◌≡◌, ◌↔◌, ◌≤◌, ℤ, false, IsErr, IfOk, MatchOption};
 ghost use Rattle.std.specs.Result.{result_err};
@@ -15,15 +15,15 @@ use ti_base::FaultKind;
 use ti_rect::axis::{Axis, UNUSED, contains};
 use ti_rect::rect::{first, of_axes, second, third};
 
-/// The range of a coordinate, and what a step in it adds to the number of a cell.
+/// The range of a coordinate, and what one step in it adds to the cell index.
 #[derive(Clone, Copy)]
 struct Lane {
     axis: Axis,
     step: u64,
 }
 
-/// The coordinate `k`, counted from 1, and after it the others in their order; none exactly where the dimension has
-/// no such coordinate.
+/// Splits off coordinate `k`, counted from 1: it comes first, then the others in their order. None exactly if the dimension has no such
+/// coordinate.
 fn set_apart(l: &Layout, k: i32) -> Option<(Lane, Lane, Lane)>
     requires laid { IsLaid l.now }
     requires two { 2 ≤ l.now.dom.dim }
@@ -52,8 +52,8 @@ fn set_apart(l: &Layout, k: i32) -> Option<(Lane, Lane, Lane)>
     })
 }
 
-/// The view with coordinate `k`, counted from 1, fixed at `j` and left out. The fault is `Bounds`, exactly where
-/// `k` isn't from 1 to the dimension or no point of the domain has `j` there; a view without points always has it.
+/// The view with coordinate `k`, counted from 1, fixed at `j` and left out. The fault is `Bounds`, exactly if `k` isn't between 1 and the
+/// dimension or no point of the domain has `j` as coordinate `k`; for a view without points it always is.
 pub fn view_slice(v: &View, k: i32, j: i32) -> Result<View, FaultKind>
     requires { 2 ≤ v.now.dom.dim }
     ensures fault { result_err result ≡ view_fault (Slice k j) v.now.dom }

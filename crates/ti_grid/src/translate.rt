@@ -1,4 +1,4 @@
-// Views that are shifted.
+// Views whose points are shifted.
 
 ghost use Rattle.std.specs.Prelude.{◌≡◌, ◌↔◌, IsErr, IfOk};
 ghost use Rattle.std.specs.Result.{result_err};
@@ -13,8 +13,8 @@ use crate::view::{View, laid, layout};
 use ti_base::{FaultKind, Point};
 use ti_rect::rect_translate;
 
-/// The view with each point moved by the coordinates of `p`. The fault is `Range`, exactly where a coordinate of
-/// a point of the domain would leave 32 bits; a view without points never has one.
+/// The view with each point shifted by the coordinates of `p`. The fault is `Range`, exactly if a coordinate of a point of the domain
+/// would leave 32 bits; a view without points never has it.
 pub fn view_translate(v: &View, p: &Point) -> Result<View, FaultKind>
     requires by { IsPoint p.now }
     requires dim { p.now.dim ≡ v.now.dom.dim }

@@ -1,4 +1,4 @@
-// Views, and what each of them keeps.
+// Views, with the invariant that different points have different cells.
 
 ghost use Rattle.std.specs.Prelude.{◌≡◌, ◌≤◌, length};
 ghost use Rattle.ti_base.specs.Rects.{IsRect, points_of};
@@ -8,11 +8,10 @@ use crate::layout::Layout;
 use std::marker::Model;
 use ti_base::{Id, Rect};
 
-/// A view of a block: a map from the points of a domain to the numbers of the block's cells.
+/// A view of a block: a map from the points of a domain to the indices of the block's cells.
 ///
-/// Contracts see its block, its domain and the number of the cell of each point (`cell_number`). A domain has
-/// at most 1,048,576 points, and different points have different cells. The cells are shared: a view has none
-/// of its own.
+/// Contracts see its block, its domain and the cell index of each point (`cell_number`). A domain has at most 1,048,576 points, and
+/// different points have different cells. The cells are shared: a view has none of its own.
 #[derive(Drop)]
 pub struct View {
     layout: Layout,
@@ -30,14 +29,14 @@ impl Model for View {
 }
 
 impl View {
-    /// The name of the block that has the cells.
+    /// The name of the block whose cells the view shares.
     pub fn block(&self) -> Id
         ensures { result ≡ self.now.block }
     {
         self.layout.block
     }
 
-    /// The points of the view.
+    /// The domain of the view.
     pub fn domain(&self) -> Rect
         ensures value { result ≡ self.now.dom }
         ensures form { IsRect self.now.dom }
@@ -48,7 +47,7 @@ impl View {
     }
 }
 
-/// How the view lies.
+/// The layout of the view, which satisfies the invariant.
 pub fn layout(v: &View) -> Layout
     ensures value { result ≡ v.now }
     ensures laid { IsLaid result }
@@ -56,7 +55,7 @@ pub fn layout(v: &View) -> Layout
     v.layout
 }
 
-/// The view that lies so.
+/// The view with this layout, which must satisfy the invariant.
 pub fn laid(layout: Layout) -> View
     requires { IsLaid layout }
     ensures { result ≡ layout }

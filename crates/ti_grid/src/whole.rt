@@ -1,4 +1,4 @@
-// The view of a whole block.
+// The view of a whole block, in row-major order.
 
 ghost use Rattle.std.specs.Prelude.{◌≡◌, ◌≤◌, length};
 ghost use Rattle.ti_base.specs.Rects.{IsRect, points_of};
@@ -10,8 +10,8 @@ use ti_base::{Id, Rect};
 use ti_rect::axis::count;
 use ti_rect::rect::{is_empty, second, third};
 
-/// The cells of a block in the order of its points: a row is as long as the range of the third coordinate, a
-/// plane has as many rows as the range of the second.
+/// The layout of a block in row-major order: a row is as long as the range of the third coordinate, and a plane has as many rows as the
+/// range of the second.
 fn whole(block: Id, dom: &Rect) -> Layout
     requires form { IsRect dom.now }
     requires few { length (points_of dom.now) ≤ 1048576 }
@@ -38,8 +38,8 @@ fn whole(block: Id, dom: &Rect) -> Layout
     }
 }
 
-/// The view of the whole block over this domain: the number of a point's cell is the place of the point in
-/// the rising list of the domain. The domain has at most 1,048,576 points.
+/// The view of the whole block over this domain: the index of a point's cell is the point's index in the sorted list of the domain's
+/// points. The domain has at most 1,048,576 points.
 pub fn view_of(block: Id, dom: &Rect) -> View
     requires form { IsRect dom.now }
     requires few { length (points_of dom.now) ≤ 1048576 }

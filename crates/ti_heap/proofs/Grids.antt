@@ -1,4 +1,4 @@
--- Grids as maps from points to cells.
+-- The layouts of grids represent maps from points to cells.
 use Rattle.std.proofs.Common.{◌≡◌, ℕ, ◌<◌, false, if◌then◌else◌, length, Some, None, IsSome, sym, ap, subst, ◌∙◌}
 use Rattle.std.specs.List.{slice_get}
 use Rattle.std.specs.Option.{option_map, option_and_then, is_some}

@@ -1,4 +1,4 @@
--- Lists with one element changed, one more, or a front changed.
+-- Lemmas on lists with one element changed, one added, or a prefix changed.
 use Rattle.std.proofs.Common.{◌≡◌, ℕ, zero, suc, ◌≤◌, List, [], ◌∷◌, ◌++◌, map, length, set, Some, None, refl, ap, arith}
 use Rattle.std.specs.List.{slice_get}
 use Rattle.ti_heap.specs.Things.{changed_at}

@@ -1,4 +1,4 @@
--- One more thing.
+-- Adding an object, grid or view to the lists has the effect on the maps that `with_thing` states.
 use Rattle.std.proofs.Common.{◌≡◌, ⊎_elim, ℕ, ◌+◌, ◌<◌, IsSome, eqb, Bool, true, if◌then◌else◌, List, [], ◌∷◌, ◌++◌, map, length, replicate, set, OnOk, OnErr, Result, Ok, Err, Option, Some, None, refl, sym, ap, subst, ◌∙◌, zero, suc, arith}
 use Rattle.std.specs.List.{slice_get}
 use Rattle.std.specs.Option.{option_map, option_and_then, option_map_or, is_some}

@@ -1,4 +1,4 @@
--- Names of things.
+-- The equality test of names decides equality.
 use Rattle.std.proofs.Common.{◌≡◌, eqb, Bool, true, false, ◌&&◌, if◌then◌else◌, Option, Some, None, refl, sym, ap, subst, ◌∙◌}
 use Rattle.std.specs.Option.{option_and_then}
 use Rattle.std.proofs.lemmas.Bool.{and_parts, and_from, eqb-true, eq-eqb}

@@ -1,4 +1,4 @@
--- Another value in a cell.
+-- Writing a cell in the lists has the effect on the maps that `with_value` states.
 use Rattle.std.proofs.Common.{◌≡◌, ⊎_elim, ℕ, ◌+◌, eqb, IsSome, Bool, true, false, ◌&&◌, if◌then◌else◌, List, [], ◌∷◌, map, length, set, Option, Some, None, refl, sym, ap, subst, ◌∙◌, zero, suc, length-set}
 use Rattle.std.specs.List.{slice_get}
 use Rattle.std.specs.Option.{option_map, option_and_then, option_map_or}

@@ -1,4 +1,4 @@
--- What contracts see of a heap: finite maps from names.
+-- What contracts see of a heap: finite maps from names to values and grids.
 use Rattle.std.specs.Prelude.{◌≡◌, ◌⊎◌, ◌↔◌, ℕ, ◌+◌, IsSome, Bool, ◌&&◌, ◌==◌, nat_lt, if◌then◌else◌, List, [], ◌∷◌, ◌++◌, map, length, sum_by, slice_get, Option, Some, None, Result, Ok, Err}
 use Rattle.std.specs.Option.{option_map, option_and_then}
 use Rattle.ti_base.specs.declared.point.Point.{Point}
@@ -16,7 +16,7 @@ use Rattle.ti_heap.specs.declared.error.HeapErr.TheVariants.{Faulted, Memory}
 
 -- ---- the maps
 
--- a cell: a field of an object by its number, or an element of a block by the place of its point in the rising list of the block's domain
+-- a cell: a field of an object by its index, or an element of a block by the index of its point in the sorted list of the block's points
 pub record Cell : Type 0 where
   pub thing : Id
   pub number : ℕ
@@ -32,33 +32,33 @@ pub record GridMap : Type 0 where
   pub domain : Rect
   pub cell : Point → Option Cell
 
--- something that a process made: its region and its cost; what lay in a dropped region lies in none and costs nothing
+-- what a process made, as its region and its cost; what was in a dropped region is in none and costs nothing
 pub record Made : Type 0 where
   pub region : ℕ
   pub cost : ℕ
 
--- a heap: how many processes it has, what each cell holds, the grids, and what each process made, in the order of making
+-- a heap: the number of processes, the value of each cell, the grids, and what each process made, in the order of making
 pub record Contents : Type 0 where
   pub procs : ℕ
   pub held : Cell → Option Value
   pub grid : Id → Option GridMap
   pub made : ℕ → List Made
 
--- the cost of a process
+-- the cost of what a process made
 abbrev pub cost_of : ℕ → Contents → ℕ
 cost_of p s = sum_by (λ (m : Made). m.cost) (s.made p)
 
--- ---- what the calls make of them
+-- ---- the effects of calls
 
--- a new heap
+-- an empty heap
 abbrev pub nothing : ℕ → Contents
 nothing procs = record { procs = procs; held = λ _. None; grid = λ _. None; made = λ _. [] }
 
--- one cell holds another value
+-- one cell has another value
 abbrev pub with_value : Cell → Value → Contents → Contents
 with_value cell v s = record s { held = λ other. if same_cell other cell then Some v else s.held other }
 
--- a thing is made, with these values in its cells; it costs 1, and 1 for each cell
+-- an object, grid or view is made, with these values in its cells; it costs 1, and 1 for each cell
 abbrev pub with_thing : Id → List Value → Option GridMap → Contents → Contents
 with_thing id values grid s = record s {
   held = λ cell. if same_id cell.thing id then slice_get values cell.number else s.held cell;
@@ -66,11 +66,11 @@ with_thing id values grid s = record s {
   made = λ p. if p == id.maker then s.made p ++ record { region = id.region; cost = 1 + length values } ∷ [] else s.made p;
 }
 
--- what was dropped lies in no region and costs nothing
+-- what was in the dropped region is in no region and costs nothing
 abbrev pub dropped_made : ℕ → Made → Made
 dropped_made region m = if m.region == region then record { region = 0; cost = 0 } else m
 
--- what lies in a region is dropped
+-- what is in a region is dropped
 abbrev pub without_region : ℕ → Contents → Contents
 without_region region s = record s {
   held = λ cell. if cell.thing.region == region then None else s.held cell;
@@ -80,17 +80,17 @@ without_region region s = record s {
 
 -- ---- names
 
--- the name of the next thing that a process makes in its own memory
+-- the name of the next object or grid that a process makes in its own memory
 abbrev pub own_id : ℕ → ℕ → Contents → Id
 own_id p region s = record { maker = p; serial = length (s.made p); owner = p; region = region }
 
--- the name of the next view that a process makes: it lies where that lies which it views
+-- the name of the next view that a process makes: it has the owner and the region of the viewed grid
 abbrev pub view_id : ℕ → Id → Contents → Id
 view_id p viewed s = record { maker = p; serial = length (s.made p); owner = viewed.owner; region = viewed.region }
 
 -- ---- grids
 
--- a new grid: the cell of a point has the place of the point in the rising list
+-- a new grid: the cell of a point has the point's index in the sorted list of the domain's points
 abbrev pub whole_map : Id → Rect → GridMap
 whole_map id domain = record { domain = domain; cell = λ p. option_map (cell_at id) (place_in (points_of domain) p) }
 
@@ -101,16 +101,16 @@ seen_map how g = record {
   cell = λ p. if is_in (view_domain how g.domain) p then g.cell (seen_point how p) else None;
 }
 
--- the cell of a point of a grid, where there is one
+-- the cell of a point of a grid, if there is one
 abbrev pub grid_cell : Id → Point → Contents → Option Cell
 grid_cell grid p s = option_and_then (λ (g : GridMap). g.cell p) (s.grid grid)
 
--- what is read through a cell, or bounds where there is none
+-- what is read through a cell; `Bounds` if there is none
 abbrev pub Reads : Contents → Option Cell → Result Value FaultKind → Type 0
 Reads s None r = r ≡ Err Bounds
 Reads s (Some cell) r = (v : Value) × (s.held cell ≡ Some v) × (r ≡ Ok v)
 
--- what is written through a cell, or bounds and no change where there is none
+-- what is written through a cell; `Bounds` and no change if there is none
 abbrev pub Writes : Contents → Option Cell → Value → Result (Unit {0}) FaultKind → Contents → Type 0
 Writes s None v r after = (r ≡ Err Bounds) × (after ≡ s)
 Writes s (Some cell) v r after = (r ≡ Ok tt) × (after ≡ with_value cell v s)
@@ -121,12 +121,12 @@ abbrev pub IsAmong : List Cell → Cell → Type 0
 IsAmong [] c = ⊥
 IsAmong (d ∷ ds) c = (c ≡ d) ⊎ IsAmong ds c
 
--- no cell stands twice in the list
+-- no cell occurs twice in the list
 abbrev pub AreApart : List Cell → Type 0
 AreApart [] = Unit {0}
 AreApart (c ∷ cs) = (IsAmong cs c → ⊥) × AreApart cs
 
--- what the cells of a region hold, each cell once
+-- the values of the cells of a region, each cell once
 pub record ListsCells (s : Contents) (region : ℕ) (values : List Value) : Type 0 where
   pub cells : List Cell
   pub once : AreApart cells
@@ -135,7 +135,7 @@ pub record ListsCells (s : Contents) (region : ℕ) (values : List Value) : Type
 
 -- ---- faults
 
--- the fault of a thing with so many cells: the cost would pass 1,048,576
+-- the fault of making something with the given number of cells: `HeapFull` if the cost would exceed 1,048,576
 abbrev pub new_fault : ℕ → ℕ → Contents → Option FaultKind
 new_fault p cells s = if nat_lt 1048576 (cost_of p s + (1 + cells)) then Some HeapFull else None
 
@@ -144,11 +144,11 @@ abbrev pub first_fault : Option FaultKind → Option FaultKind → Option FaultK
 first_fault None second = second
 first_fault (Some kind) second = Some kind
 
--- the fault of a view, before that of the heap
+-- the fault of a view, which precedes that of the heap
 abbrev pub seen_fault : ℕ → ViewHow → GridMap → Contents → Option FaultKind
 seen_fault p how g s = first_fault (view_fault how g.domain) (new_fault p 0 s)
 
--- the answer is this fault, where there is one, and a name where there is none; want of memory may stand in place of both
+-- the result is this fault, if there is one, and a name otherwise; in both cases it may be an allocation failure instead
 abbrev pub FaultsAs : Option FaultKind → Result Id HeapErr → Type 0
 FaultsAs fault (Ok id) = fault ≡ None
 FaultsAs fault (Err (Faulted kind)) = fault ≡ Some kind

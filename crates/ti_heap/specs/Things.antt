@@ -1,4 +1,4 @@
--- How the lists of things that the code keeps mean the maps.
+-- How the code's lists of objects, blocks and views represent the maps of `Contents`.
 use Rattle.std.specs.Prelude.{◌≡◌, ℕ, zero, suc, ◌+◌, ◌≤◌, Bool, false, ◌&&◌, ◌==◌, if◌then◌else◌, List, [], ◌∷◌, ◌++◌, map, length, sum_by, slice_get, slice_set, Option, Some, None}
 use Rattle.std.specs.List.{flat_map}
 use Rattle.std.specs.Option.{option_map, option_and_then, option_map_or}
@@ -10,16 +10,16 @@ use Rattle.ti_heap.specs.declared.thing.Thing.{Thing}
 use Rattle.ti_heap.specs.declared.thing.Thing.TheVariants.{Object, Block, Seen, Gone}
 use Rattle.ti_heap.specs.Contents.{Cell, cell_at, GridMap, Made, Contents}
 
--- ---- one thing
+-- ---- one object, block or view
 
--- what its cells hold
+-- the values of its cells
 abbrev pub values_of : Thing → List Value
 values_of (Object region fields) = fields
 values_of (Block whole elements) = elements
 values_of (Seen view) = []
 values_of Gone = []
 
--- the region in which it lies
+-- the region that it is in
 abbrev pub region_of : Thing → ℕ
 region_of (Object region fields) = region
 region_of (Block whole elements) = whole.block.region
@@ -36,7 +36,7 @@ made_of Gone = record { region = 0; cost = 0 }
 abbrev pub cost_of : Thing → ℕ
 cost_of t = (made_of t).cost
 
--- how it lies in a block, where it is a grid
+-- the view of a block that it is, if it is a grid
 abbrev pub layout_of : Thing → Option Layout
 layout_of (Object region fields) = None
 layout_of (Block whole elements) = Some whole
@@ -50,22 +50,22 @@ is_named id (Block whole elements) = id.owner == whole.block.owner && id.region 
 is_named id (Seen view) = id.owner == view.block.owner && id.region == view.block.region
 is_named id Gone = false
 
--- another value in one of its cells
+-- with another value in one of its cells
 abbrev pub put_in : ℕ → Value → Thing → Thing
 put_in i v (Object region fields) = Object region (slice_set fields i v)
 put_in i v (Block whole elements) = Block whole (slice_set elements i v)
 put_in i v (Seen view) = Seen view
 put_in i v Gone = Gone
 
--- gone, where it lies in the region
+-- dropped, if it is in the region
 abbrev pub dropped : ℕ → Thing → Thing
 dropped region t = if region_of t == region then Gone else t
 
--- the values of its cells, where it lies in the region
+-- the values of its cells, if it is in the region
 abbrev pub values_in : ℕ → Thing → List Value
 values_in region t = if region_of t == region then values_of t else []
 
--- ---- things by maker and serial
+-- ---- by maker and serial number
 
 abbrev pub Things : Type 0
 Things = ℕ → ℕ → Option Thing
@@ -76,7 +76,7 @@ thing_at h maker serial = option_and_then (λ things. slice_get things serial) (
 abbrev pub named : Id → Thing → Option Thing
 named id t = if is_named id t then Some t else None
 
--- the thing with this name
+-- the object, block or view with this name, if it wasn't dropped
 abbrev pub live : Things → Id → Option Thing
 live things id = option_and_then (named id) (things id.maker id.serial)
 
@@ -105,39 +105,39 @@ made_in h p = map made_of (share_of h p)
 abbrev pub contents : List (List Thing) → Contents
 contents h = record { procs = length h; held = held_in (thing_at h); grid = grid_in (thing_at h); made = made_in h }
 
--- the values of all cells of a region, thing by thing
+-- the values of all cells of a region, by maker and then in the order of making
 abbrev pub all_values_in : ℕ → List (List Thing) → List Value
 all_values_in region h = flat_map (λ things. flat_map (values_in region) things) h
 
--- those that are still to come
+-- the values that an iteration has yet to yield
 abbrev pub values_left : ℕ → List Value → List Thing → List (List Thing) → List Value
 values_left region values things shares = values ++ (flat_map (values_in region) things ++ all_values_in region shares)
 
--- ---- what is kept
+-- ---- invariants
 
--- the block of a view is there, and has all its cells
+-- the block of a view exists, and has all its cells
 pub record IsBacked (things : Things) (l : Layout) : Type 0 where
   pub whole : Layout
   pub elements : List Value
   pub there : live things l.block ≡ Some (Block whole elements)
   pub below : NumbersBelow (length elements) l
 
--- the block of each grid is there
+-- the block of each grid exists
 abbrev pub IsSound : Things → Type 0
 IsSound things = (maker serial : ℕ) (t : Thing) (l : Layout) → things maker serial ≡ Some t → layout_of t ≡ Some l → IsBacked things l
 
--- a new thing under this name has its block
+-- what is newly made under this name has its block
 abbrev pub HasBacking : Things → Id → Thing → Type 0
 HasBacking things id (Object region fields) = Unit {0}
 HasBacking things id (Block whole elements) = (whole.block ≡ id) × NumbersBelow (length elements) whole
 HasBacking things id (Seen view) = IsBacked things view
 HasBacking things id Gone = Unit {0}
 
--- what the things of a process cost
+-- the total cost of what a process made
 abbrev pub total_cost : List Thing → ℕ
 total_cost things = sum_by (λ (m : Made). m.cost) (map made_of things)
 
--- the cost is counted, and isn't too much
+-- the stored cost is the total cost, and doesn't exceed the limit
 pub record IsCounted (cost : ℕ) (things : List Thing) : Type 0 where
   pub same : cost ≡ total_cost things
   pub most : cost ≤ 1048576

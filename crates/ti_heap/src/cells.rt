@@ -1,4 +1,4 @@
-// The values of the cells of a region.
+// Iteration over the values of all cells in a region, as the delete of a region needs it to take back references.
 
 ghost use Rattle.std.specs.Prelude.{◌≡◌, [], ◌∷◌, ◌++◌};
 ghost use Rattle.std.specs.List.{flat_map};
@@ -12,12 +12,15 @@ use crate::thing::Thing;
 use std::marker::Model;
 use ti_base::Value;
 
-/// The values of the cells of a region, one after another. Contracts see those that are still to come.
+/// An iterator over the values of the cells in a region. Contracts see the values that are still to come.
 #[derive(Drop)]
 pub struct Cells<'a> {
     region: u32,
+    // What is left of the current object's or block's values.
     values: &'a [Value],
+    // What is left of the current share.
     things: &'a [Thing],
+    // The shares after the current one.
     shares: &'a [Share],
 }
 
@@ -56,7 +59,8 @@ impl<'a> Iterator for Cells<'a> {
 }
 
 impl Heap {
-    /// What the cells of the things in the region hold, each cell once: thing by thing, in the order of making.
+    /// The values of the cells of all objects and grids in the region, each cell once: first by the process that made the object or grid,
+    /// then in the order of making.
     pub fn cells_of(&self, region: u32) -> Cells<'_>
         ensures values { result ≡ all_values_in region self.now }
         ensures cells { ListsCells (contents self.now) region result }

@@ -1,4 +1,4 @@
-// Elements of grids.
+// Reading and writing elements of grids, and reading their domains.
 
 ghost use Rattle.std.specs.Prelude.{◌≡◌, ◌↔◌, IsErr, Some, IsSome, IsSomeAnd};
 ghost use Rattle.std.specs.Option.{option_map};
@@ -12,8 +12,8 @@ use ti_base::{FaultKind, Id, Point, Rect, Value};
 use ti_grid::index_of;
 
 impl Heap {
-    /// What the element of a grid at a point holds. The fault is `Bounds`, exactly where the point isn't in the
-    /// domain. The grid is in no dropped region, and the point has its dimension.
+    /// The value of the element of a grid at a point. The fault is `Bounds`, exactly if the point isn't in the grid's domain. The grid
+    /// must be in no dropped region, and the point must have its dimension.
     pub fn get_elem(&self, grid: Id, at: &Point) -> Result<Value, FaultKind>
         requires { IsSomeAnd ((contents self.now).grid grid) (λ g. at.now.dim ≡ g.domain.dim) }
         ensures value { Reads (contents self.now) (grid_cell grid at.now (contents self.now)) result }
@@ -26,8 +26,8 @@ impl Heap {
         }
     }
 
-    /// Writes the element of a grid at a point: no other cell changes, and nothing else. The fault is `Bounds`,
-    /// exactly where the point isn't in the domain, and then nothing changes.
+    /// Writes the element of a grid at a point; nothing else changes. The fault is `Bounds`, exactly if the point isn't in the grid's
+    /// domain, and then nothing changes. The grid must be in no dropped region, and the point must have its dimension.
     pub fn put_elem(&mut self, grid: Id, at: &Point, v: Value) -> Result<(), FaultKind>
         requires { IsSomeAnd ((contents self.old).grid grid) (λ g. at.now.dim ≡ g.domain.dim) }
         ensures value { Writes (contents self.old) (grid_cell grid at.now (contents self.old)) v result (contents self.new) }
@@ -45,7 +45,7 @@ impl Heap {
         }
     }
 
-    /// The domain of a grid, which is in no dropped region.
+    /// The domain of a grid, which must be in no dropped region.
     pub fn domain_of(&self, grid: Id) -> Rect
         requires { IsSome ((contents self.now).grid grid) }
         ensures { option_map (λ g. g.domain) ((contents self.now).grid grid) ≡ Some result }

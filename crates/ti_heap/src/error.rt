@@ -1,8 +1,8 @@
-// Why a thing isn't made.
+// Why an object or grid isn't made.
 
 use ti_base::{FaultKind, Memory};
 
-/// Why a thing isn't made.
+/// Why an object or grid isn't made.
 #[derive(Clone, Copy, Debug, PartialEq, Eq)]
 pub enum HeapErr {
     /// A fault of the language.
@@ -11,7 +11,7 @@ pub enum HeapErr {
     Memory,
 }
 
-/// Want of memory stays that, so that `?` hands it on.
+/// An allocation failure is `HeapErr::Memory`, so that `?` passes it on.
 impl From<Memory> for HeapErr {
     ghost use Rattle.std.specs.Prelude.{◌≡◌};
     ghost use Rattle.ti_heap.specs.declared.error.HeapErr.TheVariants.{Memory};

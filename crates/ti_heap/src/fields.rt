@@ -1,4 +1,4 @@
-// Fields of objects.
+// Reading and writing fields of objects.
 
 ghost use Rattle.std.specs.Prelude.{◌≡◌, IsSome, Some};
 ghost use Rattle.ti_heap.specs.Contents.{cell_at, with_value};
@@ -8,7 +8,7 @@ use crate::heap::Heap;
 use ti_base::{Id, Value};
 
 impl Heap {
-    /// What a field of an object holds. The object is in no dropped region and has the field.
+    /// The value of a field of an object. The object must be in no dropped region and have the field.
     pub fn get_field(&self, obj: Id, field: u32) -> Value
         requires { IsSome ((contents self.now).held (cell_at obj field)) }
         ensures { (contents self.now).held (cell_at obj field) ≡ Some result }
@@ -16,7 +16,7 @@ impl Heap {
         self.value(obj, u64::from(field))
     }
 
-    /// Writes a field of an object: no other cell changes, and nothing else.
+    /// Writes a field of an object; nothing else changes. The object must be in no dropped region and have the field.
     pub fn put_field(&mut self, obj: Id, field: u32, v: Value)
         requires { IsSome ((contents self.old).held (cell_at obj field)) }
         ensures { contents self.new ≡ with_value (cell_at obj field) v (contents self.old) }

@@ -1,4 +1,4 @@
-// The heap, and what its calls are made of.
+// The heap, and the operations on cells, views and shares from which its public calls are composed.
 
 ghost use Rattle.std.specs.Prelude.{◌≡◌, ℕ, ◌+◌, ◌<◌, ◌≤◌, nat_lt, true, length, IfOk, OnOk, OnErr, IsSome, Some};
 ghost use Rattle.std.specs.Option.{option_map};
@@ -15,8 +15,8 @@ use ti_grid::View;
 
 /// The objects and grids of all processes.
 ///
-/// Contracts see it through `contents`: what each cell holds, the domain of each grid and the cell of each of
-/// its points, and for each process what it made with its cost.
+/// Contracts see it through `contents`: the value of each cell, the domain of each grid and the cell of each of its points, and for each
+/// process what it made and what that costs.
 #[derive(Drop)]
 pub struct Heap {
     shares: Vec<Share>,
@@ -35,7 +35,7 @@ impl Model for Heap {
 }
 
 impl Heap {
-    /// A heap for so many processes, none of which has made anything.
+    /// An empty heap for the given number of processes.
     pub fn new(alloc: Global, procs: u32) -> Result<Self, Memory>
         ensures { IfOk result (λ heap. contents heap ≡ nothing procs) }
     {
@@ -46,7 +46,7 @@ impl Heap {
         Ok(Heap { shares })
     }
 
-    /// What each process made.
+    /// The shares of all processes, by process number.
     pub(crate) fn shares(&self) -> &[Share]
         ensures shares { result.now ≡ self.now }
         ensures sound { IsSound (thing_at self.now) }
@@ -54,7 +54,7 @@ impl Heap {
         &self.shares
     }
 
-    /// The thing with this name.
+    /// The object or grid with this name, which must be in no dropped region.
     fn thing(&self, id: Id) -> &Thing
         requires { IsSome (live (thing_at self.now) id) }
         ensures { live (thing_at self.now) id ≡ Some result.now }
@@ -63,7 +63,7 @@ impl Heap {
         share.thing(id.serial)
     }
 
-    /// What a cell holds.
+    /// The value of the cell with index `i` of the object or block with this name.
     pub(crate) fn value(&self, id: Id, i: u64) -> Value
         requires { IsSome (held_in (thing_at self.now) (cell_at id i)) }
         ensures { held_in (thing_at self.now) (cell_at id i) ≡ Some result }
@@ -85,7 +85,7 @@ impl Heap {
         }
     }
 
-    /// How many things the process has made.
+    /// How many objects, grids and views process `p` has made, dropped ones included.
     pub(crate) fn count(&self, p: u32) -> u64
         requires { p < length self.now }
         ensures { result ≡ length ((contents self.now).made p) }
@@ -94,7 +94,7 @@ impl Heap {
         share.count()
     }
 
-    /// Whether so much more of the process would cost too much.
+    /// Whether the cost of process `p` would exceed the limit if it grew by `cells`.
     pub(crate) fn is_full(&self, p: u32, cells: u64) -> bool
         requires { p < length self.now }
         ensures { result ≡ nat_lt 1048576 (cost_of p (contents self.now) + cells) }
@@ -103,7 +103,7 @@ impl Heap {
         share.is_full(cells)
     }
 
-    /// Another value in a cell.
+    /// Writes a value to the cell with index `i` of the object or block with this name.
     pub(crate) fn put(&mut self, id: Id, i: u64, value: Value)
         requires { IsSome (held_in (thing_at self.old) (cell_at id i)) }
         ensures { contents self.new ≡ with_value (cell_at id i) value (contents self.old) }
@@ -112,7 +112,7 @@ impl Heap {
         share.put(id.serial, i, value);
     }
 
-    /// One more thing, by its name. On want of memory nothing changes.
+    /// Adds an object, grid or view with this name, which is the next one of its maker. If memory runs out, nothing changes.
     pub(crate) fn push(&mut self, id: Id, thing: Thing) -> Result<(), Memory>
         requires here { id.maker < length self.old }
         requires next { id.serial ≡ length (share_of self.old id.maker) }
@@ -127,7 +127,7 @@ impl Heap {
         share.push(thing)
     }
 
-    /// Without what lies in the region, which isn't 0. What was dropped costs nothing.
+    /// Drops all objects and grids in the region, which isn't 0. What is dropped costs nothing any more.
     pub fn drop_region(&mut self, region: u32)
         requires { 0 < region }
         ensures { contents self.new ≡ without_region region (contents self.old) }

@@ -1,4 +1,5 @@
-//! The objects and grids of all processes, by their names.
+//! The heap: the objects and grids of all processes, by their names. What a process makes is stored in its own share; regions can be
+//! dropped as a whole.
 #![tactic(auto)]
 
 mod cells;

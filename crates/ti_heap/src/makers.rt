@@ -1,4 +1,4 @@
-// Calls that make things.
+// Making objects, grids and views, with the limit on what a process may make.
 
 ghost use Rattle.std.specs.Prelude.{◌≡◌, ℕ, ◌+◌, ◌<◌, IsSome, nat_lt, true, map, replicate, length, [], IfOk, OnErr, IsSomeAnd, Some, None, if◌then◌else◌};
 ghost use Rattle.std.specs.Option.{option_map};
@@ -19,7 +19,7 @@ use ti_base::{FaultKind, Id, Rect, ViewHow, Zero};
 use ti_grid::{View, view_of, view_restrict, view_slice, view_translate};
 use ti_rect::rect_size;
 
-/// The view of a view.
+/// The view of a view. The fault is `Range` or `Bounds`, as `view_fault` states.
 fn seen(view: &View, how: ViewHow) -> Result<View, FaultKind>
     requires how { IsView how }
     requires suits { suits how view.now.dom ≡ true }
@@ -34,7 +34,7 @@ fn seen(view: &View, how: ViewHow) -> Result<View, FaultKind>
 }
 
 impl Heap {
-    /// The name of the next thing that the process makes in its own memory.
+    /// The name of the next object or grid that process `p` makes in its own memory.
     fn next_id(&self, p: u32, region: u32) -> Id
         requires proc { p < (contents self.now).procs }
         requires serial { length ((contents self.now).made p) < 4294967295 }
@@ -48,7 +48,7 @@ impl Heap {
         }
     }
 
-    /// How many elements a grid over the domain has, where the process has room for it.
+    /// The number of elements of a grid over the domain, or None if the cost of process `p` would exceed the limit.
     fn room_for(&self, p: u32, dom: &Rect) -> Option<u64>
         requires proc { p < (contents self.now).procs }
         requires form { IsRect dom.now }
@@ -68,9 +68,9 @@ impl Heap {
         }
     }
 
-    /// Makes an object of process `p` in a region, its fields zero. It costs 1 and 1 for each field; the fault is
-    /// `HeapFull`, exactly where the cost of `p` would pass 1,048,576. The process has made fewer than 2^32 - 1
-    /// things. On an error nothing changes.
+    /// Makes an object of process `p` in a region (0 for none), its fields zero. It costs 1, and 1 for each field; the fault is
+    /// `HeapFull`, exactly if the cost of `p` would exceed 1,048,576. The process must have made fewer than 2^32 - 1 objects, grids and
+    /// views. On an error nothing changes.
     pub fn new_obj(
         &mut self,
         alloc: Global,
@@ -95,9 +95,9 @@ impl Heap {
         Ok(id)
     }
 
-    /// Makes a grid of process `p` over a domain in a region, its elements zero. It costs 1 and 1 for each element;
-    /// the fault is `HeapFull`, exactly where the cost of `p` would pass 1,048,576. The process has made fewer than
-    /// 2^32 - 1 things. On an error nothing changes.
+    /// Makes a grid of process `p` over a domain in a region (0 for none), its elements zero. It costs 1, and 1 for each element; the
+    /// fault is `HeapFull`, exactly if the cost of `p` would exceed 1,048,576. The process must have made fewer than 2^32 - 1 objects,
+    /// grids and views. On an error nothing changes.
     pub fn new_grid(
         &mut self,
         alloc: Global,
@@ -127,10 +127,10 @@ impl Heap {
         Ok(id)
     }
 
-    /// Makes a view of a grid for process `p`. It shares the grid's cells, lies where the grid lies, and costs 1.
-    /// The fault is that of the view, `Range` or `Bounds`, and behind it `HeapFull`, exactly where the cost of `p`
-    /// would pass 1,048,576. The grid is in no dropped region, the rectangle or point has its dimension, a sliced
-    /// grid has at least two, and the process has made fewer than 2^32 - 1 things. On an error nothing changes.
+    /// Makes a view of a grid for process `p`. It shares the grid's cells, is in the grid's region, and costs 1. The fault is that of the
+    /// view, `Range` or `Bounds`; if there is none, it is `HeapFull`, exactly if the cost of `p` would exceed 1,048,576. The grid must be
+    /// in no dropped region, the rectangle or point must have its dimension, a sliced grid must have at least two dimensions, and the
+    /// process must have made fewer than 2^32 - 1 objects, grids and views. On an error nothing changes.
     pub fn make_view(&mut self, p: u32, grid: Id, how: ViewHow) -> Result<Id, HeapErr>
         requires proc { p < (contents self.old).procs }
         requires serial { length ((contents self.old).made p) < 4294967295 }

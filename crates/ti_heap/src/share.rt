@@ -1,4 +1,4 @@
-// What one process made.
+// What one process made, with its cost.
 
 ghost use Rattle.std.specs.Prelude.{◌≡◌, ◌+◌, ◌<◌, ◌≤◌, nat_lt, [], ◌∷◌, ◌++◌, map, length, slice_get, Some, OnOk, OnErr, IsSomeAnd};
 ghost use Rattle.ti_heap.specs.Things.{values_of, cost_of, total_cost, put_in, dropped, changed_at};
@@ -8,13 +8,14 @@ use std::alloc::Global;
 use std::marker::Model;
 use ti_base::{Memory, Value};
 
-/// The most that the things of a process may cost.
+/// The maximal cost of what a process made: 1 for each object, grid and view, and 1 for each cell.
 pub const LIMIT: u64 = 1_048_576;
 
-/// What one process made, in the order of making, and what it costs.
+/// The objects, grids and views that one process made, in the order of making (the index is the serial number), and their total cost.
 #[derive(Drop)]
 pub struct Share {
     things: Vec<Thing>,
+    // The total cost of `things`.
     cost: u64,
 }
 
@@ -31,7 +32,7 @@ impl Model for Share {
 }
 
 impl Share {
-    /// Nothing.
+    /// An empty share.
     pub fn new(alloc: Global) -> Self
         ensures { result ≡ [] }
     {
@@ -41,28 +42,28 @@ impl Share {
         }
     }
 
-    /// How many things were made.
+    /// How many objects, grids and views were made, dropped ones included.
     pub fn count(&self) -> u64
         ensures { result ≡ length self.now }
     {
         self.things.len() as u64
     }
 
-    /// Whether so much more would cost too much.
+    /// Whether the cost would exceed the limit if it grew by `cells`.
     pub fn is_full(&self, cells: u64) -> bool
         ensures { result ≡ nat_lt 1048576 (total_cost self.now + cells) }
     {
         LIMIT - self.cost < cells
     }
 
-    /// All of them.
+    /// All objects, grids and views, by serial number.
     pub fn things(&self) -> &[Thing]
         ensures { result.now ≡ self.now }
     {
         &self.things
     }
 
-    /// The thing with this serial.
+    /// The object, grid or view with this serial number.
     pub fn thing(&self, serial: u32) -> &Thing
         requires { serial < length self.now }
         ensures { slice_get self.now serial ≡ Some result.now }
@@ -70,7 +71,7 @@ impl Share {
         &self.things[serial as usize]
     }
 
-    /// One more thing. On want of memory nothing changes.
+    /// Adds an object, grid or view. If memory runs out, nothing changes. Its cost must not exceed the limit.
     pub fn push(&mut self, thing: Thing) -> Result<(), Memory>
         requires { total_cost self.old + cost_of thing ≤ 1048576 }
         ensures ok { OnOk result (self.new ≡ self.old ++ thing ∷ []) }
@@ -82,7 +83,7 @@ impl Share {
         Ok(())
     }
 
-    /// Another value in a cell of a thing.
+    /// Writes a value to the cell with index `i` of the object or block with this serial number.
     pub fn put(&mut self, serial: u32, i: u64, value: Value)
         requires { IsSomeAnd (slice_get self.old serial) (λ thing. i < length (values_of thing)) }
         ensures { self.new ≡ changed_at serial (put_in i value) self.old }
@@ -91,7 +92,7 @@ impl Share {
         thing.put(i, value);
     }
 
-    /// Without what lies in the region.
+    /// Drops what is in the region, and takes back its cost.
     pub fn drop_region(&mut self, region: u32)
         ensures { self.new ≡ map (dropped region) self.old }
     {

@@ -1,4 +1,4 @@
-// Things that a process made.
+// A heap object: an object, a block of elements or a view.
 
 ghost use Rattle.std.specs.Prelude.{◌≡◌, ◌+◌, ◌<◌, length, slice_get, Some, if◌then◌else◌, ◌==◌, []};
 ghost use Rattle.ti_heap.specs.Things.{values_of, region_of, cost_of, put_in, dropped, values_in};
@@ -7,21 +7,21 @@ use crate::values::Values;
 use ti_base::Value;
 use ti_grid::View;
 
-/// A thing that a process made.
+/// A heap object that a process made.
 #[derive(Drop)]
 pub enum Thing {
     /// An object in a region, with its fields.
     Object { region: u32, fields: Values },
-    /// A block: the view of the whole of it, and its elements.
+    /// A block: the elements of a grid in row-major order, and the grid as the view of the whole block.
     Block { whole: View, elements: Values },
     /// A view of a block.
     Seen(View),
-    /// What lay in a region that was dropped.
+    /// What was in a dropped region.
     Gone,
 }
 
 impl Thing {
-    /// The region in which it lies; what was dropped lies in none.
+    /// The region that it is in; 0 if it is in none or was dropped.
     pub fn region(&self) -> u32
         ensures { result ≡ region_of self.now }
     {
@@ -33,7 +33,7 @@ impl Thing {
         }
     }
 
-    /// What it costs: 1, and 1 for each cell; what was dropped costs nothing.
+    /// Its cost: 1, and 1 for each cell; what was dropped costs nothing.
     pub fn cost(&self) -> u64
         ensures { result ≡ cost_of self.now }
     {
@@ -45,7 +45,7 @@ impl Thing {
         }
     }
 
-    /// The value of its cell with this number.
+    /// The value of its cell with this index.
     pub fn value(&self, i: u64) -> Value
         requires { i < length (values_of self.now) }
         ensures { slice_get (values_of self.now) i ≡ Some result }
@@ -57,7 +57,7 @@ impl Thing {
         }
     }
 
-    /// Another value in its cell with this number.
+    /// Writes a value to its cell with this index.
     pub fn put(&mut self, i: u64, value: Value)
         requires { i < length (values_of self.old) }
         ensures { self.new ≡ put_in i value self.old }
@@ -69,7 +69,7 @@ impl Thing {
         }
     }
 
-    /// Gone, where it lies in the region; and what it cost then.
+    /// Drops it if it is in the region. The result is what it cost, or 0 if it isn't in the region.
     pub fn drop_from(&mut self, region: u32) -> u64
         ensures thing { self.new ≡ dropped region self.old }
         ensures freed { result + cost_of self.new ≡ cost_of self.old }
@@ -82,7 +82,7 @@ impl Thing {
         cost
     }
 
-    /// The values of its cells, where it lies in the region.
+    /// The values of its cells if it is in the region, otherwise none.
     pub fn values_in(&self, region: u32) -> &[Value]
         ensures { result.now ≡ values_in region self.now }
     {

@@ -1,4 +1,4 @@
-// What the cells of one thing hold.
+// The values of the cells of one object or block.
 
 ghost use Rattle.std.specs.Prelude.{◌≡◌, ◌<◌, ◌≤◌, map, replicate, length, slice_get, slice_set, Some, IfOk};
 ghost use Rattle.ti_base.specs.Rects.{empty_rect};
@@ -25,7 +25,7 @@ impl Model for Values {
     ghost invariant = { λ v. length v.items.items ≤ 1048576 };
 }
 
-/// The domain without points.
+/// The rectangular domain without points, of the given number of dimensions, in its canonical form.
 fn empty(dim: u8) -> Rect
     ensures { result ≡ empty_rect dim }
 {
@@ -47,7 +47,7 @@ fn empty(dim: u8) -> Rect
     }
 }
 
-/// What a new cell holds.
+/// The initial value of a cell of this kind.
 pub fn zero_of(zero: Zero) -> Value
     ensures { result ≡ zero_value zero }
 {
@@ -68,7 +68,7 @@ pub fn zero_of(zero: Zero) -> Value
 }
 
 impl Values {
-    /// So many times the value.
+    /// `count` copies of the value.
     pub fn filled(alloc: Global, value: Value, count: u64) -> Result<Self, Memory>
         requires { count ≤ 1048576 }
         ensures { IfOk result (λ values. values ≡ replicate count value) }
@@ -81,7 +81,7 @@ impl Values {
         Ok(Values { items })
     }
 
-    /// What new cells of these kinds hold.
+    /// The initial values of cells of these kinds.
     pub fn of(alloc: Global, zeros: &[Zero]) -> Result<Self, Memory>
         requires { length zeros.now ≤ 1048576 }
         ensures { IfOk result (λ values. values ≡ map zero_value zeros.now) }
@@ -93,7 +93,7 @@ impl Values {
         Ok(Values { items })
     }
 
-    /// How many there are.
+    /// The number of values.
     pub fn count(&self) -> u64
         ensures value { result ≡ length self.now }
         ensures few { result ≤ 1048576 }
@@ -101,7 +101,7 @@ impl Values {
         self.items.len() as u64
     }
 
-    /// The value with this number.
+    /// The value with this index.
     pub fn get(&self, i: u64) -> Value
         requires { i < length self.now }
         ensures { slice_get self.now i ≡ Some result }
@@ -109,7 +109,7 @@ impl Values {
         self.items[i as usize]
     }
 
-    /// Another value in its place.
+    /// Replaces the value with this index.
     pub fn put(&mut self, i: u64, value: Value)
         requires { i < length self.old }
         ensures { self.new ≡ slice_set self.old i value }
@@ -117,7 +117,7 @@ impl Values {
         self.items[i as usize] = value;
     }
 
-    /// All of them.
+    /// The values as a slice.
     pub fn as_slice(&self) -> &[Value]
         ensures { result.now ≡ self.now }
     {

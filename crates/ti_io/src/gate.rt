@@ -1,15 +1,15 @@
-// What processes pass before they act.
+// A hook that processes pass before they act, for tests of scheduling.
 
 use std::sync::atomic::{AtomicBool, AtomicU32, Ordering};
 use std::thread;
 
-/// What a process passes before each of its actions, outside of all locks. It may hold a process up for a while.
+/// What a process passes before each of its actions, without holding any lock. It may delay the process.
 pub trait Gate {
-    /// The process `p` passes.
+    /// Called when process `p` passes.
     fn pass(&self, p: u32);
 }
 
-/// A gate that is always open.
+/// A gate that delays no process.
 #[derive(Clone, Copy, Debug)]
 pub struct OpenGate;
 
@@ -17,15 +17,18 @@ impl Gate for OpenGate {
     fn pass(&self, _p: u32) {}
 }
 
-// A process that is held at its second pass.
+// One of the processes of a `HoldGate`, which is held at its second pass.
 #[derive(Drop)]
 struct Held {
     process: u32,
+    // How often the process has passed.
     passes: AtomicU32,
+    // Whether its second pass has begun.
     has_begun: AtomicBool,
 }
 
 impl Held {
+    // The state before the process's first pass.
     fn new(process: u32) -> Self {
         Held {
             process,
@@ -34,12 +37,12 @@ impl Held {
         }
     }
 
-    // Counts a pass, and tells whether it is the second.
+    // Counts a pass, and returns whether it is the second.
     fn is_second(&self) -> bool {
         self.passes.fetch_add(1, Ordering::SeqCst) == 1
     }
 
-    // Looks at most so many times whether the second pass has begun.
+    // Polls at most `looks` times, yielding the processor in between, whether the second pass has begun.
     fn begins_within(&self, looks: u64) -> bool {
         for _ in 0..looks {
             if self.has_begun.load(Ordering::SeqCst) {
@@ -51,20 +54,20 @@ impl Held {
     }
 }
 
-/// Holds the second pass of each of two processes until that of the other has begun, or until it has looked
-/// for it so many times.
+/// Holds each of two processes at its second pass until the other's second pass has begun, or until it has polled `limit` times.
 ///
-/// So a test tells whether two processes run side by side: where they run in turn, one of them gives up.
+/// So a test can observe whether two processes run in parallel: if they run alternately, one of them gives up.
 #[derive(Drop)]
 pub struct HoldGate {
     one: Held,
     other: Held,
+    // How often each process may poll.
     limit: u64,
     has_given_up: AtomicBool,
 }
 
 impl HoldGate {
-    /// Holds these two processes, each for at most `limit` looks at the other.
+    /// Holds these two processes, each for at most `limit` polls of the other.
     pub fn new(one: u32, other: u32, limit: u64) -> Self {
         HoldGate {
             one: Held::new(one),
@@ -74,11 +77,12 @@ impl HoldGate {
         }
     }
 
-    /// Whether one of the two has looked as often as it may.
+    /// Whether one of the two has polled as often as it may.
     pub fn gave_up(&self) -> bool {
         self.has_given_up.load(Ordering::SeqCst)
     }
 
+    // Records the pass of one process, and holds it if it is its second.
     fn hold(&self, mine: &Held, theirs: &Held) {
         if mine.is_second() {
             mine.has_begun.store(true, Ordering::SeqCst);

@@ -1,8 +1,7 @@
-//! What a program reads from and writes to: named sources and sinks of bytes, with a count of faults; and gates,
-//! which processes pass before they act.
+//! Input and output: named sources and sinks of bytes, each with a count of faults; and gates, hooks that processes pass before they act.
 //!
-//! Code above is generic over the traits. Their implementations in memory fail when they are told to,
-//! and the adapters to the machine's files and streams tell nothing but their faults.
+//! Code above is generic over these traits. The implementations in memory let a caller choose which calls fail; the adapters to real
+//! files and streams promise nothing but their count of faults.
 #![tactic(auto)]
 
 mod faults;

@@ -1,4 +1,4 @@
--- The lemmas of this crate that other crates may cite; no other module of its proofs is seen outside.
+-- The lemmas of this crate that other crates may use; other modules of its proofs aren't visible outside.
 pub use Rattle.ti_rect.proofs.AxisLaws.{count_some, forward}
 pub use Rattle.ti_rect.proofs.FamilyLaws.{apart_more, covers_append, covers_list, covers_map, covers_none, covers_one, covers_same, in_at}
 pub use Rattle.ti_rect.proofs.FamilyLaws.{in_more}

@@ -1,4 +1,4 @@
--- The numbers of one range that are not on another.
+-- Gaps and residues are disjoint and have exactly the numbers of one range that aren't on the other.
 use Rattle.std.proofs.Common.{◌≡◌, ◌⊎◌, inl, inr, ⊎_elim, ◌↔◌, ℕ, zero, suc, ◌+◌, ◌*◌, ◌/◌, ◌%◌, ◌<◌, ◌≤◌, ℤ, pos, ◌+ℤ◌, ◌≤ℤ◌, ◌<ℤ◌, true, false, if◌then◌else◌, List, [], ◌∷◌, ◌++◌, refl, sym, ap, subst, ◌∙◌, arith}
 use Rattle.std.proofs.Math.Nat.{div-add-mod', mod-lt, mul-div_cancel}
 use Rattle.std.proofs.lemmas.Nat.{mod-mul-add}

@@ -1,4 +1,4 @@
--- Numbers as the code passes them on: read back from their bits, widened and compared.
+-- Integers as the code handles them: read back from their bits, widened and compared.
 use Rattle.std.proofs.Common.{◌≡◌, ◌↔◌, ℕ, ◌*◌, ◌^◌, Bool, ℤ, pos, ◌+ℤ◌, ◌≤ℤ◌, ◌<ℤ◌, true, false, FitsSigned, to_z, of_z, sym, ap, ◌∙◌, subst, arith}
 use Rattle.std.proofs.lemmas.Int.{ints, to_z-of_z}
 use Rattle.std.specs.Int.{w32, w64}

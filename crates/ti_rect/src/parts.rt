@@ -1,8 +1,7 @@
-// The numbers of one range that are not on another, as ranges.
+// The difference of two ranges, as ranges.
 //
-// Where few numbers are taken out, what is left are the gaps between them; where many are, the numbers
-// with each of the other residues of the stride. So there are never more ranges than about the square root
-// of the count of numbers.
+// If few numbers are removed, the gaps between them remain as ranges; if many are, the numbers with each of the other residues modulo the
+// stride. So there are never more ranges than about the square root of the count of numbers.
 
 ghost use Rattle.std.specs.Prelude.{◌≡◌, ◌↔◌, ◌+◌, ◌*◌, ◌<◌, ◌^◌, ℤ, pos, ◌+ℤ◌, ◌≤ℤ◌, ◌<ℤ◌, IfOk};
 ghost use Rattle.ti_base.specs.Ranges.{IsOn, IsRange, IsTidy};
@@ -13,7 +12,7 @@ use crate::axis::{Axis, NONE, above, after, distance, until};
 use std::alloc::Global;
 use ti_base::Memory;
 
-/// The lesser of `high` and the number before `to`.
+/// The smaller of `high` and the number before `to`.
 fn capped(low: i32, high: i32, to: i64) -> i32
     requires { low <ℤ to }
     ensures first { result ≤ℤ high }
@@ -27,7 +26,7 @@ fn capped(low: i32, high: i32, to: i64) -> i32
     }
 }
 
-/// The numbers of `a` from `low` on and below `to`.
+/// The numbers of `a` from `low` on that are below `to`.
 fn stretch(a: Axis, low: i32, to: i64) -> Axis
     requires form { IsRange (range a) }
     requires on { IsOn (range a) low }
@@ -53,7 +52,7 @@ fn between(a: Axis, from: i64, to: i64) -> Axis
     }
 }
 
-/// The numbers of `a` below those of `c`.
+/// The numbers of `a` below all those of `c`.
 fn lower(a: Axis, c: Axis) -> Axis
     requires { IsRange (range a) }
     ensures form { IsTidy (range result) }
@@ -62,7 +61,7 @@ fn lower(a: Axis, c: Axis) -> Axis
     between(a, i64::from(a.low) - 1, i64::from(c.low))
 }
 
-/// The numbers of `a` above those of `c`.
+/// The numbers of `a` above all those of `c`.
 fn upper(a: Axis, c: Axis) -> Axis
     requires { IsRange (range a) }
     ensures form { IsTidy (range result) }
@@ -71,7 +70,7 @@ fn upper(a: Axis, c: Axis) -> Axis
     between(a, i64::from(c.high), i64::from(a.high) + 1)
 }
 
-/// The numbers of `a` between number `t` of `c`, counted from 0, and the next.
+/// The numbers of `a` between the number with index `t` of `c`, counted from 0, and the next.
 fn gap(a: Axis, c: Axis, t: u64) -> Axis
     requires form { IsRange (range a) }
     requires few { t < 2 ^ 32 }
@@ -95,7 +94,7 @@ fn residue(a: Axis, c: Axis, j: u32) -> Axis
     until(low, c.high, c.step)
 }
 
-/// The ranges, and this one where it has a number.
+/// The ranges, with `part` appended if it has a number.
 fn added(mut parts: Vec<Axis>, part: Axis) -> Result<Vec<Axis>, Memory>
     ensures { IfOk result (λ v. v.items ≡ with_part parts.items part) }
 {
@@ -114,7 +113,7 @@ fn step_count(c: Axis) -> u64
     distance(c.low, i64::from(c.high)) / u64::from(c.step)
 }
 
-/// What is left between the numbers of `c`, each gap a range.
+/// The difference as gaps: below, between and above the numbers of `c`, each gap one range.
 fn gaps(alloc: Global, a: Axis, c: Axis, steps: u64) -> Result<Vec<Axis>, Memory>
     requires first { IsRange (range a) }
     requires second { IsRange (range c) }
@@ -130,7 +129,8 @@ fn gaps(alloc: Global, a: Axis, c: Axis, steps: u64) -> Result<Vec<Axis>, Memory
     added(parts, upper(a, c))
 }
 
-/// What is left below and above `c`, and between its ends a range for each residue of the stride but its own.
+/// The difference as residues: what is below and above `c`, and between its ends a range for each residue modulo the stride except its
+/// own.
 fn residues(alloc: Global, a: Axis, c: Axis, ratio: u32) -> Result<Vec<Axis>, Memory>
     requires first { IsRange (range a) }
     requires second { IsRange (range c) }
@@ -147,7 +147,8 @@ fn residues(alloc: Global, a: Axis, c: Axis, ratio: u32) -> Result<Vec<Axis>, Me
     Ok(parts)
 }
 
-/// The numbers of `a` that are not on `c`, all of whose numbers are on `a`.
+/// The numbers of `a` that aren't on `c`, all of whose numbers are on `a`: as gaps if `c` has at most as many steps as there are
+/// steps of `a` in one of `c`, otherwise as residues.
 pub fn complement(alloc: Global, a: Axis, c: Axis) -> Result<Vec<Axis>, Memory>
     requires first { IsRange (range a) }
     requires second { IsRange (range c) }

@@ -1,11 +1,11 @@
--- Shared regions, numbered from 1, each with its count of references from outside.
+-- Shared regions, numbered from 1, each with its count of references from cells outside.
 use Rattle.std.specs.Prelude.{ℕ, ◌+◌, ◌-◌, ◌^◌, ◌<◌, ◌≤◌, ◌==◌, true, false, ◌||◌, if◌then◌else◌, List, length, slice_index_or, slice_set, Option, Some, None, IfSome, option_and_then}
 use Rattle.ti_base.specs.declared.value.Id.{Id}
 use Rattle.ti_base.specs.declared.value.Value.{Value}
 use Rattle.ti_base.specs.Cells.{named_by}
 use Rattle.ti_region.specs.declared.region.Region.{Region}
 
--- a region of this number was made
+-- a region with this number was made
 pub record IsMade (regions : List Region) (r : ℕ) : Type 0 where
   pub first : 1 ≤ r
   pub last : r ≤ length regions
@@ -14,47 +14,47 @@ pub record IsMade (regions : List Region) (r : ℕ) : Type 0 where
 abbrev pub new_region : Region
 new_region = record { is_live = true; count = 0 }
 
--- the region of this number
+-- the region with this number
 abbrev pub region_at : List Region → ℕ → Region
 region_at regions r = slice_index_or regions (r - 1) new_region
 
--- the regions where that of this number is another one
+-- the regions, with another one under this number
 abbrev pub with_region : List Region → ℕ → Region → List Region
 with_region regions r region = slice_set regions (r - 1) region
 
--- the regions where that of this number isn't live any more
+-- the regions, with the one under this number deleted
 abbrev pub deleted : List Region → ℕ → List Region
 deleted regions r = with_region regions r (record { is_live = false; count = (region_at regions r).count })
 
 -- ---- counts
 
--- the region for which a value counts in a cell of this region: that of the thing that it names, unless it is none or the cell's own
+-- the region whose count a value in a cell of this region increases: that of what it names, unless this is none or the cell's own
 abbrev pub counted_for : ℕ → Value → Option ℕ
 counted_for cell_region value =
     option_and_then (λ (id : Id). if id.region == 0 || id.region == cell_region then None else Some id.region) (named_by value)
 
--- the regions where that of this number has this count
+-- the regions, with this count for the one under this number
 abbrev pub with_count : List Region → ℕ → ℕ → List Region
 with_count regions r count = with_region regions r (record { is_live = (region_at regions r).is_live; count = count })
 
--- the count of the region is one less, where one is given
+-- the count of the region is one less, if one is given
 abbrev pub one_less : List Region → Option ℕ → List Region
 one_less regions None = regions
 one_less regions (Some r) = with_count regions r ((region_at regions r).count - 1)
 
--- the count of the region is one more, where one is given
+-- the count of the region is one more, if one is given
 abbrev pub one_more : List Region → Option ℕ → List Region
 one_more regions None = regions
 one_more regions (Some r) = with_count regions r ((region_at regions r).count + 1)
 
--- the region, where one is given, was made and has a count above 0
+-- the region, if one is given, was made and has a count above 0
 abbrev pub CanLose : List Region → Option ℕ → Type 0
 CanLose regions region = IfSome region (λ r. IsMade regions r × (0 < (region_at regions r).count))
 
--- the region, where one is given, was made and has room for one more
+-- the region, if one is given, was made and its count can increase by one
 abbrev pub CanGain : List Region → Option ℕ → Type 0
 CanGain regions region = IfSome region (λ r. IsMade regions r × ((region_at regions r).count + 1 < 2 ^ 64))
 
--- the counts after a write to a cell of this region: what it held counts no more, and what it holds now counts
+-- the counts after a write to a cell of this region: the old value counts no longer, and the new one does
 abbrev pub after_put : ℕ → Value → Value → List Region → List Region
 after_put cell_region before after regions = one_more (one_less regions (counted_for cell_region before)) (counted_for cell_region after)

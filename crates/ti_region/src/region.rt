@@ -1,4 +1,4 @@
-// A region, and the references that count for it.
+// A region, and which region a value refers into.
 ghost use Rattle.std.specs.Prelude.{◌≡◌};
 ghost use Rattle.ti_base.specs.Cells.{named_by};
 ghost use Rattle.ti_region.specs.Counting.{counted_for};
@@ -10,11 +10,11 @@ use ti_base::{Id, Value};
 pub struct Region {
     /// Whether it isn't deleted.
     pub is_live: bool,
-    /// How many cells outside it name something in it.
+    /// How many cells outside it name an object or grid in it.
     pub count: u64,
 }
 
-// The object or grid that a value names.
+// The object or grid that a value names, if it names one.
 fn thing_of(value: Value) -> Option<Id>
     ensures { result ≡ named_by value }
 {
@@ -30,8 +30,8 @@ fn thing_of(value: Value) -> Option<Id>
     }
 }
 
-/// The region for which a value counts that stands in a cell of region `cell_region`: that of the thing
-/// that it names, unless that lies in no region or in the cell's own.
+/// The region whose count a value in a cell of region `cell_region` increases: that of the object or grid that it names, unless this is
+/// in no region (0) or in the cell's own.
 pub fn region_counted(cell_region: u32, value: Value) -> Option<u32>
     ensures { result ≡ counted_for cell_region value }
 {

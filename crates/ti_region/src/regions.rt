@@ -5,11 +5,10 @@ use std::alloc::Global;
 use std::marker::Model;
 use ti_base::{Memory, Value};
 
-/// The shared regions that were made, with a count for each.
+/// The shared regions that were made, with a count of references for each.
 ///
-/// Contracts see the list of the regions in the order of their making, each with whether it is live and
-/// with its count. Regions are numbered from 1. The counts are those of references into a region from
-/// cells outside it, as far as `note_put` is told of each write.
+/// Contracts see the list of the regions in the order of making, each with whether it is live and with its count. Regions are numbered
+/// from 1. The counts are those of references into a region from cells outside it, provided that `note_put` is called for each write.
 #[derive(Drop)]
 pub struct Regions {
     regions: Vec<Region>,
@@ -30,7 +29,7 @@ impl Regions {
     ghost use Rattle.std.specs.Prelude.{◌≡◌, ◌+◌, ◌-◌, ◌^◌, ◌<◌, true, [], ◌∷◌, ◌++◌, length, Some, IfOk, OnOk, OnErr};
     ghost use Rattle.ti_region.specs.Counting.{IsMade, region_at, new_region, deleted, counted_for, one_less, one_more, CanLose, CanGain, after_put};
 
-    /// No region.
+    /// No regions.
     pub fn new(alloc: Global) -> Self
         ensures { result ≡ [] }
     {
@@ -39,9 +38,9 @@ impl Regions {
         }
     }
 
-    /// Makes a region, which is live and has the count 0, and answers its number.
+    /// Makes a region, which is live and has the count 0, and returns its number.
     ///
-    /// Fewer than 2^32 - 1 regions were made. On want of memory nothing changed.
+    /// Fewer than 2^32 - 1 regions must have been made. If memory runs out, nothing changes.
     pub fn make(&mut self) -> Result<u32, Memory>
         requires { length self.old < 2 ^ 32 - 1 }
         ensures number { IfOk result (λ r. r ≡ length self.old + 1) }
@@ -55,14 +54,14 @@ impl Regions {
         Ok(self.made())
     }
 
-    /// How many regions were made.
+    /// How many regions were made, deleted ones included.
     pub fn made(&self) -> u32
         ensures { result ≡ length self.now }
     {
         self.regions.len() as u32
     }
 
-    /// Whether a region that was made isn't deleted.
+    /// Whether region `r`, which was made, isn't deleted.
     pub fn is_live(&self, r: u32) -> bool
         requires { IsMade self.now r }
         ensures { result ≡ (region_at self.now r).is_live }
@@ -70,7 +69,7 @@ impl Regions {
         self.regions[r as usize - 1].is_live
     }
 
-    /// The count of a region that was made.
+    /// How many cells outside region `r`, which was made, refer into it.
     pub fn outside_refs(&self, r: u32) -> u64
         requires { IsMade self.now r }
         ensures { result ≡ (region_at self.now r).count }
@@ -78,7 +77,7 @@ impl Regions {
         self.regions[r as usize - 1].count
     }
 
-    // Takes 1 from the count of a region.
+    // Subtracts 1 from the count of region `r`.
     fn lose_one(&mut self, r: u32)
         requires { CanLose self.old (Some r) }
         ensures { self.new ≡ one_less self.old (Some r) }
@@ -87,7 +86,7 @@ impl Regions {
         region.count -= 1;
     }
 
-    // Adds 1 to the count of a region.
+    // Adds 1 to the count of region `r`.
     fn gain_one(&mut self, r: u32)
         requires { CanGain self.old (Some r) }
         ensures { self.new ≡ one_more self.old (Some r) }
@@ -96,11 +95,11 @@ impl Regions {
         region.count += 1;
     }
 
-    /// Counts a write to a cell that lies in region `cell_region` and held `before`, and holds `after` now.
+    /// Counts a write to a cell of region `cell_region` (0 for none) that held `before` and now holds `after`.
     ///
-    /// It takes 1 from the count of the region of the thing that `before` names, and then adds 1 to that
-    /// of the thing that `after` names, each only where that region is neither 0 nor `cell_region`. These
-    /// regions were made, and no count leaves the numbers from 0 to 2^64 - 1.
+    /// It subtracts 1 from the count of the region that `before` refers into, and then adds 1 to that of the region that `after` refers
+    /// into, each only if that region is neither 0 nor `cell_region`. These regions must have been made, and the counts must stay between
+    /// 0 and 2^64 - 1.
     pub fn note_put(&mut self, cell_region: u32, before: Value, after: Value)
         requires before { CanLose self.old (counted_for cell_region before) }
         requires after { CanGain (one_less self.old (counted_for cell_region before)) (counted_for cell_region after) }
@@ -116,7 +115,7 @@ impl Regions {
         }
     }
 
-    /// Deletes a region, which is live and has the count 0.
+    /// Deletes region `r`, which must be live and have the count 0.
     pub fn delete(&mut self, r: u32)
         requires made { IsMade self.old r }
         requires live { (region_at self.old r).is_live ≡ true }

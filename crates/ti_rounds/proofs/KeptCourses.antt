@@ -1,4 +1,4 @@
--- What is kept of courses tells their latest arrivals.
+-- The stored state determines the latest arrivals of each course.
 use Rattle.std.proofs.Common.{◌≡◌, inl, inr, ⊎_elim, ℕ, zero, suc, ◌+◌, ◌<◌, ◌≤◌, List, [], ◌∷◌, length, map, set, replicate, Option, Some, None, IfSome, eqb, false, sym, ap, subst, ◌∙◌, refl, arith, add-one}
 use Rattle.std.specs.Option.{option_map}
 use Rattle.std.proofs.lemmas.List.{map-set, length-map, get_or_past}

@@ -1,4 +1,4 @@
--- The courses of processes through the rounds: all their arrivals and departures.
+-- The courses of processes through the collectives (rounds): all their arrivals and departures.
 use Rattle.std.specs.Prelude.{◌≡◌, ℕ, ◌+◌, ◌==◌, if◌then◌else◌, List, [], ◌∷◌, map, length, slice_get, slice_index_or, slice_set, Option, Some, None, IfSome, option_map}
 use Rattle.std.specs.Option.{option_map_or}
 use Rattle.ti_base.specs.declared.action.CollKind.{CollKind}
@@ -10,59 +10,59 @@ use Rattle.ti_rounds.specs.declared.arrival.Arrival.{Arrival}
 use Rattle.ti_rounds.specs.declared.seat.Seat.{Seat}
 use Rattle.ti_rounds.specs.Seats.{collective_of}
 
--- what a process has done
+-- the arrivals and departures of a process
 pub record Course : Type 0 where
-  -- its arrivals so far, the last one first; the nth of them is its arrival at the nth round
+  -- its arrivals so far, the last one first; its nth arrival is that at the nth round
   pub arrivals : List Arrival
-  -- how many rounds it has left; it waits where it has one arrival more
+  -- how many rounds it has left; it is waiting if it has one more arrival
   pub departures : ℕ
 
--- nothing yet
+-- no arrival and no departure
 abbrev pub no_course : Course
 no_course = record { arrivals = []; departures = 0 }
 
--- the course of the process of this number
+-- the course of the process with this number
 abbrev pub course_at : List Course → ℕ → Course
 course_at courses p = slice_index_or courses p no_course
 
--- what is kept of a course
+-- the stored part of a course
 abbrev pub seat_of : Course → Seat
 seat_of c =
     record { arrivals = length c.arrivals; departures = c.departures; latest = slice_get c.arrivals 0; before = slice_get c.arrivals 1 }
 
--- this is kept of these courses
+-- the stored state is that of these courses
 abbrev pub Keeps : List Seat → List Course → Type 0
 Keeps seats courses = seats ≡ map seat_of courses
 
--- ---- what processes said
+-- ---- arrivals at a round
 
--- the arrival at the round of this number, counted from 1, among arrivals of which the last one is first
+-- the arrival at the round with this number, counted from 1, in a list of arrivals with the last one first
 abbrev pub arrival_at : ℕ → List Arrival → Option Arrival
 arrival_at round [] = None
 arrival_at round (a ∷ earlier) = if length earlier + 1 == round then Some a else arrival_at round earlier
 
--- kind, place and argument that a process said at the round
+-- kind, place and argument of a process's arrival at the round
 abbrev pub said_at : List Course → ℕ → ℕ → Option (CollKind × Place × Option ℕ)
 said_at courses p round = option_map collective_of (arrival_at round (course_at courses p).arrivals)
 
--- all who have arrived at the round said this
+-- all processes that have arrived at the round stated this
 abbrev pub AllSay : List Course → ℕ → CollKind × Place × Option ℕ → Type 0
 AllSay courses round said = (q : ℕ) → IfSome (said_at courses q round) (λ other. other ≡ said)
 
--- the deposit of an arrival, or none
+-- the contribution of an arrival, or `Nothing` if there is none
 abbrev pub deposit_of : Option Arrival → Deposit
 deposit_of arrival = option_map_or (λ (a : Arrival). a.deposit) arrival Nothing
 
--- what a process gave at the round
+-- what a process contributed at the round
 abbrev pub given_at : List Course → ℕ → ℕ → Deposit
 given_at courses who round = deposit_of (arrival_at round (course_at courses who).arrivals)
 
--- what a departure from the round gives: at a broadcast what the root gave, else nothing
+-- what a departure from the round yields: at a broadcast the root's contribution, otherwise nothing
 abbrev pub handed_at : List Course → ℕ → CollKind → Option ℕ → Deposit
 handed_at courses round Broadcast (Some root) = given_at courses root round
 handed_at courses round kind arg = Nothing
 
--- what the departure of a process from the round that it reached last gives
+-- what the departure of a process from the round that it reached last yields
 abbrev pub departure_of : List Course → ℕ → Deposit
 departure_of courses p =
     let arrivals = (course_at courses p).arrivals in

@@ -1,19 +1,19 @@
--- What is kept of processes: how far each is, and what it said at the two latest rounds that it reached.
+-- The stored state of processes: how far each is, and its arrivals at the two latest rounds.
 use Rattle.std.specs.Prelude.{◌≡◌, ℕ, ◌+◌, ◌<◌, ◌≤◌, List, length, Option, None, slice_index_or}
 use Rattle.ti_base.specs.declared.action.CollKind.{CollKind}
 use Rattle.ti_base.specs.declared.place.Place.{Place}
 use Rattle.ti_rounds.specs.declared.arrival.Arrival.{Arrival}
 use Rattle.ti_rounds.specs.declared.seat.Seat.{Seat}
 
--- nothing yet
+-- the state before any arrival
 abbrev pub new_seat : Seat
 new_seat = record { arrivals = 0; departures = 0; latest = None; before = None }
 
--- what is kept of the process of this number
+-- the stored state of the process with this number
 abbrev pub seat_at : List Seat → ℕ → Seat
 seat_at seats p = slice_index_or seats p new_seat
 
--- the round that a process reached last, counted from 1, and in which it waits where it hasn't left it
+-- the round that a process reached last, counted from 1, and in which it waits if it hasn't left it
 abbrev pub round_at : List Seat → ℕ → ℕ
 round_at seats p = (seat_at seats p).arrivals
 
@@ -25,18 +25,18 @@ left_by seats p = (seat_at seats p).departures
 abbrev pub Goes : List Seat → ℕ → Type 0
 Goes seats p = round_at seats p ≡ left_by seats p
 
--- the process has still to leave the round that it reached last
+-- the process has yet to leave the round that it reached last
 abbrev pub Waits : List Seat → ℕ → Type 0
 Waits seats p = round_at seats p ≡ left_by seats p + 1
 
--- all have arrived at the round
+-- all processes have arrived at the round
 abbrev pub IsReached : List Seat → ℕ → Type 0
 IsReached seats round = (q : ℕ) → q < length seats → round ≤ round_at seats q
 
--- nobody has left the round
+-- no process has left the round
 abbrev pub IsUnleft : List Seat → ℕ → Type 0
 IsUnleft seats round = (q : ℕ) → q < length seats → left_by seats q < round
 
--- kind, place and argument
+-- kind, place and argument of an arrival
 abbrev pub collective_of : Arrival → CollKind × Place × Option ℕ
 collective_of a = (a.kind, a.place, a.arg)

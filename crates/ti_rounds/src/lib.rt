@@ -1,4 +1,5 @@
-//! The rounds of collectives: who has arrived at one, what each gave, and who has left it.
+//! The collectives of a run (*rounds* in the code): which processes have arrived at the nth one, what each contributed, and which have
+//! left it.
 #![tactic(auto)]
 
 mod arrival;

@@ -1,4 +1,4 @@
-// The rounds of a run.
+// The state of all collectives of a run. Contracts speak of all arrivals; stored are the latest two of each process.
 
 use crate::arrival::Arrival;
 use crate::seat::{Seat, all_reach, none_left};
@@ -6,12 +6,11 @@ use std::alloc::Global;
 use std::marker::Model;
 use ti_base::{CollKind, Deposit, Memory, Place};
 
-/// The rounds of collectives that all processes go through together: the nth round is the nth arrival of
-/// each process.
+/// The collectives that all processes pass together: the nth round is the nth arrival of each process.
 ///
-/// Contracts speak of the whole courses of all processes: all arrivals so far, with what each gave, and how
-/// often each has left a round. What is kept of a course is how far it is and its two latest arrivals,
-/// since no process can be more than one round ahead of another.
+/// Contracts speak of the complete courses of all processes: all arrivals so far, with what each contributed, and how many rounds each
+/// process has left. Of a course only the numbers of arrivals and departures and the latest two arrivals are stored, since no process can
+/// be more than one round ahead of another.
 #[derive(Drop)]
 pub struct Rounds {
     seats: Vec<Seat>,
@@ -37,7 +36,7 @@ impl Rounds {
     ghost use Rattle.ti_rounds.specs.Courses.{Course, no_course, Keeps, AllSay, said_at, given_at, departure_of, with_arrival, with_departure};
     ghost use Rattle.ti_rounds.specs.Mirrors.{AreInStep};
 
-    /// The rounds of so many processes, none of which has arrived at one.
+    /// The rounds of the given number of processes, none of which has arrived at one.
     pub fn new(alloc: Global, procs: u32) -> Result<Self, Memory>
         ensures { IfOk result (λ rounds. Keeps rounds (replicate procs no_course)) }
     {
@@ -46,7 +45,7 @@ impl Rounds {
         Ok(Rounds { seats })
     }
 
-    // What is kept of a process, and that all are in step.
+    // The stored state of process `p`; its contract also states that all processes are in step.
     fn seat(&self, p: u32) -> Seat
         requires { p < length self.now }
         ensures value { result ≡ seat_at self.now p }
@@ -55,7 +54,7 @@ impl Rounds {
         self.seats[p as usize]
     }
 
-    // Keeps something else of a process.
+    // Replaces the stored state of process `p`.
     fn keep(&mut self, p: u32, seat: Seat)
         requires process { p < length self.old }
         requires in_step { AreInStep (slice_set self.old p seat) }
@@ -64,7 +63,7 @@ impl Rounds {
         self.seats[p as usize] = seat;
     }
 
-    // What a process gave at a round that all have reached, and beyond which nobody is by more than one.
+    // What process `who` contributed at a round that all have reached, and beyond which nobody is by more than one.
     fn given_in(&self, who: u32, round: u64) -> Deposit
         requires reached { IsReached self.now round }
         requires kept { (q : ℕ) → q < length self.now → round_at self.now q ≤ round + 1 }
@@ -76,10 +75,10 @@ impl Rounds {
         }
     }
 
-    /// The process arrives at its next round.
+    /// Process `p` arrives at its next round.
     ///
-    /// It isn't waiting, and whoever has arrived at this round already said the same kind, place and
-    /// argument. It has arrived fewer than 2^64 - 1 times.
+    /// It must not be waiting, processes that have already arrived at this round must have stated the same kind, place and argument, and
+    /// it must have arrived fewer than 2^64 - 1 times.
     pub fn arrive(&mut self, p: u32, kind: CollKind, place: Place, arg: Option<u32>, d: Deposit)
         requires process { p < length self.old }
         requires goes { Goes self.old p }
@@ -104,7 +103,7 @@ impl Rounds {
         );
     }
 
-    /// Whether all have arrived at the round in which the process waits.
+    /// Whether all processes have arrived at the round in which process `p` waits.
     pub fn complete(&self, p: u32) -> bool
         requires process { p < length self.now }
         requires waits { Waits self.now p }
@@ -114,7 +113,7 @@ impl Rounds {
         all_reach(&self.seats, seat.arrivals)
     }
 
-    /// Whether nobody has left the round in which the process waits.
+    /// Whether no process has left the round in which process `p` waits.
     pub fn first_out(&self, p: u32) -> bool
         requires process { p < length self.now }
         requires waits { Waits self.now p }
@@ -124,7 +123,7 @@ impl Rounds {
         none_left(&self.seats, seat.arrivals)
     }
 
-    // What the departure from the round in which the process waits gives.
+    // What process `p` will receive at its departure from the round in which it waits.
     fn handed_out(&self, p: u32) -> Deposit
         requires process { p < length self.now }
         requires waits { Waits self.now p }
@@ -144,8 +143,8 @@ impl Rounds {
         }
     }
 
-    /// The process leaves the round in which it waits, which all have reached. It gets what the root gave
-    /// where this is a broadcast, and else `Nothing`.
+    /// Process `p` leaves the round in which it waits, which all must have reached. It receives what the root contributed if this is a
+    /// broadcast, and `Nothing` otherwise.
     pub fn depart(&mut self, p: u32) -> Deposit
         requires process { p < length self.old }
         requires waits { Waits self.old p }
@@ -159,7 +158,7 @@ impl Rounds {
         deposit
     }
 
-    /// What `who` gave in the round that the process left last. It isn't waiting.
+    /// What process `who` contributed in the round that process `p` left last. Process `p` must not be waiting.
     pub fn take(&self, p: u32, who: u32) -> Deposit
         requires process { p < length self.now }
         requires giver { who < length self.now }
@@ -171,8 +170,7 @@ impl Rounds {
         self.given_in(who, seat.departures)
     }
 
-    /// Kind, place and argument of the round in which the process waits, which all who have arrived at it
-    /// said.
+    /// Kind, place and argument of the round in which process `p` waits. All processes that have arrived there stated the same.
     pub fn round_of(&self, p: u32) -> (CollKind, Place, Option<u32>)
         requires process { p < length self.now }
         requires waits { Waits self.now p }
@@ -185,7 +183,7 @@ impl Rounds {
         }
     }
 
-    /// What `who` gave in the round in which the process waits, which all have reached.
+    /// What process `who` contributed in the round in which process `p` waits, which all must have reached.
     pub fn given(&self, p: u32, who: u32) -> Deposit
         requires process { p < length self.now }
         requires giver { who < length self.now }

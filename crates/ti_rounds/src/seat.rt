@@ -1,20 +1,20 @@
-// What is kept of a process.
+// The stored state of one process.
 ghost use Rattle.std.specs.Prelude.{◌≡◌, ◌+◌, ◌^◌, ◌<◌, ◌≤◌, ◌↔◌, IsTrue};
 ghost use Rattle.ti_rounds.specs.Seats.{IsReached, IsUnleft};
 
 use crate::arrival::Arrival;
 use ti_base::Deposit;
 
-/// How far a process is, and what it said at the two latest rounds that it reached.
+/// How many rounds a process has reached and left, and its arrivals at the two latest rounds.
 #[derive(Clone, Copy)]
 pub struct Seat {
     /// How many rounds it has reached.
     pub arrivals: u64,
     /// How many rounds it has left.
     pub departures: u64,
-    /// What it said at the round that it reached last.
+    /// Its arrival at the round that it reached last.
     pub latest: Option<Arrival>,
-    /// What it said at the round before that.
+    /// Its arrival at the round before that.
     pub before: Option<Arrival>,
 }
 
@@ -23,7 +23,7 @@ impl Seat {
     ghost use Rattle.ti_rounds.specs.Courses.{deposit_of};
     ghost use Rattle.ti_rounds.specs.Mirrors.{arrived, departed, kept_at};
 
-    /// A process that has reached no round.
+    /// The state of a process that has reached no round.
     pub fn new() -> Self
         ensures { result ≡ new_seat }
     {
@@ -35,7 +35,7 @@ impl Seat {
         }
     }
 
-    /// The seat after an arrival.
+    /// The state after an arrival.
     pub fn arrived(self, arrival: Arrival) -> Self
         requires { self.arrivals + 1 < 2 ^ 64 }
         ensures { result ≡ arrived self arrival }
@@ -48,7 +48,7 @@ impl Seat {
         }
     }
 
-    /// The seat after a departure.
+    /// The state after a departure.
     pub fn departed(self) -> Self
         requires { self.departures + 1 < 2 ^ 64 }
         ensures { result ≡ departed self }
@@ -61,7 +61,7 @@ impl Seat {
         }
     }
 
-    /// What the process gave at a round, which is the one that it reached last, or the one before that.
+    /// What the process contributed at a round, which must be the one that it reached last, or the one before that.
     pub fn given_at(&self, round: u64) -> Deposit
         requires reached { round ≤ self.now.arrivals }
         requires kept { self.now.arrivals ≤ round + 1 }
@@ -79,7 +79,7 @@ impl Seat {
     }
 }
 
-/// Whether all have arrived at a round.
+/// Whether all processes have arrived at the round with this number, counted from 1.
 pub fn all_reach(seats: &[Seat], round: u64) -> bool
     ensures { IsTrue result ↔ IsReached seats.now round }
 {
@@ -91,7 +91,7 @@ pub fn all_reach(seats: &[Seat], round: u64) -> bool
     true
 }
 
-/// Whether nobody has left a round.
+/// Whether no process has left the round with this number, counted from 1.
 pub fn none_left(seats: &[Seat], round: u64) -> bool
     ensures { IsTrue result ↔ IsUnleft seats.now round }
 {

@@ -1,4 +1,4 @@
--- In every run of the program that prints, each process prints and has its end.
+-- In every run of the program that prints, each process prints and ends.
 use Rattle.std.proofs.Common.{◌≡◌, ℕ, zero, suc, ◌<◌, ◌==◌, Bool, true, false, if◌then◌else◌, List, [], ◌∷◌, ◌++◌, map, filter, Some, None, pos, refl, sym, ◌∙◌, ap, subst, arith}
 use Rattle.std.specs.Int.{int_wrap}
 use Rattle.std.specs.List.{list_any}

@@ -1,4 +1,4 @@
--- What code has next is one thing.
+-- What bytecode does next is unique.
 use Rattle.std.proofs.Common.{◌≡◌, List, [], Option, None, Some, sym, ◌∙◌, ap, subst}
 use Rattle.ti_base.specs.declared.entry.Answer.{Answer}
 use Rattle.ti_base.specs.declared.entry.Next.{Next}

@@ -1,4 +1,4 @@
--- What a process is after its answers, and what it then has next, as computations.
+-- The state of a process after its answers, and what it does next, computed by a program that is proved right.
 use Rattle.std.proofs.Common.{◌≡◌, ℕ, zero, suc, Option, Some, None, List, [], ◌∷◌, ◌++◌, refl, ◌∙◌, ap, subst, option_and_then, arith}
 use Rattle.ti_base.specs.declared.place.Place.{Place}
 use Rattle.ti_base.specs.declared.action.Action.TheVariants as act

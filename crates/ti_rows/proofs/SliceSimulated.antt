@@ -1,4 +1,4 @@
--- What the slice of a program comes to, by a plain and slow program.
+-- The answer of a program slice, computed by a simple and slow program that is proved right.
 use Rattle.std.proofs.Common.{◌≡◌, ℕ, zero, suc, ◌+◌, Bool, true, false, List, [], ◌∷◌, ◌++◌, Option, None, Some, refl, subst}
 use Rattle.std.proofs.lemmas.Bool.Decides.{not_from_Decides}
 use Rattle.ti_base.specs.declared.action.Action.{Action}

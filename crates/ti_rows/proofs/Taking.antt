@@ -1,4 +1,4 @@
--- What processes that meet one barrier can take first.
+-- Which entries the processes of the program with one barrier can take first.
 use Rattle.std.proofs.Common.{◌≡◌, List, [], ◌∷◌, None, refl, ap, arith}
 use Rattle.std.specs.Int.{int_wrap}
 use Rattle.ti_base.specs.declared.action.Action.{Action}

@@ -1,4 +1,4 @@
--- What programs are refused for.
+-- Which programs are rejected, and by which rule.
 use Rattle.std.specs.Prelude.{◌≡◌, List, Some, is_none, true}
 use Rattle.std.specs.List.{list_all}
 use Rattle.ti_base.specs.declared.place.Place.{Place}

@@ -19,7 +19,7 @@ use Rattle.ti_rows.specs.Texts.{pl}
 abbrev pub entry : ℕ → Place → Action → Answer → Entry
 entry i at a r = record { proc = i; place = at; act = a; answer = r }
 
--- a thing in the memory of its maker, in a region
+-- an object or grid in the memory of its maker, in a region
 abbrev pub thing : ℕ → ℕ → ℕ → Id
 thing i serial region = record { maker = i; serial = serial; owner = i; region = region }
 
@@ -31,7 +31,7 @@ point_at x = record { dim = 1; x1 = x; x2 = pos 0; x3 = pos 0 }
 abbrev range_to : ℤ → Rect
 range_to high = record { dim = 1; lo = point_at (pos 0); hi = point_at high; step = 1 ∷ 1 ∷ 1 ∷ [] }
 
--- of a program with grids, an exchange and a barrier, with two processes
+-- the run of a program with grids, an exchange and a barrier, with two processes
 abbrev pub grids_are_exchanged : List Entry
 grids_are_exchanged =
     entry 0 (pl 5 27) (act.NewGrid z.Int (range_to (pos 7)) 0) (Val (v.Grid (Some (thing 0 0 0)))) ∷
@@ -99,7 +99,7 @@ grids_are_exchanged =
     entry 1 (pl 22 3) (act.End) Done ∷
     []
 
--- of a program that makes a region, places an object in it, and deletes it, with two processes
+-- the run of a program that makes a region, places an object in it, and deletes it, with two processes
 abbrev pub a_region_is_deleted : List Entry
 a_region_is_deleted =
     entry 0 (pl 1 105) (act.Arrive coll.MakeRegion None deposit.Nothing) Done ∷

@@ -1,4 +1,4 @@
--- How the run of a row ends, and what it prints.
+-- How the canonical run of a worked example ends, and what it prints.
 use Rattle.std.specs.Prelude.{◌≡◌, ℕ, zero, suc, ◌+◌, ◌&&◌, if◌then◌else◌, Bool, true, List, [], ◌∷◌, Option, None, Some}
 use Rattle.ti_base.specs.declared.place.Place.{Place}
 use Rattle.ti_base.specs.declared.fault.FaultKind.{FaultKind}
@@ -10,23 +10,23 @@ use Rattle.ti_lang.specs.Meaning.Histories.{has_end}
 use Rattle.ti_lang.specs.Meaning.Lines.{lines_of}
 use Rattle.ti_rows.specs.Simulation.{solo}
 
--- the lines of a run, and how it ended: all processes have their ends, or one has a fault; or it isn't complete
+-- the lines of a run, and how it ended: all processes have ended, or one has faulted; or it isn't complete
 pub data Outcome : Type 0 where
   Ended : (lines : List ℕ) → Outcome
   Faulted : (lines : List ℕ) (kind : FaultKind) (proc : ℕ) (at : Place) → Outcome
   Unfinished : (lines : List ℕ) → Outcome
 
--- of so many processes, from a number on, all have their ends
+-- all of n processes, from number i on, have ended
 abbrev pub have_ended : List Entry → ℕ → ℕ → Bool
 have_ended es i zero = true
 have_ended es i (suc n) = has_end i es && have_ended es (i + 1) n
 
--- an entry that is a fault, and else a later one
+-- the entry if it is a fault, otherwise the later one
 abbrev pub fault_in : Entry → Action → Option Entry → Option Entry
 fault_in e (act.Fault kind) more = Some e
 fault_in e a more = more
 
--- the fault among the entries
+-- the first fault among the entries
 abbrev pub fault_of : List Entry → Option Entry
 fault_of [] = None
 fault_of (e ∷ es) = fault_in e e.act (fault_of es)
@@ -45,14 +45,14 @@ by_fault s es lines None = if have_ended es 0 s.procs then Ended lines else Unfi
 abbrev pub outcome_of : Setting → List Entry → Outcome
 outcome_of s es = by_fault s es (lines_of s.program es) (fault_of es)
 
--- the run, of 1,000 entries at most, prints this, and all processes have their ends
+-- the run, of at most 1,000 entries, prints this, and all processes end
 abbrev pub Prints : Setting → List ℕ → Type 0
 Prints s text = outcome_of s (solo s 1000) ≡ Ended text
 
--- the run, of 1,000 entries at most, prints this and ends with a fault
+-- the run, of at most 1,000 entries, prints this and ends with a fault
 abbrev pub FaultsBehind : Setting → List ℕ → FaultKind → ℕ → Place → Type 0
 FaultsBehind s text kind proc at = outcome_of s (solo s 1000) ≡ Faulted text kind proc at
 
--- the run, of 1,000 entries at most, has these
+-- the run, of at most 1,000 entries, has these
 abbrev pub Makes : Setting → List Entry → Type 0
 Makes s es = solo s 1000 ≡ es

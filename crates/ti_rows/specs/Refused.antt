@@ -1,3 +1,3 @@
--- Programs that are refused.
+-- Rejected programs.
 pub mod Types
 pub mod Singles

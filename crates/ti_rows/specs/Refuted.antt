@@ -1,4 +1,4 @@
--- Programs, entries and values of which what laws say is false.
+-- Programs, entries and values for which what theorems state is false.
 pub mod Programs
 pub mod Entries
 pub mod Codes

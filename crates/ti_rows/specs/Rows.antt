@@ -1,4 +1,4 @@
--- The programs of the rows.
+-- The programs of the worked examples.
 pub mod Numbers
 pub mod Statements
 pub mod Calls

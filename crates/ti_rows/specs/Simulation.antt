@@ -1,4 +1,4 @@
--- The run of the lowest-numbered process that can take an entry, as a plain and slow program.
+-- The canonical run, in which always the lowest-numbered process that can take an entry does so, as a simple and slow program.
 use Rattle.std.specs.Prelude.{ℕ, zero, suc, ◌+◌, nat_lt, ◌&&◌, if◌then◌else◌, Bool, true, false, List, [], ◌∷◌, ◌++◌}
 use Rattle.ti_base.specs.declared.action.Action.{Action}
 use Rattle.ti_base.specs.declared.action.Action.TheVariants as act
@@ -14,44 +14,44 @@ use Rattle.ti_lang.specs.Meaning.HeapAnswers as heap
 
 -- ---- silent steps
 
--- goes on from a silent step
+-- continues from a silent step
 abbrev pub settle_by : (Process → Step) → Step → Step
 settle_by go (To q) = go q
 settle_by go s = s
 
--- the step behind so many silent ones at most
+-- the step after at most n silent ones
 abbrev pub settle : ℕ → Process → Step
 settle zero p = step p
 settle (suc n) p = settle_by (settle n) (step p)
 
--- how many silent steps are made between two entries, at most
+-- the maximal number of silent steps that are made between two entries
 abbrev pub most_silent : ℕ
 most_silent = 1000
 
 -- ---- one process
 
--- a process of the run, with its number and whether it has its end
+-- a process of the run, with its number and whether it has ended
 pub record Slot : Type 0 where
   pub number : ℕ
   pub ended : Bool
   pub process : Process
 
--- the processes before their first steps: so many, from a number on
+-- n processes before their first steps, numbered from i on
 abbrev pub slots : Setting → ℕ → ℕ → List Slot
 slots s i zero = []
 slots s i (suc n) = record { number = i; ended = false; process = begin s i } ∷ slots s (i + 1) n
 
--- of so many processes, from a number on, all have arrived more often than that
+-- all of n processes, numbered from j on, have arrived more often than the given number of times
 abbrev pub have_arrived : List Entry → ℕ → ℕ → ℕ → Bool
 have_arrived es times j zero = true
 have_arrived es times j (suc n) = nat_lt times (arrivals j es) && have_arrived es times (j + 1) n
 
--- a departure waits until all have arrived
+-- a departure waits until all processes have arrived
 abbrev pub is_ready : Setting → List Entry → ℕ → Action → Bool
 is_ready s es i act.Depart = have_arrived es (departures i es) 0 s.procs
 is_ready s es i a = true
 
--- what a process does next: it waits, or takes an entry and is this one then; or its silent steps are too many to tell
+-- what a process does next: it waits, or takes an entry and is then in this state; or it makes too many silent steps to know
 pub data Taking : Type 0 where
   Waits : Taking
   Takes : (slot : Slot) (e : Entry) → Taking
@@ -83,40 +83,40 @@ takes s es x = if x.ended then Waits else by_step s es x (settle most_silent x.p
 
 -- ---- all processes
 
--- what the lowest-numbered process does that can take an entry, and the processes after it
+-- what the lowest-numbered process that can take an entry does, and the processes after it
 pub data Turn : Type 0 where
   None : Turn
   Taken : (slots : List Slot) (e : Entry) → Turn
   Untold : Turn
 
--- a process before those that have a turn
+-- puts a process before those of the result
 abbrev pub put_before : Slot → Turn → Turn
 put_before x None = None
 put_before x (Taken xs e) = Taken (x ∷ xs) e
 put_before x Untold = Untold
 
--- the turn of a process, or else of those behind it
+-- what a process does, or else what the later processes do
 abbrev pub first_of : Taking → Slot → List Slot → Turn → Turn
 first_of Waits x xs more = put_before x more
 first_of (Takes y e) x xs more = Taken (y ∷ xs) e
 first_of Unknown x xs more = Untold
 
--- the turn of the first that can take an entry
+-- what the first process that can take an entry does
 abbrev pub turn : Setting → List Entry → List Slot → Turn
 turn s es [] = None
 turn s es (x ∷ xs) = first_of (takes s es x) x xs (turn s es xs)
 
--- goes on behind a turn, unless its entry is a fault
+-- continues after an entry, unless it is a fault
 abbrev pub run_by : (List Slot → List Entry → List Entry) → List Entry → Turn → List Entry
 run_by go es None = es
 run_by go es (Taken xs e) = if is_fault e.act then es ++ e ∷ [] else go xs (es ++ e ∷ [])
 run_by go es Untold = es
 
--- the entries of so many turns at most, from a world on
+-- the entries of a run after at most n more, from given processes and entries on
 abbrev pub run_from : Setting → ℕ → List Slot → List Entry → List Entry
 run_from s zero xs es = es
 run_from s (suc n) xs es = run_by (run_from s n) es (turn s es xs)
 
--- the entries of so many turns at most
+-- the first entries of the canonical run, at most the given number
 abbrev pub solo : Setting → ℕ → List Entry
 solo s turns = run_from s turns (slots s 0 s.procs) []

@@ -1,4 +1,4 @@
--- Programs whose slices are told in rows.
+-- Programs whose program slices are worked examples.
 use Rattle.std.specs.Prelude.{ℕ, pos, [], ◌∷◌, codes}
 use Rattle.ti_base.specs.declared.point.Point.{Point}
 use Rattle.ti_lang.specs.Program.Expressions as e
@@ -11,7 +11,7 @@ use Rattle.ti_rows.specs.Texts.{pl, xs, class_of, single_method, text}
 abbrev pub two : ℕ → ℕ → Point
 two x y = record { dim = 2; x1 = pos x; x2 = pos y; x3 = pos 0 }
 
--- the same with so many ticks
+-- the setting with another amount of fuel
 abbrev pub with_fuel : ℕ → Setting → Setting
 with_fuel fuel s = record s { fuel = fuel }
 

@@ -1,4 +1,5 @@
--- How the programs of rows are written down. The words of types and of methods are left out where they mean nothing here.
+-- Short notation for the programs of worked examples. The qualifiers of types and the modifiers of methods are left out if they don't
+-- matter.
 use Rattle.std.specs.Prelude.{ℕ, Bool, true, false, List, [], ◌∷◌, codes}
 use Rattle.ti_base.specs.declared.place.Place.{Place}
 use Rattle.ti_syntax.specs.declared.tree.classes.Modifier.{Modifier}
@@ -15,15 +16,15 @@ use Rattle.ti_lang.specs.Meaning.Processes.{Setting}
 abbrev pub pl : ℕ → ℕ → Place
 pl line col = record { line = line; col = col }
 
--- a type without `single`
+-- a non-single type
 abbrev pub plain : ValueType → NumberedType
 plain type = record { type = type; is_single = false; qualifiers = []; grids = [] }
 
--- a type with it
+-- a single type
 abbrev pub single : ValueType → NumberedType
 single type = record { type = type; is_single = true; qualifiers = []; grids = [] }
 
--- a variable of a number and a type, where it is used
+-- a non-single variable with this number and type, where it is used
 abbrev pub var : Place → ℕ → ValueType → NumberedExp
 var at number type = Variable at (record { number = number; declared = t.Typed false type })
 
@@ -35,11 +36,11 @@ single_var at number type = Variable at (record { number = number; declared = t.
 abbrev pub each_var : Place → ℕ → NumberedExp
 each_var at number = Variable at (record { number = number; declared = t.Foreach })
 
--- expressions in a node
+-- a list of expressions
 abbrev pub xs : List NumberedExp → NumberedExps
 xs l = numbered_exps l
 
--- statements in a node
+-- a list of statements
 abbrev pub stms : List NumberedStm → NumberedStms
 stms l = numbered_stms l
 
@@ -49,19 +50,19 @@ stms l = numbered_stms l
 abbrev pub class_of : List NumberedField → NumberedClass
 class_of fields = record { modifiers = []; fields = fields }
 
--- a field of a type and a name
+-- a field of this type and name
 abbrev pub field : ValueType → ℕ → NumberedField
 field type name = record { modifiers = []; ty = plain type; name = name }
 
--- a parameter of a type
+-- a parameter of this type
 abbrev pub param : Place → NumberedType → NumberedParam
 param at type = record { place = at; ty = type }
 
--- the word `static`
+-- the modifier `static`
 abbrev pub static_word : List Modifier
 static_word = record { word = word.Static; place = pl 1 1 } ∷ []
 
--- a method of a class with these words, single or not
+-- a method of a class with these modifiers, single or not
 abbrev pub method_of : List Modifier → Bool → ℕ → NumberedResult → ℕ → NumberedParams → List NumberedStm → Place → NumberedMethod
 method_of words is_single class result name params body end =
     record {
@@ -90,13 +91,14 @@ single_method class result name params body end = method_of static_word true cla
 
 -- ---- programs
 
--- the members of the language, and then names
+-- the names of the language's members, followed by these names
 abbrev pub names_with : List (List ℕ) → List (List ℕ)
 names_with names =
     codes "size" ∷ codes "min" ∷ codes "max" ∷ codes "contains" ∷ codes "domain" ∷ codes "restrict" ∷ codes "translate" ∷ codes "slice"
     ∷ codes "copy" ∷ codes "exchange" ∷ codes "delete" ∷ names
 
--- a run of so many processes with so many ticks, of a program with these classes, methods, of which one is `main`, names and literals
+-- a run with the given number of processes and ticks of fuel, of a program with these classes, methods (of which one is `main`), names
+-- and literals
 abbrev pub text : ℕ → ℕ → List NumberedClass → List NumberedMethod → ℕ → List (List ℕ) → List (List ℕ) → Setting
 text procs fuel classes methods main names literals =
     record {
@@ -111,7 +113,7 @@ text procs fuel classes methods main names literals =
       };
     }
 
--- a program of `main` alone, which ends at a place
+-- a run of a program that has only `main`, which ends at a place
 abbrev pub alone : ℕ → ℕ → List (List ℕ) → List NumberedStm → Place → Setting
 alone procs fuel literals body end =
     text procs fuel (class_of [] ∷ []) (single_method 0 c.Void 11 c.Words body end ∷ []) 0 (codes "main" ∷ []) literals

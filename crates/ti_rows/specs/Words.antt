@@ -1,4 +1,4 @@
--- How programs are written down with all their words: what has the word `single` is single.
+-- Notation for programs with all their qualifiers and modifiers: what has the keyword `single` is single.
 use Rattle.std.specs.Prelude.{ℕ, List, []}
 use Rattle.ti_base.specs.declared.place.Place.{Place}
 use Rattle.ti_syntax.specs.declared.tree.types.Qualifier.{Qualifier}
@@ -13,27 +13,27 @@ use Rattle.ti_lang.specs.Program.Statements.{NumberedStm}
 use Rattle.ti_lang.specs.Program.Classes.{NumberedField, NumberedClass, NumberedParam, NumberedParams, NumberedResult, NumberedMethod, NumberedProgram}
 use Rattle.ti_rows.specs.Texts.{names_with}
 
--- a word behind a type
+-- a qualifier of a type
 abbrev pub qualifier : QualifierWord → Place → Qualifier
 qualifier word at = record { word = word; place = at }
 
--- a word before a member
+-- a modifier of a member
 abbrev pub modifier : ModifierWord → Place → Modifier
 modifier word at = record { word = word; place = at }
 
--- a bracket of a grid, with the words behind it
+-- a bracket of a grid type, with the qualifiers after it
 abbrev pub bracket : ℕ → List Qualifier → GridTree
 bracket dim words = record { dim = dim; qualifiers = words }
 
--- a type with the words behind its base, and its brackets
+-- a type with the qualifiers of its base, and its brackets
 abbrev pub type_with : ValueType → List Qualifier → List GridTree → NumberedType
 type_with type words grids = record { type = type; is_single = has_single words; qualifiers = words; grids = grids }
 
--- a variable of a number, where it is used
+-- a variable with this number, where it is used
 abbrev pub used : ℕ → Declaration → VariableUse
 used number declared = record { number = number; declared = declared }
 
--- a field of a name
+-- a field with this name
 abbrev pub field_with : List Modifier → NumberedType → ℕ → NumberedField
 field_with words type name = record { modifiers = words; ty = type; name = name }
 
@@ -41,11 +41,11 @@ field_with words type name = record { modifiers = words; ty = type; name = name 
 abbrev pub class_with : List Modifier → List NumberedField → NumberedClass
 class_with words fields = record { modifiers = words; fields = fields }
 
--- a parameter at its name
+-- a parameter, with the place of its name
 abbrev pub param_with : Place → NumberedType → NumberedParam
 param_with at type = record { place = at; ty = type }
 
--- a method of a class and a name, at its name, which ends at a place
+-- a method of a class, with its name, the place of its name, and the place at which it ends
 abbrev pub method_with : ℕ → List Modifier → NumberedResult → Place → ℕ → NumberedParams → List NumberedStm → Place → NumberedMethod
 method_with class words result at name params body end =
     record {
@@ -60,7 +60,7 @@ method_with class words result at name params body end =
       end = end;
     }
 
--- a program of classes and methods, of which one is `main`, with names behind those of the language and without string literals
+-- a program of classes and methods (of which one is `main`), with names after those of the language and without string literals
 abbrev pub program_of : List NumberedClass → List NumberedMethod → ℕ → List (List ℕ) → NumberedProgram
 program_of classes methods main names =
     record { classes = classes; methods = methods; main = main; names = names_with names; literals = [] }

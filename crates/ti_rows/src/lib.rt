@@ -1,5 +1,5 @@
-//! Worked rows: short programs with what their runs print, proved as computations of the meaning, and with what they are refused for;
-//! and what the laws rule out.
+//! Worked examples, proved by evaluation: short programs with what their runs print, programs that are rejected and why; and
+//! counterexamples that show that the theorems of other crates rule something out.
 #![tactic(auto)]
 
 pub mod refusals;

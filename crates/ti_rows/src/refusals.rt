@@ -1,4 +1,4 @@
-// Programs with what they are refused for, and those of the rows, which break no rule.
+// Rejected programs, each with the first rule that it breaks and the place; and the programs of the worked examples, which break no rule.
 ghost use Rattle.std.specs.Prelude.{[], ◌∷◌};
 ghost use Rattle.ti_rules.specs.declared.rule.Rule.TheVariants.{Y1, Y2, Y3, Y4, Y5, Y6, Y7, Y8, Q1, Q2, Q3, S1, S2, S3, S4, S5, S6, S7, S8, S9};
 ghost use Rattle.ti_rows.specs.Texts.{pl};
@@ -15,7 +15,7 @@ ghost use Rattle.ti_rows.specs.Rows.Collectives as collectives_rows;
 ghost use Rattle.ti_rows.specs.Rows.Regions as regions_rows;
 ghost use Rattle.ti_rows.specs.Rows.Programs as programs_rows;
 
-/// By the rules of types and qualifiers.
+/// Programs that break a rule of types or qualifiers.
 pub fn types()
     ensures operands_of_two_kinds { Refuses types.operands_of_two_kinds Y1 (pl 1 79) }
     ensures an_unknown_member { Refuses types.an_unknown_member Y1 (pl 1 92) }
@@ -49,7 +49,7 @@ pub fn types()
     ensures types_come_before_single_values { Refuses types.types_come_before_single_values Y2 (pl 1 112) }
 {}
 
-/// By those of single values.
+/// Programs that break a rule of single values.
 pub fn single_values()
     ensures a_barrier_under_the_own_number { Refuses singles.a_barrier_under_the_own_number S1 (pl 1 62) }
     ensures a_barrier_under_a_field { Refuses singles.a_barrier_under_a_field S1 (pl 1 96) }
@@ -69,7 +69,7 @@ pub fn single_values()
     ensures a_single_result_of_a_plain_method { Refuses singles.a_single_result_of_a_plain_method S9 (pl 1 25) }
 {}
 
-/// The rows of each topic.
+/// The programs of the worked examples, by topic, break no rule.
 pub fn accepted()
     ensures numbers { AreAccepted (numbers_rows.sums_and_quotients ∷ numbers_rows.shifts ∷ numbers_rows.bits ∷
         numbers_rows.long_sums ∷ numbers_rows.long_shifts ∷ numbers_rows.an_update_narrows ∷ numbers_rows.remainders ∷

@@ -1,5 +1,5 @@
-// What the laws of runs rule out: programs, and entries that are no run, of which what a law says is false. A law that said nothing
-// would fail here.
+// Counterexamples to the theorems about runs: rejected programs, and entries that are no run, for which what a theorem states is false.
+// They show that no theorem holds of everything.
 ghost use Rattle.std.specs.Prelude.{[], true, pos};
 ghost use Rattle.ti_base.specs.declared.action.Action.TheVariants as act;
 ghost use Rattle.ti_base.specs.declared.value.Value.TheVariants as v;
@@ -38,7 +38,7 @@ ghost use Rattle.ti_rows.specs.Rows.Collectives as collectives;
 ghost use Rattle.ti_rows.specs.Refuted.Programs as programs;
 ghost use Rattle.ti_rows.specs.Refuted.Entries as entries;
 
-/// Of these programs, which are refused, facts of every run are false.
+/// These programs, for which facts of every run are false, are rejected, each by this rule at this place.
 pub fn refused()
     ensures barriers_at_two_places { Refuses programs.barriers_at_two_places S1 (pl 1 62) }
     ensures a_barrier_behind_own_numbers { Refuses programs.a_barrier_behind_own_numbers S4 (pl 1 73) }
@@ -50,7 +50,7 @@ pub fn refused()
     ensures two_broadcasts { Refuses programs.two_broadcasts S1 (pl 1 62) }
 {}
 
-/// What processes meet together.
+/// Counterexamples to alignment: what processes reach together.
 pub fn alignment()
     ensures aligned { IsAligned singles.a_barrier_under_the_own_number → ⊥ }
     ensures arrivals_at_two_places { FailsFor ArrivalsAgree programs.barriers_at_two_places }
@@ -62,7 +62,7 @@ pub fn alignment()
     ensures an_end_of_the_slice { SliceAnswers collectives.barriers [] Ended → ⊥ }
 {}
 
-/// In whose memory, and in which regions, things lie.
+/// Counterexamples on owners, regions, names and cells of objects and grids.
 pub fn things()
     ensures another_owner { FailsFor OwnersKept programs.a_local_variable_of_another_process }
     ensures a_region_that_is_gone { FailsFor NothingDangles programs.a_region_is_deleted_by_one }
@@ -72,7 +72,7 @@ pub fn things()
     ensures a_cell_of_nothing { FailsOn (λ s es. CellsCounted s.program (history_of es)) programs.a_truth_in_a_number entries.no_object }
 {}
 
-/// Types and forms of what is there.
+/// Counterexamples on the types and canonical forms of what exists in a run.
 pub fn types()
     ensures a_truth_in_a_number { FailsFor RunTyped programs.a_truth_in_a_number }
     ensures two_types_at_a_broadcast { FailsFor TakenAsGiven programs.two_broadcasts }
@@ -88,7 +88,8 @@ pub fn types()
         (act.PutField (thing 0 0 0) 0 (v.Bool true)) ToBeDone → ⊥ }
 {}
 
-/// Entries that are no run, or not that of the lowest-numbered process that can take one, and answers that nothing before them gives.
+/// Entries that are no run, or not that of the lowest-numbered process that can take an entry, and answers that don't follow from the
+/// entries before.
 pub fn runs()
     ensures an_end_too_early { IsRun (by_two 1000 programs.one_barrier) entries.an_end_too_early → ⊥ }
     ensures the_second_first { IsSolo (by_two 1000 programs.one_barrier) entries.the_second_first → ⊥ }
@@ -98,7 +99,7 @@ pub fn runs()
     ensures a_thing_made_twice { IsAnswered programs.a_truth_in_a_number (history_of entries.a_thing_made_twice) → ⊥ }
 {}
 
-/// What breaks a rule, and what has no type.
+/// Programs that break a rule, and an expression that has no type.
 pub fn rules()
     ensures operands_of_two_kinds { BreaksNothing types_refused.operands_of_two_kinds → ⊥ }
     ensures a_barrier_under_the_own_number { BreaksNothing singles.a_barrier_under_the_own_number → ⊥ }

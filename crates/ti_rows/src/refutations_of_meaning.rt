@@ -1,4 +1,4 @@
-// What the laws of processes, runs, heaps, races, types and refusals rule out, and what they speak of.
+// Examples and counterexamples to theorems about processes, runs, heaps, races, types and rejections.
 ghost use Rattle.std.specs.Prelude.{◌≡◌, ◌++◌, pos, true, false, None, Some, [], ◌∷◌, Contains};
 ghost use Rattle.ti_base.specs.declared.action.Action.TheVariants as act;
 ghost use Rattle.ti_base.specs.declared.action.CollKind.TheVariants as coll;
@@ -38,7 +38,7 @@ ghost use Rattle.ti_rows.specs.Refuted.Programs as programs;
 ghost use Rattle.ti_rows.specs.Refuted.Things as things;
 ghost use Rattle.ti_rows.specs.Refuted.Things.{both, fresh, access, seen_with, the_point, later, earlier};
 
-/// Processes: what they are after answers, what they have next, and what computations make of answers.
+/// Processes: their states after answers, what they do next, and how computations use answers.
 pub fn processes()
     ensures itself { After (fresh 0) [] (fresh 0) }
     ensures another_process { After (fresh 0) [] (fresh 1) → ⊥ }
@@ -53,7 +53,7 @@ pub fn processes()
     ensures an_answer_is_left { UsesUp things.leaves_its_answer → ⊥ }
 {}
 
-/// Worlds and entries of runs.
+/// The states of all processes in a run (worlds), and the entries that can follow.
 pub fn worlds()
     ensures before_all { World both [] 0 (fresh 0) }
     ensures another_process { World both [] 0 (fresh 1) → ⊥ }
@@ -63,7 +63,7 @@ pub fn worlds()
     ensures an_end_in_front { FrontsAreRuns both entries.an_arrival_behind_an_end → ⊥ }
 {}
 
-/// Cells, regions and races.
+/// Cells of objects and grids, deleted regions, and pairs of accesses that are a race.
 pub fn heaps()
     ensures a_grid_is_made { IsAnswered programs.one_barrier (history_of entries.a_grid) }
     ensures a_grid_is_there { grid_of (thing 0 0 0) (history_of entries.a_grid) ≡ Some things.three_cells }
@@ -80,7 +80,7 @@ pub fn heaps()
     ensures a_race_of_two_reads { race (access 0 false) (access 1 false) ≡ true → ⊥ }
 {}
 
-/// Expressions in the text, and their types.
+/// Expressions in a source, and their types.
 pub fn texts()
     ensures a_number_is_spelled { Whole 1 (things.seven ∷ []) (tree.Int (pl 1 1) (pos 7)) }
     ensures nothing_is_spelled { (x : Exp) → Whole 1 [] x → ⊥ }
@@ -93,7 +93,7 @@ pub fn texts()
     ensures a_coordinate_of_a_number { element_seen (seen_with 1 the_point) ≡ element_seen (seen_with 1 things.a_number) → ⊥ }
 {}
 
-/// Rules that statements and expressions break, and which of several refusals counts.
+/// Rules that statements and expressions break, and which of several refusals is reported.
 pub fn refusals()
     ensures a_statement_breaks_a_rule { TypesStand types_refused.operands_of_two_kinds → ⊥ }
     ensures a_barrier_stands_under_the_own_number { SinglesStand singles.a_barrier_under_the_own_number → ⊥ }

@@ -1,4 +1,4 @@
-// What the laws on races rule out: in lists of entries, and in runs.
+// Examples and counterexamples to theorems about races, in lists of entries and in runs.
 ghost use Rattle.std.specs.Prelude.{◌≡◌, [], ◌∷◌, pos};
 ghost use Rattle.ti_lang.specs.Meaning.Determinacy.{IsFollowed, Determines};
 ghost use Rattle.ti_lang.specs.Meaning.Races.{races};
@@ -9,7 +9,8 @@ ghost use Rattle.ti_rows.specs.Simulation.{solo};
 ghost use Rattle.ti_rows.specs.Refuted.Programs as programs;
 ghost use Rattle.ti_rows.specs.Refuted.Entries as entries;
 
-/// Which entries of a list are in a race (`races`): two processes use one cell without a collective between them, and one writes it.
+/// Which entries of a list are part of a race (`races`): two processes access one cell without a collective in between, and one of them
+/// writes it.
 pub fn in_runs()
     ensures a_write_and_a_read { races (entries.written_and_read_by 1) ≡ 1 ∷ 2 ∷ [] }
     ensures one_process { races (entries.written_and_read_by 0) ≡ [] }
@@ -19,8 +20,8 @@ pub fn in_runs()
     ensures two_cells_of_a_grid { races (entries.written_through_a_view (pos 5)) ≡ [] }
 {}
 
-/// Which entries of a list are in a race as far as the entries tell (`races_told`). In a list that is no run, these can be others than
-/// those of `races`: an object that is made twice under one name is two objects, and a grid that nobody made has elements.
+/// Which entries of a list are part of a race according to the entries only (`races_told`). In a list that is no run, these can differ
+/// from those of `races`: an object that is made twice under one name is two objects, and a grid that nobody made has elements.
 pub fn as_told()
     ensures a_write_and_a_read { races_told (entries.written_and_read_by 1) ≡ 1 ∷ 2 ∷ [] }
     ensures one_process { races_told (entries.written_and_read_by 0) ≡ [] }
@@ -34,9 +35,9 @@ pub fn as_told()
     ensures no_cell_of_nobody { races entries.a_grid_of_nobody ≡ races_told entries.a_grid_of_nobody → ⊥ }
 {}
 
-/// Whether what each process does in one run is what it does in every run. In the solo run of `a_field_is_shared` both processes end, and a
-/// race decides what process 1 reads: in another run it reads another number. Two entries without a race, an end for each process, do
-/// not determine what a program that prints does.
+/// Whether each process does the same in every run as in the given one. In the canonical run of `a_field_is_shared` both processes end,
+/// and a race determines what process 1 reads: in another run it reads another number. Two entries without a race, an end for each
+/// process, don't determine what a program that prints does.
 pub fn in_every_run()
     ensures all_have_ended { AllEnded (by_two 1000 programs.a_field_is_shared) (solo (by_two 1000 programs.a_field_is_shared) 20) }
     ensures one_race { races (solo (by_two 1000 programs.a_field_is_shared) 20) ≡ 5 ∷ 10 ∷ [] }

@@ -1,4 +1,4 @@
-// What the laws of numbers, points, lists of points and rectangles rule out, and what they speak of.
+// Examples and counterexamples to theorems about numbers, points, lists of points and rectangles.
 ghost use Rattle.std.specs.Prelude.{◌≡◌, ◌⊎◌, ◌↔◌, IsTrue, true, None, Some, [], ◌∷◌, length, pos, negsuc};
 ghost use Rattle.std.specs.Int.{w32};
 ghost use Rattle.ti_base.specs.declared.point.Point.{Point};
@@ -14,7 +14,7 @@ ghost use Rattle.ti_base.specs.Cells.{leaves, suits, view_fault, seen_point};
 ghost use Rattle.ti_rect.specs.Views.{IsView};
 ghost use Rattle.ti_rows.specs.Refuted.Sets.{on_line, two_coordinates, rising, falling, middle, twos_to, all_to_four, evens, loose, all};
 
-/// What is left of a number, and quotients and remainders.
+/// Wrapping of integers to 32 bits, quotients and remainders.
 pub fn numbers()
     ensures a_number_of_33_bits { IsWrapped w32 (pos 2147483648) (pos 2147483648) → ⊥ }
     ensures a_number_nearby { IsWrapped w32 (pos 2147483648) (pos 2147483647) → ⊥ }
@@ -39,7 +39,7 @@ pub fn lists()
     ensures none_behind_the_second { NoneAfter (IsAmong rising) (Some (on_line (pos 1))) → ⊥ }
 {}
 
-/// The one form of points, ranges and rectangles.
+/// Canonical forms of points, ranges and rectangles.
 pub fn forms()
     ensures a_point { IsTrue (is_point (on_line (pos 1))) }
     ensures a_second_coordinate { IsPoint two_coordinates → ⊥ }
@@ -65,7 +65,7 @@ pub fn rectangles()
     ensures a_point_in_one { IsIn (rects.meet evens all) (on_line (pos 1)) → ⊥ }
 {}
 
-/// Rectangles that are moved, and views of them.
+/// Translations of rectangles, and views of them.
 pub fn views()
     ensures far_moved { leaves evens (on_line (pos 2147483647)) ≡ true }
     ensures little_moved { leaves evens (on_line (pos 1)) ≡ true → ⊥ }

@@ -1,4 +1,4 @@
-// What the laws of those who do the work of a process rule out: of what it has next, of answers, and of code.
+// Examples and counterexamples to theorems about executing a process: what it does next, which answers fit, and what its bytecode does.
 ghost use Rattle.std.specs.Prelude.{◌≡◌, List, [], ◌∷◌, ℕ, pos};
 ghost use Rattle.ti_base.specs.declared.action.Action.TheVariants as act;
 ghost use Rattle.ti_base.specs.declared.entry.Answer.{Answer};
@@ -23,7 +23,7 @@ ghost use Rattle.ti_rows.specs.Refuted.Programs as programs;
 ghost use Rattle.ti_rows.specs.Refuted.Sets.{two_coordinates};
 ghost use Rattle.ti_rows.specs.Refuted.Things.{a_number, fresh};
 
-/// What a process has next, and which answers fit it.
+/// What a process does next, and which answers fit it.
 pub fn processes()
     ensures something_is_next { (s : TreeStanding) → s.told ≡ [] → (n : Next) × HasNext s n }
     ensures an_end_as_an_action { (s : TreeStanding) (at : Place) → HasNext s (next.Act at act.End) → ⊥ }
@@ -32,13 +32,13 @@ pub fn processes()
     ensures a_point_without_its_form { IsFormedAnswer (Val (v.Pt two_coordinates)) → ⊥ }
 {}
 
-/// What code does an expression.
+/// Which bytecode evaluates an expression.
 pub fn pushes()
     ensures the_number { (env : Env) → Does (who_in env) (pushes 7) start (eval env a_number) (Pushes [] 1 []) }
     ensures another_number { (env : Env) → Does (who_in env) (pushes 8) start (eval env a_number) (Pushes [] 1 []) → ⊥ }
 {}
 
-/// Which code follows a program.
+/// Which bytecode follows a program.
 pub fn codes()
     ensures its_code { program_code programs.a_print ≡ prints_at 62 }
     ensures the_print { code.HasNext (prints_at 62) (first (prints_at 62) 2 1000 0) [] the_print }
@@ -46,7 +46,7 @@ pub fn codes()
     ensures a_print_elsewhere { code.Follows (prints_at 63) programs.a_print → ⊥ }
 {}
 
-/// How many instructions are finished with the last of some answers: one number at most.
+/// How many instructions are finished with the last of some answers: at most one number.
 pub fn counts()
     ensures one_number { (c : Code) (m : Machine) (rs : List Answer) (j k : ℕ) → code.Finishes c m rs j → code.Finishes c m rs k → j ≡ k }
     ensures two_instructions { code.Finishes (prints_at 62) (first (prints_at 62) 2 1000 0) (Done ∷ []) 2 }
@@ -56,7 +56,7 @@ pub fn counts()
     ensures one_as_counted { machine.HasFinished (record (standing (prints_at 62)) { told = Done ∷ [] }) 1 → ⊥ }
 {}
 
-/// What a process of code has next: one thing, and where the code follows no program, not what the program has.
+/// What a process of bytecode does next: it is unique, and if the bytecode follows no program, it isn't what the program does.
 pub fn machines()
     ensures the_print { machine.HasNext (standing (prints_at 62)) the_print }
     ensures an_end_beside_it { machine.HasNext (standing (prints_at 62)) the_end → ⊥ }

@@ -1,4 +1,4 @@
-// The rows by topic. What each program prints and how its run ends is told in the row; the programs stand in `specs/Rows`.
+// The worked examples by topic: what each program prints and how its run ends. The programs are in `specs/Rows`.
 ghost use Rattle.std.specs.Prelude.{[], ◌∷◌, codes};
 ghost use Rattle.ti_base.specs.declared.fault.FaultKind.TheVariants.{BadRoot, BadStride, Bounds, Depth, DivZero, DomainSize, EmptyDomain, ExchangeDomain, Fuel, HeapFull, NotLocal, NullRef, Range, RegionGone, RegionInUse};
 ghost use Rattle.ti_rows.specs.Texts.{pl};
@@ -14,7 +14,7 @@ ghost use Rattle.ti_rows.specs.Rows.Regions as regions_rows;
 ghost use Rattle.ti_rows.specs.Rows.Programs as programs_rows;
 ghost use Rattle.ti_rows.specs.Histories as histories;
 
-/// Whole numbers, booleans and prints.
+/// Worked examples: integers, booleans and prints.
 pub fn numbers()
     ensures sums_and_quotients { Prints numbers_rows.sums_and_quotients (codes "-2147483648\n-2147483648\n0\n-3\n-1\n") }
     ensures shifts { Prints numbers_rows.shifts (codes "2\n-4\n15\n2\n") }
@@ -31,7 +31,7 @@ pub fn numbers()
     ensures an_update_by_zero { FaultsBehind numbers_rows.an_update_by_zero [] DivZero 0 (pl 1 75) }
 {}
 
-/// Blocks, loops and jumps.
+/// Worked examples: blocks, loops and jumps.
 pub fn statements()
     ensures blocks { Prints statements_rows.blocks (codes "1\n2\n3\n") }
     ensures loops { Prints statements_rows.loops (codes "0\n2\n5\n0\n") }
@@ -41,7 +41,7 @@ pub fn statements()
     ensures fuel_in_a_loop { FaultsBehind statements_rows.fuel_in_a_loop [] Fuel 0 (pl 1 73) }
 {}
 
-/// Calls of methods.
+/// Worked examples: calls of methods.
 pub fn calls()
     ensures an_early_return { Prints calls_rows.an_early_return (codes "1\n") }
     ensures a_return_out_of_loops { Prints calls_rows.a_return_out_of_loops (codes "5\n") }
@@ -58,7 +58,7 @@ pub fn calls()
     ensures a_call_on_null { FaultsBehind calls_rows.a_call_on_null [] NullRef 0 (pl 1 122) }
 {}
 
-/// Objects and their fields.
+/// Worked examples: objects and their fields.
 pub fn objects()
     ensures a_local_field { Prints objects_rows.a_local_field [] }
     ensures a_field_of_null { FaultsBehind objects_rows.a_field_of_null [] NullRef 0 (pl 1 103) }
@@ -66,7 +66,7 @@ pub fn objects()
     ensures a_cast_to_local { FaultsBehind objects_rows.a_cast_to_local (codes "0\n") NotLocal 1 (pl 1 134) }
 {}
 
-/// Points and domains.
+/// Worked examples: points and domains.
 pub fn domains()
     ensures points { Prints domains_rows.points (codes "[4,6]\ntrue\n[3,4]\ntrue\n[1,2]\n[1,5]\n[3,2]\n[3,5]\n") }
     ensures a_coordinate_out_of_bounds { FaultsBehind domains_rows.a_coordinate_out_of_bounds (codes "4\n") Bounds 0 (pl 1 107) }
@@ -80,7 +80,7 @@ pub fn domains()
     ensures too_many_points_for_a_domain { FaultsBehind domains_rows.too_many_points_for_a_domain [] DomainSize 0 (pl 1 72) }
 {}
 
-/// Grids, views and copies.
+/// Worked examples: grids, views and copies.
 pub fn grids()
     ensures elements { Prints grids_rows.elements (codes "3\n") }
     ensures grids_of_grids { Prints grids_rows.grids_of_grids (codes "4\ntrue\n") }
@@ -96,7 +96,7 @@ pub fn grids()
     ensures a_grid_that_is_too_large { FaultsBehind grids_rows.a_grid_that_is_too_large [] HeapFull 0 (pl 1 75) }
 {}
 
-/// Barriers, broadcasts and exchanges.
+/// Worked examples: barriers, broadcasts and exchanges.
 pub fn collectives()
     ensures barriers { Prints collectives_rows.barriers (codes "0\n1\n2\n2\n") }
     ensures a_break_under_a_single_condition { Prints collectives_rows.a_break_under_a_single_condition (codes "3\n3\n") }
@@ -111,7 +111,7 @@ pub fn collectives()
     ensures an_exchange_into_another_size { FaultsBehind collectives_rows.an_exchange_into_another_size [] ExchangeDomain 0 (pl 1 92) }
 {}
 
-/// Shared regions.
+/// Worked examples: shared regions.
 pub fn regions()
     ensures a_region_is_deleted { Prints regions_rows.a_region_is_deleted (codes "0\n1\n9\n9\n") }
     ensures two_regions { Prints regions_rows.two_regions (codes "false\nfalse\n2\n2\n") }
@@ -120,13 +120,13 @@ pub fn regions()
     ensures a_region_deleted_twice { FaultsBehind regions_rows.a_region_deleted_twice (codes "1\n") RegionGone 0 (pl 1 206) }
 {}
 
-/// Whole programs.
+/// Worked examples: complete programs.
 pub fn programs()
     ensures grids_are_exchanged { Prints programs_rows.grids_are_exchanged (codes "total 120\n") }
     ensures grids_are_exchanged_by_four { Prints programs_rows.grids_are_exchanged_by_four (codes "total 496\n") }
 {}
 
-/// The entries of two runs, one by one.
+/// The entries of two complete runs.
 pub fn histories()
     ensures grids_are_exchanged { Makes programs_rows.grids_are_exchanged histories.grids_are_exchanged }
     ensures a_region_is_deleted { Makes regions_rows.a_region_is_deleted histories.a_region_is_deleted }

@@ -1,11 +1,10 @@
-// What the rows' simulator makes.
+// The simulator by which the worked examples are proved computes the canonical run.
 ghost use Rattle.std.specs.Prelude.{ℕ};
 ghost use Rattle.ti_lang.specs.Meaning.Processes.{Setting};
 ghost use Rattle.ti_lang.specs.Meaning.Runs.{IsSolo};
 ghost use Rattle.ti_rows.specs.Simulation.{solo};
 
-/// The entries that are simulated are a run, that of the lowest-numbered process that can take an
-/// entry.
+/// The simulated entries are a run: the one in which always the lowest-numbered process that can take an entry does so.
 pub fn simulates()
     ensures { (s : Setting) (turns : ℕ) → IsSolo s (solo s turns) }
 {}

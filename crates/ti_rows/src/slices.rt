@@ -1,4 +1,4 @@
-// What the slices of the rows' programs come to: row by row, after these outcomes, this.
+// The program slices of worked examples: the answer of each after a list of outcomes.
 ghost use Rattle.std.specs.Prelude.{[], ◌∷◌, None, Some, true, pos};
 ghost use Rattle.ti_base.specs.declared.action.CollKind.TheVariants.{Barrier, Broadcast, Exchange, MakeRegion, DeleteRegion};
 ghost use Rattle.ti_base.specs.declared.entry.Answer.TheVariants.{Done, Val};
@@ -13,7 +13,7 @@ ghost use Rattle.ti_rows.specs.Rows.Calls as calls_rows;
 ghost use Rattle.ti_rows.specs.Rows.Collectives as collectives_rows;
 ghost use Rattle.ti_rows.specs.Rows.Regions as regions_rows;
 
-/// Barriers, broadcasts and exchanges.
+/// The slices of programs with barriers, broadcasts and exchanges.
 pub fn collectives()
     ensures barriers { SliceAnswers collectives_rows.barriers [] (At Barrier (pl 1 89) None) }
     ensures barriers_end { SliceAnswers collectives_rows.barriers (Done ∷ []) Ended }
@@ -58,7 +58,7 @@ pub fn collectives()
     ensures an_exchange_into_another_size { SliceAnswers collectives_rows.an_exchange_into_another_size [] (At Exchange (pl 1 92) None) }
 {}
 
-/// Shared regions.
+/// The slices of programs with shared regions.
 pub fn regions()
     ensures a_region_is_made { SliceAnswers regions_rows.a_region_is_deleted [] (At MakeRegion (pl 1 105) None) }
     ensures a_region_is_deleted { SliceAnswers regions_rows.a_region_is_deleted (Val (v.Region 1) ∷ [])
@@ -75,7 +75,7 @@ pub fn regions()
         (Unfit 2) }
 {}
 
-/// Calls, and programs without collectives.
+/// The slices of programs with calls, and of programs without collectives.
 pub fn others()
     ensures a_single_method { SliceAnswers calls_rows.a_single_method [] (At Barrier (pl 1 94) None) }
     ensures a_single_method_turns { SliceAnswers calls_rows.a_single_method (Done ∷ []) (At Barrier (pl 1 94) None) }
@@ -87,7 +87,7 @@ pub fn others()
     ensures a_single_recursion { SliceAnswers a_single_recursion [] (Faults Depth (pl 1 39)) }
 {}
 
-/// Where ticks are few: an arrival costs one, a departure one, and the turn of a loop with effects one.
+/// The slices of programs with little fuel: an arrival, a departure and an iteration of a loop with global effects cost one tick each.
 pub fn ticks()
     ensures no_tick_for_an_arrival { SliceAnswers (with_fuel 0 collectives_rows.barriers) [] NoFuel }
     ensures a_tick_for_an_arrival { SliceAnswers (with_fuel 1 collectives_rows.barriers) [] (At Barrier (pl 1 89) None) }

@@ -1,4 +1,4 @@
--- The answers of a run fit the processes, and one more answer takes a process a step on.
+-- The answers of a run fit the processes, so one more answer takes a process one step further.
 use Rattle.std.proofs.Common.{◌≡◌, ℕ, ◌==◌, Bool, true, false, List, [], ◌∷◌, ◌++◌, refl, sym, ap, ◌∙◌, subst, eqb-true}
 use Rattle.ti_base.specs.declared.action.Action.{Action}
 use Rattle.ti_base.specs.declared.place.Place.{Place}

@@ -1,4 +1,4 @@
--- The lemmas of this crate that other crates may cite; no other module of its proofs is seen outside.
+-- The lemmas of this crate that other crates may use; other modules of its proofs aren't visible outside.
 pub use Rattle.ti_store.proofs.Appended.{answers_more, answers_still, arrivals_more, end_more, other_more}
 pub use Rattle.ti_store.proofs.Crossing.{action_send, place_send, store_send}
 pub use Rattle.ti_store.proofs.Fitted.{fits_none, fitting, world_more}

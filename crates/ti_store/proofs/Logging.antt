@@ -1,4 +1,4 @@
--- The history as a log.
+-- The entries of a history form the log that a turnstile sees.
 use Rattle.std.proofs.Common.{◌≡◌, ℕ, zero, suc, ◌<◌, List, [], ◌∷◌, length, get_or, refl, arith}
 use Rattle.ti_base.specs.declared.entry.Entry.{Entry}
 use Rattle.ti_turnstile.specs.Passes.{number_at}

@@ -18,7 +18,7 @@ use Rattle.ti_store.specs.declared.act_err.ActErr.{ActErr}
 use Rattle.ti_store.specs.declared.act_err.ActErr.TheVariants.{Faulted, NotYet, Halted, Memory}
 use Rattle.ti_store.specs.Conditions.{HasNext}
 
--- the program of a store, its number of processes, their fuel, the entries so far, and whether want of memory halted it
+-- the program of a store, its number of processes, their fuel, the entries so far, and whether it was halted because memory ran out
 pub record StoreState : Type 0 where
   pub program : Parts
   pub procs : ℕ
@@ -34,17 +34,17 @@ setting_of s = record { program = program_of s.program; procs = s.procs; fuel = 
 abbrev pub log_of : List Entry → List (ℕ × Entry)
 log_of es = map (λ (e : Entry). (e.proc, e)) es
 
--- nothing more is done: the history ends with a fault, or want of memory halted the store
+-- no further action is performed: the history ends with a fault, or the store was halted because memory ran out
 abbrev pub is_halted : StoreState → Bool
 is_halted s = s.halted || has_fault s.entries
 
--- what a process does, as what it has next: an end and a fault of its own are no actions
+-- what a process does, as a `Next`: its end and a fault of its own are no actions
 abbrev pub next_of : Place → Action → Next
 next_of at act.End = next.End at
 next_of at (act.Fault kind) = next.Fault kind at
 next_of at a = next.Act at a
 
--- process p has this next, after its own entries
+-- process p does this next, after its own entries
 abbrev pub IsNextOf : StoreState → ℕ → Place → Action → Type 0
 IsNextOf s p at a = HasNext (setting_of s) p (entries_of p s.entries) (next_of at a)
 
@@ -52,17 +52,17 @@ IsNextOf s p at a = HasNext (setting_of s) p (entries_of p s.entries) (next_of a
 abbrev pub NeedNotWait : StoreState → ℕ → Place → Action → Type 0
 NeedNotWait s p at a = IsReady (setting_of s) s.entries p (next_of at a)
 
--- what process p does is done: this entry comes of it
+-- what process p does is performed, and results in this entry
 pub record Becomes (s : StoreState) (p : ℕ) (at : Place) (a : Action) (e : Entry) : Type 0 where
   pub goes_on : is_halted s ≡ false
   pub ready : NeedNotWait s p at a
   pub entry : entry_of (setting_of s) s.entries p (next_of at a) ≡ Some e
 
--- the store with one entry more
+-- the store with one more entry
 abbrev pub grown : StoreState → Entry → StoreState
 grown s e = record s { entries = s.entries ++ e ∷ [] }
 
--- process p did what it had next, and was answered
+-- process p did what it does next, and received this answer
 pub record IsDone (old : StoreState) (p : ℕ) (at : Place) (a : Action) (answer : Answer) (new : StoreState) : Type 0 where
   pub becomes : Becomes old p at a (record { proc = p; place = at; act = a; answer = answer })
   pub no_fault : is_fault a ≡ false
@@ -72,8 +72,7 @@ pub record IsDone (old : StoreState) (p : ℕ) (at : Place) (a : Action) (answer
 abbrev pub fault_entry : ℕ → Place → FaultKind → Entry
 fault_entry p at kind = record { proc = p; place = at; act = act.Fault kind; answer = Done }
 
--- Process p did not do what it had next: a fault came of it; or it has to wait, or the store is halted, or memory was wanting, and
--- nothing changed.
+-- Process p didn't get an answer: what it did faulted; or it has to wait, the store is halted, or memory ran out, and nothing changed.
 abbrev pub IsRefused : StoreState → ℕ → Place → Action → ActErr → StoreState → Type 0
 IsRefused old p at a (Faulted kind) new = Becomes old p at a (fault_entry p at kind) × (new ≡ grown old (fault_entry p at kind))
 IsRefused old p at a NotYet new = (is_halted old ≡ false) × (NeedNotWait old p at a → ⊥) × (new ≡ old)

@@ -1,4 +1,4 @@
-// The store of a run.
+// The store of a run: its history and all that results from it. Its invariant states that the entries are a run of the program.
 
 ghost use Rattle.std.specs.Prelude.{◌≡◌, ◌<◌, [], false, true, IfOk, IfErr};
 ghost use Rattle.ti_lang.specs.Program.Views.{program_of};
@@ -24,16 +24,19 @@ use ti_rounds::Rounds;
 use ti_rules::Checked;
 use ti_turnstile::Kept;
 
-/// The history of a run, with the heap, the rounds and the regions that it makes.
+/// The history of a run, with the heap, the collectives and the regions that result from it.
 ///
-/// Contracts see the program, the number of processes, the fuel of each, the entries so far, and whether
-/// want of memory halted the store. The entries are always a run of the program, and program, number of
-/// processes and fuel are those of its terms, however the store was come by.
+/// Contracts see the program, the number of processes, the fuel of each, the entries so far, and whether the store was halted because
+/// memory ran out. The entries are always a run of the program, and program, number of processes and fuel are those of the terms `J`,
+/// wherever the store was obtained from.
 #[derive(Drop)]
 pub struct Store<J: Terms> {
     ledger: Ledger,
+    // The fuel of each process, in ticks; only contracts speak of it.
     fuel: u32,
+    // The history ends with a fault.
     faulted: bool,
+    // Memory ran out elsewhere: see `halt_for_memory`.
     halted: bool,
     of: PhantomData<J>,
 }
@@ -72,7 +75,7 @@ impl<J: Terms> Kept for Store<J> {
 }
 
 impl<J: Terms> Store<J> {
-    /// The store of a program with so many processes and so much fuel for each, before the first entry.
+    /// The store of a program, before the first entry, for the given number of processes and ticks of fuel for each.
     ///
     /// It keeps a copy of the program.
     pub fn new(alloc: Global, c: &Checked, procs: u32, fuel: u32) -> Result<Self, Memory>
@@ -117,13 +120,12 @@ impl<J: Terms> Store<J> {
         })
     }
 
-    /// The process does what it has next: an action, its end or a fault of its own.
+    /// Performs what process `p` does next: an action, its end or a fault of its own.
     ///
-    /// Its entry is added, with its answer or as the fault that comes of it. `Halted` comes exactly where
-    /// the history ends with a fault or the store was halted; else `NotYet` exactly where this is a departure
-    /// and not all have arrived at the round; else `Faulted` exactly where a fault comes of it, which is then
-    /// the last entry. Want of memory may come in place of an answer or a fault. But for `Faulted`, nothing
-    /// changes on an error.
+    /// Its entry is appended, with its answer or as the fault that it results in. The result is `Halted` exactly if the history ends with
+    /// a fault or the store was halted; otherwise `NotYet` exactly if this is a departure from a collective at which not all have
+    /// arrived; otherwise `Faulted` exactly if it faults, and the fault is then the last entry. `Memory` may replace an answer or a
+    /// fault. On errors other than `Faulted` nothing changes.
     pub fn act(&mut self, alloc: Global, p: u32, place: Place, a: Action) -> Result<Answer, ActErr>
         requires process { p < self.old.procs }
         requires next { IsNextOf self.old p place a }
@@ -147,14 +149,14 @@ impl<J: Terms> Store<J> {
         }
     }
 
-    /// Halts the store, for want of memory elsewhere: nothing more is done.
+    /// Halts the store because memory ran out elsewhere: no further action is performed.
     pub fn halt_for_memory(&mut self)
         ensures { self.new ≡ record self.old { halted = true } }
     {
         self.halted = true;
     }
 
-    /// A law: program, number of processes and fuel are those of the terms.
+    /// Theorem: program, number of processes and fuel are those of the terms.
     pub fn knows_terms(&self)
         ensures { setting_of self.now ≡ J.setting }
     {
@@ -169,7 +171,7 @@ impl<J: Terms> Store<J> {
         &self.ledger.entries
     }
 
-    /// The entries, which are a run.
+    /// Takes the store apart and returns the entries, which are a run.
     pub fn into_history(self) -> Vec<Entry>
         ensures entries { result.items ≡ self.entries }
         ensures run { IsRun (setting_of self) self.entries }

@@ -1,10 +1,10 @@
-// What a run is a run of.
+// Type-level configuration of a run.
 
 use std::marker::Brand;
 
 /// The terms of a run: its program, the number of processes, and the fuel of each.
 ///
-/// A type that stands for them, so that who comes by a store of this type knows them.
+/// A type that represents them, so that a `Store<J>` is known to be of these terms even if it was obtained through a lock.
 pub trait Terms {
     ghost use Rattle.ti_lang.specs.Meaning.Processes.{Setting};
 
@@ -12,7 +12,7 @@ pub trait Terms {
     ghost setting: { Setting };
 }
 
-/// A brand has no terms of its own: the call that is branded picks them.
+/// A brand has no terms of its own: the call that introduces the brand chooses them.
 impl Terms for Brand {
     ghost use Rattle.std.specs.Prelude.{[]};
 

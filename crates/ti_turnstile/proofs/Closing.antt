@@ -1,4 +1,4 @@
--- What the last state of a turnstile's table says.
+-- In the final state of a turnstile's table, the value's log is legal for all passes.
 use Rattle.std.proofs.Common.{◌≡◌, ℕ, ◌+◌, List, [], ◌∷◌, ◌++◌, map, length, refl, sym, ap, ◌∙◌, subst, arith, false, add-one, ⊎_elim, drop}
 use Rattle.std.specs.Prelude.{Option, Some}
 use mathlib.Core.Option.{some, some-injective}

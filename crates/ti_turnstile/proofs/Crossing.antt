@@ -1,4 +1,4 @@
--- What threads may share of a turnstile, and what may go from one to another: what may become of its value.
+-- Turnstiles may be shared between threads, and passes sent from one to another, if the value may be sent.
 use denote.Builtin.{u32}
 use denote.RattleType.{RattleType}
 use denote.Param.Send.{IsSend, IsSync, sendable, struct_send, struct_sync}

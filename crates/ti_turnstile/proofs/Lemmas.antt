@@ -1,2 +1,2 @@
--- The lemmas of this crate that other crates may cite; no other module of its proofs is seen outside.
+-- The lemmas of this crate that other crates may use; other modules of its proofs aren't visible outside.
 pub use Rattle.ti_turnstile.proofs.Crossing.{pass_send, turnstile_sync}

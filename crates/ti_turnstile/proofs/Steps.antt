@@ -1,4 +1,4 @@
--- Each step on the turnstile's table keeps its rule.
+-- Each transition of the turnstile's table keeps its invariant.
 use Rattle.std.proofs.Common.{◌≡◌, ◌≢◌, ℕ, suc, ◌+◌, ◌<◌, ◌==◌, inl, inr, ⊎_elim, false, cond, eqb, eq-eqb, ne_eqb, length-append, add-one, take, drop, List, [], ◌∷◌, ◌++◌, set, length, slice_index, refl, sym, ap, ◌∙◌, subst, arith}
 use Rattle.std.specs.Prelude.{Option, Some}
 use Rattle.std.proofs.lemmas.Bool.{false≢true}

@@ -10,16 +10,16 @@ use Rattle.ti_turnstile.specs.Passes.{IsLegal}
 use Rattle.ti_turnstile.specs.declared.view.Part.{Part}
 use Rattle.ti_turnstile.specs.Parts.{part, number_in, seen_in, AllParts, HasSeen, HasNumber, Distinct}
 
--- ---- of one
+-- ---- single passes
 
--- which turnstile it is, and how many passes it has
+-- the identity of a turnstile, and how many passes it has
 abbrev pub identity_of : {V I : Type 0} → Turnstile V I → TableId
 identity_of t = t.table.shared.table_id
 
 abbrev pub passes_of : {V I : Type 0} → Turnstile V I → ℕ
 passes_of t = t.table.shared.key
 
--- the turnstile that a pass is of, its number, and what it has seen of the log
+-- the turnstile of a pass, its number, and what it has seen of the log
 abbrev pub turnstile_of : {V I : Type 0} {g : _} → Pass V I g → TableId
 turnstile_of p = p.seat.table_id
 
@@ -29,7 +29,7 @@ number_of p = number_in p.seat.me
 abbrev pub seen_by : {V I : Type 0} {g : _} → Pass V I g → List (ℕ × I)
 seen_by p = seen_in p.seat.me
 
--- the turnstile that a pass is inside of, its number, the value, and the log that it had on entering
+-- the turnstile that a pass is inside of, its number, the value, and the log that the value had when it entered
 abbrev pub turnstile_around : {V I : Type 0} {g : _} → Inside V I g → TableId
 turnstile_around i = i.place.seat.table_id
 
@@ -42,13 +42,13 @@ value_inside i = i.value
 abbrev pub found_inside : {V I : Type 0} {g : _} → Inside V I g → List (ℕ × I)
 found_inside i = seen_in i.place.seat.me
 
--- the same pass inside, with another value
+-- the pass inside, with another value
 abbrev pub with_value : {V I : Type 0} {g : _} → Inside V I g → V → Inside V I g
 with_value i x = record { place = i.place; value = x }
 
--- ---- of all
+-- ---- lists of passes
 
--- the pass at i is of this turnstile, has the number i, and has seen nothing
+-- the pass with index i is of this turnstile, has the number i, and has seen nothing
 abbrev pub AreNew : {V I : Type 0} {g : _} → TableId → List (Pass V I g) → Type 0
 AreNew turnstile ps = (i : ℕ) (p : _) → get_elem? ps i ≡ some p → (turnstile_of p ≡ turnstile) × (number_of p ≡ i) × (seen_by p ≡ [])
 
@@ -61,7 +61,7 @@ AreOf turnstile (p ∷ ps) = (turnstile_of p ≡ turnstile) × AreOf turnstile p
 abbrev pub part_of : {V I : Type 0} {g : _} → Pass V I g → Part I
 part_of p = part (number_of p) (seen_by p)
 
--- the log is legal with each pass
+-- what each pass has seen is legal for the log
 abbrev pub AreLegal : {V I : Type 0} {g : _} → List (ℕ × I) → List (Pass V I g) → Type 0
 AreLegal log ps = AllParts (λ q. IsLegal log q.number q.seen) (map part_of ps)
 

@@ -1,11 +1,11 @@
-// The rule of the turnstile's table, and the steps on it.
+// The protocol of the turnstile's atomic table: its invariant, and the transitions that keep it.
 
 use crate::kept::Kept;
 use crate::view::View;
 use atomic_table::{Join, Play, Split, TableRule};
 use std::marker::PhantomData;
 
-/// The table's rule: there is one log, of which each pass has seen a beginning with all items of its number.
+/// The invariant of the table: there is one log; each pass has seen a prefix of it, in which are all items with the pass's number.
 pub struct Law<V> {
     of: PhantomData<V>,
 }
@@ -19,7 +19,7 @@ impl<V: Kept> TableRule<Option<V>, View<V::Item>, u32> for Law<V> {
     ghost first = { λ n. view false (fresh 0 n) };
 }
 
-/// A seat tries to go in.
+/// Transition: tries to acquire the lock (compare-and-exchange of 0 with 1).
 pub struct Enter<V> {
     of: PhantomData<V>,
 }
@@ -30,7 +30,7 @@ impl<V: Kept> Play<Option<V>, View<V::Item>> for Enter<V> {
     ghost then = { Tries V.log };
 }
 
-/// A seat that is inside takes in the log of the value.
+/// Transition: while the seat holds the lock, its view becomes the value's log.
 pub struct See<V> {
     of: PhantomData<V>,
 }
@@ -41,7 +41,7 @@ impl<V: Kept> Play<Option<V>, View<V::Item>> for See<V> {
     ghost then = { Sees V.log };
 }
 
-/// The seat goes out.
+/// Transition: releases the lock.
 pub struct Leave<V> {
     of: PhantomData<V>,
 }
@@ -52,7 +52,7 @@ impl<V: Kept> Play<Option<V>, View<V::Item>> for Leave<V> {
     ghost then = { Goes V.log };
 }
 
-/// A seat gives its first part to a seat of its own.
+/// Split of seats: the first part of a seat goes to a seat of its own.
 pub struct Cut;
 
 impl<I> Split<View<I>> for Cut {
@@ -64,7 +64,7 @@ impl<I> Split<View<I>> for Cut {
     ghost right = { λ v. view false (take 1 v.parts) };
 }
 
-/// A seat takes over the parts of another.
+/// Join of seats: a seat takes over the parts of another.
 pub struct Both;
 
 impl<I> Join<View<I>> for Both {

@@ -1,7 +1,7 @@
-//! A turnstile: one value, with which one pass at a time is inside.
+//! A turnstile: a lock around one value. One pass at a time holds the lock: it is then *inside*, and has the value.
 //!
-//! The value has a log of items that only grows, each with a number. A pass has a number and adds items of that
-//! number alone. So whatever the schedule, there is one log, of which each pass has seen a beginning.
+//! The value has an append-only log of items, each with a number. A pass has a number and appends only items with that number. So
+//! whatever the schedule, there is one log, and each pass has seen a prefix of it.
 #![tactic(auto)]
 
 mod kept;

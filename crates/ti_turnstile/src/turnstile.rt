@@ -1,4 +1,5 @@
-// The turnstile, its passes, and a pass that is inside.
+// The turnstile, its passes, and a pass that is inside. Word 0 of the table is the lock (1 if held), word 1 the hint; slot 0 holds the
+// value while nobody is inside.
 
 ghost use Rattle.std.specs.Prelude.{◌≡◌, ℕ, ◌<◌, ◌+◌, [], ◌∷◌, length, drop, IsTrue, false, Some, IfOk};
 ghost use Rattle.ti_turnstile.specs.Passes.{GrownBy, IsLegal};
@@ -16,25 +17,25 @@ use std::sync::atomic::{AtomicUsize, Ordering};
 use std::time::Duration;
 use ti_base::Memory;
 
-// How often a pass tries to go in before it sleeps, with a longer pause after each try.
+// How often a pass tries to acquire the lock before it sleeps, with a longer pause after each try.
 const TRIES: u32 = 8;
 
-// The longest sleep, in microseconds: who misses a wake goes on after it.
+// The longest sleep, in microseconds: a thread that misses a wake-up continues after it.
 const NAP: u64 = 50;
 
-/// Keeps one value, with which one pass at a time is inside.
+/// A lock around one value, which one pass at a time may hold.
 ///
 /// Contracts see which turnstile it is (`identity_of`) and how many passes it has (`passes_of`).
 #[derive(Drop)]
 pub struct Turnstile<V: Kept> {
     table: Table<Option<V>, View<V::Item>, u32, Law<V>, Global>,
-    // How many threads sleep until they can go in, and how many nap, or are about to. These counts decide only whether threads are woken.
+    // How many threads sleep in `enter`, and how many in `nap`, or are about to. The counts decide only whether threads are woken.
     entering: AtomicUsize,
     napping: AtomicUsize,
     ghost shape: { (table.shared.table_id.words ≡ 2) × (table.shared.table_id.slots ≡ 1) × (0 < table.shared.key) },
 }
 
-/// The right to go in, under a number.
+/// The right to enter a turnstile, under a number.
 ///
 /// Contracts see its turnstile, its number, and how much of the value's log it has seen (`turnstile_of`,
 /// `number_of`, `seen_by`).
@@ -44,16 +45,16 @@ pub struct Pass<V: Kept> {
     ghost is_pass: { IsPass seat.me },
 }
 
-// A seat that is inside, and has emptied the slot.
+// A seat that is inside, and has taken the value out of the slot.
 pub struct Place<V: Kept> {
     seat: Seat<Option<V>, View<V::Item>>,
     ghost is_inside: { IsInside seat.me },
 }
 
-/// A pass that is inside, with the value.
+/// A pass that is inside, together with the value.
 ///
-/// Contracts see its turnstile, its number, the value, and the log that the value had on entering
-/// (`turnstile_around`, `number_inside`, `value_inside`, `found_inside`).
+/// Contracts see its turnstile, its number, the value, and the log that the value had when the pass entered (`turnstile_around`,
+/// `number_inside`, `value_inside`, `found_inside`).
 pub struct Inside<V: Kept> {
     place: Place<V>,
     value: V,
@@ -64,7 +65,7 @@ impl<V: Kept> Inside<V> {
     ghost use Rattle.ti_turnstile.specs.contracts.turnstile.Inside.{the_row};
     ghost use Rattle.ti_turnstile.specs.Turnstiles.{value_inside, with_value};
 
-    /// The value, to read and to change.
+    /// The value, to be read and changed.
     pub fn value(&mut self) -> &mut V
         ensures* writes_back { sem 𝓛 (follows (the_row V.row V.Item.row V.Kept) V.row self.entry.ghost_name result.ghost_name (with_value self.old)) }
         ensures value { result.now ≡ value_inside self.old }
@@ -76,7 +77,7 @@ impl<V: Kept> Inside<V> {
 impl<V: Kept> Turnstile<V> {
     ghost use Rattle.ti_turnstile.specs.Turnstiles.{identity_of, passes_of, turnstile_of, number_of, seen_by, turnstile_around, number_inside, value_inside, found_inside, AreNew, AreOf, AreLegal, OneHasSeen, AreAll, AreDistinct, part_of};
 
-    /// A turnstile for so many passes, which have the numbers from 0 on and have seen nothing.
+    /// A turnstile with `n` passes, which have the numbers from 0 on and have seen nothing. The value's log must be empty.
     pub fn new(alloc: Global, n: u32, value: V) -> Result<(Turnstile<V>, Vec<Pass<V>>), Memory>
     where
         V: Drop,
@@ -100,7 +101,7 @@ impl<V: Kept> Turnstile<V> {
         Ok((turnstile, passes))
     }
 
-    // The next of the passes that the dealer has.
+    // Splits off the next of the passes that the dealer has.
     fn cut(&self, dealer: &mut Seat<Option<V>, View<V::Item>>) -> Pass<V>
         requires table { dealer.old.table_id ≡ identity_of self.now }
         requires dealer { (i : ℕ) × (m : ℕ) × (dealer.old.me.0 ≡ view false (fresh i (m + 1))) × (dealer.old.me.1 ≡ []) }
@@ -112,7 +113,7 @@ impl<V: Kept> Turnstile<V> {
         Pass { seat }
     }
 
-    // All passes that the dealer has.
+    // Splits off all `n` passes that the dealer has.
     fn cut_passes(
         &self,
         alloc: Global,
@@ -130,7 +131,7 @@ impl<V: Kept> Turnstile<V> {
         Ok(passes)
     }
 
-    // Whether the seat is inside now: it is where nobody else was.
+    // Tries to acquire the lock once; returns whether the seat is inside now.
     fn try_in(&self, seat: &mut Seat<Option<V>, View<V::Item>>) -> bool
         requires table { seat.old.table_id ≡ identity_of self.now }
         requires pass { IsPass seat.old.me }
@@ -145,7 +146,7 @@ impl<V: Kept> Turnstile<V> {
         found == 0
     }
 
-    // Tries to go in for about as long as another pass is inside.
+    // Tries to acquire the lock for about as long as another pass stays inside; returns whether the seat is inside now.
     fn try_for_a_while(&self, seat: &mut Seat<Option<V>, View<V::Item>>) -> bool
         requires table { seat.old.table_id ≡ identity_of self.now }
         requires pass { IsPass seat.old.me }
@@ -163,14 +164,14 @@ impl<V: Kept> Turnstile<V> {
         false
     }
 
-    /// Goes in, once nobody else is inside. So it may wait.
+    /// Acquires the lock. It waits as long as another pass is inside.
     ///
-    /// The value's log begins with all that the pass had seen, and what it holds of the pass's number are the
-    /// items that this pass added.
+    /// The value's log then begins with all that the pass had seen, and the items in it with the pass's number are those that this pass
+    /// appended.
     ///
-    /// Where it finds others inside for a while, it sleeps for a moment and tries again, and a plain `leave` doesn't wake
-    /// it: so one thread goes in and out many times in a row, rather than all in turn, with the value going from processor
-    /// to processor.
+    /// If others stay inside for a while, it sleeps briefly and tries again, and a plain `leave` doesn't wake it. So one thread enters
+    /// and leaves many times in a row, instead of all threads alternating, which would move the value from one processor's cache to
+    /// another's.
     pub fn enter<R: Wait>(&self, rt: &R, pass: Pass<V>) -> Inside<V>
         requires turnstile { turnstile_of pass ≡ identity_of self.now }
         ensures turnstile { turnstile_around result ≡ turnstile_of pass }
@@ -220,7 +221,7 @@ impl<V: Kept> Turnstile<V> {
         }
     }
 
-    // The seat takes in the log of the value that stands in its slot.
+    // Makes the seat's view the log of the value in its slot, and stores the hint.
     fn see(&self, seat: &mut Seat<Option<V>, View<V::Item>>, hint: u64)
         requires table { seat.old.table_id ≡ identity_of self.now }
         requires value { (x : _) × (seat.old.me.0 ≡ inside (number_in seat.old.me) (seen_in seat.old.me))
@@ -232,7 +233,7 @@ impl<V: Kept> Turnstile<V> {
         self.table.shared.store::<See<V>>(seat, 1, hint);
     }
 
-    // Frees the word, so that another seat may go in.
+    // Releases the lock, so that another seat can enter.
     fn go_out(&self, seat: &mut Seat<Option<V>, View<V::Item>>)
         requires table { seat.old.table_id ≡ identity_of self.now }
         requires value { (x : _) × (seat.old.me.0 ≡ inside (number_in seat.old.me) (V.log x)) × (seat.old.me.1 ≡ (0, Some x) ∷ []) }
@@ -243,7 +244,7 @@ impl<V: Kept> Turnstile<V> {
         self.table.shared.store::<Leave<V>>(seat, 0, 0);
     }
 
-    // Goes out, and leaves a hint behind.
+    // Puts the value back, stores the hint, and releases the lock.
     fn leave_hint(&self, inside: Inside<V>, hint: u64) -> Pass<V>
         requires turnstile { turnstile_around inside ≡ identity_of self.now }
         requires grown { GrownBy (number_inside inside) (found_inside inside) (V.log (value_inside inside)) }
@@ -257,7 +258,8 @@ impl<V: Kept> Turnstile<V> {
         Pass { seat }
     }
 
-    /// Goes out. The value's log has grown by items of the pass's number alone, and the pass has seen it whole. The hint stays.
+    /// Leaves the turnstile, without a wake-up and with the hint unchanged. The value's log must have grown only by items with the pass's
+    /// number; the pass has then seen all of it.
     pub fn leave(&self, inside: Inside<V>) -> Pass<V>
         requires turnstile { turnstile_around inside ≡ identity_of self.now }
         requires grown { GrownBy (number_inside inside) (found_inside inside) (V.log (value_inside inside)) }
@@ -268,7 +270,7 @@ impl<V: Kept> Turnstile<V> {
         self.leave_hint(inside, self.hint())
     }
 
-    /// Goes out like `leave`, and wakes one of the threads that sleep until they can go in: for a thread that is about to wait.
+    /// Leaves the turnstile like `leave`, and wakes one thread that sleeps in `enter`, if any: for a thread that is about to wait itself.
     pub fn leave_and_pass_on(&self, inside: Inside<V>) -> Pass<V>
         requires turnstile { turnstile_around inside ≡ identity_of self.now }
         requires grown { GrownBy (number_inside inside) (found_inside inside) (V.log (value_inside inside)) }
@@ -281,7 +283,8 @@ impl<V: Kept> Turnstile<V> {
         pass
     }
 
-    /// Goes out like `leave_and_pass_on`, after something that others may wait for: the hint changes, and all threads that nap are woken.
+    /// Leaves the turnstile like `leave_and_pass_on`, after a change that others may wait for: the hint changes, and all threads that sleep in
+    /// `nap` are woken. If no thread sleeps, there is no system call.
     pub fn leave_and_wake(&self, inside: Inside<V>) -> Pass<V>
         requires turnstile { turnstile_around inside ≡ identity_of self.now }
         requires grown { GrownBy (number_inside inside) (found_inside inside) (V.log (value_inside inside)) }
@@ -297,14 +300,15 @@ impl<V: Kept> Turnstile<V> {
         pass
     }
 
-    // Wakes one of the threads that sleep until they can go in. If none sleeps, the system isn't called.
+    // Wakes one thread that sleeps in `enter`. If none does, there is no system call.
     fn wake_one_entering(&self) {
         if self.entering.load(Ordering::SeqCst) > 0 {
             self.table.shared.wake_one(0);
         }
     }
 
-    /// The value, once all passes are back. Its log is legal with each of them.
+    /// Takes the value out when all passes are returned. All that each pass has seen is a prefix of the value's log, which has no other
+    /// items with the pass's number.
     pub fn close(self, mut passes: Vec<Pass<V>>) -> V
         requires all { length passes.items ≡ passes_of self }
         requires turnstile { AreOf (identity_of self) passes.items }
@@ -334,7 +338,7 @@ impl<V: Kept> Turnstile<V> {
         }
     }
 
-    // A seat for the pass and for all that the other one stands for.
+    // Joins the pass's seat with one that represents other passes.
     fn joined(
         &self,
         pass: Pass<V>,
@@ -350,17 +354,18 @@ impl<V: Kept> Turnstile<V> {
         seat
     }
 
-    /// A number that `leave_and_wake` changes. It decides nothing.
+    /// A number that `leave_and_wake` changes. Nothing that is proved depends on it.
     pub fn hint(&self) -> u64 {
         self.table.shared.peek(1)
     }
 
-    /// Sleeps until it is woken, for a moment at most, unless the hint is another number by now.
+    /// Sleeps until it is woken, at most for 50 microseconds, unless the hint is no longer `hint` (compared by the lower 32 bits).
     pub fn nap<R: Wait>(&self, rt: &R, hint: u64) {
         self.sleep(rt, &self.napping, 1, (hint & 0xffff_ffff) as u32);
     }
 
-    // Sleeps until it is woken, for a moment at most, unless the word has another number by now. It is counted as asleep meanwhile.
+    // Sleeps until it is woken, at most for 50 microseconds, unless the table's word with this index no longer has this number. The thread
+    // is counted in `asleep` meanwhile.
     fn sleep<R: Wait>(&self, rt: &R, asleep: &AtomicUsize, word: usize, number: u32)
         requires { word < 2 }
     {

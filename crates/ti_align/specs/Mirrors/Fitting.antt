@@ -1,4 +1,4 @@
--- Where an expression is evaluated, and when that fits the scope by which it is judged.
+-- Environments in which expressions are evaluated, and when they agree with the static scope.
 use Rattle.std.specs.Prelude.{◌≡◌, ℕ, pos, Bool, true, Some}
 use Rattle.std.specs.Int.{w32, w64}
 use Rattle.ti_base.specs.declared.value.Id.{Id}
@@ -15,8 +15,8 @@ use Rattle.ti_lang.specs.Program.Types as t
 use Rattle.ti_lang.specs.Program.Expressions as e
 use Rattle.ti_align.specs.Things.{Things, IsOf, DimsFine}
 
--- What is there is told for the process. Its number and how many there are have 32 bits, `this` is an object of its class, and each
--- variable that is used holds a value of its type; one of a foreach is a point.
+-- The objects are those that the process sees. Its number and the number of processes have 32 bits, `this` is an object of its class, and
+-- each variable that is used holds a value of its type; foreach variables are points.
 pub record EnvFits (uses : VariableUse → Bool) (s : ScopeContents) (w : Things) (env : Env) : Type 0 where
   pub owner : w.owner ≡ env.number
   pub number : Fits w32 (pos env.number)
@@ -31,8 +31,8 @@ pub record EnvFits (uses : VariableUse → Bool) (s : ScopeContents) (w : Things
 
 module _ (uses : VariableUse → Bool) where
   abbrev mutual
-    -- numbers are written within their ranges, points and rectangular domains with one to three dimensions, and so are the types in casts;
-    -- these variables are used
+    -- number literals are within their ranges; points, rectangular domains and the types in casts have one to three dimensions; and the
+    -- variables satisfy `uses`
     pub IsWritten : NumberedExp → Type 0
     IsWritten (e.Int at n) = Fits w32 n
     IsWritten (e.Long at n) = Fits w64 n

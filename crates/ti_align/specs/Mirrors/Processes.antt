@@ -1,4 +1,4 @@
--- Processes that fit the types: their frames, and what they do next.
+-- Processes that agree with the static types: their frames and what they do next.
 use Rattle.std.specs.Prelude.{◌≡◌, List, [], ◌∷◌, Option, Some, None, ◌++◌}
 use Rattle.ti_lang.specs.Program.Types.{ValueType}
 use Rattle.ti_lang.specs.Program.Classes.{NumberedProgram}
@@ -16,7 +16,7 @@ use Rattle.ti_align.specs.Mirrors.Work.{MethodsFit, ReceiverFits, taken_type, Ta
 
 -- ---- programs
 
--- what the rules have said of the types of a program
+-- what the type rules guarantee of a program
 pub record ProgramFits (p : NumberedProgram) : Type 0 where
   pub fields : FieldsFit p
   pub storable : FieldsStorable p
@@ -24,23 +24,23 @@ pub record ProgramFits (p : NumberedProgram) : Type 0 where
 
 -- ---- frames
 
--- `this`, the variables and the work that is left fit the types
+-- `this`, the variables and the pending work of a frame agree with the types
 abbrev pub FrameFits : NumberedProgram → Things → Frame → Type 0
 FrameFits p w f = VariablesFit w f.variables × ThisFits w f.method f.this × WorksFit p f.method (method_scope f.method) w f.left
 
--- what a frame hands on when it returns suits the frame below it, if there is one
+-- the result of a frame's method suits the receiver in the caller's frame, if there is a caller
 abbrev pub HandsOn : NumberedProgram → Frame → List Frame → Type 0
 HandsOn p f [] = Unit {0}
 HandsOn p f (g ∷ fs) = ReceiverFits p g.method (scope_over p (method_scope g.method) g.left) f.receiver (result_type f.method)
 
--- all frames fit, each above the next
+-- all frames agree with the types, each with its caller
 abbrev pub FramesFit : NumberedProgram → Things → List Frame → Type 0
 FramesFit p w [] = Unit {0}
 FramesFit p w (f ∷ fs) = FrameFits p w f × HandsOn p f fs × FramesFit p w fs
 
 -- ---- processes
 
--- what the first piece of work comes to fits, after the answers that it has got so far
+-- the outcome of the first piece of work agrees with the types, after the answers received so far and any further ones that fit
 abbrev pub WorkSound : Things → Process → Frame → List Work → Type 0
 WorkSound w pr f [] = Unit {0}
 WorkSound w pr f (x ∷ left) =
@@ -49,24 +49,24 @@ WorkSound w pr f (x ∷ left) =
     (scope_over pr.setting.program (method_scope f.method) left) u move) w
     (λ rest. performed (env_of pr f left) x (pr.answers ++ rest))
 
--- the values that are taken first are of such a type
+-- if the first piece of work takes values after an exchange, their type satisfies G
 abbrev pub TakesFirst : (ValueType → Type 0) → List Work → Type 0
 TakesFirst G (TakeAll at grid procs ∷ left) = G (element_of grid.type)
 TakesFirst G left = Unit {0}
 
--- what a process that waits is given, or takes behind the collective, suits the frame in which it waits
+-- what a waiting process receives at its departure, or takes after it, suits the frame in which it waits
 abbrev pub WaitFits : NumberedProgram → (ValueType → Type 0) → Wait → List Frame → Type 0
 WaitFits p G wait [] = ⊥
 WaitFits p G wait (f ∷ fs) =
     (type : ValueType) × IsAwaited p f.method (scope_over p (method_scope f.method) f.left) wait.wanted wait.receiver type
     × IsOfRound G wait.kind type × WantsOf wait.kind wait.wanted type × TakesOf (taken_behind wait.kind type) f.left
 
--- what the process does next fits
+-- what the process does next agrees with the types
 abbrev pub NextFits : Things → (ValueType → Type 0) → Process → Option Wait → List Frame → Type 0
 NextFits w G pr (Some wait) fs = WaitFits pr.setting.program G wait fs × (pr.answers ≡ [])
 NextFits w G pr None [] = Unit {0}
 NextFits w G pr None (f ∷ fs) = WorkSound w pr f f.left × TakesFirst G f.left
 
--- A process fits the types, where values of such a type were handed in at its last collective, if any were.
+-- A process agrees with the types, if the type of the values that it contributed at its last collective, if any, satisfies G.
 abbrev pub ProcessFits : Things → (ValueType → Type 0) → Process → Type 0
 ProcessFits w G pr = FramesFit pr.setting.program w pr.frames × NextFits w G pr pr.wait pr.frames

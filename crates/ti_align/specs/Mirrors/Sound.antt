@@ -1,4 +1,4 @@
--- Computations that ask only for what is there, and come to what they should, whatever fitting answers they get.
+-- Type soundness of computations: they request only what exists, and yield what they should, whatever fitting answers they receive.
 use Rattle.std.specs.Prelude.{◌≡◌, List, [], ◌∷◌, Some}
 use Rattle.ti_base.specs.declared.place.Place.{Place}
 use Rattle.ti_base.specs.declared.entry.Answer.{Answer}
@@ -9,15 +9,15 @@ use Rattle.ti_lang.specs.Meaning.Asking.{Request, Reference, Asking, Gives, Asks
 use Rattle.ti_align.specs.Things.{Things, IsOwn, Grows, IsThingOf}
 use Rattle.ti_align.specs.There.{IsAtHand, GoesThrough, SuitsWanted, FitsAsked}
 
--- what the reference names is a thing of its type, and lies in the memory of the process where the reference is local
+-- the reference names an object or grid of its type, which is in the process's own memory if the reference is local
 abbrev pub ReferenceFits : Things → Reference → Type 0
 ReferenceFits w r = IsOwn w (is_local r.type) (Some r.thing) × IsThingOf w r.type r.thing
 
 -- ---- computations
 
--- The computation comes to what the fact holds of, or to a fault, or asks for what is there, through a reference for a thing of its type,
--- which lies in the memory of its process where the type is local, and wants of it what it gives; and where the answer fits, in whatever
--- is there by then, so does what is left of it.
+-- The computation yields a value that satisfies P, or faults, or requests an action: what the action names exists, it goes through a
+-- reference of the right type, to the process's own memory if that type is local, and expects what the action yields. If the answer fits
+-- what exists by then, the rest of the computation is sound again.
 pub data Sound (p : NumberedProgram) {A : Type 0} (P : Things → A → Type 0) : Things → Asking A → Type 0 where
   value : {w : Things} {m : Asking A} (a : A) → P w a → ((rest : List Answer) → m rest ≡ Gives a rest) → Sound p P w m
   fault : {w : Things} {m : Asking A} (kind : FaultKind) (at : Place) → ((rest : List Answer) → m rest ≡ Fails kind at) → Sound p P w m

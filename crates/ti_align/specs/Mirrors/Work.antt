@@ -1,4 +1,4 @@
--- Work that fits the types: pieces of work that are left in a frame, and the moves that they come to.
+-- Pending work that agrees with the static types: the pieces of work that are left in a frame, and the moves that they result in.
 use Rattle.std.specs.Prelude.{◌≡◌, ℕ, pos, Bool, true, false, ◌&&◌, ◌||◌, is_none, List, [], ◌∷◌, Option, Some, None, slice_get}
 use Rattle.std.specs.Int.{w32}
 use Rattle.ti_base.specs.declared.place.Place.{Place}
@@ -39,7 +39,7 @@ use Rattle.ti_align.specs.Given.{scope_over, IsOfRound}
 
 -- ---- variables
 
--- one to three dimensions, wherever there are any
+-- points, domains and grids in the type have one to three dimensions
 abbrev pub has_dims : ValueType → Bool
 has_dims (t.Pt n) = is_dim n
 has_dims (t.Rc n) = is_dim n
@@ -47,7 +47,7 @@ has_dims (t.Dm n) = is_dim n
 has_dims (t.Grid element n is_local) = is_dim n && has_dims element
 has_dims type = true
 
--- a variable that a method may use: a type has one to three dimensions, and a foreach variable isn't numbered as a parameter
+-- a variable that a method may use: its type has valid dimensions; a foreach variable doesn't have the number of a parameter
 abbrev pub may_use : NumberedMethod → ℕ → Declaration → Bool
 may_use m number (t.Typed is_single type) = has_dims type
 may_use m number t.Foreach = is_none (in_scope (method_scope m) number)
@@ -55,31 +55,31 @@ may_use m number t.Foreach = is_none (in_scope (method_scope m) number)
 abbrev pub uses_of : NumberedMethod → VariableUse → Bool
 uses_of m v = may_use m v.number v.declared
 
--- ---- the text
+-- ---- the program
 
--- the domain over which a new grid spreads
+-- the expression for the domain of a new grid
 abbrev pub domain_written : Place → NumberedDims → NumberedExp
 domain_written at (st.Domain x) = x
 domain_written at (st.Ranges ranges) = e.Rect at (numbered_ranges ranges)
 
--- a call, or a member form
+-- a call or a member form
 abbrev pub is_form_of_call : NumberedExp → Bool
 is_form_of_call (e.Call at method args) = true
 is_form_of_call (e.OwnCall at method args) = true
 is_form_of_call (e.Member at x name args) = true
 is_form_of_call x = false
 
--- a variable that is declared so, with a type, takes values of this type
+-- a variable with this declaration takes values of this type
 abbrev pub DeclaredFits : Declaration → ValueType → Type 0
 DeclaredFits (t.Typed is_single u) type = fits type u ≡ true
 DeclaredFits t.Foreach type = ⊥
 
 module _ (p : NumberedProgram) (m : NumberedMethod) where
-  -- an expression inside another has this type
+  -- the operand expression is well-written and has this type
   abbrev pub IsInner : ScopeContents → NumberedExp → ValueType → Type 0
   IsInner s x type = IsWritten (uses_of m) x × (operand_type p s x ≡ Some type)
 
-  -- a whole expression is written so; an own call is one of a method of the class of `this`, or of a static one
+  -- an expression statement or initializer is well-written; an own call is one of a static method or of a method of the class of `this`
   abbrev pub IsWhole : ScopeContents → NumberedExp → Type 0
   IsWhole s (e.Call at method args) = AreWritten (uses_of m) args
   IsWhole s (e.OwnCall at method args) =
@@ -87,11 +87,11 @@ module _ (p : NumberedProgram) (m : NumberedMethod) where
       ≡ Some class → s.this_class ≡ Some class)
   IsWhole s x = IsWritten (uses_of m) x
 
-  -- a whole expression has this type
+  -- an expression statement or initializer has this type
   abbrev pub WholeFits : ScopeContents → NumberedExp → ValueType → Type 0
   WholeFits s x type = (typed p s x ≡ Some type) × IsWhole s x
 
-  -- what is assigned to has this type, and isn't a local part that is reached through a global reference
+  -- the target of an assignment has this type, is no foreach variable and no local part that is reached through a global reference
   abbrev pub IsTarget : ScopeContents → NumberedExp → ValueType → Type 0
   IsTarget s target type = IsInner s target type × (is_foreach_variable target ≡ false) × (is_hidden_local p s target ≡ false)
 
@@ -103,12 +103,12 @@ module _ (p : NumberedProgram) (m : NumberedMethod) where
   ReceiverFits s (Updated at op target) type =
       (u : ValueType) × (r : ValueType) × IsTarget s target u × (binary_type op u type ≡ Some r) × ((narrows r u || fits r u) ≡ true)
 
-  -- things are placed in what this says
+  -- the expression for the region of a new object or grid, if there is one, is of type region
   abbrev pub RegionFits : ScopeContents → Option NumberedExp → Type 0
   RegionFits s None = Unit {0}
   RegionFits s (Some x) = IsInner s x t.Region
 
-  -- a right side comes to a value of this type
+  -- an initializer or right-hand side evaluates to a value of this type
   abbrev pub InitFits : ScopeContents → NumberedInit → ValueType → Type 0
   InitFits s (st.Value x) type = WholeFits s x type × (is_void type ≡ false)
   InitFits s (st.NewRegion at) type = type ≡ t.Region
@@ -120,19 +120,19 @@ module _ (p : NumberedProgram) (m : NumberedMethod) where
   InitFits s (st.Broadcast at x root) type =
       (u : ValueType) × (type ≡ as_global u) × IsInner s x u × IsInner s root t.Int × (can_broadcast u ≡ true)
 
-  -- a value that is printed
+  -- what is printed has a type
   abbrev pub PrintFits : ScopeContents → NumberedPrint → Type 0
   PrintFits s st.Nothing = Unit {0}
   PrintFits s (st.Text literal) = Unit {0}
   PrintFits s (st.Expression x) = (type : ValueType) × IsInner s x type
   PrintFits s (st.TextAndExpression literal x) = (type : ValueType) × IsInner s x type
 
-  -- a condition, if there is one
+  -- a condition, if there is one, is boolean
   abbrev pub ConditionFits : ScopeContents → Option NumberedExp → Type 0
   ConditionFits s None = Unit {0}
   ConditionFits s (Some c) = IsInner s c t.Boolean
 
-  -- a foreach over such a domain, whose variable is of its own
+  -- the domain of a foreach has n dimensions, and its variable's number isn't in use in the scope
   abbrev pub DomainFits : ScopeContents → ℕ → NumberedExp → ℕ → Type 0
   DomainFits s number domain n =
       ((type : ValueType) × IsInner s domain type × (domain_dim type ≡ Some n)) × (is_none (in_scope s number) ≡ true) × IsDim n
@@ -170,7 +170,7 @@ module _ (p : NumberedProgram) (m : NumberedMethod) where
       ((n : ℕ) × DomainFits s number domain n × ArePoints n points)
       × StmFits (record s { variables = variables_inside p s number domain }) body
 
--- a foreach in a turn stands at a point
+-- a foreach whose body is being executed has a current point
 abbrev pub IsTurning : Loop → Type 0
 IsTurning (Foreach at number domain [] body) = ⊥
 IsTurning loop = Unit {0}
@@ -179,7 +179,7 @@ IsTurning loop = Unit {0}
 abbrev pub MethodFits : NumberedProgram → NumberedMethod → Type 0
 MethodFits p m = StmsFit p m (method_scope m) (numbered_stms m.body)
 
--- those of all of these methods
+-- the statements of all these methods
 abbrev pub MethodsFit : NumberedProgram → List NumberedMethod → Type 0
 MethodsFit p [] = Unit {0}
 MethodsFit p (m ∷ ms) = MethodFits p m × MethodsFit p ms
@@ -188,13 +188,13 @@ MethodsFit p (m ∷ ms) = MethodFits p m × MethodsFit p ms
 
 -- ---- processes
 
--- the number of a process, and how many there are, have 32 bits
+-- the number of a process and the number of processes have 32 bits
 abbrev pub HasNumber : Process → Type 0
 HasNumber pr = Fits w32 (pos pr.number) × Fits w32 (pos pr.setting.procs)
 
--- ---- what is taken
+-- ---- taking after an exchange
 
--- the type of the values that are left to be taken, if any are
+-- the type of the values that this piece of work still takes, if it takes any
 abbrev pub taken_type : Work → Option ValueType
 taken_type (TakeAll at grid procs) = Some (element_of grid.type)
 taken_type x = None
@@ -205,19 +205,19 @@ TakesOf takes [] = Unit {0}
 TakesOf takes (TakeAll at grid procs ∷ works) = (takes ≡ Some (element_of grid.type)) × TakesOf takes works
 TakesOf takes (w ∷ works) = TakesOf takes works
 
--- the type of the values that are taken behind a collective, at which values of this type are handed in
+-- the type of the values that are taken after a collective at which values of this type are contributed
 abbrev pub taken_behind : CollKind → ValueType → Option ValueType
 taken_behind coll.Exchange type = Some type
 taken_behind kind type = None
 
--- What is wanted at a collective with values of this type: at a broadcast one of the type of its value, which is handed in as a global
--- one, and a region where one is made. Nothing else is.
+-- What is expected at a collective to which values of this type are contributed: at a broadcast one of the type of its value, which is
+-- passed on as a global one; at the making of a region a region; otherwise nothing.
 abbrev pub WantsOf : CollKind → Wanted → ValueType → Type 0
 WantsOf coll.Broadcast wanted type = (u : ValueType) × (wanted ≡ ValueOf u) × (type ≡ as_global u) × (can_broadcast u ≡ true)
 WantsOf coll.MakeRegion wanted type = wanted ≡ ValueOf t.Region
 WantsOf kind wanted type = wanted ≡ ToBeDone
 
--- each number is one of 32 bits
+-- each process number has 32 bits
 abbrev pub AreCounted : List ℕ → Type 0
 AreCounted [] = Unit {0}
 AreCounted (i ∷ is) = Fits w32 (pos i) × AreCounted is
@@ -238,19 +238,19 @@ module _ (p : NumberedProgram) (m : NumberedMethod) where
   WorkFits s w (TakeAll at grid procs) =
       IsGridOf w (element_of grid.type) 1 grid.thing × AreCounted procs × ReferenceFits w grid × (is_local (element_of grid.type) ≡ false)
 
-  -- all that is left
+  -- all pending work
   abbrev pub WorksFit : ScopeContents → Things → List Work → Type 0
   WorksFit s w [] = Unit {0}
   WorksFit s w (x ∷ works) = WorkFits (scope_over p s works) w x × WorksFit s w works
 
-  -- what the answer to a departure is of, if it goes anywhere
+  -- the type of the answer to a departure suits the receiver, if the answer has one
   abbrev pub IsAwaited : ScopeContents → Wanted → Receiver → ValueType → Type 0
   IsAwaited s ToBeDone receiver type = Unit {0}
   IsAwaited s (ValueOf u) receiver type = ReceiverFits p m s receiver type
   IsAwaited s (NewThing u) receiver type = ReceiverFits p m s receiver type
 
-  -- A move of a piece of work at which values of the first type are handed in to a collective, if there is one, and values of the
-  -- second are left to be taken.
+  -- A move of a piece of work: `gives` is the type of the values that it contributes to a collective, if it does, and `takes` that of the
+  -- values that it leaves to be taken.
   abbrev pub MoveFits : Option ValueType → Option ValueType → ScopeContents → Things → Move → Type 0
   MoveFits gives takes s w (Goes variables works) = VariablesFit w variables × WorksFit s w works × TakesOf takes works
   MoveFits gives takes s w (Turns at variables works) = VariablesFit w variables × WorksFit s w works × TakesOf takes works

@@ -1,4 +1,4 @@
--- Nobody has to believe what stands here: it mirrors the code. What a slice means, the contract of the public call says.
+-- The splitting off of a coordinate, as array slices compute it. What a slice means is stated by the contract of `view_slice`.
 use Rattle.std.specs.Prelude.{◌≡◌, ◌↔◌, ℕ, ◌+◌, ◌-◌, ◌*◌, ◌<◌, ℤ, true}
 use Rattle.ti_base.specs.declared.point.Point.{Point}
 use Rattle.ti_base.specs.Ranges.{Range, IsOn, IsTidy, natural, unused}
@@ -7,7 +7,7 @@ use Rattle.ti_base.specs.Cells.{has_coordinate, with_coordinate}
 use Rattle.ti_grid.specs.declared.layout.Layout.{Layout}
 use Rattle.ti_grid.specs.Mirrors.Numbers.{steps_to, number_of}
 
--- the coordinate k has the range out, and s is its step in the block; those that stay have a and t, and b and u
+-- coordinate k has the range out, and one step in it adds s to the cell index; the remaining coordinates have a with t, and b with u
 pub record IsSplit (l : Layout) (k : ℤ) (out a b : Range) (s t u : ℕ) : Type 0 where
   pub forward : 0 < out.step
   pub form : IsTidy out

@@ -1,4 +1,4 @@
--- Programs that are refused by the rules of single values.
+-- Programs that break a rule of single values.
 use Rattle.std.specs.Prelude.{pos, true, false, [], ◌∷◌, None, Some, codes}
 use Rattle.ti_syntax.specs.declared.tree.exprs.BinaryOperator.TheVariants as b
 use Rattle.ti_syntax.specs.declared.tree.stmts.StepOperator.TheVariants as step

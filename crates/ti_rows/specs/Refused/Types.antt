@@ -1,4 +1,4 @@
--- Programs that are refused by the rules of types and qualifiers.
+-- Programs that break a rule of types or qualifiers.
 use Rattle.std.specs.Prelude.{pos, true, false, [], ◌∷◌, None, Some, codes}
 use Rattle.ti_syntax.specs.declared.tree.exprs.BinaryOperator.TheVariants as b
 use Rattle.ti_syntax.specs.declared.tree.types.QualifierWord.TheVariants as word

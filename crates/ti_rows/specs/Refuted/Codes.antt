@@ -1,4 +1,4 @@
--- Code that prints where a program does, and code that does not follow it.
+-- Bytecode that prints at the place at which a program does, and bytecode that doesn't follow the program.
 use Rattle.std.specs.Prelude.{ℕ, pos, true, false, List, [], ◌∷◌, None, Some}
 use Rattle.ti_base.specs.declared.value.Value.TheVariants as v
 use Rattle.ti_base.specs.declared.action.Action.TheVariants as act
@@ -11,11 +11,11 @@ use Rattle.ti_code.specs.Programs.{Code}
 use Rattle.ti_machine.specs.Standing.{CodeStanding}
 use Rattle.ti_rows.specs.Texts.{pl}
 
--- a method `main` alone, of these instructions
+-- bytecode with a method `main` only, which has these instructions
 abbrev main_of : List Instr → Code
 main_of instrs = record { methods = record { instance = false; params = 0; instrs = instrs } ∷ []; main = 0 }
 
--- prints 7 for the word at a column, and ends
+-- prints 7, for a print at this column, and ends
 abbrev pub prints_at : ℕ → Code
 prints_at column = main_of (i.Const (v.Int (pos 7)) ∷ i.Print None true (pl 1 column) ∷ i.Stop (pl 1 74) ∷ [])
 
@@ -23,7 +23,7 @@ prints_at column = main_of (i.Const (v.Int (pos 7)) ∷ i.Print None true (pl 1 
 abbrev pub stops : Code
 stops = main_of (i.Stop (pl 1 74) ∷ [])
 
--- the print of the line
+-- the print of 7
 abbrev pub the_print : Next
 the_print = next.Act (pl 1 62) (act.Print None (Some (v.Int (pos 7))))
 
@@ -31,7 +31,7 @@ the_print = next.Act (pl 1 62) (act.Print None (Some (v.Int (pos 7))))
 abbrev pub the_end : Next
 the_end = next.End (pl 1 74)
 
--- the first of two processes of the code, before its first answer
+-- the first of two processes of the bytecode, before its first answer
 abbrev pub standing : Code → CodeStanding
 standing code = record { code = code; procs = 2; fuel = 1000; number = 0; told = []; asks = false }
 
@@ -41,6 +41,6 @@ standing code = record { code = code; procs = 2; fuel = 1000; number = 0; told =
 abbrev pub pushes : ℕ → List Instr
 pushes n = i.Const (v.Int (pos n)) ∷ []
 
--- before the first instruction, without slots and operands
+-- the frame state before the first instruction, without slots and operands
 abbrev pub start : Spot
 start = record { at = 0; slots = []; stack = [] }

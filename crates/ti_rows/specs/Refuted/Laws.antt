@@ -1,4 +1,5 @@
--- What laws say of one thing: a law says it of all, and here it is false of something.
+-- What theorems state of a single process, computation, grid, run or program: the theorem states it of all, the counterexample refutes it
+-- of one.
 use Rattle.std.specs.Prelude.{◌≡◌, ◌≤◌, false, List, [], ◌∷◌, ◌++◌, length, All, Contains}
 use Rattle.ti_base.specs.declared.point.Point.{Point}
 use Rattle.ti_base.specs.declared.entry.Answer.{Answer}
@@ -22,25 +23,25 @@ use Rattle.ti_rules.specs.SingleRules.{standing_single_refusals}
 
 -- ---- processes
 
--- what a step asks for is neither an end nor a fault
+-- what a step requests is neither an end nor a fault
 abbrev pub AsksForActions : Step → Type 0
 AsksForActions t = (q : Request) (go : Answer → Process) → t ≡ At q go → (is_end q.action ≡ false) × (is_fault q.action ≡ false)
 
--- a process has spent no more ticks than it has, and has no more frames than it may
+-- a process hasn't spent more ticks than it has, nor more frames than allowed
 abbrev pub IsWithinLimits : Setting → Process → Type 0
 IsWithinLimits s p = (p.spent ≤ s.fuel) × (length p.frames ≤ most_frames)
 
--- where a computation has used all its answers, it comes to the same if more stand behind them
+-- if a computation has used all its answers, it yields the same when further answers follow
 abbrev pub LooksNoFurther : {A : Type 0} → Asking A → Type 0
 LooksNoFurther {A} m = (rs more : List Answer) (a : A) → m rs ≡ Gives a [] → m (rs ++ more) ≡ Gives a more
 
--- the answer to what it asked last it uses before it comes to anything
+-- a computation uses the answer to its last request before it yields a result
 abbrev pub UsesUp : {A : Type 0} → Asking A → Type 0
 UsesUp {A} m = (rs rest : List Answer) (q : Request) (r : Answer) (a : A) → m rs ≡ Asks q → m (rs ++ r ∷ []) ≡ Gives a rest → rest ≡ []
 
 -- ---- runs
 
--- each front of the entries is a run
+-- each prefix of the entries is a run
 abbrev pub FrontsAreRuns : Setting → List Entry → Type 0
 FrontsAreRuns s es = (front rest : List Entry) → es ≡ front ++ rest → IsRun s front
 
@@ -50,14 +51,14 @@ CellsDiffer g = (p q : Point) → IsPoint p → IsPoint q → p.dim ≡ g.domain
 
 -- ---- rules
 
--- no statement that stands in the program breaks a rule of types
+-- no statement in the program breaks a rule of types
 abbrev pub TypesStand : NumberedProgram → Type 0
 TypesStand p = (x : Standing) → Contains (standing_in p) x → standing_refusals p x ≡ []
 
--- nor one of single values
+-- no statement in the program breaks a rule of single values
 abbrev pub SinglesStand : NumberedProgram → Type 0
 SinglesStand p = (x : Standing) → Contains (standing_in p) x → standing_single_refusals p x ≡ []
 
--- no rule of types is broken in an expression but the one on words
+-- no rule of types is broken in an expression, except the one on qualifiers (Y7)
 abbrev pub OnlyWords : NumberedProgram → ScopeContents → NumberedExp → Type 0
 OnlyWords p s e = All (λ (r : Refusal). r.rule ≡ Y7) (exp_refusals p s e)

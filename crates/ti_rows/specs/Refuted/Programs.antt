@@ -1,4 +1,4 @@
--- Programs with runs, or with entries that are none, of which the facts of every run fail.
+-- Programs with runs, or with entries that are no run, for which facts of every run fail.
 use Rattle.std.specs.Prelude.{ℕ, ◌+◌, pos, true, false, List, [], ◌∷◌, None, Some, codes}
 use Rattle.ti_base.specs.declared.place.Place.{Place}
 use Rattle.ti_syntax.specs.declared.tree.exprs.BinaryOperator.TheVariants as b
@@ -16,35 +16,35 @@ use Rattle.ti_lang.specs.Program.Scope.{ScopeContents}
 use Rattle.ti_rows.specs.Texts.{pl, plain, var, single_var, xs, stms}
 use Rattle.ti_rows.specs.Words.{qualifier, modifier, type_with, bracket, field_with, class_with, method_with, program_of}
 
--- a single type, with the place of the word
+-- a single type, with the place of the keyword
 abbrev single_with : ValueType → Place → NumberedType
 single_with type at = type_with type (qualifier word.Single at ∷ []) []
 
--- objects of the class before Main
+-- references to objects of the class before Main
 abbrev pub object : ValueType
 object = ty.Class 0 false
 
--- `public static single void main(String[] args)` at a column, in the class of a number, by the number of its name
+-- `public static single void main(String[] args)` at a column, in the class with this number, with this name number
 abbrev main_at : ℕ → ℕ → ℕ → List NumberedStm → ℕ → NumberedMethod
 main_at class name column body end =
     method_with class
     (modifier mw.Public (pl 1 column) ∷ modifier mw.Static (pl 1 (column + 7)) ∷ modifier mw.Single (pl 1 (column + 14)) ∷ [])
     c.Void (pl 1 (column + 26)) name c.Words body (pl 1 end)
 
--- a class Main alone, with these statements, which end at a column
+-- a program with the class Main only, with these statements, which end at a column
 abbrev main_alone : List NumberedStm → ℕ → NumberedProgram
 main_alone body end = program_of (class_with [] [] ∷ []) (main_at 0 11 14 body end ∷ []) 0 (codes "main" ∷ [])
 
--- the same behind a class with one field of a type and a name
+-- a program with Main after a class that has one field of this type and name
 abbrev main_behind : ValueType → List ℕ → ℕ → List NumberedStm → ℕ → NumberedProgram
 main_behind type name column body end =
     program_of (class_with [] (field_with [] (type_with type [] []) 11 ∷ []) ∷ class_with [] [] ∷ []) (main_at 1 12 column body end ∷ []) 0
     (name ∷ codes "main" ∷ [])
 
--- ---- texts
+-- ---- programs
 
 -- class Main { public static single void main(String[] args) { if (Ti.thisProc() == 0) Ti.barrier(); else Ti.barrier(); } }
--- processes meet barriers at two places
+-- processes reach barriers at two places
 abbrev pub barriers_at_two_places : NumberedProgram
 barriers_at_two_places =
     main_alone (
@@ -54,7 +54,7 @@ barriers_at_two_places =
     ) 119
 
 -- class Main { public static single void main(String[] args) { int single k = Ti.thisProc(); Ti.barrier(); } }
--- processes meet a barrier with single variables that hold different numbers
+-- processes reach a barrier with single variables that hold different numbers
 abbrev pub a_barrier_behind_own_numbers : NumberedProgram
 a_barrier_behind_own_numbers =
     main_alone (
@@ -74,7 +74,7 @@ no_region_is_deleted =
     ) 104
 
 -- class Main { public static single void main(String[] args) { Ti.barrier(); } }
--- all processes meet one barrier
+-- all processes reach one barrier
 abbrev pub one_barrier : NumberedProgram
 one_barrier =
     main_alone (
@@ -106,7 +106,7 @@ a_local_variable_of_another_process =
 --     SharedRegion single r = new SharedRegion(); C c = null;
 --     if (Ti.thisProc() == 1) { c = new (r) C(); Ti.barrier(); c.v = 1; } else r.delete();
 -- } }
--- one process deletes a region, while another meets a barrier and goes on with what lies in it
+-- one process deletes a region, while another reaches a barrier and then uses an object in the region
 abbrev pub a_region_is_deleted_by_one : NumberedProgram
 a_region_is_deleted_by_one =
     main_behind ty.Int (codes "v") 33 (
@@ -122,7 +122,7 @@ a_region_is_deleted_by_one =
     ) 222
 
 -- class C { int v; } class Main { public static single void main(String[] args) { C c = new C(); c.v = true; println(c.v); } }
--- a field of numbers holds a boolean
+-- a field of type int holds a boolean
 abbrev pub a_truth_in_a_number : NumberedProgram
 a_truth_in_a_number =
     main_behind ty.Int (codes "v") 33 (
@@ -148,7 +148,7 @@ a_field_is_shared =
     ) 169
 
 -- class C { int v; } class Main { public static single void main(String[] args) { int [1d] a = new C(); a[0] = 1; } }
--- a variable of grids names an object
+-- a variable of a grid type names an object
 abbrev pub an_object_for_a_grid : NumberedProgram
 an_object_for_a_grid =
     main_behind ty.Int (codes "v") 33 (
@@ -159,7 +159,7 @@ an_object_for_a_grid =
     ) 113
 
 -- class C { Point<1> p; } class Main { public static single void main(String[] args) { C c = new C(); c.p = c.p; } }
--- a field of points gets what it holds
+-- a field of points is assigned its own value
 abbrev pub a_point_is_copied : NumberedProgram
 a_point_is_copied =
     main_behind (ty.Pt 1) (codes "p") 38 (
@@ -172,7 +172,7 @@ a_point_is_copied =
 -- class Main { public static single void main(String[] args) {
 --     if (Ti.thisProc() == 0) { int a = broadcast 1 from 0; } else { boolean b = broadcast true from 0; }
 -- } }
--- processes hand in values of two types at one round
+-- processes contribute values of two types at one collective
 abbrev pub two_broadcasts : NumberedProgram
 two_broadcasts =
     main_alone (
@@ -188,21 +188,21 @@ two_broadcasts =
     []
     ) 162
 
--- ---- programs that no text has
+-- ---- programs that no source has
 
--- a number is written that has no 32 bits
+-- a number literal that doesn't fit in 32 bits
 abbrev pub a_number_too_large : NumberedProgram
 a_number_too_large = main_alone (s.Print (pl 1 62) (s.Expression (x.Int (pl 1 70) (pos 2147483648))) ∷ []) 83
 
--- a variable is used that nothing declares
+-- an undeclared variable is used
 abbrev pub a_variable_of_nowhere : NumberedProgram
 a_variable_of_nowhere = main_alone (s.Print (pl 1 62) (s.Expression (var (pl 1 70) 0 ty.Int)) ∷ []) 74
 
--- a field holds points of four dimensions
+-- a field of points of four dimensions
 abbrev pub a_field_of_four_dimensions : NumberedProgram
 a_field_of_four_dimensions = main_behind (ty.Pt 4) (codes "p") 38 [] 87
 
--- a field holds domains that aren't rectangular
+-- a field of domains that need not be rectangular
 abbrev pub a_field_of_domains : NumberedProgram
 a_field_of_domains = main_behind (ty.Dm 1) (codes "d") 39 [] 88
 

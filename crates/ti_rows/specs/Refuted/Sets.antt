@@ -1,4 +1,4 @@
--- Numbers, points, lists of points and rectangles of which laws of sets are false.
+-- Numbers, points, lists of points and rectangles for which theorems about sets are false.
 use Rattle.std.specs.Prelude.{ℤ, pos, List, [], ◌∷◌}
 use Rattle.ti_base.specs.declared.point.Point.{Point}
 use Rattle.ti_base.specs.declared.point.Rect.{Rect}
@@ -14,21 +14,21 @@ on_line x = record { dim = 1; x1 = x; x2 = pos 0; x3 = pos 0 }
 abbrev pub two_coordinates : Point
 two_coordinates = record { dim = 1; x1 = pos 0; x2 = pos 3; x3 = pos 0 }
 
--- three points that rise
+-- three points in increasing order
 abbrev pub rising : List Point
 rising = on_line (pos 0) ∷ on_line (pos 1) ∷ on_line (pos 2) ∷ []
 
--- the same that fall
+-- the same points in decreasing order
 abbrev pub falling : List Point
 falling = on_line (pos 2) ∷ on_line (pos 1) ∷ on_line (pos 0) ∷ []
 
--- the second of them alone
+-- only the second of them
 abbrev pub middle : List Point
 middle = on_line (pos 1) ∷ []
 
 -- ---- ranges and rectangles
 
--- from 0 by 2 to this number at most
+-- from 0 in steps of 2, to at most this number
 abbrev pub twos_to : ℤ → Range
 twos_to high = record { low = pos 0; high = high; step = 2 }
 
@@ -36,7 +36,7 @@ twos_to high = record { low = pos 0; high = high; step = 2 }
 abbrev pub all_to_four : Range
 all_to_four = record { low = pos 0; high = pos 4; step = 1 }
 
--- the points of one dimension on a range
+-- the one-dimensional points of a range
 abbrev pub line : Range → Rect
 line r = record { dim = 1; lo = on_line r.low; hi = on_line r.high; step = r.step ∷ 1 ∷ 1 ∷ [] }
 
@@ -44,7 +44,7 @@ line r = record { dim = 1; lo = on_line r.low; hi = on_line r.high; step = r.ste
 abbrev pub evens : Rect
 evens = line (twos_to (pos 4))
 
--- the same points, to an end that is none of them
+-- the points 0, 2 and 4, with an upper end that is none of them
 abbrev pub loose : Rect
 loose = line (twos_to (pos 5))
 

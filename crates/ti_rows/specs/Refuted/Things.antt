@@ -1,4 +1,4 @@
--- Processes, computations, grids, accesses, expressions and refusals of which laws are false.
+-- Processes, computations, grids, accesses, expressions and refusals for which theorems are false.
 use Rattle.std.specs.Prelude.{ℕ, pos, Bool, false, [], ◌∷◌, None, length}
 use Rattle.ti_base.specs.declared.value.Zero.TheVariants as z
 use Rattle.ti_base.specs.declared.action.Action.TheVariants as act
@@ -26,15 +26,15 @@ use Rattle.ti_rows.specs.Refuted.Programs.{object, one_barrier}
 
 -- ---- processes
 
--- two processes that meet one barrier
+-- two processes that reach one barrier
 abbrev pub both : Setting
 both = by_two 1000 one_barrier
 
--- a process of them before its first step
+-- one of these processes before its first step
 abbrev pub fresh : ℕ → Process
 fresh i = begin both i
 
--- a step that asks for the end of its process
+-- a step that requests the end of its process
 abbrev pub asks_for_its_end : Step
 asks_for_its_end = At (request (pl 1 75) act.End ToBeDone) (λ r. fresh 0)
 
@@ -48,7 +48,7 @@ ended = record (fresh 0) { frames = [] }
 
 -- ---- computations
 
--- what is asked first
+-- the first request
 abbrev pub a_departure : Request
 a_departure = request (pl 1 65) act.Depart ToBeDone
 
@@ -56,14 +56,14 @@ a_departure = request (pl 1 65) act.Depart ToBeDone
 abbrev pub counts_all : Asking ℕ
 counts_all rs = Gives (length rs) []
 
--- asks once, and leaves the answer
+-- makes one request, and leaves its answer unused
 abbrev pub leaves_its_answer : Asking ℕ
 leaves_its_answer [] = Asks a_departure
 leaves_its_answer (r ∷ rs) = Gives 0 (r ∷ rs)
 
 -- ---- heaps
 
--- the points 0, 2 and 4, each with a cell of its own
+-- the points 0, 2 and 4, each with its own cell
 abbrev pub three_cells : Grid
 three_cells = whole_grid (thing 0 0 0) z.Int evens
 
@@ -85,19 +85,19 @@ seven = record { kind = token.Int (pos 7); place = pl 1 1 }
 abbrev pub a_point_in_scope : ScopeContents
 a_point_in_scope = record { this_class = None; variables = record { number = 0; type = ty.Pt 2; is_single = false } ∷ [] }
 
--- it
+-- that foreach variable
 abbrev pub the_point : NumberedExp
 the_point = each_var (pl 1 1) 0
 
--- the type of an expression in the text, where foreach variables have so many dimensions
+-- the type of an expression in the program, if foreach variables have this many dimensions
 abbrev pub seen_with : ℕ → NumberedExp → ValueType
 seen_with dim x = type_at one_barrier None (λ number. dim) x
 
--- a number
+-- a number literal
 abbrev pub a_number : NumberedExp
 a_number = x.Int (pl 1 1) (pos 7)
 
--- a variable of objects
+-- a variable that refers to an object
 abbrev pub an_object : NumberedExp
 an_object = var (pl 1 1) 0 object
 
@@ -107,7 +107,7 @@ an_object = var (pl 1 1) 0 object
 abbrev pub at_column : Rule → ℕ → Refusal
 at_column rule column = record { rule = rule; place = pl 1 column }
 
--- two refusals, the sooner one behind the other
+-- two refusals; the second is the earlier one by place
 abbrev pub later : Refusal
 later = at_column S1 9
 

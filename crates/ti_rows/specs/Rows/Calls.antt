@@ -1,4 +1,4 @@
--- Programs of rows: calls of methods.
+-- Programs of worked examples: calls of methods.
 use Rattle.std.specs.Prelude.{pos, true, false, [], ◌∷◌, None, Some, codes}
 use Rattle.ti_syntax.specs.declared.tree.exprs.BinaryOperator.TheVariants as op
 use Rattle.ti_syntax.specs.declared.tree.stmts.StepOperator.TheVariants.{Increment}

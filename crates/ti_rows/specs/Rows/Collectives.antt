@@ -1,4 +1,4 @@
--- Programs of rows: barriers, broadcasts and exchanges.
+-- Programs of worked examples: barriers, broadcasts and exchanges.
 use Rattle.std.specs.Prelude.{pos, true, false, [], ◌∷◌, None, codes}
 use Rattle.ti_syntax.specs.declared.tree.exprs.BinaryOperator.TheVariants as op
 use Rattle.ti_lang.specs.Program.Types as t

@@ -1,4 +1,4 @@
--- Programs of rows: points and domains.
+-- Programs of worked examples: points and domains.
 use Rattle.std.specs.Prelude.{pos, [], ◌∷◌}
 use Rattle.ti_syntax.specs.declared.tree.exprs.BinaryOperator.TheVariants as op
 use Rattle.ti_lang.specs.Program.Types as t

@@ -1,4 +1,4 @@
--- Programs of rows: grids, views and copies.
+-- Programs of worked examples: grids, views and copies.
 use Rattle.std.specs.Prelude.{pos, false, [], ◌∷◌, None}
 use Rattle.ti_syntax.specs.declared.tree.exprs.BinaryOperator.TheVariants as op
 use Rattle.ti_syntax.specs.declared.tree.stmts.StepOperator.TheVariants.{Increment}

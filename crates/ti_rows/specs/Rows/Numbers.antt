@@ -1,4 +1,4 @@
--- Programs of rows: whole numbers, booleans and prints.
+-- Programs of worked examples: integers, booleans and prints.
 use Rattle.std.specs.Prelude.{pos, true, false, [], ◌∷◌, codes}
 use Rattle.ti_syntax.specs.declared.tree.exprs.UnaryOperator.TheVariants as un
 use Rattle.ti_syntax.specs.declared.tree.exprs.BinaryOperator.TheVariants as op

@@ -1,4 +1,4 @@
--- Programs of rows: objects and their fields.
+-- Programs of worked examples: objects and their fields.
 use Rattle.std.specs.Prelude.{pos, true, false, [], ◌∷◌, None, codes}
 use Rattle.ti_lang.specs.Program.Types as t
 use Rattle.ti_lang.specs.Program.Expressions as e

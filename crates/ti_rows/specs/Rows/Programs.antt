@@ -1,4 +1,4 @@
--- Programs of rows: whole programs.
+-- Programs of worked examples: complete programs.
 use Rattle.std.specs.Prelude.{pos, true, false, [], ◌∷◌, None, Some, codes}
 use Rattle.ti_syntax.specs.declared.tree.exprs.BinaryOperator.TheVariants as op
 use Rattle.ti_syntax.specs.declared.tree.stmts.StepOperator.TheVariants.{Increment}

@@ -1,4 +1,4 @@
--- Programs of rows: shared regions.
+-- Programs of worked examples: shared regions.
 use Rattle.std.specs.Prelude.{pos, false, [], ◌∷◌, None, Some, codes}
 use Rattle.ti_syntax.specs.declared.tree.exprs.BinaryOperator.TheVariants as op
 use Rattle.ti_lang.specs.Program.Types as t

@@ -1,4 +1,4 @@
--- Programs of rows: blocks, loops and jumps.
+-- Programs of worked examples: blocks, loops and jumps.
 use Rattle.std.specs.Prelude.{pos, true, [], ◌∷◌, None, Some}
 use Rattle.ti_syntax.specs.declared.tree.exprs.BinaryOperator.TheVariants as op
 use Rattle.ti_syntax.specs.declared.tree.stmts.StepOperator.TheVariants.{Increment, Decrement}

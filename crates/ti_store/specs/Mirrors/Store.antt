@@ -1,4 +1,4 @@
--- Nobody has to believe what stands here: it mirrors the code, and only contracts of private functions and the invariant speak of it.
+-- The invariant of a store. Used only by contracts of private functions and the invariant.
 use Rattle.std.specs.Prelude.{◌≡◌, ℕ, Bool}
 use Rattle.ti_lang.specs.Program.Classes.{NumberedProgram}
 use Rattle.ti_lang.specs.Meaning.Processes.{Setting}
@@ -15,7 +15,7 @@ use Rattle.ti_store.specs.Conditions.{IsWithin}
 use Rattle.ti_store.specs.Stores.{StoreState}
 use Rattle.ti_store.specs.Mirrors.Parts.{program_in, history_in, IsKept}
 
--- what is known of a program that is checked, and of its runs
+-- what is known of a checked program and of its runs
 pub record KeepsLaws (program : NumberedProgram) : Type 0 where
   pub possible : OfEveryRun NoneImpossible program
   pub balance : OfEveryRun RoundsBalance program
@@ -41,7 +41,7 @@ pub record IsLedger (l : Ledger) (fuel : ℕ) (faulted : Bool) : Type 0 where
   pub faulted_is : faulted ≡ has_fault l.entries.items
   pub kept : IsKept l (history_in l)
 
--- and the store is of these terms
+-- the ledger's invariant holds, and the store is of these terms
 pub record IsStore (l : Ledger) (fuel : ℕ) (faulted : Bool) (terms : Setting) : Type 0 where
   pub ledger : IsLedger l fuel faulted
   pub terms_are : setting_in l fuel ≡ terms

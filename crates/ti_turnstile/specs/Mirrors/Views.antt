@@ -1,4 +1,4 @@
--- The rule of the turnstile's table, and what its steps tell.
+-- The invariant of the turnstile's table, and what its transitions do.
 use Rattle.std.specs.Prelude.{◌≡◌, ◌≢◌, ℕ, zero, suc, ◌+◌, ◌<◌, ◌⊎◌, Bool, true, false, List, [], ◌∷◌, length, Option, Some, None}
 use mathlib.Core.Option.{some, none}
 use lib.ListN.{get_elem?}
@@ -19,7 +19,7 @@ module _ {I : Type 0} where
   abbrev pub inside : ℕ → List (ℕ × I) → View I
   inside k seen = view true (part k seen ∷ [])
 
-  -- n passes from k on, which have seen nothing
+  -- n passes, numbered from k on, which have seen nothing
   abbrev pub fresh : ℕ → ℕ → List (Part I)
   fresh k zero = []
   fresh k (suc n) = part k [] ∷ fresh (suc k) n
@@ -43,29 +43,29 @@ module _ {I : Type 0} where
   abbrev pub SomeSeat : (Part I → Type 0) → List (View I) → Type 0
   SomeSeat P views = (j : ℕ) × (v : View I) × (get_elem? views j ≡ some v) × AnyPart P v.parts
 
-  -- the part is legal, and stands with the seat j
+  -- what the part has seen is legal, and it belongs to seat j
   abbrev pub Fits : List (ℕ × I) → (ℕ → ℕ) → ℕ → Part I → Type 0
   Fits log owner j p = IsLegal log p.number p.seen × (owner p.number ≡ j)
 
 module _ {V I : Type 0} (log_of : V → List (ℕ × I)) where
-  -- no seat is inside, and no seat but k is
+  -- no seat is inside; no seat except k is inside
   abbrev pub NoneInside : List (View I) → Type 0
   NoneInside views = (j : ℕ) (v : View I) → get_elem? views j ≡ some v → v.is_inside ≡ false
 
   abbrev pub OneInside : List (View I) → ℕ → Type 0
   OneInside views k = (j : ℕ) (v : View I) → j ≢ k → get_elem? views j ≡ some v → v.is_inside ≡ false
 
-  -- the word is free and the value is in its slot
+  -- the lock is free and the value is in its slot
   abbrev pub Free : List (ℕ × I) → ℕ → State (Option V) (View I) → Type 0
   Free log hint s = (s.words ≡ 0 ∷ hint ∷ []) × (x : V) × (s.homes ≡ some (Some x) ∷ []) × (log_of x ≡ log) × NoneInside s.views
 
-  -- the word is held, and one seat is inside, which has seen the whole log
+  -- the lock is held, and one seat is inside, which has seen the whole log
   abbrev pub Held : List (ℕ × I) → ℕ → State (Option V) (View I) → Type 0
   Held log hint s = (s.words ≡ 1 ∷ hint ∷ []) × (s.homes ≡ none ∷ []) × (k : ℕ) × (number : ℕ)
       × (get_elem? s.views k ≡ some (inside number log)) × OneInside s.views k
 
-  -- there is one log: each pass has seen a beginning of it with all items of its number, and one has seen the whole; each number below n is
-  -- that of one pass
+  -- there is one log: each pass has seen a prefix of it with all items of its number, and one has seen all of it; each number below n is
+  -- that of a pass, which one seat has
   pub record Sound (n : ℕ) (s : State (Option V) (View I)) : Type 0 where
     pub log : List (ℕ × I)
     pub hint : ℕ
@@ -77,7 +77,7 @@ module _ {V I : Type 0} (log_of : V → List (ℕ × I)) where
     pub cover : (k : ℕ) → k < n → SomeSeat (λ p. p.number ≡ k) s.views
     pub turn : Free log hint s ⊎ Held log hint s
 
-  -- the seat is inside, with the value, whose log is legal with it
+  -- the seat is inside, with the value, whose log extends what the pass had seen legally
   abbrev pub Entered : Me (Option V) (View I) → Me (Option V) (View I) → Type 0
   Entered m m' = (k : ℕ) × (seen : List (ℕ × I)) × (x : V) × (m.0 ≡ outside k seen) × (m'.0 ≡ inside k (log_of x))
       × (m'.1 ≡ (0, Some x) ∷ []) × IsLegal (log_of x) k seen
@@ -86,7 +86,7 @@ module _ {V I : Type 0} (log_of : V → List (ℕ × I)) where
   abbrev pub HasValue : Me (Option V) (View I) → Type 0
   HasValue m = (x : V) × (m.0 ≡ inside (number_in m) (log_of x)) × (m.1 ≡ (0, Some x) ∷ [])
 
-  -- a try to go in: the word was free and the seat is inside, or nothing changed
+  -- a try to acquire the lock: it was free and the seat is inside now, or nothing changed
   abbrev pub Tries : Step (Option V) → Me (Option V) (View I) → ℕ → Me (Option V) (View I) → Type 0
   Tries s m found m' = (found ≡ 0 → Entered m m') × (found ≢ 0 → m' ≡ m)
 
