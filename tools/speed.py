@@ -1,5 +1,5 @@
 #!/usr/bin/env python3
-"""Measures the programs of docs/SPEED.md in titan and in CPython, alternately.
+"""Measures the programs of docs/SPEED.md that are there for CPython, too, alternately in titan and in CPython.
 
     python3 tools/speed.py crates/titan/out/titan
 
@@ -41,9 +41,9 @@ def main():
     parser.add_argument("--rounds", type=int, default=9)
     given = parser.parse_args()
     print("Program     titan  CPython  ratio")
-    for path in sorted(PROGRAMS.glob("*.ti")):
+    for path in sorted(PROGRAMS.glob("*.py")):
         titan, python = measured(
-            [[str(given.titan.resolve()), "--fuel", "4000000", path.name], [sys.executable, f"{path.stem}.py"]], given.rounds)
+            [[str(given.titan.resolve()), "--fuel", "4000000", f"{path.stem}.ti"], [sys.executable, path.name]], given.rounds)
         print(f"{path.stem:10}{titan:7.2f}{python:9.2f}{titan / python:7.2f}", flush=True)
 
 
