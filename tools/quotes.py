@@ -2,7 +2,7 @@
 """Says where a document quotes what no file says.
 
 The texts that documents quote are files below crates/ti_rows_of_texts/data, and what comes of each is a row there, which the gate runs.
-A document quotes in three ways:
+A document quotes in four ways:
 
 - ```java examples/hello.ti        a block whose first line names a file holds that file;
   ```java rules/N4.ti 27-28        or these lines of it, or one line. Each such file is run by a row.
@@ -11,6 +11,8 @@ A document quotes in three ways:
                                    file behind --against stands in its row, behind ` |`.
 - <!-- rows -->                    the table below this line has in each row a text, then the rule that it breaks and the token there, then what
                                    is written instead; rows say that the first is refused so, and that the others come to their end.
+- <!-- commands -->                the table below this line has in each row a cause, then commands that have status 3 for it, then some that have
+                                   status 0; rows say so.
 
 Each difference is printed with its line, first what the document has and then what it should have. The status is 1 where there is one, else 0.
 """
@@ -34,24 +36,25 @@ def unescaped(text):
 
 
 def read_rows():
-    """The rows that ask for a command: what is written, by words, trace and file; and frame, status and what is written, by text."""
-    runs, texts = {}, {}
+    """The rows that ask for a command: what is written, by words, trace and file; frame, status and what is written, by text; and statuses by words."""
+    runs, texts, statuses = {}, {}, {}
     for path in sorted(DATA.glob("*.rows")):
         asks, frame = "", ""
         for line in path.read_text().splitlines():
             if line.startswith("ask "):
                 asks, frame = line.split()[1:]
-            row = re.fullmatch(r": (.*) <- (.*) => (\d)(?: out: (.*?))?(?: err: (.*))?", line)
+            row = re.fullmatch(r":(?: (.*))? <- (.*) => (\d)(?: out: (.*?))?(?: err: (.*))?", line)
             if row is None or asks != "command":
                 continue
-            words, text, status, out, err = row.groups()
-            written = unescaped(out or "") + unescaped(err or "")
+            words, text, status, out, err = row.groups(default="")
+            statuses.setdefault(words.partition(" |")[0], set()).add(status)
+            written = unescaped(out) + unescaped(err)
             if frame == "file":
                 words, _, trace = words.partition(" |")
                 runs[(words, unescaped(trace.removeprefix(" ")), text)] = written
             else:
                 texts.setdefault(unescaped(text), []).append((frame, status, written))
-    return runs, texts
+    return runs, texts, statuses
 
 
 def blocks(lines):
@@ -141,7 +144,29 @@ def tabled(number, line, texts):
             yield number, f"{mend}: no row that says it is accepted"
 
 
-def differences(lines, runs, texts, command):
+def ran(words, command):
+    """The status of the command with these words, over a program that prints nothing; nothing where the words name a file that isn't here."""
+    if "t.tr" in words or "a.ti" in words[:-1]:
+        return None
+    asked = [*words[:-1], "rules/S1_fixed.ti"] if words[-1:] == ["a.ti"] else words
+    return str(subprocess.run([command, *asked], cwd=DATA, capture_output=True, check=False).returncode)
+
+
+def commanded(number, line, statuses, command):
+    """How a line of a table of commands differs from the rows, or from what the commands do."""
+    cells = line.strip("|").split("|")
+    if len(cells) != 3:
+        yield number, "no cause, rejected and accepted commands"
+        return
+    for cell, status in zip(cells[1:], "30"):
+        for words in re.findall(r"`titan ?([^`]*)`", cell):
+            if status not in statuses.get(words, ()):
+                yield number, f"titan {words}: no row that says status {status}"
+            if command and ran(words.split(), command) not in (None, status):
+                yield number, f"titan {words}: not status {status}"
+
+
+def differences(lines, runs, texts, statuses, command):
     """Where a document differs, each with the number of the line."""
     if sum(line.startswith("```") for line in lines) % 2:
         yield len(lines), "a block without end"
@@ -149,25 +174,25 @@ def differences(lines, runs, texts, command):
         if len(words) > 1:
             yield from quoted(number, words, inside, runs)
         yield from commands(number, inside, runs, command)
-    heading = None
+    heading, what = None, None
     for number, line in enumerate(lines, 1):
-        if line == "<!-- rows -->":
-            heading = number
+        if line in ("<!-- rows -->", "<!-- commands -->"):
+            heading, what = number, line
         elif not line.startswith("|"):
             heading = None
         elif heading and number > heading + 2:
-            yield from tabled(number, line, texts)
+            yield from tabled(number, line, texts) if "rows" in what else commanded(number, line, statuses, command)
 
 
 def main():
     parser = argparse.ArgumentParser(description=__doc__, formatter_class=argparse.RawDescriptionHelpFormatter)
     parser.add_argument("--run", metavar="COMMAND", type=Path, help="run each `$ titan` line by COMMAND, and hold the documents against that")
     command = parser.parse_args().run
-    runs, texts = read_rows()
+    runs, texts, statuses = read_rows()
     documents = sorted([*TOP.glob("*.md"), *TOP.glob("docs/*.md"), *TOP.glob("crates/*/*.md")])
     found = 0
     for path in documents:
-        for number, differs in differences(path.read_text().splitlines(), runs, texts, command and command.resolve()):
+        for number, differs in differences(path.read_text().splitlines(), runs, texts, statuses, command and command.resolve()):
             print(f"{path.relative_to(TOP)}:{number}: {differs}")
             found += 1
     print(f"quotes: {len(documents)} documents, {found} differences")
