@@ -1,4 +1,4 @@
-// What is around a statement, and what falls with what by a statement apart from those in it.
+// Constraints of one statement in its context, without its sub-statements.
 ghost use Rattle.std.specs.Prelude.{◌≡◌, ◌++◌, ◌∷◌, [], map, Option, OnOk, IfOk};
 ghost use Rattle.std.specs.Option.{option_map, option_and_then};
 ghost use Rattle.ti_syntax.specs.Trees.Views.{maybe_of};
@@ -87,7 +87,7 @@ pub fn update(
 
 // ---- conditions
 
-/// What falls with a plain condition.
+/// Appends constraints: unless the condition is single, each of `whats` is ruled out.
 pub fn condition(
     alloc: Global,
     a: Around,
@@ -102,7 +102,7 @@ pub fn condition(
     each(&found, whats, out)
 }
 
-/// The same where there is one.
+/// Appends constraints: unless the condition is single, each of `whats` is ruled out. Appends nothing if there is no condition.
 pub fn condition_of(
     alloc: Global,
     a: Around,
@@ -119,7 +119,7 @@ pub fn condition_of(
     }
 }
 
-/// A plain value that is given back.
+/// Appends constraints of a `return`: unless its value is single, its method's result isn't.
 pub fn give_back(
     alloc: Global,
     a: Around,
@@ -139,7 +139,7 @@ pub fn give_back(
     }
 }
 
-/// A jump in an update; no update of a text has one.
+/// Appends a constraint that nothing satisfies if a `for` has a jump in its update. No program that was parsed has one.
 pub fn update_jumps(
     a: Around,
     update: &Option<Box<Stmt>>,
@@ -168,7 +168,7 @@ fn domain_dim(t: Option<Seen>) -> Option<usize>
     }
 }
 
-/// Of how many dimensions a domain is, where it's one.
+/// The number of dimensions of an expression that is a domain; otherwise `None`.
 pub fn dim(a: Around, domain: &Expr) -> Option<usize>
     ensures { result ≡ option_and_then domain_dim (operand_type (program_at a.entry.site) (contents_of a.entry.scope.now)
         (expression_of domain.now)) }
