@@ -1,4 +1,4 @@
-// What falls, one after the other.
+// The state of the worklist algorithm, and how it rules out reasons.
 ghost use Rattle.std.specs.Prelude.{◌≡◌, OnOk, Bool, true, false, ◌⊎◌, Some};
 ghost use Rattle.std.specs.List.{list_any};
 ghost use Rattle.ti_blame.specs.Names.{name_of, blame_of};
@@ -12,8 +12,9 @@ use crate::mark::{Mark, Name, mark_of};
 use std::collections::BTreeSet;
 use ti_base::{Memory, Place};
 
-/// What still stands, what has fallen and is to be followed, the first collective that has fallen, and for each place of the list of
-/// reasons up to where all of them have.
+/// The state: the annotations still assumed (`standing`), those removed but not yet propagated (`fallen`), the place of the first
+/// collective that was ruled out (`blamed`), and for each index of the list of reasons up to which index the range from there has been
+/// ruled out (`done`).
 #[derive(Drop)]
 pub struct Falls {
     pub standing: BTreeSet<Name>,
@@ -75,7 +76,7 @@ fn reason_falls(s: &mut Falls, b: Blame) -> Result<(), Memory>
     }
 }
 
-// ---- several
+// ---- several reasons
 
 fn reasons_fall(s: &mut Falls, found: &[Blame]) -> Result<(), Memory>
     ensures step { OnOk result (Steps s.old s.new) }
@@ -89,7 +90,7 @@ fn reasons_fall(s: &mut Falls, found: &[Blame]) -> Result<(), Memory>
     Ok(())
 }
 
-// What stands from one place of the list to another falls, where it hasn't yet.
+// Rules out the reasons from one index of the list to another (exclusive), unless this range was ruled out before.
 fn part_falls(s: &mut Falls, items: &[Blame], from: usize, to: usize) -> Result<(), Memory>
     requires { AreDone items.now s.old }
     ensures step { OnOk result (Steps s.old s.new) }
@@ -106,7 +107,7 @@ fn part_falls(s: &mut Falls, items: &[Blame], from: usize, to: usize) -> Result<
     Ok(())
 }
 
-// The reasons from one place of the list to another.
+// The reasons from one index of the list to another (exclusive), as far as the list has them.
 fn part(items: &[Blame], from: usize, to: usize) -> &[Blame]
     ensures { result.now ≡ meaning items.now (Then.Between from to) }
 {
@@ -114,7 +115,8 @@ fn part(items: &[Blame], from: usize, to: usize) -> &[Blame]
     if from < end { &items[from..end] } else { &[] }
 }
 
-/// What is meant falls.
+/// Rules out what a constraint concludes: annotations are removed from those assumed and put on the worklist, of collectives the first is
+/// kept. Errors only if it runs out of memory.
 pub fn then_falls(s: &mut Falls, items: &[Blame], then: Then) -> Result<(), Memory>
     requires { AreDone items.now s.old }
     ensures step { OnOk result (Steps s.old s.new) }

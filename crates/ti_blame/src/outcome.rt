@@ -1,4 +1,4 @@
-// What is left standing once all that falls has fallen.
+// The entry point: solves constraints and returns the solution as a list.
 ghost use Rattle.std.specs.Prelude.{◌≡◌, ℕ, [], map, get_or, IfOk, None};
 ghost use Rattle.std.specs.List.{list_any};
 ghost use Rattle.std.specs.BTreeMap.{is_at};
@@ -18,7 +18,8 @@ use std::alloc::Global;
 use std::collections::{BTreeMap, BTreeSet};
 use ti_base::{Memory, Place};
 
-/// The marks that are left, rising by place and then by kind, and the first collective that falls.
+/// The solution: the remaining annotations, sorted by place and then by kind, and the place of the first collective that is ruled out, if
+/// one is.
 #[derive(Debug, Drop)]
 pub struct Settled {
     pub marks: Vec<Mark>,
@@ -57,7 +58,8 @@ fn marks_left(alloc: Global, standing: BTreeSet<Name>) -> Result<Vec<Mark>, Memo
     Ok(marks)
 }
 
-/// The greatest part of some marks under which no edge is broken, and the first collective that falls then.
+/// The greatest subset of `names` that satisfies all constraints, and the first collective that these then rule out. Constraints refer to
+/// `items` by index. Each annotation is propagated at most once. Errors only if it runs out of memory.
 pub fn settle(
     alloc: Global,
     names: &[Mark],
