@@ -1,4 +1,5 @@
-//! Tests of what isn't a text, and nothing else: so no other crate is proved twice.
+//! Tests of library calls that the row crates, whose input is source files, don't reach. It contains nothing else, so that a change of a
+//! test leads to no other crate being proved again.
 #![tactic(auto)]
 
 #[cfg(test)]
