@@ -30,6 +30,7 @@ use ti_types::Judge;
 
 // ---- assignments
 
+/// Appends constraints of a variable's declaration: those of its right side, and unless that is single, the variable isn't.
 #[tactic(auto, using(crate::proofs::Pushing::pushing))]
 pub fn declare(
     alloc: Global,
@@ -48,6 +49,7 @@ pub fn declare(
     one_each(&found, Then::One(Blame::OfVariable(at)), out)
 }
 
+/// Appends constraints of an assignment: those of its right side, and unless that is single, the assigned variable isn't.
 #[tactic(auto, using(crate::proofs::Pushing::pushing))]
 pub fn assign(
     alloc: Global,
@@ -66,6 +68,7 @@ pub fn assign(
     each_to(&found, target(a.site, to), out)
 }
 
+/// Appends constraints of a compound assignment: those of its right side, and unless that is single, the assigned variable isn't.
 #[tactic(auto, using(crate::proofs::Pushing::pushing))]
 pub fn update(
     alloc: Global,
@@ -139,7 +142,7 @@ pub fn give_back(
     }
 }
 
-/// Appends a constraint that nothing satisfies if a `for` has a jump in its update. No program that was parsed has one.
+/// Records a jump in the update of a `for` as unconditionally to blame. No program that was parsed has one.
 pub fn update_jumps(
     a: Around,
     update: &Option<Box<Stmt>>,
@@ -159,6 +162,7 @@ pub fn update_jumps(
 
 // ---- foreach
 
+// The number of dimensions of a domain type; `None` for other types.
 fn domain_dim(t: Option<Seen>) -> Option<usize>
     ensures { result ≡ option_and_then domain_dim (option_map seen t.entry) }
 {

@@ -25,6 +25,7 @@ use ti_single::{boxed_expression, boxed_type, listed_expressions, listed_ranges}
 
 // ---- variables
 
+// The annotation of a declared variable.
 fn declared_ask(site: Site, number: u32) -> Option<Mark>
     ensures { result ≡ option_map variable_mark (variable_place (method_at site.entry) number) }
 {
@@ -37,6 +38,7 @@ fn declared_ask(site: Site, number: u32) -> Option<Mark>
     }
 }
 
+// Appends what the variable of an enclosing foreach requires to be single.
 fn foreach_asks(inside: &[Inside], number: u32, out: &mut Vec<Option<Mark>>) -> Result<(), Memory>
     ensures { OnOk result (out.new.items ≡ out.old.items ++ inside_at (inside_of inside.now) number) }
 {
@@ -50,6 +52,7 @@ fn foreach_asks(inside: &[Inside], number: u32, out: &mut Vec<Option<Mark>>) -> 
     Ok(())
 }
 
+// Appends what a variable requires to be single.
 fn variable(
     site: Site,
     inside: &[Inside],

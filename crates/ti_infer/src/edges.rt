@@ -108,6 +108,7 @@ pub fn one_ask(alloc: Global, ask: Option<Mark>) -> Result<Vec<Option<Mark>>, Me
     Ok(found)
 }
 
+// What a whole right side requires to be single, which calls this method, if any.
 fn called_asks(
     alloc: Global,
     site: Site,
@@ -138,6 +139,7 @@ pub fn whole_asks(
     called_asks(alloc, site, inside, m, e)
 }
 
+// Whether a broadcast value of this type can be single.
 fn is_sent(t: Seen) -> bool
     ensures { result ≡ is_single_sent (seen t.entry) }
 {
@@ -147,6 +149,7 @@ fn is_sent(t: Seen) -> bool
     )
 }
 
+// The requirement that no marking satisfies, if the test holds; otherwise none.
 fn plain_when(alloc: Global, test: bool) -> Result<Vec<Option<Mark>>, Memory>
     ensures { IfOk result (λ v. v.items ≡ plain_if test) }
 {
@@ -295,6 +298,7 @@ pub fn further(i: usize, n: usize) -> Result<usize, Memory>
     }
 }
 
+// The `n` reasons from index `i` on, and those of the whole method if the test holds (`back`: there is a `return`).
 fn reached(alloc: Global, i: usize, n: usize, back: bool, whole: Then) -> Result<Vec<Then>, Memory>
     ensures { IfOk result (λ v. v.items ≡ Between i (i + n) ∷ then_if back whole) }
 {

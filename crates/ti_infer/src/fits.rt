@@ -52,6 +52,7 @@ pub fn takes_mark(alloc: Global, at: Place, t: &TypeUse) -> Result<bool, Memory>
 
 // ---- constraints
 
+// Appends a constraint that rules this out unconditionally, unless the test holds.
 fn falls_unless(test: bool, what: Blame, out: &mut Vec<Edge>) -> Result<(), Memory>
     ensures { OnOk result (out.new.items ≡ out.old.items ++ falls_unless test what) }
 {

@@ -31,8 +31,9 @@ pub fn union_keeps_single_rules()
         → KeepsSingle counts p (union m n) }
 {}
 
-/// For any set of considered collectives, the rules by reasons are the rules of single values of the marked program. If all are
-/// considered, these are the rules by which programs are checked.
+/// For any set of considered collectives, the rules by reasons are the rules of single values of the marked program, if no result of the
+/// program has the qualifier `single`, as in a stripped one. If all collectives are considered, these are the rules by which programs are
+/// checked.
 pub fn reasons_are_rules()
     ensures by_rules { (counts : Place → Bool) (p : NumberedProgram) (m : Marks) → limited_refusals counts (marked m p) ≡ []
         → KeepsSingle counts p m }
@@ -42,8 +43,8 @@ pub fn reasons_are_rules()
     ensures stripped { (p : NumberedProgram) → HavePlainResults (stripped p).methods }
 {}
 
-/// The fewer collectives are considered, the more markings keep the rules. If all collectives of the program are considered, it keeps the
-/// same rules as if every place were.
+/// The fewer collectives are considered, the more markings keep the rules. If all collectives of the program are considered, the rules
+/// are those with every place considered.
 pub fn fewer_collectives()
     ensures fewer { (fewer more : Place → Bool) (p : NumberedProgram) (m : Marks) → ((at : Place) → fewer at ≡ true → more at ≡ true)
         → KeepsSingle more p m → KeepsSingle fewer p m }
@@ -63,7 +64,8 @@ pub fn greatest_is_found()
         → list_any (is_fixed counts) (program_blamed p u) ≡ true → ⊥ }
 {}
 
-/// The marked program breaks no rule of types and qualifiers if and only if all annotations are allowed where they are.
+/// If a program breaks no rule of types and qualifiers, its marked program breaks none if and only if all annotations are allowed where
+/// they are.
 pub fn marks_and_types()
     ensures fits { (p : NumberedProgram) (m : Marks) → type_refusals p ≡ [] → MarksFit m p → type_refusals (marked m p) ≡ [] }
     ensures fit { (p : NumberedProgram) (m : Marks) → type_refusals (marked m p) ≡ [] → MarksFit m p }
@@ -75,8 +77,9 @@ pub fn union_is_accepted()
         → IsAccepted p (union m n) }
 {}
 
-/// A marking satisfies the constraints of a program if and only if nothing is to blame under it and its annotations are allowed where
-/// they are.
+/// A marking that breaks no rule of single values satisfies the constraints of a program, and conversely if nothing is unconditionally to
+/// blame under it. A marking whose annotations are allowed where they are satisfies the constraints that rule out others, and conversely
+/// if the program breaks no rule of types and qualifiers.
 pub fn edges_are_rules()
     ensures kept { (counts : Place → Bool) (p : NumberedProgram) (m : Marks) → KeepsSingle counts p m
         → KeepsEdges (stands counts m) (all_reasons p) (program_edges p) }

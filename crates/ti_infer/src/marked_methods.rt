@@ -80,6 +80,7 @@ fn mark_params(marks: &[Mark], params: &mut Params) -> Result<(), Memory>
     }
 }
 
+// Makes the type of a result single, if it is annotated; `void` stays.
 fn mark_result(single: bool, place: Place, t: &mut ResultType) -> Result<(), Memory>
     ensures { OnOk result (numbered_result_of t.new ≡ marked_result single place (numbered_result_of t.old)) }
 {
@@ -89,6 +90,7 @@ fn mark_result(single: bool, place: Place, t: &mut ResultType) -> Result<(), Mem
     }
 }
 
+// Appends the modifier `single` with this place, if the method is annotated.
 fn mark_words(single: bool, place: Place, words: &mut Vec<Modifier>) -> Result<(), Memory>
     ensures { OnOk result (words.new.items ≡ words.old.items ++ (if single then record { word = word.Single; place = place }
         ∷ [] else [])) }
@@ -104,6 +106,7 @@ fn mark_words(single: bool, place: Place, words: &mut Vec<Modifier>) -> Result<(
 
 // ---- methods
 
+// For the prover: a disjunction as a call with a contract.
 fn either(a: bool, b: bool) -> bool
     ensures { result ≡ (a || b) }
 {

@@ -11,6 +11,7 @@ use std::alloc::Global;
 use ti_base::Memory;
 use ti_lang::program::{Parts, Program};
 
+// The parts of the program with the annotations of the marking added to its methods.
 fn marked_parts(alloc: Global, parts: Parts, m: &Marking) -> Result<Parts, Memory>
     ensures { IfOk result (λ q. program_of q ≡ marked (marks_of m.now) (program_of parts)) }
 {

@@ -33,6 +33,7 @@ fn number_after(number: u32) -> Result<u32, Memory>
     }
 }
 
+// What makes parameters single: the annotation of each.
 fn inside_params(alloc: Global, ws: &[Param]) -> Result<Vec<Inside>, Memory>
     ensures { IfOk result (λ v. inside_of v.items ≡ params_inside 0 (map numbered_param_of ws.now)) }
 {
@@ -50,6 +51,7 @@ fn inside_params(alloc: Global, ws: &[Param]) -> Result<Vec<Inside>, Memory>
     Ok(found)
 }
 
+// The number of reasons that the result of a method is: 1, or 0 for `void`.
 fn result_size(site: Site) -> usize
     ensures { result ≡ length (result_reasons (program_at site.entry) (method_at site.entry) (method_at site.entry).result) }
 {
@@ -97,6 +99,7 @@ fn body_edges(
 
 // ---- methods
 
+// For the prover: the length as a call with a contract.
 fn count(items: &Vec<Blame>) -> usize
     ensures { result ≡ length items.now.items }
 {
@@ -175,6 +178,7 @@ pub fn program_edges(alloc: Global, p: &Program) -> Result<Found, Memory>
     Ok(Found { items, edges })
 }
 
+// For the prover: the method at an index, as the specification sees it.
 fn method_of(methods: &[Method], i: usize) -> &Method
     requires { i < length methods.now }
     ensures { slice_get (map numbered_method_of methods.now) i ≡ Some (numbered_method_of result.now) }

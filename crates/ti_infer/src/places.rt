@@ -31,6 +31,7 @@ fn make_room(places: &mut Vec<Option<Place>>, number: usize) -> Result<(), Memor
     Ok(())
 }
 
+// For the prover: reads one entry of the table.
 fn is_empty_at(places: &Vec<Option<Place>>, number: usize) -> bool
     requires { number < length places.now.items }
     ensures { result ≡ is_none (get_or places.now.items number None) }
@@ -38,6 +39,7 @@ fn is_empty_at(places: &Vec<Option<Place>>, number: usize) -> bool
     places[number].is_none()
 }
 
+// For the prover: writes one entry of the table.
 fn set_at(places: &mut Vec<Option<Place>>, number: usize, at: Place)
     requires { number < length places.old.items }
     ensures { places.new.items ≡ slice_set places.old.items number (Some at) }

@@ -35,6 +35,7 @@ fn push(found: Option<Blame>, out: &mut Vec<Blame>) -> Result<(), Memory>
 
 // ---- expressions
 
+// A called method, as a reason; `Always` if it is single already.
 fn called(m: Option<&Method>) -> Option<Blame>
     ensures { listed result ≡ method_reasons (option_map (λ m. numbered_method_of m.now) m.entry) }
 {
@@ -66,6 +67,7 @@ fn is_collective_call(site: Site, e: &Expr) -> bool
     }
 }
 
+// The collective that an expression is, as a reason.
 fn collective(site: Site, e: &Expr) -> Option<Blame>
     ensures { listed result ≡ guarded (is_collective_call (program_at site.entry) (this_of (method_at site.entry)) (expression_of e.now))
         (OfCollective (place_of_numbered (expression_of e.now)) ∷ []) }
@@ -77,6 +79,7 @@ fn collective(site: Site, e: &Expr) -> Option<Blame>
     }
 }
 
+// Appends the reasons of an expression that is a whole statement or right side: what it calls.
 #[tactic(auto, using(crate::proofs::Pushing::pushing))]
 fn acts(site: Site, e: &Expr, out: &mut Vec<Blame>) -> Result<(), Memory>
     ensures { OnOk result (out.new.items ≡ out.old.items ++ acts_reasons (program_at site.entry) (method_at site.entry)
@@ -87,6 +90,7 @@ fn acts(site: Site, e: &Expr, out: &mut Vec<Blame>) -> Result<(), Memory>
     push(collective(site, e), out)
 }
 
+// Appends the reasons of a right side.
 fn initial(site: Site, value: &Init, out: &mut Vec<Blame>) -> Result<(), Memory>
     ensures { OnOk result (out.new.items ≡ out.old.items ++ initial_reasons (program_at site.entry) (method_at site.entry)
         (initial_of value.now)) }
@@ -152,6 +156,7 @@ pub fn reasons_of_all(site: Site, xs: &[Stmt], out: &mut Vec<Blame>) -> Result<(
     Ok(())
 }
 
+/// Appends the reasons of an optional statement.
 #[cycle(reasons)]
 pub fn reasons_of_maybe(
     site: Site,
