@@ -12,7 +12,7 @@ use Rattle.ti_blame.specs.declared.edge.Edge.{Edge}
 use Rattle.ti_blame.specs.Names.{blame_of}
 use Rattle.ti_blame.specs.Marks.{Marks}
 
--- an annotation that a marking has, or a collective that isn't ruled out
+-- an annotation that a marking has, or a collective that isn't ruled out; an unconditional reason never holds here
 abbrev pub stands : (Place → Bool) → Marks → Blame → Bool
 stands counts marks (OfMethod at) = marks.methods at
 stands counts marks (OfResult at) = marks.results at

@@ -25,6 +25,7 @@ pub struct Falls {
 
 // ---- one reason
 
+// Removes an annotation from those assumed and puts it on the worklist, unless it was removed before.
 fn mark_falls(s: &mut Falls, m: Mark) -> Result<(), Memory>
     ensures step { OnOk result (Steps s.old s.new) }
     ensures gone { OnOk result (has s.new m ≡ false) }
@@ -37,6 +38,7 @@ fn mark_falls(s: &mut Falls, m: Mark) -> Result<(), Memory>
     Ok(())
 }
 
+// The earlier of the two places; the second one if there is no first.
 fn earlier(first: Option<Place>, at: Place) -> Option<Place>
     ensures gone { before result at ≡ false }
     ensures stays { (place : Place) → before result place ≡ true → before first place ≡ true }
@@ -48,6 +50,7 @@ fn earlier(first: Option<Place>, at: Place) -> Option<Place>
     }
 }
 
+// Rules out a collective: keeps its place if it is the first one so far.
 fn collective_falls(s: &mut Falls, at: Place)
     ensures step { Steps s.old s.new }
     ensures gone { before s.new.blamed at ≡ false }
@@ -57,6 +60,7 @@ fn collective_falls(s: &mut Falls, at: Place)
     s.blamed = earlier(s.blamed, at);
 }
 
+// Rules out one reason. Does nothing for `Always`.
 fn reason_falls(s: &mut Falls, b: Blame) -> Result<(), Memory>
     ensures step { OnOk result (Steps s.old s.new) }
     ensures gone { OnOk result (left s.new b ≡ false) }
@@ -78,6 +82,7 @@ fn reason_falls(s: &mut Falls, b: Blame) -> Result<(), Memory>
 
 // ---- several reasons
 
+// Rules out each of these reasons.
 fn reasons_fall(s: &mut Falls, found: &[Blame]) -> Result<(), Memory>
     ensures step { OnOk result (Steps s.old s.new) }
     ensures gone { OnOk result (list_any (left s.new) found.now ≡ false) }

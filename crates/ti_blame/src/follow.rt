@@ -21,6 +21,7 @@ use ti_base::Memory;
 
 // ---- constraints of one premise
 
+// Rules out each of these conclusions.
 fn thens_fall(s: &mut Falls, items: &[Blame], found: &[Then]) -> Result<(), Memory>
     requires { AreDone items.now s.old }
     ensures step { OnOk result (Steps s.old s.new) }
@@ -35,6 +36,7 @@ fn thens_fall(s: &mut Falls, items: &[Blame], found: &[Then]) -> Result<(), Memo
     Ok(())
 }
 
+// Applies the constraints that are registered with an annotation.
 fn follow(
     s: &mut Falls,
     items: &[Blame],

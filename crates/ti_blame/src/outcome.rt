@@ -26,6 +26,7 @@ pub struct Settled {
     pub blamed: Option<Place>,
 }
 
+// The set of the keys of these annotations.
 fn name_set(alloc: Global, names: &[Mark]) -> Result<BTreeSet<Name>, Memory>
     ensures { IfOk result (λ s. (n : TheName) → contains name_cmp s n ≡ is_named names.now n) }
 {
@@ -36,6 +37,7 @@ fn name_set(alloc: Global, names: &[Mark]) -> Result<BTreeSet<Name>, Memory>
     Ok(found)
 }
 
+// The initial state for `n` reasons: all annotations are assumed, and nothing is ruled out.
 fn start(alloc: Global, names: &[Mark], n: usize) -> Result<Falls, Memory>
     ensures { IfOk result (IsStart names.now) }
 {
@@ -47,6 +49,7 @@ fn start(alloc: Global, names: &[Mark], n: usize) -> Result<Falls, Memory>
     })
 }
 
+// The remaining annotations, sorted by place and then by kind.
 fn marks_left(alloc: Global, standing: BTreeSet<Name>) -> Result<Vec<Mark>, Memory>
     ensures items { IfOk result (λ v. v.items ≡ map mark_at standing.keys) }
     ensures ordered { IsOrdered name_cmp standing }
