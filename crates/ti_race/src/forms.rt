@@ -10,6 +10,7 @@ use ti_base::{Point, Rect, ViewHow};
 use ti_rect::axis::{Axis, distance};
 use ti_rect::rect::{first, second, third};
 
+// Whether this is a number of dimensions: 1, 2 or 3.
 fn is_dim(dim: u8) -> bool
     ensures { IsTrue result ↔ IsDim dim }
 {

@@ -16,6 +16,7 @@ pub struct Lying {
     pub view: View,
 }
 
+// The view of a view; `None` if the numbers of dimensions don't match or making it is a fault.
 fn view_by(view: &View, how: ViewHow) -> Option<View>
     requires form { IsView how }
     ensures { SeenIf how view.now result }

@@ -23,6 +23,7 @@ pub struct Seen {
     pub writers: Option<Procs>,
 }
 
+// The record of each memory location in each phase.
 type Table = IndexMap<(Spot, u32), Seen>;
 
 /// This set with one more process.
