@@ -32,6 +32,7 @@ struct Lane {
     has_arrived: bool,
 }
 
+// A process before the first entry of a phase.
 const START: Lane = Lane {
     phase: 0,
     rows: 0,

@@ -7,14 +7,19 @@ use crate::shapes::{escaped, label_of, look, title_of};
 use std::alloc::{AllocError, Global};
 use std::fmt::Write;
 
+// The width of the margin at the left.
 const LEFT: usize = 16;
 
+// The height of the header.
 const TOP: usize = 44;
 
+// The distance between lanes.
 const LANE: usize = 304;
 
+// The width of a box.
 const BOX: usize = 284;
 
+// The height of a row.
 const ROW: usize = 24;
 
 // The number of characters that fit in a box.
