@@ -27,7 +27,7 @@ fn numbers_of(alloc: Global, uses: &[Use]) -> Result<Vec<u32>, Memory>
 }
 
 /// The numbers of the entries that race, of any list of entries, from 0 and increasing. Which memory location an access refers to is
-/// determined by the entries before it only. Errors only if it runs out of memory.
+/// determined by the entries before it only. Errors if it runs out of memory, or if there are more than 2^32 - 1 entries.
 pub fn told_races(alloc: Global, entries: &[Entry]) -> Result<Vec<u32>, Memory>
     ensures { IfOk result (λ numbers. numbers.items ≡ races_told entries.now) }
 {
@@ -38,7 +38,8 @@ pub fn told_races(alloc: Global, entries: &[Entry]) -> Result<Vec<u32>, Memory>
 }
 
 /// The numbers of the entries of a run that race, from 0 and increasing. Two entries race if two processes access one memory location
-/// with no collective between them, and at least one of them writes. Errors only if it runs out of memory.
+/// with no collective between them, and at least one of them writes. Errors if it runs out of memory, or if there are more than 2^32 - 1
+/// entries.
 pub fn races(
     alloc: Global,
     p: &Program,

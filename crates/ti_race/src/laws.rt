@@ -26,7 +26,7 @@ pub fn determinate(p: &Program, procs: u32, fuel: u32, entries: &[Entry])
 {}
 
 /// Which entries of a run race is determined by the entries only, without the program: two accesses refer to one memory location if and
-/// only if the same entry created its object or array and the offset is the same. Requires that what processes contribute is canonical,
+/// only if the same entry created its object or grid and the offset is the same. Requires that what processes contribute is canonical,
 /// as in every run of a checked program.
 pub fn races_are_told()
     ensures { (s : Setting) (es : List Listed) → IsRun s es → ((ds : List Listed) → IsRun s ds → ActionsFormed s ds) → races es

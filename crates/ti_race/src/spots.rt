@@ -3,7 +3,7 @@ ghost use Rattle.std.specs.Prelude.{◌≡◌};
 
 use ti_base::{Id, Place, Point};
 
-/// The identity of an object or array, as a key.
+/// The identity of an object or grid, as a key.
 #[derive(Clone, Copy, PartialEq, Eq, Hash, Drop)]
 pub struct Name {
     pub maker: u32,
@@ -19,7 +19,7 @@ pub enum Thing {
     Untold(Name),
 }
 
-/// A point of an array, as a key.
+/// A point of a grid, as a key.
 #[derive(Clone, Copy, PartialEq, Eq, Hash, Drop)]
 pub struct At {
     pub dim: u8,
@@ -35,7 +35,7 @@ pub enum Spot {
     FieldOf(Thing, u32),
     /// A cell of a block: the number of the entry that created the block, and that of the cell.
     CellOf(u32, u64),
-    /// A point of an array that no observed entry created, or outside the array's domain.
+    /// A point of a grid that no observed entry created, or outside the grid's domain.
     PointOf(Name, At),
 }
 

@@ -1,4 +1,4 @@
-// An index built while scanning a history: which entry created each object and array, how each array is stored in its block, and how many
+// An index built while scanning a history: which entry created each object and grid, how each grid is stored in its block, and how many
 // collectives each process has left.
 ghost use Rattle.std.specs.Prelude.{◌≡◌, ◌∷◌, [], true, false, ◌≤◌, Some, None, length, IsTrue, OnOk, OnErr, IfSome};
 ghost use Rattle.ti_base.specs.declared.entry.Entry.{Entry as Listed};
@@ -24,7 +24,7 @@ use ti_grid::{View, index_of, view_of};
 use ti_rect::rect_size;
 
 /// What is known of a history: for each identity of an object the number of the entry that created it last (`objects`); for each identity
-/// of an array how the last one created with it is stored, if that is known (`grids`); for each process how many collectives it has left
+/// of a grid how the last one created with it is stored, if that is known (`grids`); for each process how many collectives it has left
 /// (`phases`); and the number of entries (`count`).
 #[derive(Drop)]
 pub struct SoFar {
@@ -65,7 +65,7 @@ fn cell_in(view: &View, at: Point) -> Option<u64>
     }
 }
 
-// The memory location of an element of an array that is stored in this way.
+// The memory location of an element of a grid that is stored in this way.
 fn element_in(lying: &Lying, name: Name, at: Point) -> Spot
     ensures { (h : History) (id : Named) (b : Block) → name ≡ name_key id → Lies h (Some lying.now) (Some b)
         → IsSpot h result (spec.element_spot id at (Some b)) }
@@ -86,7 +86,7 @@ fn object_of(answer: Answer) -> Option<Id>
     }
 }
 
-// The array that a result refers to, if it refers to one.
+// The grid that a result refers to, if it refers to one.
 fn grid_of(answer: Answer) -> Option<Id>
     ensures { result ≡ grid_in answer }
 {
@@ -103,7 +103,7 @@ fn makes_object(action: Action) -> bool
     matches!(action, Action::NewObj { .. })
 }
 
-// Whether an operation creates an array or a view.
+// Whether an operation creates a grid or a view.
 fn makes_grid(action: Action) -> bool
     ensures { result ≡ spec.makes_grid action }
 {
@@ -124,7 +124,7 @@ fn writes(action: Action) -> bool
     matches!(action, Action::PutField { .. } | Action::PutElem { .. })
 }
 
-// How an array is stored that an entry with this number creates with a block of its own; `None` if no block can have this domain.
+// How a grid is stored that an entry with this number creates with a block of its own; `None` if no block can have this domain.
 fn block_of(number: u32, id: Id, domain: &Rect) -> Option<Lying>
     ensures { (e : Listed) (h : History) (zero : First) → number ≡ length h → block_made e.act ≡ Some domain.now
         → Lies (e ∷ h) result (block_told id number zero domain.now) }
@@ -163,7 +163,7 @@ impl SoFar {
         }
     }
 
-    // The memory location of an element of the array with this identity.
+    // The memory location of an element of the grid with this identity.
     fn element(&self, grid: Id, at: Point) -> Spot
         ensures { (h : History) → Tells self.now h → IsSpot h result (spec.element_spot grid at (spec.grid_told grid h)) }
     {
@@ -216,7 +216,7 @@ impl SoFar {
         }
     }
 
-    // How a view of the array with this identity is stored; `None` if that of the array isn't known or the view can't be made.
+    // How a view of the grid with this identity is stored; `None` if that of the grid isn't known or the view can't be made.
     fn view_made(&self, grid: Id, how: ViewHow) -> Option<Lying>
         ensures { (h : History) → TellsGrids self.now h → Lies h result (view_told how (spec.grid_told grid h)) }
     {
@@ -231,7 +231,7 @@ impl SoFar {
         }
     }
 
-    // How an array is stored that an operation creates with this identity; `None` if that isn't known.
+    // How a grid is stored that an operation creates with this identity; `None` if that isn't known.
     fn grid_made(&self, action: Action, id: Id) -> Option<Lying>
         ensures { (e : Listed) (h : History) → self.now.count ≡ length h → TellsGrids self.now h → e.act ≡ action
             → Lies (e ∷ h) result (spec.grid_from id (length h) action (λ v. spec.grid_told v h)) }
@@ -259,7 +259,7 @@ impl SoFar {
         Ok(())
     }
 
-    // Records the array or view that an entry creates, if it creates one.
+    // Records the grid or view that an entry creates, if it creates one.
     fn note_grid(&mut self, e: &Entry) -> Result<(), Memory>
         ensures grids { OnOk result ((h : History) → self.old.count ≡ length h → TellsGrids self.old h → TellsGrids self.new (e.now ∷ h)) }
         ensures kept { OnErr result ((h : History) → TellsGrids self.old h → TellsGrids self.new h) }

@@ -1,4 +1,4 @@
--- Mirrors the code, for contracts of private functions: how arrays are stored in their blocks.
+-- Mirrors the code, for contracts of private functions: how grids are stored in their blocks.
 use Rattle.std.specs.Prelude.{◌≡◌, ◌&&◌, true, false, None, Some, Option}
 use Rattle.ti_base.specs.declared.point.Point.{Point}
 use Rattle.ti_base.specs.declared.point.Rect.{Rect}
@@ -10,8 +10,8 @@ use Rattle.ti_grid.specs.Views.{cell_number, place_in, IsSeen}
 use Rattle.ti_lang.specs.Meaning.Spots.{Block, no_fault}
 use Rattle.ti_race.specs.declared.lying.Lying.{Lying}
 
--- the stored array is that of the specification: the same entry created its block, which has the domain `whole`, and each point of the
--- array has the cell number of its point in the block
+-- the stored grid is that of the specification: the same entry created its block, which has the domain `whole`, and each point of the
+-- grid has the cell number of its point in the block
 pub record Keeps (whole : Rect) (l : Lying) (b : Block) : Type 0 where
   pub number : l.number ≡ b.number
   pub domain : l.view.dom ≡ b.grid.domain

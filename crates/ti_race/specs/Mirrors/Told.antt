@@ -54,17 +54,17 @@ abbrev pub whole_at : ℕ → History → Option Rect
 whole_at n [] = None
 whole_at n (e ∷ earlier) = if n == length earlier then block_made e.act else whole_at n earlier
 
--- this is how the array is stored, or both are unknown
+-- this is how the grid is stored, or both are unknown
 abbrev pub Lies : History → Option Lying → Option Block → Type 0
 Lies h None None = Unit {0}
 Lies h (Some l) (Some b) = (whole : Rect) × (whole_at b.number h ≡ Some whole) × Keeps whole l b
 Lies h l b = ⊥
 
--- the array of a block that an entry creates
+-- the grid of a block that an entry creates
 abbrev pub block_told : Id → ℕ → Zero → Rect → Option Block
 block_told id number zero domain = if is_block domain then Some (record { number = number; grid = whole_grid id zero domain }) else None
 
--- and of a view of a known array
+-- and of a view of a known grid
 abbrev pub view_told : ViewHow → Option Block → Option Block
 view_told how b = if is_view how then viewed_told how b else None
 
@@ -75,14 +75,14 @@ abbrev pub object_in : Answer → Option Id
 object_in (Val (v.Obj made)) = made
 object_in r = None
 
--- the array that a result refers to
+-- the grid that a result refers to
 abbrev pub grid_in : Answer → Option Id
 grid_in (Val (v.Grid made)) = made
 grid_in r = None
 
 -- ---- the index
 
--- how an array is stored according to a lookup; unknown if it isn't in the table
+-- how a grid is stored according to a lookup; unknown if it isn't in the table
 abbrev pub lying_in : Option (Option Lying) → Option Lying
 lying_in None = None
 lying_in (Some l) = l
@@ -100,7 +100,7 @@ TellsPhases t h = (i : ℕ) → phase_in (get ◌==◌ t.phases i) ≡ departure
 abbrev pub TellsObjects : SoFar → History → Type 0
 TellsObjects t h = (id : Id) → get (name_eq.ghosts).eq t.objects (name_key id) ≡ object_told id h
 
--- how the array is stored that was created last with each identity
+-- how the grid is stored that was created last with each identity
 abbrev pub TellsGrids : SoFar → History → Type 0
 TellsGrids t h = (id : Id) → Lies h (lying_in (get (name_eq.ghosts).eq t.grids (name_key id))) (grid_told id h)
 
