@@ -1,4 +1,4 @@
-// Objects and arrays on the heap: reads after writes, views that share cells, faults, and deleted regions.
+// Objects and grids on the heap: reads after writes, views that share cells, faults, and deleted regions.
 
 ghost use Rattle.std.specs.Prelude.{◌≡◌, IfOk};
 ghost use Rattle.ti_base.specs.Points.{IsPoint};
@@ -85,7 +85,7 @@ fn a_field_holds_what_was_written(rt: HostRuntime) -> Result<(), Fail> {
     Ok(())
 }
 
-/// The results of calls on the elements of an array.
+/// The results of calls on the elements of a grid.
 #[derive(Drop)]
 struct Elements {
     writes: [Result<(), FaultKind>; 2],
@@ -133,7 +133,7 @@ fn count_cells(heap: &Heap, region: u32) -> u64 {
     count
 }
 
-/// The numbers of cells in regions 4 and 0 before and after region 4 is deleted. Region 4 contains an array; an object with one field is
+/// The numbers of cells in regions 4 and 0 before and after region 4 is deleted. Region 4 contains a grid; an object with one field is
 /// in region 0, which is no region.
 fn drop_a_grid(alloc: Global, dom: &Rect) -> Result<[u64; 4], HeapErr>
     requires { IsRect dom.now }
@@ -205,7 +205,7 @@ fn a_view_that_is_not_there_has_a_fault(rt: HostRuntime) -> Result<(), Fail> {
     Ok(())
 }
 
-/// Process 0 creates an array over `most`, one over `fits` in region 5, and an object; process 1 creates an object; and process 0 creates
+/// Process 0 creates a grid over `most`, one over `fits` in region 5, and an object; process 1 creates an object; and process 0 creates
 /// one more after region 5 is deleted. Returns the errors.
 fn fill_up(alloc: Global, most: &Rect, fits: &Rect) -> Result<[Option<HeapErr>; 5], Memory>
     requires most { IsRect most.now }
@@ -236,7 +236,7 @@ fn a_process_has_1048576_cells(rt: HostRuntime) -> Result<(), Fail> {
     Ok(())
 }
 
-/// Process 0 creates an array, a view of all of it, and an object. Returns the errors of the last two.
+/// Process 0 creates a grid, a view of all of it, and an object. Returns the errors of the last two.
 fn fill_up_by_a_view(alloc: Global, dom: &Rect) -> Result<[Option<HeapErr>; 2], HeapErr>
     requires { IsRect dom.now }
 {

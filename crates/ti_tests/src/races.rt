@@ -8,7 +8,7 @@ use ti_base::{
 use ti_race::{RaceWatch, told_races};
 use ti_watch::Watch;
 
-/// How a view of a one-dimensional array is made.
+/// How a view of a one-dimensional grid is made.
 #[derive(Clone, Copy)]
 enum Seen {
     /// Translation by this offset.
@@ -24,7 +24,7 @@ enum Seen {
 enum Does {
     /// Creates `GRID` with these bounds and this stride.
     MakesGrid(i32, i32, u32),
-    /// Creates a view with the first identity of the array with the second one.
+    /// Creates a view with the first identity of the grid with the second one.
     MakesView(Id, Id, Seen),
     MakesObject(Id),
     Puts(Id, i32),

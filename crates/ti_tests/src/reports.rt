@@ -415,7 +415,7 @@ end 1
 fault 0
 ";
 
-/// The operations of a run of four processes, in which each fills an array and one sums up all of them, with their numbers.
+/// The operations of a run of four processes, in which each fills a grid and one sums up all of them, with their numbers.
 const COUNTS: &[Count] = &[
     Count(
         Action::NewGrid {
