@@ -17,7 +17,7 @@ pub record Keeps (whole : Rect) (l : Lying) (b : Block) : Type 0 where
   pub domain : l.view.dom ≡ b.grid.domain
   pub cells : (p : Point) → is_in b.grid.domain p ≡ true → cell_number l.view p ≡ place_in (points_of whole) (b.grid.place p)
 
--- the same view, or both are unknown
+-- the stored view is that of the specification, or both are unknown
 abbrev pub KeepsView : Rect → Option Lying → Option Block → Type 0
 KeepsView whole None None = Unit {0}
 KeepsView whole (Some l) (Some b) = Keeps whole l b

@@ -113,13 +113,13 @@ pub record Tells (t : SoFar) (h : History) : Type 0 where
 
 -- ---- accesses
 
--- the same object
+-- the key represents this object
 abbrev pub IsThing : Thing → told.Thing → Type 0
 IsThing (thing.Made n) (told.Made m) = n ≡ m
 IsThing (thing.Untold name) (told.Untold id) = name ≡ name_key id
 IsThing t u = ⊥
 
--- the same memory location: an element of a block is represented by the number of its cell
+-- the key represents this memory location: an element of a block by the number of its cell
 abbrev pub IsSpot : History → Spot → told.Spot → Type 0
 IsSpot h (spot.FieldOf t f) (told.FieldOf u g) = IsThing t u × (f ≡ g)
 IsSpot h (spot.CellOf n i) (told.ElementOf (told.Made m) p) =
@@ -127,13 +127,13 @@ IsSpot h (spot.CellOf n i) (told.ElementOf (told.Made m) p) =
 IsSpot h (spot.PointOf name at) (told.ElementOf (told.Untold id) p) = (name ≡ name_key id) × (at ≡ point_key p)
 IsSpot h s t = ⊥
 
--- the same location, or none
+-- the key represents this memory location, or there is neither
 abbrev pub IsSpotIf : History → Option Spot → Option told.Spot → Type 0
 IsSpotIf h None None = Unit {0}
 IsSpotIf h (Some s) (Some t) = IsSpot h s t
 IsSpotIf h s t = ⊥
 
--- the same access
+-- the stored access is that of the specification
 pub record IsUse (h : History) (u : Use) (a : told.Use) : Type 0 where
   pub number : u.number ≡ a.number
   pub proc : u.proc ≡ a.proc
@@ -141,13 +141,13 @@ pub record IsUse (h : History) (u : Use) (a : told.Use) : Type 0 where
   pub spot : IsSpot h u.spot a.spot
   pub writes : u.writes ≡ a.writes
 
--- the same access, or none
+-- the stored access is that of the specification, or there is neither
 abbrev pub IsUseIf : History → Option Use → Option told.Use → Type 0
 IsUseIf h None None = Unit {0}
 IsUseIf h (Some u) (Some a) = IsUse h u a
 IsUseIf h u a = ⊥
 
--- the same accesses in the same order
+-- the stored accesses are those of the specification, in the same order
 abbrev pub AreUses : History → List Use → List told.Use → Type 0
 AreUses h [] [] = Unit {0}
 AreUses h (u ∷ us) (a ∷ rest) = IsUse h u a × AreUses h us rest
