@@ -1,5 +1,5 @@
-//! Tests of library calls that the row crates, whose input is source files, don't reach. It contains nothing else, so that a change of a
-//! test leads to no other crate being proved again.
+//! Tests of library functions that the row crates don't reach, since their input isn't a source file. A crate with tests is proved twice, so
+//! this one contains nothing else, and no other crate has tests.
 #![tactic(auto)]
 
 #[cfg(test)]
