@@ -112,7 +112,7 @@ fn rows_of(spots: &[Spot], phase: usize) -> usize {
     rows.saturating_add(1)
 }
 
-/// The number of collectives that some process has left.
+/// The greatest phase of an entry: how many collectives its process has left before it.
 fn lines_of(spots: &[Spot]) -> usize {
     let mut phases = 0;
     for spot in spots {
