@@ -1,4 +1,4 @@
--- The order of names tells them apart.
+-- Keys that compare equal are equal, and the order of keys is total.
 use Rattle.std.proofs.Common.{◌≡◌, ℕ, Bool, true, false, List, refl, ap, sym, ◌∙◌}
 use Rattle.std.specs.BTreeMap.{is_at}
 use Rattle.std.specs.Cmp.{IsTotalOrder}

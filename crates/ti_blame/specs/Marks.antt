@@ -1,4 +1,4 @@
--- Markings: a choice of methods, results and variables of a program, by the places of their names.
+-- Markings: sets of methods, results and variables of a program, by the places of their names.
 use Rattle.std.specs.Prelude.{◌≡◌, Bool, true, false, ◌&&◌, ◌||◌, List}
 use Rattle.std.specs.List.{list_any}
 use Rattle.ti_base.specs.declared.place.Place.{Place}
@@ -9,25 +9,25 @@ use Rattle.ti_blame.specs.declared.mark.MarkKind.{MarkKind}
 use Rattle.ti_blame.specs.declared.mark.MarkKind.TheVariants as kind
 use Rattle.ti_blame.specs.declared.mark.Mark.{Mark}
 
--- the places at which a method, a result or a variable is marked
+-- the places at which a method, a result or a variable is annotated
 pub record Marks : Type 0 where
   pub methods : Place → Bool
   pub results : Place → Bool
   pub variables : Place → Bool
 
--- ---- parts and unions
+-- ---- subsets and unions
 
--- what holds of the first holds of the second
+-- the first predicate implies the second
 abbrev pub Within : (Place → Bool) → (Place → Bool) → Type 0
 Within a b = (at : Place) → a at ≡ true → b at ≡ true
 
--- the first marking is a part of the second
+-- the first marking is a subset of the second
 pub record IsPart (m n : Marks) : Type 0 where
   pub methods : Within m.methods n.methods
   pub results : Within m.results n.results
   pub variables : Within m.variables n.variables
 
--- what either marks
+-- the annotations of both
 abbrev pub union : Marks → Marks → Marks
 union m n = record {
   methods = λ at. m.methods at || n.methods at;
@@ -35,7 +35,7 @@ union m n = record {
   variables = λ at. m.variables at || n.variables at;
 }
 
--- ---- a marking as a list of marks
+-- ---- markings as lists of annotations
 
 abbrev pub same_kind : MarkKind → MarkKind → Bool
 same_kind kind.Method kind.Method = true
@@ -43,11 +43,11 @@ same_kind kind.Result kind.Result = true
 same_kind kind.Variable kind.Variable = true
 same_kind _ _ = false
 
--- the mark of this kind at this place
+-- the annotation has this kind and this place
 abbrev pub is_mark : MarkKind → Place → Mark → Bool
 is_mark k at m = same_kind k m.kind && same_place at m.place
 
--- what the marks of a list mark
+-- the set of the annotations of a list
 abbrev pub marks_of : List Mark → Marks
 marks_of ms = record {
   methods = λ at. list_any (is_mark kind.Method at) ms;
@@ -57,7 +57,7 @@ marks_of ms = record {
 
 -- ---- reasons
 
--- it is there under a marking, where some collectives count
+-- the reason holds under a marking, if these collectives are considered
 abbrev pub holds : (Place → Bool) → Marks → Blame → Bool
 holds counts marks (OfMethod at) = marks.methods at
 holds counts marks (OfResult at) = marks.results at

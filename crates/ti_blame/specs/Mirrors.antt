@@ -1,3 +1,3 @@
--- Nobody has to believe what stands here: it mirrors the code, and only contracts of private functions speak of it.
+-- Definitions that mirror the code. Only contracts of private functions cite them; what callers rely on doesn't depend on them.
 pub mod Falls
 pub mod Starts

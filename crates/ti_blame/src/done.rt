@@ -1,11 +1,11 @@
-// Parts of the list of reasons that have fallen, so that none is gone through twice.
+// Which ranges of the list of reasons have been ruled out already, so that constraints that conclude the same range process it once.
 ghost use Rattle.std.specs.Prelude.{◌≡◌, true, ℕ, ◌<◌, ◌≤◌, IsTrue, length, get_or, slice_index, IfOk};
 ghost use Rattle.ti_blame.specs.Mirrors.Falls.{MoreDone};
 
 use std::alloc::Global;
 use ti_base::Memory;
 
-/// Whether what begins at one place is said to have fallen up to another.
+/// Whether the range from index `from` to index `to` (exclusive) is known to be ruled out.
 pub fn is_done(done: &[usize], from: usize, to: usize) -> bool
     ensures within { result ≡ true → from < length done.now }
     ensures far { result ≡ true → to ≤ slice_index done.now from }
@@ -13,7 +13,7 @@ pub fn is_done(done: &[usize], from: usize, to: usize) -> bool
     from < done.len() && to <= done[from]
 }
 
-/// What begins at one place has fallen up to another.
+/// Records that the range from index `from` to index `to` (exclusive) has been ruled out. Does nothing if `from` is out of bounds.
 pub fn now_done(done: &mut Vec<usize>, from: usize, to: usize)
     ensures { MoreDone from to done.old.items done.new.items }
 {
@@ -22,7 +22,7 @@ pub fn now_done(done: &mut Vec<usize>, from: usize, to: usize)
     }
 }
 
-/// Nothing has fallen yet.
+/// A table for `n` reasons of which none has been ruled out. Errors only if it runs out of memory.
 pub fn none_done(alloc: Global, n: usize) -> Result<Vec<usize>, Memory>
     ensures { IfOk result (λ v. (i : ℕ) → slice_index v.items i ≡ 0) }
 {

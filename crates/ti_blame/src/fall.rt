@@ -1,4 +1,4 @@
-// What falls, one after the other.
+// The state of the worklist algorithm, and how it rules out reasons.
 ghost use Rattle.std.specs.Prelude.{◌≡◌, OnOk, Bool, true, false, ◌⊎◌, Some};
 ghost use Rattle.std.specs.List.{list_any};
 ghost use Rattle.ti_blame.specs.Names.{name_of, blame_of};
@@ -12,8 +12,9 @@ use crate::mark::{Mark, Name, mark_of};
 use std::collections::BTreeSet;
 use ti_base::{Memory, Place};
 
-/// What still stands, what has fallen and is to be followed, the first collective that has fallen, and for each place of the list of
-/// reasons up to where all of them have.
+/// The state: the annotations still assumed (`standing`), those removed but not yet propagated (`fallen`), the place of the first
+/// collective that was ruled out (`blamed`), and for each index of the list of reasons up to which index the range from there has been
+/// ruled out (`done`).
 #[derive(Drop)]
 pub struct Falls {
     pub standing: BTreeSet<Name>,
@@ -24,6 +25,7 @@ pub struct Falls {
 
 // ---- one reason
 
+// Removes an annotation from those assumed and puts it on the worklist, unless it was removed before.
 fn mark_falls(s: &mut Falls, m: Mark) -> Result<(), Memory>
     ensures step { OnOk result (Steps s.old s.new) }
     ensures gone { OnOk result (has s.new m ≡ false) }
@@ -36,6 +38,7 @@ fn mark_falls(s: &mut Falls, m: Mark) -> Result<(), Memory>
     Ok(())
 }
 
+// The earlier of the two places; the second one if there is no first.
 fn earlier(first: Option<Place>, at: Place) -> Option<Place>
     ensures gone { before result at ≡ false }
     ensures stays { (place : Place) → before result place ≡ true → before first place ≡ true }
@@ -47,6 +50,7 @@ fn earlier(first: Option<Place>, at: Place) -> Option<Place>
     }
 }
 
+// Rules out a collective: keeps its place if it is the first one so far.
 fn collective_falls(s: &mut Falls, at: Place)
     ensures step { Steps s.old s.new }
     ensures gone { before s.new.blamed at ≡ false }
@@ -56,6 +60,7 @@ fn collective_falls(s: &mut Falls, at: Place)
     s.blamed = earlier(s.blamed, at);
 }
 
+// Rules out one reason. Does nothing for `Always`.
 fn reason_falls(s: &mut Falls, b: Blame) -> Result<(), Memory>
     ensures step { OnOk result (Steps s.old s.new) }
     ensures gone { OnOk result (left s.new b ≡ false) }
@@ -75,8 +80,9 @@ fn reason_falls(s: &mut Falls, b: Blame) -> Result<(), Memory>
     }
 }
 
-// ---- several
+// ---- several reasons
 
+// Rules out each of these reasons.
 fn reasons_fall(s: &mut Falls, found: &[Blame]) -> Result<(), Memory>
     ensures step { OnOk result (Steps s.old s.new) }
     ensures gone { OnOk result (list_any (left s.new) found.now ≡ false) }
@@ -89,7 +95,7 @@ fn reasons_fall(s: &mut Falls, found: &[Blame]) -> Result<(), Memory>
     Ok(())
 }
 
-// What stands from one place of the list to another falls, where it hasn't yet.
+// Rules out the reasons from one index of the list to another (exclusive), unless this range was ruled out before.
 fn part_falls(s: &mut Falls, items: &[Blame], from: usize, to: usize) -> Result<(), Memory>
     requires { AreDone items.now s.old }
     ensures step { OnOk result (Steps s.old s.new) }
@@ -106,7 +112,7 @@ fn part_falls(s: &mut Falls, items: &[Blame], from: usize, to: usize) -> Result<
     Ok(())
 }
 
-// The reasons from one place of the list to another.
+// The reasons from one index of the list to another (exclusive), as far as the list has them.
 fn part(items: &[Blame], from: usize, to: usize) -> &[Blame]
     ensures { result.now ≡ meaning items.now (Then.Between from to) }
 {
@@ -114,7 +120,8 @@ fn part(items: &[Blame], from: usize, to: usize) -> &[Blame]
     if from < end { &items[from..end] } else { &[] }
 }
 
-/// What is meant falls.
+/// Rules out what a constraint concludes: annotations are removed from those assumed and put on the worklist, of collectives the first is
+/// kept. Errors only if it runs out of memory.
 pub fn then_falls(s: &mut Falls, items: &[Blame], then: Then) -> Result<(), Memory>
     requires { AreDone items.now s.old }
     ensures step { OnOk result (Steps s.old s.new) }

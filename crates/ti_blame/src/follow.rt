@@ -1,4 +1,4 @@
-// What falls is followed until nothing is left to follow.
+// The worklist algorithm: propagates removed annotations until none is left to propagate.
 ghost use Rattle.std.specs.Prelude.{◌≡◌, OnOk, Bool, true, false, ◌⊎◌, Some, None, IfSome};
 ghost use Rattle.std.specs.List.{list_any};
 ghost use Rattle.std.specs.BTreeSet.{contains};
@@ -19,8 +19,9 @@ use std::alloc::Global;
 use std::collections::BTreeMap;
 use ti_base::Memory;
 
-// ---- what waits for one mark
+// ---- constraints of one premise
 
+// Rules out each of these conclusions.
 fn thens_fall(s: &mut Falls, items: &[Blame], found: &[Then]) -> Result<(), Memory>
     requires { AreDone items.now s.old }
     ensures step { OnOk result (Steps s.old s.new) }
@@ -35,6 +36,7 @@ fn thens_fall(s: &mut Falls, items: &[Blame], found: &[Then]) -> Result<(), Memo
     Ok(())
 }
 
+// Applies the constraints that are registered with an annotation.
 fn follow(
     s: &mut Falls,
     items: &[Blame],
@@ -55,9 +57,9 @@ fn follow(
     }
 }
 
-// ---- one edge
+// ---- one constraint
 
-// The mark that an edge starts from, if it stands.
+// The premise of a constraint, if it is still assumed; otherwise the constraint applies now.
 fn standing(s: &Falls, from: Option<Mark>) -> Option<Mark>
     ensures some { IfSome result (λ m. (from ≡ Some m) × (has s.now m ≡ true)) }
     ensures none { result ≡ None → (held : TheBlame → Bool) → Covers held s.now → starts held from ≡ true }
@@ -70,7 +72,7 @@ fn standing(s: &Falls, from: Option<Mark>) -> Option<Mark>
     }
 }
 
-/// An edge is followed, or waits for its mark to fall.
+/// Applies a constraint if its premise isn't assumed; otherwise registers it with its premise. Errors only if it runs out of memory.
 pub fn begin(
     alloc: Global,
     s: &mut Falls,
@@ -95,7 +97,7 @@ pub fn begin(
     }
 }
 
-/// All edges are followed, or wait.
+/// Applies or registers each of these constraints. Errors only if it runs out of memory.
 pub fn begin_all(
     alloc: Global,
     s: &mut Falls,
@@ -120,7 +122,8 @@ pub fn begin_all(
     Ok(())
 }
 
-/// What has fallen is followed, until nothing is left to follow.
+/// Applies the constraints registered with each annotation on the worklist, until it is empty. Errors only if it runs out of memory.
+/// Terminates, since an annotation is put on the worklist only when it is removed from those assumed.
 pub fn run(
     s: &mut Falls,
     items: &[Blame],

@@ -1,4 +1,5 @@
-//! Marks, reasons for and against them, and what falls with what.
+//! A solver of implications: finds the greatest set of `single` annotations that satisfies constraints of the form "unless this
+//! annotation is in the set, these are ruled out". It knows nothing of programs.
 #![tactic(auto)]
 
 mod blame;

@@ -1,11 +1,11 @@
-// Marks.
+// Annotations, and their order.
 ghost use Rattle.std.specs.Prelude.{◌≡◌, Some};
 ghost use Rattle.ti_blame.specs.Names.{rank, kind_of, mark_at, name_of, named};
 
 use crate::blame::Blame;
 use ti_base::Place;
 
-/// What is marked.
+/// What is annotated.
 #[derive(Clone, Copy, Debug, PartialEq, Eq)]
 pub enum MarkKind {
     Method,
@@ -13,7 +13,8 @@ pub enum MarkKind {
     Variable,
 }
 
-/// A mark of the method or the result at the name of a method, or of a local or a parameter at its declared name.
+/// A `single` annotation: of a method or of its result, at the place of the method's name, or of a local variable or parameter, at the
+/// place of its declared name.
 #[derive(Clone, Copy, Debug, PartialEq, Eq)]
 pub struct Mark {
     pub place: Place,
@@ -21,7 +22,7 @@ pub struct Mark {
 }
 
 impl MarkKind {
-    /// Its place in the order of marks at one place.
+    /// The position of the kind in the order of annotations at one place, from 0 to 2.
     pub fn rank(self) -> u8
         ensures { result ≡ rank self }
     {
@@ -32,7 +33,7 @@ impl MarkKind {
         }
     }
 
-    /// The kind of a rank.
+    /// The kind with this rank; `Variable` for ranks above 2.
     pub fn of_rank(rank: u8) -> MarkKind
         ensures { result ≡ kind_of rank }
     {
@@ -44,17 +45,17 @@ impl MarkKind {
     }
 }
 
-/// What can be marked, in the order of line, column and kind.
+/// An annotation as a key, ordered by line, column and kind.
 #[derive(Clone, Copy, Debug, PartialEq, Eq, PartialOrd, Ord)]
 pub struct Name {
     pub line: u32,
     pub col: u32,
-    /// That of its kind.
+    /// The rank of the kind.
     pub rank: u8,
 }
 
 impl Name {
-    /// What a mark stands at.
+    /// The key of an annotation.
     pub fn of(m: Mark) -> Name
         ensures { result ≡ name_of m }
     {
@@ -65,7 +66,7 @@ impl Name {
         }
     }
 
-    /// The mark that stands there.
+    /// The annotation with this key.
     pub fn mark(self) -> Mark
         ensures { result ≡ mark_at self }
     {
@@ -77,7 +78,7 @@ impl Name {
     }
 }
 
-/// The mark that a reason speaks of, if it speaks of one.
+/// The annotation that a reason is; `None` for collectives and unconditional reasons.
 pub fn mark_of(b: Blame) -> Option<Mark>
     ensures { result ≡ named b }
 {

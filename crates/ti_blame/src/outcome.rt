@@ -1,4 +1,4 @@
-// What is left standing once all that falls has fallen.
+// The entry point: solves constraints and returns the solution as a list.
 ghost use Rattle.std.specs.Prelude.{◌≡◌, ℕ, [], map, get_or, IfOk, None};
 ghost use Rattle.std.specs.List.{list_any};
 ghost use Rattle.std.specs.BTreeMap.{is_at};
@@ -18,13 +18,15 @@ use std::alloc::Global;
 use std::collections::{BTreeMap, BTreeSet};
 use ti_base::{Memory, Place};
 
-/// The marks that are left, rising by place and then by kind, and the first collective that falls.
+/// The solution: the remaining annotations, sorted by place and then by kind, and the place of the first collective that is ruled out, if
+/// one is.
 #[derive(Debug, Drop)]
 pub struct Settled {
     pub marks: Vec<Mark>,
     pub blamed: Option<Place>,
 }
 
+// The set of the keys of these annotations.
 fn name_set(alloc: Global, names: &[Mark]) -> Result<BTreeSet<Name>, Memory>
     ensures { IfOk result (λ s. (n : TheName) → contains name_cmp s n ≡ is_named names.now n) }
 {
@@ -35,6 +37,7 @@ fn name_set(alloc: Global, names: &[Mark]) -> Result<BTreeSet<Name>, Memory>
     Ok(found)
 }
 
+// The initial state for `n` reasons: all annotations are assumed, and nothing is ruled out.
 fn start(alloc: Global, names: &[Mark], n: usize) -> Result<Falls, Memory>
     ensures { IfOk result (IsStart names.now) }
 {
@@ -46,6 +49,7 @@ fn start(alloc: Global, names: &[Mark], n: usize) -> Result<Falls, Memory>
     })
 }
 
+// The remaining annotations, sorted by place and then by kind.
 fn marks_left(alloc: Global, standing: BTreeSet<Name>) -> Result<Vec<Mark>, Memory>
     ensures items { IfOk result (λ v. v.items ≡ map mark_at standing.keys) }
     ensures ordered { IsOrdered name_cmp standing }
@@ -57,7 +61,8 @@ fn marks_left(alloc: Global, standing: BTreeSet<Name>) -> Result<Vec<Mark>, Memo
     Ok(marks)
 }
 
-/// The greatest part of some marks under which no edge is broken, and the first collective that falls then.
+/// The greatest subset of `names` that satisfies all constraints, and the first collective that these then rule out. Constraints refer to
+/// `items` by index. Each annotation is propagated at most once. Errors only if it runs out of memory.
 pub fn settle(
     alloc: Global,
     names: &[Mark],

@@ -1,4 +1,4 @@
-// What waits for a mark to fall.
+// Constraints that are registered with their premise, to be applied once it is removed.
 ghost use Rattle.std.specs.Prelude.{◌≡◌, ◌++◌, ◌∷◌, [], cond, OnOk, IfOk, None};
 ghost use Rattle.std.specs.BTreeMap.{is_at, get};
 ghost use Rattle.ti_blame.specs.Names.{name_of, name_cmp};
@@ -11,7 +11,7 @@ use std::alloc::Global;
 use std::collections::BTreeMap;
 use ti_base::Memory;
 
-// What waits at a name, which is taken out.
+// Takes out the conclusions that are registered with a premise.
 fn taken(alloc: Global, waiting: &mut BTreeMap<Name, Vec<Then>>, name: Name) -> Vec<Then>
     ensures items { result.items ≡ thens waiting.old name }
     ensures rest { (q : TheName) → get name_cmp waiting.new q ≡ cond (is_at (name_cmp name) q) None (get name_cmp waiting.old q) }
@@ -22,7 +22,7 @@ fn taken(alloc: Global, waiting: &mut BTreeMap<Name, Vec<Then>>, name: Name) -> 
     }
 }
 
-/// Something waits for a mark to fall.
+/// Registers a conclusion with its premise. Errors only if it runs out of memory.
 pub fn wait(
     alloc: Global,
     waiting: &mut BTreeMap<Name, Vec<Then>>,

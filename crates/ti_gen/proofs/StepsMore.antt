@@ -1,4 +1,4 @@
--- The lines of one step more.
+-- Appending the lines of one more step, part by part, yields the source with one more step.
 use Rattle.std.proofs.Common.{◌≡◌, ℕ, suc, List, append_assoc, ◌+◌, ◌-◌, ◌*◌, ◌/◌, ◌%◌, ◌++◌, sym, ap, ◌∙◌, arith}
 use Rattle.ti_gen.specs.Source.{next, number_at, step_text, steps_text}
 

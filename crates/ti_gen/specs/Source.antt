@@ -1,20 +1,20 @@
--- The program text of a seed.
+-- The source of the program of a seed.
 use Rattle.std.specs.Prelude.{ℕ, zero, suc, ◌+◌, ◌-◌, ◌*◌, ◌/◌, ◌%◌, ◌^◌, List, [], ◌++◌, codes, decimal}
 
--- ---- the numbers of a seed
+-- ---- pseudo-random numbers
 
--- each number decides the one that follows
+-- the number after this one: a linear congruential generator
 abbrev pub next : ℕ → ℕ
 next x = (1664525 * x + 1013904223) % 2 ^ 32
 
--- the number at a place; at place 0 stands the seed
+-- the number with this index; number 0 is the seed
 unfoldable pub number_at : ℕ → ℕ → ℕ
 number_at seed zero = seed
 number_at seed (suc place) = next (number_at seed place)
 
 -- ---- steps
 
--- how many steps there are, counted from 1
+-- the number of steps, which count from 1
 abbrev pub steps : ℕ
 steps = 200
 
@@ -39,7 +39,7 @@ unfoldable pub steps_text : ℕ → ℕ → List ℕ
 steps_text seed zero = []
 steps_text seed (suc n) = steps_text seed n ++ step_text (factor_of seed (suc n)) (index_of seed (suc n))
 
--- ---- the whole text
+-- ---- the whole source
 
 -- the lines before the steps
 abbrev pub first_lines : List ℕ
@@ -53,7 +53,7 @@ first_lines =
     ++ codes "    all.exchange(a);\n"
     ++ codes "    int s = 0;\n"
 
--- the lines behind them
+-- the lines after the steps
 abbrev pub last_lines : List ℕ
 last_lines = codes "    println(s);\n" ++ codes "  }\n" ++ codes "}\n"
 

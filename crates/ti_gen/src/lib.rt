@@ -1,4 +1,4 @@
-//! A program that is made from a seed.
+//! Generates a test program from a seed.
 #![tactic(auto)]
 
 mod source;

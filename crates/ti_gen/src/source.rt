@@ -1,4 +1,4 @@
-// The text of the program of a seed.
+// The source of the program of a seed.
 ghost use Rattle.std.specs.Prelude.{◌≡◌, ◌++◌, IfOk, OnOk};
 ghost use Rattle.ti_gen.specs.Source.{next, step_text, steps_text, source_text, steps};
 
@@ -6,10 +6,10 @@ use itoa::Buffer;
 use std::alloc::Global;
 use ti_base::Memory;
 
-/// How many steps the program has.
+/// The number of steps of the program.
 const STEPS: u32 = 200;
 
-/// What stands before the steps.
+/// The source before the steps.
 const HEAD: &[u8] = b"class Main {
   public static single void main(String[] args) {
     int me = Ti.thisProc();
@@ -20,20 +20,20 @@ const HEAD: &[u8] = b"class Main {
     int s = 0;
 ";
 
-/// What stands behind them.
+/// The source after the steps.
 const TAIL: &[u8] = b"    println(s);
   }
 }
 ";
 
-// The number that follows another one.
+// The next pseudo-random number: a linear congruential generator modulo 2^32.
 fn next_number(x: u32) -> u32
     ensures { result ≡ next x }
 {
     ((1664525 * u64::from(x) + 1013904223) % (1 << 32)) as u32
 }
 
-// Adds the lines of a step.
+// Appends the lines of a step.
 fn add_step(text: &mut Vec<u8>, factor: u32, index: u32) -> Result<(), Memory>
     ensures { OnOk result (text.new.items ≡ text.old.items ++ step_text factor index) }
 {
@@ -47,7 +47,7 @@ fn add_step(text: &mut Vec<u8>, factor: u32, index: u32) -> Result<(), Memory>
     Ok(())
 }
 
-// Adds the lines of all steps.
+// Appends the lines of all steps.
 fn add_steps(text: &mut Vec<u8>, seed: u32) -> Result<(), Memory>
     ensures { OnOk result (text.new.items ≡ text.old.items ++ steps_text seed steps) }
 {
@@ -60,8 +60,8 @@ fn add_steps(text: &mut Vec<u8>, seed: u32) -> Result<(), Memory>
     Ok(())
 }
 
-/// The text of the program of a seed: 200 steps, each of which changes a grid of the process and then adds
-/// up an element of its neighbour's, with a factor and an index that the seed decides.
+/// The source of the program of a seed: 200 steps, in each of which a process changes its grid and then adds an element of its
+/// neighbour's to a sum, with a factor and an index from the pseudo-random numbers of the seed. Errors only if it runs out of memory.
 pub fn gen_source(alloc: Global, seed: u32) -> Result<Vec<u8>, Memory>
     ensures { IfOk result (λ text. text.items ≡ source_text seed) }
 {

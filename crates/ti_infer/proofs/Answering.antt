@@ -1,4 +1,4 @@
--- What is left standing answers what inference asks.
+-- The solution of the constraints of a program is what inference returns.
 use Rattle.std.proofs.Common.{◌≡◌, List, [], ◌++◌, Option, Some, None, refl, subst}
 use Rattle.ti_base.specs.declared.place.Place.{Place}
 use Rattle.ti_lang.specs.Program.Classes.{NumberedProgram}

@@ -1,4 +1,4 @@
--- Arguments and the parameters that they are for, one after the other.
+-- Constraints of arguments and their parameters, paired in order.
 use Rattle.std.proofs.Common.{◌≡◌, ℕ, ◌≤◌, List, [], ◌∷◌, ◌++◌, map, drop, length, Option, refl, ap, sym, ◌∙◌, append-nil}
 use Rattle.std.proofs.lemmas.List.{drop_all}
 use Rattle.ti_lang.specs.declared.program.exprs.Expr.{Expr}

@@ -1,4 +1,4 @@
--- An expression is plain under a marking exactly where something that it asks for isn't marked.
+-- An expression isn't single under a marking if and only if the marking lacks an annotation that it requires.
 use Rattle.std.proofs.Common.{◌≡◌, ℕ, Bool, true, false, not, ◌&&◌, ◌||◌, List, [], ◌∷◌, ◌++◌, Option, Some, None, option_map, refl, ap, ap₂, sym, ◌∙◌}
 use Rattle.std.specs.List.{list_any}
 use Rattle.std.specs.Option.{option_map_or}

@@ -1,4 +1,4 @@
--- The same place of a program under a part of a marking and under the whole.
+-- The context of a statement under a subset of a marking, compared with that under the whole marking.
 use Rattle.std.proofs.Common.{◌≡◌, ◌==◌, ◌+◌, ℕ, Bool, true, false, if◌then◌else◌, List, [], ◌∷◌, ◌++◌, map, find, Option, Some, None, option_map, option_and_then, refl, ap, sym, ◌∙◌}
 use Rattle.std.specs.Option.{option_map_or}
 use Rattle.ti_lang.specs.Program.Types.{ValueType}

@@ -1,4 +1,4 @@
--- What is to blame under a marking is in no accepted part of it, and where nothing is to blame, no rule is broken.
+-- What is to blame under a marking is in no accepted subset of it, and if nothing is to blame, no rule is broken.
 use Rattle.std.proofs.Common.{◌≡◌, ℕ, Bool, true, false, not, ◌&&◌, ◌||◌, if◌then◌else◌, List, [], ◌∷◌, ◌++◌, map, flat_map, Option, Some, None, option_map, unwrap_or, refl, ap, ap₂, sym, ◌∙◌}
 use Rattle.std.specs.Option.{option_map_or}
 use Rattle.ti_base.specs.declared.place.Place.{Place}

@@ -1,4 +1,4 @@
--- The variables that a method declares have numbers of their own: those of a statement begin where those before it end.
+-- The variables that a method declares have distinct numbers: those of a statement begin after those of the statements before it.
 use Rattle.std.proofs.Common.{◌≡◌, ◌⊎◌, inl, inr, ℕ, suc, ◌+◌, ◌<◌, ◌≤◌, ◌==◌, Bool, true, false, if◌then◌else◌, List, length, Option, Some, None, refl, ap, ap₂, ◌∙◌, arith, eqb-true}
 use Rattle.std.specs.Option.{option_or}
 use Rattle.ti_base.specs.declared.place.Place.{Place}

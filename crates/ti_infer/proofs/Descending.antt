@@ -1,4 +1,4 @@
--- Accepted markings: their union, and how the greatest is found.
+-- The union of accepted markings is accepted, and removing what is to blame ends at the greatest one.
 use Rattle.std.proofs.Common.{◌≡◌, Bool, true, false, not, ◌&&◌, ◌||◌, List, [], ◌∷◌, refl, ap, ap₂, sym, ◌∙◌, subst}
 use Rattle.std.specs.Bool.{Decides}
 use Rattle.std.specs.List.{list_any}

@@ -1,4 +1,4 @@
--- The rules of types at an expression don't hang on marks.
+-- The type rules of an expression don't depend on annotations.
 use Rattle.std.proofs.Common.{◌≡◌, ◌==◌, ℕ, suc, Bool, false, if◌then◌else◌, List, [], ◌∷◌, ◌++◌, map, flat_map, length, slice_get, Option, Some, None, option_map, is_some, refl, ap, ap₂, sym, ◌∙◌}
 use Rattle.ti_base.specs.declared.place.Place.{Place}
 use Rattle.ti_lang.specs.Program.Types.{ValueType, Class}

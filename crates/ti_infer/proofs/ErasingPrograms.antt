@@ -1,4 +1,4 @@
--- A program that breaks no rule of types breaks none where marks stand that can stand there.
+-- A program that breaks no type rule still breaks none with annotations where they are allowed.
 use Rattle.std.proofs.Common.{◌≡◌, ◌==◌, ◌+◌, ℕ, Bool, true, false, not, ◌&&◌, if◌then◌else◌, List, [], ◌∷◌, ◌++◌, map, flat_map, find, Option, Some, None, option_map, option_and_then, is_none, refl, ap, ap₂, sym, ◌∙◌}
 use Rattle.ti_lang.specs.Program.Types.{ValueType}
 use Rattle.ti_lang.specs.Program.Statements.{NumberedStm, MaybeNumbered, NumberedStms, numbered_stms}

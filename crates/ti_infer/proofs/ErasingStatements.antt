@@ -1,4 +1,4 @@
--- The rules of types at a statement don't hang on marks, but for the words at the declaration of a variable.
+-- The type rules of a statement don't depend on annotations, except for those of the qualifiers of declared variables.
 use Rattle.std.proofs.Common.{◌≡◌, ℕ, Bool, true, false, not, if◌then◌else◌, List, [], ◌∷◌, ◌++◌, map, flat_map, Option, Some, None, option_map, option_and_then, is_none, refl, ap, ap₂, ◌∙◌}
 use Rattle.std.specs.Option.{option_map_or}
 use Rattle.ti_base.specs.declared.place.Place.{Place}

@@ -1,4 +1,4 @@
--- No refusal counts exactly where there is none.
+-- There is no first refusal if and only if there is no refusal.
 use Rattle.std.proofs.Common.{◌≡◌, Bool, true, false, if◌then◌else◌, List, [], ◌∷◌, Option, Some, None, is_some, not, refl}
 use Rattle.ti_rules.specs.declared.refusal.Refusal.{Refusal}
 use Rattle.ti_rules.specs.Refusals.{counts_before}

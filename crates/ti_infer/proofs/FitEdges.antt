@@ -1,4 +1,4 @@
--- Marks can stand where they do exactly where no edge of those that can't is broken.
+-- Annotations are allowed where they are if and only if the marking satisfies the constraints that rule out those that aren't.
 use Rattle.std.proofs.Common.{◌≡◌, Bool, true, false, not, ◌&&◌, ◌||◌, if◌then◌else◌, List, [], ◌∷◌, ◌++◌, map, flat_map, Some, refl, ap, ap₂, sym, ◌∙◌, append-nil}
 use Rattle.std.specs.List.{list_any}
 use Rattle.std.proofs.lemmas.List.Folds.{list_any-append}

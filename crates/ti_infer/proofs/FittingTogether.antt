@@ -1,4 +1,4 @@
--- Where two markings can stand, their union can.
+-- If the annotations of two markings are allowed where they are, so are those of their union.
 use Rattle.std.proofs.Common.{◌≡◌, Bool, true, false, not, ◌||◌, if◌then◌else◌, List, [], ◌∷◌, ◌++◌, map, flat_map, refl, ap, sym, ◌∙◌}
 use Rattle.ti_base.specs.declared.place.Place.{Place}
 use Rattle.ti_syntax.specs.declared.tree.types.Qualifier.{Qualifier}

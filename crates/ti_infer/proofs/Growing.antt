@@ -1,4 +1,4 @@
--- What is single under a part of a marking is single under the whole.
+-- What is single under a subset of a marking is single under the whole marking.
 use Rattle.std.proofs.Common.{ℕ, Bool, Option, Some, None, option_map, refl, ap, sym, ◌∙◌}
 use Rattle.std.specs.Option.{option_map_or}
 use Rattle.ti_lang.specs.Program.Types.{Declaration, Typed, Foreach}

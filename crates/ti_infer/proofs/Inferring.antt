@@ -1,4 +1,4 @@
--- What is left once all that falls has fallen is the greatest accepted marking.
+-- The solution of the constraints is the greatest accepted marking, or has the first collective that no marking aligns.
 use Rattle.std.proofs.Common.{◌≡◌, Bool, true, false, ◌&&◌, ◌||◌, List, [], ◌∷◌, ◌++◌, Option, Some, None, IfSome, refl, ap₂, sym, subst, ◌∙◌, arith}
 use Rattle.std.specs.List.{list_any}
 use Rattle.std.proofs.lemmas.Bool.Decides.{nat_tests}

@@ -1,4 +1,4 @@
--- The checked types of expressions don't hang on marks.
+-- The checked types of expressions don't depend on annotations.
 use Rattle.std.proofs.Common.{◌≡◌, ℕ, Bool, false, List, [], ◌∷◌, map, slice_get, Option, Some, None, option_map, option_and_then, is_some, refl, ap, ap₂, ◌∙◌}
 use Rattle.ti_lang.specs.Program.Types.{ValueType, Declaration, Typed, Foreach}
 use Rattle.ti_lang.specs.Program.Types as t

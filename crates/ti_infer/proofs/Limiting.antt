@@ -1,4 +1,4 @@
--- What is to blame in a program without the collectives that don't count is what counts of what is to blame in the program.
+-- What is to blame in a program with some collectives replaced is what is to blame in the program, without these collectives.
 use Rattle.std.proofs.Common.{◌≡◌, ℕ, Bool, true, false, not, ◌&&◌, ◌||◌, if◌then◌else◌, List, [], ◌∷◌, ◌++◌, map, Option, Some, None, refl, ap, ap₂, sym, ◌∙◌}
 use Rattle.std.specs.List.{list_any}
 use Rattle.std.specs.Option.{option_map_or, option_or}

@@ -1,4 +1,4 @@
--- Lists of refusals, and what is the same in every marked program.
+-- Lists of refusals, and parts of a program that are equal in every marked program.
 use Rattle.std.proofs.Common.{◌≡◌, ℕ, Bool, true, false, ◌||◌, List, [], ◌∷◌, ◌++◌, map, flat_map, Option, refl, ap, ap₂, sym, ◌∙◌}
 use Rattle.ti_base.specs.declared.place.Place.{Place}
 use Rattle.ti_lang.specs.Program.Expressions.{NumberedExp}

@@ -1,4 +1,4 @@
--- What is told of the variables that statements declare: their names, the edges of their marks, and their places.
+-- The names, constraints and places of the variables that statements declare are functions of the list of these variables.
 use Rattle.std.proofs.Common.{◌≡◌, ℕ, List, [], ◌∷◌, ◌++◌, Option, Some, None, refl, ap, ap₂, sym, ◌∙◌, append-nil}
 use Rattle.std.specs.Option.{option_or}
 use Rattle.ti_lang.specs.Program.Statements.{NumberedStm, MaybeNumbered, NumberedStms}

@@ -1,4 +1,4 @@
--- Where the marked program of a text breaks no rule of types and qualifiers, `main` isn't marked: its word would stand twice.
+-- If the marked program breaks no rule of types and qualifiers, `main` isn't annotated: its `single` would be a duplicate.
 use Rattle.std.proofs.Common.{◌≡◌, ℕ, zero, suc, Bool, true, false, ◌&&◌, ◌||◌, if◌then◌else◌, List, [], ◌∷◌, ◌++◌, length, slice_get, Option, Some, None, refl, ap, sym, ◌∙◌, subst, ◌==◌}
 use Rattle.std.proofs.Math.Bool.{Bool-set}
 use Rattle.std.proofs.Math.Logic.{∥∥₁_elim}

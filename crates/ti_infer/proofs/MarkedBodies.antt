@@ -1,4 +1,4 @@
--- Where the parts of a statement are marked, the statement is.
+-- If the parts of a statement are marked, so is the statement.
 use Rattle.std.proofs.Common.{◌≡◌, ℕ, Bool, map, Option, Some, None, option_map, refl, ap, ap₂, sym, ◌∙◌}
 use borrow.Enum.Known.{ValuesAt, at}
 use borrow.Enum.Total.{values_d, values_d_at}

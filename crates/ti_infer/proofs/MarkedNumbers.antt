@@ -1,4 +1,5 @@
--- The marked program of the stripped program of a text is the program of a text: that with `single` behind the words of what is marked.
+-- The marked program of the stripped program of some source is the result of name resolution: of that source with `single` where there
+-- are annotations.
 use Rattle.std.proofs.Common.{◌≡◌, ℕ, zero, suc, ◌+◌, ◌≤◌, ◌==◌, Bool, true, false, ◌||◌, if◌then◌else◌, List, [], ◌∷◌, ◌++◌, map, length, slice_get, option_map, Option, Some, None, refl, ap, ap₂, sym, ◌∙◌, subst, arith, eq-eqb, append-nil}
 use Rattle.std.proofs.Math.Logic.{∥∥₁_map}
 use Rattle.std.specs.Option.{option_or, option_map_or}

@@ -1,4 +1,4 @@
--- Where a list in an expression is changed, the expression is marked.
+-- If a list in an expression is marked in place, so is the expression.
 use Rattle.std.proofs.Common.{◌≡◌, ℕ, Bool, List, [], ◌∷◌, map, refl, ap, ap₂, sym, ◌∙◌}
 use mathlib.Core.Option.{some}
 use borrow.Enum.Known.{ValuesAt, at}

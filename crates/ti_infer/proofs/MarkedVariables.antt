@@ -1,4 +1,4 @@
--- Which variables are marked, told by a table of their numbers, and methods whose parts are marked.
+-- A table of numbers decides which variables are annotated, and a method whose parts are marked is marked.
 use mathlib.Core.Path.{fun_ext}
 use Rattle.std.proofs.Common.{◌≡◌, ℕ, zero, suc, Bool, false, ◌||◌, if◌then◌else◌, List, [], ◌∷◌, ◌++◌, map, get_or, Option, refl, ap, ap₂, ◌∙◌}
 use Rattle.std.specs.Option.{option_map_or}

@@ -1,4 +1,4 @@
--- In a stripped program in which no rule of types is broken no statement calls a single method: `main` alone is one, and is never called.
+-- In a stripped program that breaks no type rule, no statement calls a single method: only `main` is one, and it is never called.
 use Rattle.std.proofs.Common.{◌≡◌, ◌⊎◌, inl, inr, ℕ, zero, suc, ◌+◌, ◌==◌, Bool, true, false, not, ◌&&◌, ◌||◌, cond, if◌then◌else◌}
 use Rattle.std.proofs.Common.{find, length, flat_map, is_some, slice_get, option_and_then, Option, Some, None, List, [], ◌∷◌}
 use Rattle.std.proofs.Common.{◌++◌, refl, ap, ap₂, sym, ◌∙◌, subst, arith, eqb-true}

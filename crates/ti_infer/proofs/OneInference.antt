@@ -1,4 +1,4 @@
--- A program has at most one greatest marking, at most one first collective that no marking aligns, and never both.
+-- A program has at most one greatest marking and at most one first collective that no marking aligns, and never both.
 use Rattle.std.proofs.Common.{◌≡◌, Bool, true, false, List, refl, arith}
 use Rattle.std.proofs.lemmas.Bool.Decides.{nat_tests}
 use Rattle.ti_base.specs.declared.place.Place.{Place}

@@ -1,4 +1,4 @@
--- Marks that rise are told by what they mark.
+-- A sorted list of annotations is determined by the marking that it represents.
 use Rattle.std.proofs.Common.{◌≡◌, Bool, true, false, ◌&&◌, ◌||◌, ◌⊎◌, inl, inr, ⊎_elim, List, [], ◌∷◌, map, Less, Equal, refl, ap, ap₂, sym, ◌∙◌, eq-eqb}
 use Rattle.std.specs.List.{AllByRecursion, list_any}
 use Rattle.std.specs.List.Sorted.{IsStrictlySortedBy}

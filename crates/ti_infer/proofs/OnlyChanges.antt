@@ -1,4 +1,4 @@
--- What the grammar says of statements: each update is a change, so that no update of a text has a jump in it.
+-- By the grammar, each update of a `for` is a simple statement, so no update of a parsed program has a jump in it.
 use Rattle.std.proofs.Common.{◌≡◌, Bool, false, List, [], ◌∷◌, ◌++◌, ℕ, ◌+◌, refl}
 use Rattle.ti_syntax.specs.declared.token.Token.{Token}
 use Rattle.ti_syntax.specs.Trees.Statements.{Stm, MaybeStm, Stms, stms}

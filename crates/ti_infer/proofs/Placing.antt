@@ -1,4 +1,4 @@
--- The places of variables by their numbers.
+-- The table of places has the place of the declaration of each variable, by its number.
 use Rattle.std.proofs.Common.{◌≡◌, ℕ, zero, suc, ◌+◌, ◌<◌, ◌==◌, Bool, true, false, if◌then◌else◌, List, [], ◌∷◌, drop, length, get_or, is_none, slice_get, option_map, Option, Some, None, refl, ap, ap₂, sym, ◌∙◌, subst, eqb-true, eq-eqb}
 use Rattle.std.specs.Option.{option_or}
 use Rattle.std.proofs.Math.ListN.{set}

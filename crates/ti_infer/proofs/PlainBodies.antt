@@ -1,4 +1,4 @@
--- Where the list of a block lost its words `single`, the block did.
+-- If the list of a block is stripped in place, so is the block.
 use Rattle.std.proofs.Common.{◌≡◌, ℕ, List, [], ◌∷◌, map, refl, ap, sym, ◌∙◌}
 use mathlib.Core.Option.{some}
 use borrow.Enum.Known.{ValuesAt, at}

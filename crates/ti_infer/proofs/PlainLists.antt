@@ -1,4 +1,4 @@
--- Lists whose elements lost their words `single`, one after the other.
+-- A list whose elements are stripped one after the other is stripped.
 use Rattle.std.proofs.Common.{◌≡◌, ℕ, suc, ◌+◌, ◌<◌, ◌==◌, List, [], ◌∷◌, length, map, get_or, refl, ap, ap₂, ◌∙◌, arith}
 use Rattle.ti_lang.specs.declared.program.classes.Method.{Method}
 use Rattle.ti_lang.specs.Program.Views.{numbered_method_of}

@@ -1,4 +1,4 @@
--- What is seen of lists that lost their words `single`, and the tables of a program's fields and methods, which stay.
+-- The views of stripped lists, and the tables of fields and methods of a program, which don't change.
 use Rattle.std.proofs.Common.{◌≡◌, ℕ, ◌+◌, List, [], ◌∷◌, ◌++◌, map, refl, ap, ap₂, sym, ◌∙◌}
 use Rattle.ti_syntax.specs.declared.tree.types.Brackets.{Brackets}
 use Rattle.ti_syntax.specs.Trees.Views.{grid_of}

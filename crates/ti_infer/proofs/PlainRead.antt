@@ -1,4 +1,4 @@
--- What isn't single under a marking is plain in the marked program.
+-- What isn't single under a marking isn't single in the marked program.
 use Rattle.std.proofs.Common.{◌≡◌, Bool, not, Option, Some, None, option_map, refl, ap, sym, ◌∙◌}
 use Rattle.std.specs.Option.{option_map_or}
 use Rattle.ti_lang.specs.Program.Expressions.{NumberedExp}

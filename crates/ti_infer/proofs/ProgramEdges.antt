@@ -1,4 +1,4 @@
--- What is to blame in a program under a marking is what its edges that start under it mean.
+-- What is to blame in a program under a marking is what is ruled out by its constraints whose premise the marking lacks.
 use Rattle.std.proofs.Common.{◌≡◌, ℕ, ◌+◌, ◌==◌, Bool, true, false, not, ◌&&◌, ◌||◌, if◌then◌else◌, List, [], ◌∷◌, ◌++◌, length, flat_map, Option, Some, None, refl, ap, ap₂, sym, ◌∙◌, append-nil}
 use Rattle.std.specs.List.{list_any}
 use Rattle.std.proofs.lemmas.Bool.{eqb-true}

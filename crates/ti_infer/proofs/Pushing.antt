@@ -1,4 +1,4 @@
--- Lists that grow at the end.
+-- Appending to lists, in the forms in which the code does it.
 use Rattle.std.proofs.Common.{◌≡◌, ℕ, ◌+◌, ◌<◌, ◌≤◌, List, [], ◌∷◌, ◌++◌, drop, length, get_or, refl, ap, sym, ◌∙◌, add-one, append_assoc, append-nil, Result, OnOk}
 use Rattle.std.proofs.Math.Seq.{drop-cons}
 use Rattle.std.proofs.lemmas.Result.{on_ok_weaker}

@@ -1,4 +1,4 @@
--- In a tree with other words the same is found by each name, and the types mean the same but for `single`.
+-- In a tree with other modifiers and qualifiers each name resolves to the same declaration, and types are equal except for `single`.
 use Rattle.std.proofs.Common.{◌≡◌, ℕ, ◌+◌, ◌==◌, Bool, false, not, ◌&&◌, cond, nat_lt, List, [], ◌∷◌, ◌++◌, map, flat_map, fold, position, slice_get, option_map, Option, Some, None, bytes_eq, refl, ap, ap₂, sym, ◌∙◌}
 use Rattle.std.specs.List.{list_any, position_or_len}
 use Rattle.std.specs.Option.{option_map_or}

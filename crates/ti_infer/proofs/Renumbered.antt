@@ -1,4 +1,5 @@
--- A tree with other words is numbered, where the tree is: its numbered parts have these words, and each use of a variable says what its declaration does.
+-- A tree with other modifiers and qualifiers resolves if the tree does: to the parts with these, with uses of variables that agree with
+-- their declarations.
 use Rattle.std.proofs.Common.{◌≡◌, ℕ, ◌+◌, ◌<◌, Bool, true, false, not, ◌&&◌, ◌||◌, cond, if◌then◌else◌, List, [], ◌∷◌, ◌++◌, map, slice_get, is_some, option_map, Option, Some, None, bytes_eq, codes, refl, ap, ap₂, sym, ◌∙◌, subst}
 use Rattle.std.specs.Map.{lookup}
 use Rattle.std.proofs.lemmas.Option.{slice_get-map}

@@ -1,4 +1,4 @@
--- What of a program doesn't hang on its marks: types in the text, and which methods and members are called.
+-- What doesn't depend on annotations: static types, and which methods and members are called.
 use Rattle.std.proofs.Common.{◌≡◌, ◌==◌, ◌+◌, not, ◌&&◌, ℕ, Bool, true, false, ◌||◌, if◌then◌else◌, List, [], ◌∷◌, ◌++◌, map, find, slice_get, Option, Some, None, option_map, refl, ap, ap₂, sym, ◌∙◌}
 use Rattle.std.specs.List.{list_any}
 use Rattle.std.specs.Option.{option_map_or}

@@ -1,4 +1,4 @@
--- In a stripped program no word `single` stands in a result.
+-- In a stripped program no result has the qualifier `single`.
 use Rattle.std.proofs.Common.{◌≡◌, ℕ, ◌+◌, Bool, true, false, not, if◌then◌else◌, List, [], ◌∷◌, flat_map, refl}
 use Rattle.ti_syntax.specs.declared.tree.types.Qualifier.{Qualifier}
 use Rattle.ti_lang.specs.Scopes.{is_single_word}

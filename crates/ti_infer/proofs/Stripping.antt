@@ -1,4 +1,4 @@
--- The stripped program of a text is the program of a text: that without its words `single`.
+-- The stripped program of some source is the result of name resolution: of that source without `single`.
 use Rattle.std.proofs.Common.{◌≡◌, ℕ, suc, ◌+◌, ◌==◌, Bool, true, false, not, ◌&&◌, ◌||◌, if◌then◌else◌, List, [], ◌∷◌, map, length, slice_get, option_map, Option, Some, refl, ap, ap₂, sym, ◌∙◌, subst, arith, eqb-true, eq-eqb}
 use Rattle.std.proofs.Math.Logic.{∥∥₁_map}
 use Rattle.ti_base.specs.declared.place.Place.{Place}

@@ -1,4 +1,4 @@
--- What is told of lists of parameters and of variables, said of methods.
+-- Facts about lists of parameters and of variables, stated of whole methods.
 use Rattle.std.proofs.Common.{◌≡◌, List, ◌++◌, map, refl, ap, ◌∙◌, append_assoc, Result, OnOk}
 use Rattle.std.proofs.lemmas.Result.{on_ok_weaker}
 use Rattle.ti_lang.specs.Program.Classes.{NumberedParams, Words, Params, NumberedMethod}

@@ -1,4 +1,4 @@
--- Lists that are changed one element after the other.
+-- A list whose elements are changed one after the other is the map of the change.
 use Rattle.std.proofs.Common.{◌≡◌, ℕ, suc, ◌<◌, List, [], ◌∷◌, length, map, get_or, refl, ap, ◌∙◌, arith}
 
 -- each element is seen as what it was, changed

@@ -1,4 +1,4 @@
--- A stripped program has no words left to take off.
+-- Stripping a stripped program changes nothing.
 use Rattle.std.proofs.Common.{◌≡◌, ℕ, ◌+◌, ◌==◌, Bool, true, false, if◌then◌else◌, List, [], ◌∷◌, map, Option, Some, None, option_map, refl, ap, ap₂}
 use Rattle.std.specs.Prelude.{filter, not}
 use Rattle.ti_syntax.specs.declared.tree.types.Qualifier.{Qualifier}

@@ -1,4 +1,4 @@
--- Where nothing is to blame under a marking, the program breaks no rule of single values under it.
+-- If nothing is to blame under a marking, the program breaks no rule of single values under it.
 use Rattle.std.proofs.Common.{◌≡◌, ℕ, Bool, true, false, not, ◌&&◌, ◌||◌, if◌then◌else◌, List, [], ◌∷◌, ◌++◌, map, flat_map, Option, Some, None, option_map, unwrap_or, refl, ap, ◌∙◌}
 use Rattle.ti_base.specs.declared.place.Place.{Place}
 use Rattle.ti_syntax.specs.declared.tree.types.Qualifier.{Qualifier}

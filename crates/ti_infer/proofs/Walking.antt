@@ -1,4 +1,4 @@
--- The statements in a statement, one after the other.
+-- The constraints of the statements in a statement, appended one after the other.
 use Rattle.std.proofs.Common.{◌≡◌, ℕ, ◌+◌, ◌<◌, List, ◌∷◌, ◌++◌, flat_map, drop, length, get_or, slice_get, Option, Some, None, Result, OnOk, refl, ap, ap₂, sym, ◌∙◌, append_assoc, length-append}
 use Rattle.std.proofs.lemmas.Result.{on_ok_weaker}
 use Rattle.std.proofs.lemmas.Option.{slice_get-get_or}

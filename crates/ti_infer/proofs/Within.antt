@@ -1,4 +1,5 @@
--- The collectives that are to blame are collectives of the program, and nothing is to blame in any case where no statement acts in any case and no update jumps.
+-- Collectives that are to blame are collectives of the program, and nothing is unconditionally to blame if no statement has effects
+-- unconditionally and no update has a jump.
 use Rattle.std.proofs.Common.{◌≡◌, Bool, true, false, not, ◌||◌, List, [], ◌∷◌, ◌++◌, flat_map, Option, Some, None, refl, ap₂, sym, ◌∙◌}
 use Rattle.std.specs.List.{list_any}
 use Rattle.std.proofs.lemmas.List.Folds.{list_any-append}

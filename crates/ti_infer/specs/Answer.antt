@@ -1,4 +1,4 @@
--- What inference answers.
+-- What inference returns.
 use Rattle.std.specs.Prelude.{◌≡◌, true, List, map, Some, Result, Ok, Err, Contains}
 use Rattle.std.specs.List.Sorted.{IsStrictlySortedBy}
 use Rattle.ti_base.specs.declared.place.Place.{Place}
@@ -14,27 +14,27 @@ use Rattle.ti_infer.specs.Accepted.{IsAccepted}
 use Rattle.ti_infer.specs.Collectives.{collectives}
 use Rattle.ti_infer.specs.Inferred.{IsAcceptedTo}
 
--- a marking of names of a program
+-- the marking annotates only what can be annotated in the program
 abbrev pub MarksNames : NumberedProgram → Marks → Type 0
 MarksNames p a = IsPart a (marks_of (names_of p))
 
--- the greatest accepted marking of a program, its marks rising by place, a method before its result
+-- the greatest accepted marking of a program, sorted by place, a method before its result
 pub record IsGreatest (p : NumberedProgram) (marks : List Mark) : Type 0 where
   pub names : MarksNames p (marks_of marks)
   pub accepted : IsAccepted p (marks_of marks)
-  -- each accepted marking is a part of it
+  -- each accepted marking is a subset of it
   pub greatest : (a : Marks) → MarksNames p a → IsAccepted p a → IsPart a (marks_of marks)
   pub rises : IsStrictlySortedBy name_cmp (map name_of marks)
 
--- no marking of a program is accepted, and up to the collective at the place, which is the first such, none is
+-- no marking of a program is accepted, and this place is that of the first collective up to which none is
 pub record IsFirstUnaligned (p : NumberedProgram) (at : Place) : Type 0 where
   pub never : (a : Marks) → MarksNames p a → IsAccepted p a → ⊥
   pub collective : Contains (collectives p) at
   pub none : (a : Marks) → MarksNames p a → IsAcceptedTo (Some at) p a → ⊥
-  -- up to each one before it, one is
+  -- up to each place before it, some marking is
   pub sooner : (c : Place) → place_before c at ≡ true → (a : Marks) × MarksNames p a × IsAcceptedTo (Some c) p a
 
--- want of memory alone is free
+-- what is promised of the result; nothing of an allocation failure
 abbrev pub GivesInferred : NumberedProgram → Result (List Mark) InferErr → Type 0
 GivesInferred p (Ok marks) = IsGreatest p marks
 GivesInferred p (Err (NoMarking at)) = IsFirstUnaligned p at

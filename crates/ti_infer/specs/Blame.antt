@@ -1,6 +1,6 @@
--- The rules of single values once more, by reasons: for each rule that would be broken where what it asks about is there, why it is there.
--- A reason is a mark, or a collective, which counts or not. Nobody has to believe this for what `infer` answers: a law says that these
--- are the rules, whichever collectives count (`Limited`).
+-- The rules of single values, rephrased by reasons: for each rule that would be broken if what it forbids occurs, the reasons for which
+-- it occurs. A reason is an annotation or a collective, which is considered or not. What `infer` returns isn't defined by this: theorems
+-- state that these are the rules, whichever collectives are considered (`Limited`).
 use Rattle.std.specs.Prelude.{◌≡◌, ℕ, Bool, false, not, if◌then◌else◌, List, [], ◌∷◌, ◌++◌, flat_map, Option, Some, None}
 use Rattle.std.specs.List.{list_any}
 use Rattle.std.specs.Option.{option_map_or}
@@ -23,17 +23,17 @@ use Rattle.ti_blame.specs.Marks.{Marks, holds}
 use Rattle.ti_infer.specs.Marks.{variable_place, marks_variable}
 use Rattle.ti_infer.specs.Marked.{marked_exp, marked_init, marked_params, marked_method, marked}
 
--- one of them is there
+-- some of these reasons holds
 abbrev pub some_held : (Place → Bool) → Marks → List Blame → Bool
 some_held counts marks found = list_any (holds counts marks) found
 
--- where the test holds
+-- these reasons if the test holds, otherwise none
 abbrev pub guarded : Bool → List Blame → List Blame
 guarded test found = if test then found else []
 
--- ---- why a statement acts
+-- ---- why a statement has global effects
 
--- what a marking can make of a called method
+-- a called method, as a reason: `Always` if it is single already
 abbrev pub method_reasons : Option NumberedMethod → List Blame
 method_reasons None = []
 method_reasons (Some m) = (if m.is_single then Always else OfMethod m.place) ∷ []
@@ -50,7 +50,7 @@ module _ (p : NumberedProgram) (m : NumberedMethod) where
   initial_reasons (st.NewGrid at region element dims_at dims) = []
   initial_reasons (st.Broadcast at e root) = OfCollective at ∷ []
 
-  -- the variable of a number
+  -- the variable that is declared at this place, as a reason
   abbrev pub place_reasons : Option Place → List Blame
   place_reasons None = []
   place_reasons (Some at) = OfVariable at ∷ []
@@ -87,7 +87,7 @@ module _ (p : NumberedProgram) (m : NumberedMethod) where
     reasons_of_all st.Nil = []
     reasons_of_all (st.Cons s rest) = reasons s ++ reasons_of_all rest
 
-  -- why a `return` of the method has an effect
+  -- the result of the method, as a reason for which its `return` has global effects
   abbrev pub result_reasons : NumberedResult → List Blame
   result_reasons c.Void = []
   result_reasons (c.Typed type) = OfResult m.place ∷ []
@@ -95,22 +95,22 @@ module _ (p : NumberedProgram) (m : NumberedMethod) where
   abbrev pub return_reasons : List Blame
   return_reasons = result_reasons m.result ++ reasons_of_all (numbered_stms m.body)
 
-  -- why a loop has effects, and a jump out of it
+  -- why a loop has global effects, and a jump out of it
   abbrev pub loop_reasons : MaybeNumbered → NumberedStm → List Blame
   loop_reasons update body =
       (reasons_of_maybe update ++ reasons body)
       ++ (guarded (doings_of_maybe p (this_of m) update).returns return_reasons
       ++ guarded (doings p (this_of m) body).returns return_reasons)
 
-  -- why a statement has effects, where jumps have them for these reasons
+  -- why a statement has global effects, if jumps have them for the reasons `jumping`
   abbrev pub effect_reasons : List Blame → NumberedStm → List Blame
   effect_reasons jumping s =
       (reasons s ++ guarded (doings p (this_of m) s).returns return_reasons) ++ guarded (doings p (this_of m) s).jumps jumping
 
--- ---- by the rules
+-- ---- what is to blame by the rules
 
 module _ (p : NumberedProgram) (m : NumberedMethod) (marks : Marks) where
-  -- with these variables in scope
+  -- the context of a statement of the marked method with these variables in scope
   abbrev pub blame_around : List ScopeVariable → Around
   blame_around vs = record { method = marked_method marks m; variables = vs; jump_has = None }
 
@@ -150,7 +150,7 @@ module _ (p : NumberedProgram) (m : NumberedMethod) (marks : Marks) where
   returned_blamed vs None = []
   returned_blamed vs (Some e) = guarded (plain_here vs e) (result_reasons p m m.result)
 
-  -- by a statement apart from those in it
+  -- what is to blame in a statement, without those in it
   abbrev pub own_blamed : List ScopeVariable → List Blame → NumberedStm → List Blame
   own_blamed vs jumping (st.Declare at type variable value) =
       initial_blamed vs value ++ guarded (is_plain_initial (marked marks p) (blame_around vs) (marked_init (marks_variable marks m) value))
@@ -172,7 +172,7 @@ module _ (p : NumberedProgram) (m : NumberedMethod) (marks : Marks) where
   own_blamed vs jumping s = []
 
   abbrev mutual
-    -- by a statement and those in it
+    -- what is to blame in a statement and those in it
     pub blamed : List ScopeVariable → List Blame → NumberedStm → List Blame
     blamed vs jumping (st.Block body) = blamed_of_all vs jumping body
     blamed vs jumping (st.If at c a) = own_blamed vs jumping (st.If at c a) ++ blamed vs jumping a
@@ -195,19 +195,19 @@ module _ (p : NumberedProgram) (m : NumberedMethod) (marks : Marks) where
     blamed_of_all vs jumping st.Nil = []
     blamed_of_all vs jumping (st.Cons s rest) = blamed vs jumping s ++ blamed_of_all vs jumping rest
 
-  -- by a method: its effects, and its result, where it isn't single, and its statements
+  -- what is to blame in a method: its effects and its result unless it is single, and its statements
   abbrev pub method_blamed : List Blame
   method_blamed =
       (guarded (not (marked_method marks m).is_single) (effect_reasons p m [] (st.Block (numbered_stms m.body)))
       ++ guarded (not (marked_method marks m).is_single) (result_reasons p m m.result))
       ++ blamed_of_all (parameters (marked_params marks m.params)) [] (numbered_stms m.body)
 
--- by a program
+-- what is to blame in a program
 abbrev pub program_blamed : NumberedProgram → Marks → List Blame
 program_blamed p marks = flat_map (λ m. method_blamed p m marks) p.methods
 
 -- ---- accepted markings
 
--- under the marking no rule of single values is broken, where these collectives count
+-- under the marking no rule of single values is broken, if these collectives are considered
 abbrev pub KeepsSingle : (Place → Bool) → NumberedProgram → Marks → Type 0
 KeepsSingle counts p marks = some_held counts marks (program_blamed p marks) ≡ false

@@ -10,7 +10,7 @@ use Rattle.ti_lang.specs.Typing.Effects.{is_collective_call}
 use Rattle.ti_rules.specs.Standing.{Standing, standing_in}
 
 module _ (p : NumberedProgram) (this : Option ℕ) where
-  -- of an expression that is a statement or a right side: an exchange, or the deletion of a region
+  -- of an expression that is a whole statement or right side: an exchange, or the deletion of a region
   abbrev pub whole_collectives : NumberedExp → List Place
   whole_collectives e = if is_collective_call p this e then place_of_numbered e ∷ [] else []
 
@@ -21,7 +21,7 @@ module _ (p : NumberedProgram) (this : Option ℕ) where
   initial_collectives (st.Broadcast at e root) = at ∷ []
   initial_collectives value = []
 
-  -- of a statement, apart from the statements in it
+  -- of a statement, without the statements in it
   abbrev pub own_collectives : NumberedStm → List Place
   own_collectives (st.Declare at type variable value) = initial_collectives value
   own_collectives (st.Assign at target value) = initial_collectives value
@@ -30,6 +30,6 @@ module _ (p : NumberedProgram) (this : Option ℕ) where
   own_collectives (st.Barrier at) = at ∷ []
   own_collectives s = []
 
--- the places of the collectives of a program, in the order of its text
+-- the places of the collectives of a program, in source order
 abbrev pub collectives : NumberedProgram → List Place
 collectives p = flat_map (λ (s : Standing). own_collectives p (this_of s.around.method) s.statement) (standing_in p)

@@ -1,4 +1,4 @@
--- Taking away what is to blame.
+-- Removing from a marking what is to blame.
 use Rattle.std.specs.Prelude.{Bool, true, false, not, ◌&&◌, List}
 use Rattle.std.specs.List.{list_any}
 use Rattle.ti_base.specs.declared.place.Place.{Place}
@@ -7,7 +7,7 @@ use Rattle.ti_blame.specs.Marks.{Marks}
 use Rattle.ti_blame.specs.declared.blame.Blame.{Blame}
 use Rattle.ti_blame.specs.declared.blame.Blame.TheVariants.{OfMethod, OfResult, OfVariable, OfCollective, Always}
 
--- a mark of the method, result or variable at a place
+-- the annotation of a method, a result or a variable at this place
 abbrev pub is_method : Place → Blame → Bool
 is_method at (OfMethod place) = same_place at place
 is_method at b = false
@@ -20,7 +20,7 @@ abbrev pub is_variable : Place → Blame → Bool
 is_variable at (OfVariable place) = same_place at place
 is_variable at b = false
 
--- the marking without these
+-- the marking without these annotations
 abbrev pub without : List Blame → Marks → Marks
 without found m = record {
   methods = λ at. m.methods at && not (list_any (is_method at) found);
@@ -28,13 +28,13 @@ without found m = record {
   variables = λ at. m.variables at && not (list_any (is_variable at) found);
 }
 
--- what no marking can take away: a collective that counts, or what is there in any case
+-- what isn't removed with any annotation: a collective that is considered, or what holds unconditionally
 abbrev pub is_fixed : (Place → Bool) → Blame → Bool
 is_fixed counts (OfCollective at) = counts at
 is_fixed counts Always = true
 is_fixed counts b = false
 
--- it is there in any case
+-- it holds unconditionally
 abbrev pub is_always : Blame → Bool
 is_always Always = true
 is_always b = false

@@ -1,4 +1,4 @@
--- Where marks can stand.
+-- Where annotations are allowed.
 use Rattle.std.specs.Prelude.{◌≡◌, Bool, true, List, [], ◌∷◌}
 use Rattle.ti_base.specs.declared.place.Place.{Place}
 use Rattle.ti_lang.specs.Program.Statements.{NumberedStm, MaybeNumbered, NumberedStms, numbered_stms}
@@ -11,7 +11,7 @@ use Rattle.ti_infer.specs.Marked.{marked_type, marked_method}
 
 module _ (declared : Place → Bool) where
   abbrev mutual
-    -- with the marks, the words at each declaration in a statement can stand there
+    -- with the annotations, the qualifiers of each declaration in a statement are allowed
     pub FitsIn : NumberedStm → Type 0
     FitsIn (st.Declare at type variable value) = type_word_refusals true (marked_type (declared at) at type) ≡ []
     FitsIn (st.Block body) = FitsAll body
@@ -30,7 +30,7 @@ module _ (declared : Place → Bool) where
     FitsAll st.Nil = Unit {0}
     FitsAll (st.Cons x rest) = FitsIn x × FitsAll rest
 
--- with the marks, the words before the body of a method and those in it can stand there
+-- with the annotations, the modifiers and qualifiers of the head of a method and of its declarations are allowed
 abbrev pub MethodFits : Marks → NumberedMethod → Type 0
 MethodFits marks m = (head_refusals (marked_method marks m) ≡ []) × FitsAll marks.variables (numbered_stms m.body)
 
@@ -38,6 +38,6 @@ abbrev pub MethodsFit : Marks → List NumberedMethod → Type 0
 MethodsFit marks [] = Unit {0}
 MethodsFit marks (m ∷ ms) = MethodFits marks m × MethodsFit marks ms
 
--- the marks of a marking can stand where they do
+-- all annotations of a marking are allowed where they are
 abbrev pub MarksFit : Marks → NumberedProgram → Type 0
 MarksFit marks p = MethodsFit marks p.methods

@@ -1,5 +1,6 @@
--- The rules of single values where only some collectives count. Each other one is replaced by a statement or a value that isn't a
--- collective: so it has no global effect and nothing in it has to be single; it is single exactly where the collective was.
+-- The rules of single values if only some collectives are considered. Each other one is replaced by a statement or a value that isn't a
+-- collective, so that it has no global effect and nothing in it has to be single; the value is single exactly if that of the collective
+-- is.
 use Rattle.std.specs.Prelude.{ℕ, pos, Bool, true, false, not, ◌&&◌, ◌||◌, if◌then◌else◌, List, map, flat_map, Option, Some, None}
 use Rattle.ti_base.specs.declared.place.Place.{Place}
 use Rattle.ti_base.specs.Places.{place_before, same_place}
@@ -15,30 +16,30 @@ use Rattle.ti_lang.specs.Typing.Effects.{is_collective_call}
 use Rattle.ti_rules.specs.declared.refusal.Refusal.{Refusal}
 use Rattle.ti_rules.specs.SingleRules.{method_single_refusals}
 
--- ---- which collectives count
+-- ---- which collectives are considered
 
 -- all
 abbrev pub every_one : Place → Bool
 every_one at = true
 
--- those at places up to this one; all of them where no place is given
+-- those at places up to this one; all if no place is given
 abbrev pub counts_to : Option Place → Place → Bool
 counts_to None at = true
 counts_to (Some last) at = place_before at last || same_place at last
 
 -- ---- what replaces the others
 
--- a value that is single, or one that is plain
+-- a value that is single, or one that isn't
 abbrev pub idle : Bool → Place → NumberedExp
 idle true at = x.Int at (pos 0)
 idle false at = x.Null at
 
 module _ (counts : Place → Bool) (p : NumberedProgram) (this : Option ℕ) where
-  -- an expression that is a statement or a right side: an exchange and a deletion are plain
+  -- of an expression that is a whole statement or right side: the values of an exchange and of a deletion aren't single
   abbrev pub limited_whole : NumberedExp → NumberedExp
   limited_whole e = if is_collective_call p this e && not (counts (place_of_numbered e)) then idle false (place_of_numbered e) else e
 
-  -- a right side: a new region is single, and so is a broadcast value of a type that can be
+  -- of a right side: a new region is single, and so is a broadcast value if its type can be sent as a single value
   abbrev pub limited_initial : NumberedInit → NumberedInit
   limited_initial (st.Value e) = st.Value (limited_whole e)
   limited_initial (st.NewRegion at) = if counts at then st.NewRegion at else st.Value (idle true at)
@@ -47,7 +48,7 @@ module _ (counts : Place → Bool) (p : NumberedProgram) (this : Option ℕ) whe
   limited_initial value = value
 
   abbrev mutual
-    -- a statement and the statements in it
+    -- of a statement and the statements in it
     pub limited_stm : NumberedStm → NumberedStm
     limited_stm (st.Declare at type variable value) = st.Declare at type variable (limited_initial value)
     limited_stm (st.Assign at target value) = st.Assign at target (limited_initial value)
@@ -76,6 +77,6 @@ module _ (counts : Place → Bool) (p : NumberedProgram) (this : Option ℕ) whe
 abbrev pub limited : (Place → Bool) → NumberedProgram → NumberedMethod → NumberedMethod
 limited counts p m = record m { body = map (limited_stm counts p (this_of m)) m.body }
 
--- what is wrong in a program by the rules of single values where only these collectives count
+-- the refusals of a program by the rules of single values if only these collectives are considered
 abbrev pub limited_refusals : (Place → Bool) → NumberedProgram → List Refusal
 limited_refusals counts p = flat_map (λ m. method_single_refusals p (limited counts p m)) p.methods

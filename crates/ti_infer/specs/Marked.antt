@@ -1,4 +1,4 @@
--- The program with `single` where a marking says so, and, beside `main`, nowhere else.
+-- The program with `single` exactly where a marking has an annotation, and at `main`.
 use Rattle.std.specs.Prelude.{ℕ, Bool, false, ◌||◌, if◌then◌else◌, [], ◌∷◌, ◌++◌, map, option_map, slice_get}
 use Rattle.std.specs.Option.{option_map_or}
 use Rattle.ti_base.specs.declared.place.Place.{Place}
@@ -16,7 +16,7 @@ use Rattle.ti_infer.specs.Marks.{marks_variable}
 
 -- ---- types
 
--- the type with the word behind its others, where it is marked; the word stands at a place
+-- the type with the qualifier `single` appended, with this place, if it is annotated; otherwise it isn't single
 abbrev pub marked_type : Bool → Place → NumberedType → NumberedType
 marked_type b at t = record t { is_single = b; qualifiers = t.qualifiers ++ (if b then record { word = Single; place = at } ∷ [] else []) }
 
@@ -26,7 +26,7 @@ abbrev pub marked_declaration : Bool → Declaration → Declaration
 marked_declaration b (Typed is_single type) = Typed b type
 marked_declaration b Foreach = Foreach
 
--- each use of a variable says whether it is single
+-- each use of a variable states whether it is single, given as a test of its number
 module _ (singles : ℕ → Bool) where
   abbrev mutual
     pub marked_exp : NumberedExp → NumberedExp
@@ -81,7 +81,7 @@ module _ (singles : ℕ → Bool) where
 
   -- ---- statements
 
-  -- each declaration says so too, by its place
+  -- each declaration states whether it is single, given as a test of its place
   module _ (declared : Place → Bool) where
     abbrev mutual
       pub marked_stm : NumberedStm → NumberedStm
@@ -121,7 +121,7 @@ abbrev pub marked_params : Marks → NumberedParams → NumberedParams
 marked_params marks Words = Words
 marked_params marks (Params params) = Params (map (marked_param marks) params)
 
--- a result is marked at the name of its method
+-- the annotation of a result has the place of the method's name
 abbrev pub marked_result : Bool → Place → NumberedResult → NumberedResult
 marked_result b at c.Void = c.Void
 marked_result b at (c.Typed t) = c.Typed (marked_type b at t)
@@ -137,10 +137,10 @@ marked_method marks m = record m {
 
 -- ---- programs
 
--- the program in which what is marked is single
+-- the program in which exactly what the marking annotates is single, except for methods that are single already
 abbrev pub marked : Marks → NumberedProgram → NumberedProgram
 marked marks p = record p { methods = map (marked_method marks) p.methods }
 
--- the method where a run begins, which has its word `single` at first, is marked
+-- the marking annotates `main`, which is the only method that is single without an annotation
 abbrev pub marks_main : Marks → NumberedProgram → Bool
 marks_main marks p = option_map_or (λ (m : NumberedMethod). marks.methods m.place) (slice_get p.methods p.main) false

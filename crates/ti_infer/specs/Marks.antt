@@ -1,4 +1,4 @@
--- Where the variables of a method are declared, and which of them a marking marks.
+-- Where the variables of a method are declared, and which of them a marking annotates.
 use Rattle.std.specs.Prelude.{ℕ, ◌==◌, Bool, false, if◌then◌else◌, Option, Some, None, option_map, slice_get}
 use Rattle.std.specs.Option.{option_map_or, option_or}
 use Rattle.ti_base.specs.declared.place.Place.{Place}
@@ -7,13 +7,13 @@ use Rattle.ti_lang.specs.Program.Statements as st
 use Rattle.ti_lang.specs.Program.Classes.{NumberedParam, NumberedParams, Words, Params, NumberedMethod}
 use Rattle.ti_blame.specs.Marks.{Marks}
 
--- parameters are the variables from 0 on
+-- parameters are the variables from number 0 on
 abbrev pub params_place : NumberedParams → ℕ → Option Place
 params_place Words number = None
 params_place (Params params) number = option_map (λ (w : NumberedParam). w.place) (slice_get params number)
 
 abbrev mutual
-  -- the place of the declaration of the variable of a number in a statement
+  -- the place at which a statement declares the variable with this number
   pub declared_place : NumberedStm → ℕ → Option Place
   declared_place (st.Declare at type variable value) number = if variable == number then Some at else None
   declared_place (st.Block body) number = declared_place_all body number
@@ -33,10 +33,10 @@ abbrev mutual
   declared_place_all st.Nil number = None
   declared_place_all (st.Cons x rest) number = option_or (declared_place x number) (declared_place_all rest number)
 
--- the place of the declaration of the variable of a number in a method
+-- the place at which a method declares the variable with this number
 abbrev pub variable_place : NumberedMethod → ℕ → Option Place
 variable_place m number = option_or (params_place m.params number) (declared_place_all (numbered_stms m.body) number)
 
--- the variable of a number in a method is marked
+-- the marking annotates the variable with this number
 abbrev pub marks_variable : Marks → NumberedMethod → ℕ → Bool
 marks_variable marks m number = option_map_or marks.variables (variable_place m number) false

@@ -1,4 +1,5 @@
--- Nobody has to believe what stands here: it mirrors the code, and only contracts of private functions speak of it.
+-- Definitions that mirror the code. Only contracts of private functions and theorems of this crate cite them; what callers rely on
+-- doesn't depend on them.
 pub mod SingleUnder
 pub mod Asks
 pub mod Edges

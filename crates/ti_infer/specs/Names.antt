@@ -1,4 +1,4 @@
--- What can be marked in a program.
+-- The annotations that a program could have.
 use Rattle.std.specs.Prelude.{List, [], ◌∷◌, ◌++◌, map, flat_map}
 use Rattle.ti_base.specs.declared.place.Place.{Place}
 use Rattle.ti_lang.specs.Program.Statements.{NumberedStm, MaybeNumbered, NumberedStms, numbered_stms}
@@ -12,7 +12,7 @@ abbrev pub variable_name : Place → Mark
 variable_name at = record { place = at; kind = kind.Variable }
 
 abbrev mutual
-  -- the variables that a statement declares; that of a foreach isn't marked
+  -- those of the variables that a statement declares; the variable of a foreach has none
   pub declared_names : NumberedStm → List Mark
   declared_names (st.Declare at type variable value) = variable_name at ∷ []
   declared_names (st.Block body) = declared_names_all body
@@ -38,16 +38,16 @@ abbrev pub param_names : NumberedParams → List Mark
 param_names Words = []
 param_names (Params ws) = map param_name ws
 
--- a result is marked at the name of its method, where it isn't `void`
+-- that of a result, at the name of its method; none for `void`
 abbrev pub result_names : Place → NumberedResult → List Mark
 result_names at c.Void = []
 result_names at (c.Typed type) = record { place = at; kind = kind.Result } ∷ []
 
--- a method, its result, its parameters and its variables
+-- those of a method, its result, its parameters and its local variables
 abbrev pub method_names : NumberedMethod → List Mark
 method_names m = record { place = m.place; kind = kind.Method } ∷ (result_names m.place m.result
     ++ (param_names m.params ++ declared_names_all (numbered_stms m.body)))
 
--- all that can be marked
+-- those of a program
 abbrev pub names_of : NumberedProgram → List Mark
 names_of p = flat_map method_names p.methods

@@ -1,4 +1,4 @@
-// What is around a statement, and what falls with what by a statement apart from those in it.
+// Constraints of one statement in its context, without its sub-statements.
 ghost use Rattle.std.specs.Prelude.{◌≡◌, ◌++◌, ◌∷◌, [], map, Option, OnOk, IfOk};
 ghost use Rattle.std.specs.Option.{option_map, option_and_then};
 ghost use Rattle.ti_syntax.specs.Trees.Views.{maybe_of};
@@ -30,6 +30,7 @@ use ti_types::Judge;
 
 // ---- assignments
 
+/// Appends constraints of a variable's declaration: those of its right side, and unless that is single, the variable isn't.
 #[tactic(auto, using(crate::proofs::Pushing::pushing))]
 pub fn declare(
     alloc: Global,
@@ -48,6 +49,7 @@ pub fn declare(
     one_each(&found, Then::One(Blame::OfVariable(at)), out)
 }
 
+/// Appends constraints of an assignment: those of its right side, and unless that is single, the assigned variable isn't.
 #[tactic(auto, using(crate::proofs::Pushing::pushing))]
 pub fn assign(
     alloc: Global,
@@ -66,6 +68,7 @@ pub fn assign(
     each_to(&found, target(a.site, to), out)
 }
 
+/// Appends constraints of a compound assignment: those of its right side, and unless that is single, the assigned variable isn't.
 #[tactic(auto, using(crate::proofs::Pushing::pushing))]
 pub fn update(
     alloc: Global,
@@ -87,7 +90,7 @@ pub fn update(
 
 // ---- conditions
 
-/// What falls with a plain condition.
+/// Appends constraints: unless the condition is single, each of `whats` is ruled out.
 pub fn condition(
     alloc: Global,
     a: Around,
@@ -102,7 +105,7 @@ pub fn condition(
     each(&found, whats, out)
 }
 
-/// The same where there is one.
+/// Appends constraints: unless the condition is single, each of `whats` is ruled out. Appends nothing if there is no condition.
 pub fn condition_of(
     alloc: Global,
     a: Around,
@@ -119,7 +122,7 @@ pub fn condition_of(
     }
 }
 
-/// A plain value that is given back.
+/// Appends constraints of a `return`: unless its value is single, its method's result isn't.
 pub fn give_back(
     alloc: Global,
     a: Around,
@@ -139,7 +142,7 @@ pub fn give_back(
     }
 }
 
-/// A jump in an update; no update of a text has one.
+/// Records a jump in the update of a `for` as unconditionally to blame. No program that was parsed has one.
 pub fn update_jumps(
     a: Around,
     update: &Option<Box<Stmt>>,
@@ -159,6 +162,7 @@ pub fn update_jumps(
 
 // ---- foreach
 
+// The number of dimensions of a domain type; `None` for other types.
 fn domain_dim(t: Option<Seen>) -> Option<usize>
     ensures { result ≡ option_and_then domain_dim (option_map seen t.entry) }
 {
@@ -168,7 +172,7 @@ fn domain_dim(t: Option<Seen>) -> Option<usize>
     }
 }
 
-/// Of how many dimensions a domain is, where it's one.
+/// The number of dimensions of an expression that is a domain; otherwise `None`.
 pub fn dim(a: Around, domain: &Expr) -> Option<usize>
     ensures { result ≡ option_and_then domain_dim (operand_type (program_at a.entry.site) (contents_of a.entry.scope.now)
         (expression_of domain.now)) }

@@ -1,4 +1,4 @@
-// What an expression asks to be marked.
+// Which annotations an expression requires to be single. A requirement `None` says that it can't be single under any marking.
 ghost use Rattle.std.specs.Prelude.{◌≡◌, ◌++◌, ◌∷◌, [], map, not, OnOk};
 ghost use Rattle.std.specs.Option.{option_map};
 ghost use Rattle.ti_lang.specs.Program.Expressions.{numbered_exps, numbered_ranges};
@@ -25,6 +25,7 @@ use ti_single::{boxed_expression, boxed_type, listed_expressions, listed_ranges}
 
 // ---- variables
 
+// The annotation of a declared variable.
 fn declared_ask(site: Site, number: u32) -> Option<Mark>
     ensures { result ≡ option_map variable_mark (variable_place (method_at site.entry) number) }
 {
@@ -37,6 +38,7 @@ fn declared_ask(site: Site, number: u32) -> Option<Mark>
     }
 }
 
+// Appends what the variable of an enclosing foreach requires to be single.
 fn foreach_asks(inside: &[Inside], number: u32, out: &mut Vec<Option<Mark>>) -> Result<(), Memory>
     ensures { OnOk result (out.new.items ≡ out.old.items ++ inside_at (inside_of inside.now) number) }
 {
@@ -50,6 +52,7 @@ fn foreach_asks(inside: &[Inside], number: u32, out: &mut Vec<Option<Mark>>) -> 
     Ok(())
 }
 
+// Appends what a variable requires to be single.
 fn variable(
     site: Site,
     inside: &[Inside],
@@ -82,14 +85,14 @@ fn tells_of_domain(b: Option<BuiltIn>) -> bool
     )
 }
 
-// An index of a point, and not of a grid.
+// Whether the receiver of an index is a point: its coordinates are single if it is, whereas elements of grids never are.
 fn indexes_point(site: Site, receiver: &Expr) -> bool
     ensures { result ≡ is_point (type_in_text (program_at site.entry) (this_of (method_at site.entry)) (expression_of receiver.now)) }
 {
     is_point(typed(site, receiver))
 }
 
-// A member that tells something of a domain.
+// Whether the member is a query of a domain (`size`, `min`, `max` or `contains`), which can be single.
 fn tells(site: Site, receiver: &Expr, name: u32) -> bool
     ensures { result ≡ tells_of_domain (member_called (program_at site.entry) (this_of (method_at site.entry))
         (expression_of receiver.now) name) }
@@ -97,7 +100,7 @@ fn tells(site: Site, receiver: &Expr, name: u32) -> bool
     tells_of_domain(built_in(site, receiver, name))
 }
 
-/// Plain in any case, where the test holds.
+/// Appends the requirement that no marking satisfies, if the test holds.
 pub fn plain_if(test: bool, out: &mut Vec<Option<Mark>>) -> Result<(), Memory>
     ensures { OnOk result (out.new.items ≡ out.old.items ++ plain_if test) }
 {
@@ -161,7 +164,8 @@ fn all_ranges(
     Ok(())
 }
 
-/// What an expression inside another one, or a condition, asks for.
+/// Appends what an expression requires to be single as a condition, an argument or a part of another expression. A method call can't be
+/// single there.
 #[cycle(asks)]
 #[tactic(auto, using(ti_lang::proofs::Lemmas::program_bridges, crate::proofs::Pushing::pushing))]
 pub fn asks(

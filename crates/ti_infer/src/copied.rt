@@ -1,4 +1,4 @@
-// What is inside a foreach, in room of its own.
+// Sets of requirements without duplicates, and copies of what is known of the variables in a foreach body.
 ghost use Rattle.std.specs.Prelude.{◌≡◌, ◌++◌, ◌∷◌, [], map, Option, OnOk, IfOk};
 ghost use Rattle.std.specs.List.{list_any};
 ghost use Rattle.std.specs.Option.{option_map, option_and_then};
@@ -17,9 +17,9 @@ use ti_base::Memory;
 use ti_blame::{Mark, MarkKind};
 use ti_lang::program::InScope;
 
-// ---- each only once
+// ---- without duplicates
 
-/// Whether two marks are one.
+/// Whether two annotations are equal: of one kind at one place.
 pub fn is_mark(a: Mark, b: Mark) -> bool
     ensures { result ≡ is_mark a.kind a.place b }
 {
@@ -55,7 +55,7 @@ fn is_asked(old: &[Option<Mark>], a: Option<Mark>) -> bool
     false
 }
 
-/// With those that weren't there.
+/// Appends to `old` those requirements of `more` that it doesn't contain yet.
 pub fn with_new(old: &mut Vec<Option<Mark>>, more: &[Option<Mark>]) -> Result<(), Memory>
     ensures { OnOk result (old.new.items ≡ with_new old.old.items more.now) }
 {
@@ -69,7 +69,7 @@ pub fn with_new(old: &mut Vec<Option<Mark>>, more: &[Option<Mark>]) -> Result<()
 
 // ---- copies
 
-/// The same variables, in room of their own.
+/// A copy of these variables. Errors only if it runs out of memory.
 pub fn variables(alloc: Global, found: &[InScope]) -> Result<Vec<InScope>, Memory>
     ensures { IfOk result (λ v. map in_scope_of v.items ≡ map in_scope_of found.now) }
 {
@@ -84,7 +84,7 @@ pub fn variables(alloc: Global, found: &[InScope]) -> Result<Vec<InScope>, Memor
     Ok(copied)
 }
 
-/// What they ask for, in room of its own.
+/// A copy of these variables with the annotations that make them single. Errors only if it runs out of memory.
 pub fn insides(alloc: Global, found: &[Inside]) -> Result<Vec<Inside>, Memory>
     ensures { IfOk result (λ v. inside_of v.items ≡ inside_of found.now) }
 {

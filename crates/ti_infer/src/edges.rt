@@ -1,4 +1,5 @@
-// What falls with what by a statement apart from those in it.
+// Building blocks of the constraints of one statement: an `Edge` says that unless its premise is in the marking, its conclusion is ruled
+// out.
 ghost use Rattle.std.specs.Prelude.{◌≡◌, ◌≤◌, ◌+◌, ◌^◌, ◌++◌, ◌∷◌, [], map, length, not, OnOk, IfOk, IfErr, if◌then◌else◌};
 ghost use Rattle.std.specs.Option.{option_map};
 ghost use Rattle.ti_syntax.specs.Trees.Views.{maybe_of};
@@ -31,9 +32,9 @@ use ti_lang::program::{Expr, Init, Method, Param, Params, ResultType, Stmt};
 use ti_lang::typing::Seen;
 use ti_single::{boxed_statement, doings_of_statement, this_of};
 
-// ---- from each to each
+// ---- all pairs
 
-/// From each of these to one.
+/// Appends a constraint from each of these premises to one conclusion.
 pub fn one_each(found: &[Option<Mark>], what: Then, out: &mut Vec<Edge>) -> Result<(), Memory>
     ensures { OnOk result (out.new.items ≡ out.old.items ++ one_each found.now what) }
 {
@@ -46,7 +47,7 @@ pub fn one_each(found: &[Option<Mark>], what: Then, out: &mut Vec<Edge>) -> Resu
     Ok(())
 }
 
-/// From each of these to each of those.
+/// Appends a constraint from each of these premises to each of these conclusions.
 pub fn each(found: &[Option<Mark>], whats: &[Then], out: &mut Vec<Edge>) -> Result<(), Memory>
     ensures { OnOk result (out.new.items ≡ out.old.items ++ each found.now whats.now) }
 {
@@ -56,7 +57,7 @@ pub fn each(found: &[Option<Mark>], whats: &[Then], out: &mut Vec<Edge>) -> Resu
     Ok(())
 }
 
-/// From each of these to a reason, if there is one.
+/// Appends a constraint from each of these premises to a reason, if there is one.
 #[tactic(auto, using(crate::proofs::Pushing::pushing))]
 pub fn each_to(found: &[Option<Mark>], to: Option<Blame>, out: &mut Vec<Edge>) -> Result<(), Memory>
     ensures { OnOk result (out.new.items ≡ out.old.items ++ each found.now (ones (listed to))) }
@@ -67,9 +68,10 @@ pub fn each_to(found: &[Option<Mark>], to: Option<Blame>, out: &mut Vec<Edge>) -
     }
 }
 
-// ---- what is asked for
+// ---- requirements
 
-/// What an expression inside another one, or a condition, asks for.
+/// What an expression requires to be single as a condition, an argument or a part of another expression. Errors only if it runs out of
+/// memory.
 pub fn part_asks(
     alloc: Global,
     site: Site,
@@ -83,7 +85,7 @@ pub fn part_asks(
     Ok(found)
 }
 
-// A single result is that of a method whose result is marked.
+// What the value of a call requires to be single: the annotation of the method's result. `None` for `void`.
 fn result_ask(site: Site, inside: &[Inside], place: Place, t: &ResultType) -> Option<Mark>
     ensures { result ∷ [] ≡ result_asks (program_at site.entry) (method_at site.entry) (inside_at (inside_of inside.now)) place
         (numbered_result_of t.now) }
@@ -97,7 +99,7 @@ fn result_ask(site: Site, inside: &[Inside], place: Place, t: &ResultType) -> Op
     }
 }
 
-/// One that is asked for.
+/// A list of one requirement.
 pub fn one_ask(alloc: Global, ask: Option<Mark>) -> Result<Vec<Option<Mark>>, Memory>
     ensures { IfOk result (λ v. v.items ≡ ask ∷ []) }
 {
@@ -106,6 +108,7 @@ pub fn one_ask(alloc: Global, ask: Option<Mark>) -> Result<Vec<Option<Mark>>, Me
     Ok(found)
 }
 
+// What a whole right side requires to be single, which calls this method, if any.
 fn called_asks(
     alloc: Global,
     site: Site,
@@ -122,7 +125,7 @@ fn called_asks(
     }
 }
 
-/// What an expression that is a whole right side asks for.
+/// What an expression that is a whole right side requires to be single: of a call, the annotation of the method's result.
 pub fn whole_asks(
     alloc: Global,
     site: Site,
@@ -136,6 +139,7 @@ pub fn whole_asks(
     called_asks(alloc, site, inside, m, e)
 }
 
+// Whether a broadcast value of this type can be single.
 fn is_sent(t: Seen) -> bool
     ensures { result ≡ is_single_sent (seen t.entry) }
 {
@@ -145,6 +149,7 @@ fn is_sent(t: Seen) -> bool
     )
 }
 
+// The requirement that no marking satisfies, if the test holds; otherwise none.
 fn plain_when(alloc: Global, test: bool) -> Result<Vec<Option<Mark>>, Memory>
     ensures { IfOk result (λ v. v.items ≡ plain_if test) }
 {
@@ -153,7 +158,8 @@ fn plain_when(alloc: Global, test: bool) -> Result<Vec<Option<Mark>>, Memory>
     Ok(found)
 }
 
-/// What a right side asks for.
+/// What a right side requires to be single. New objects and grids can't be single, new regions are, and broadcast values are if their
+/// type can be sent as a single value.
 pub fn initial_asks(
     alloc: Global,
     site: Site,
@@ -172,9 +178,9 @@ pub fn initial_asks(
     }
 }
 
-// ---- what stands whole
+// ---- calls
 
-// A plain argument for a parameter.
+// Appends constraints of one argument: unless it's single, its parameter isn't.
 fn argument(
     alloc: Global,
     site: Site,
@@ -229,7 +235,7 @@ fn params(
     }
 }
 
-// A call of the method, if there is one.
+// Appends the constraints of the arguments of a call, if a declared method is called. Surplus arguments and parameters are ignored.
 pub fn call(
     alloc: Global,
     site: Site,
@@ -248,7 +254,7 @@ pub fn call(
     }
 }
 
-// ---- targets
+// ---- conclusions
 
 fn returns(site: Site, x: &Stmt) -> bool
     ensures { result ≡ (doings (program_at site.entry) (this_of (method_at site.entry)) (statement_of x.now)).returns }
@@ -271,7 +277,7 @@ fn returns_in(site: Site, x: &Option<Box<Stmt>>) -> bool
     }
 }
 
-/// Whether there is a jump in it; no update of a text has one.
+/// Whether an update has a jump in it. No program that was parsed has one.
 pub fn jumps_in(site: Site, x: &Option<Box<Stmt>>) -> bool
     ensures { result ≡ (doings_of_maybe (program_at site.entry) (this_of (method_at site.entry)) (maybe_in x.now)).jumps }
 {
@@ -281,7 +287,7 @@ pub fn jumps_in(site: Site, x: &Option<Box<Stmt>>) -> bool
     }
 }
 
-/// The place that many further on, unless that is too large a number.
+/// The sum of two indices. Errors if it is larger than `usize::MAX`.
 pub fn further(i: usize, n: usize) -> Result<usize, Memory>
     ensures place { IfOk result (λ k. k ≡ i + n) }
     ensures large { IfErr result (λ _. 2 ^ 64 ≤ i + n) }
@@ -292,6 +298,7 @@ pub fn further(i: usize, n: usize) -> Result<usize, Memory>
     }
 }
 
+// The `n` reasons from index `i` on, and those of the whole method if the test holds (`back`: there is a `return`).
 fn reached(alloc: Global, i: usize, n: usize, back: bool, whole: Then) -> Result<Vec<Then>, Memory>
     ensures { IfOk result (λ v. v.items ≡ Between i (i + n) ∷ then_if back whole) }
 {
@@ -303,7 +310,8 @@ fn reached(alloc: Global, i: usize, n: usize, back: bool, whole: Then) -> Result
     Ok(found)
 }
 
-/// What falls with the condition of a loop, and with a jump out of it.
+/// What is ruled out unless the condition of a loop is single, and what a jump out of it has as effects: all reasons of its update and
+/// body, and those of the whole method if there is a `return` in them. The reasons begin at index `i`.
 pub fn loop_targets(
     alloc: Global,
     site: Site,
@@ -322,7 +330,8 @@ pub fn loop_targets(
     reached(alloc, i, found.len(), back, whole)
 }
 
-/// What falls with the condition of an `if`.
+/// What is ruled out unless the condition of an `if` is single: the reasons of the statement, which begin at index `i`; those of the
+/// whole method if there is a `return` in it; and `jump` if there is a jump in it.
 pub fn effect_targets(
     alloc: Global,
     site: Site,

@@ -1,4 +1,5 @@
-// Marks that can't stand where they do, and those of parameters, which fall with that of their method.
+// Unary constraints, which rule out an annotation where `single` isn't allowed, and constraints of parameters, which can be single only
+// if their method is.
 ghost use Rattle.std.specs.Prelude.{◌≡◌, true, not, is_some, ◌++◌, ◌∷◌, [], map, OnOk, IfOk};
 ghost use Rattle.ti_lang.specs.Program.Statements.{numbered_stms};
 ghost use Rattle.ti_lang.specs.Program.Views.{type_use_of, numbered_param_of, numbered_result_of, numbered_method_of};
@@ -19,7 +20,7 @@ use ti_types::type_words;
 
 // ---- types
 
-/// Marks a type at a place.
+/// Makes a type single: sets its flag and appends the qualifier `single` with this place.
 pub fn mark_type(at: Place, t: &mut TypeUse) -> Result<(), Memory>
     ensures { OnOk result (type_use_of t.new ≡ marked_type true at (type_use_of t.old)) }
 {
@@ -40,7 +41,7 @@ fn is_unbroken(found: Option<Refusal>) -> bool
     }
 }
 
-/// Whether the word can stand at a type.
+/// Whether a declared type would still be allowed with the qualifier `single` appended. Errors only if it runs out of memory.
 pub fn takes_mark(alloc: Global, at: Place, t: &TypeUse) -> Result<bool, Memory>
     ensures { IfOk result (λ b. b ≡ takes_mark at (type_use_of t.now)) }
 {
@@ -49,8 +50,9 @@ pub fn takes_mark(alloc: Global, at: Place, t: &TypeUse) -> Result<bool, Memory>
     Ok(is_unbroken(type_words(true, &marked)))
 }
 
-// ---- edges
+// ---- constraints
 
+// Appends a constraint that rules this out unconditionally, unless the test holds.
 fn falls_unless(test: bool, what: Blame, out: &mut Vec<Edge>) -> Result<(), Memory>
     ensures { OnOk result (out.new.items ≡ out.old.items ++ falls_unless test what) }
 {
@@ -63,7 +65,8 @@ fn falls_unless(test: bool, what: Blame, out: &mut Vec<Edge>) -> Result<(), Memo
     Ok(())
 }
 
-/// What falls where the method isn't single.
+/// Appends a constraint: unless the method is annotated, the conclusion is ruled out. Appends none if the method is single already, as
+/// `main` is.
 pub fn own_edge(m: &Method, what: Then, out: &mut Vec<Edge>) -> Result<(), Memory>
     ensures { OnOk result (out.new.items ≡ out.old.items ++ one_each (own_asks (numbered_method_of m.now)) what) }
 {
@@ -116,14 +119,14 @@ fn of_locals(found: &[Local], out: &mut Vec<Edge>) -> Result<(), Memory>
     Ok(())
 }
 
-// Whether the word can stand at the method.
+// Whether the method can be annotated: it is static, and doesn't have the modifier `single` yet.
 fn method_takes(m: &Method) -> bool
     ensures { result ≡ method_takes_mark (numbered_method_of m.now) }
 {
     has_static(&m.modifiers) && !is_single(&m.modifiers)
 }
 
-/// Marks of a method that can't stand where they do.
+/// Appends the constraints that rule out annotations not allowed in a method, and those that tie its parameters to it.
 pub fn method_fits(alloc: Global, m: &Method, out: &mut Vec<Edge>) -> Result<(), Memory>
     ensures { OnOk result (out.new.items ≡ out.old.items ++ method_fit_edges (numbered_method_of m.now)) }
 {

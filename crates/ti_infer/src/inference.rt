@@ -1,4 +1,4 @@
-// Which names of a program can be single.
+// The entry point: collects the annotations that a program could have and the constraints on them, and solves these.
 ghost use Rattle.std.specs.Prelude.{◌≡◌, [], IfOk};
 ghost use Rattle.ti_lang.specs.Program.Views.{program_of};
 ghost use Rattle.ti_rules.specs.TypeRules.{type_refusals};
@@ -15,7 +15,7 @@ use ti_base::{Memory, Place};
 use ti_blame::{Mark, Settled, settle};
 use ti_lang::program::Program;
 
-/// A choice of names of a program that are marked, rising by place, and of a method and its result the method first.
+/// A set of `single` annotations of a program, strictly sorted by place; at one place, a method comes before its result.
 #[derive(Drop)]
 pub struct Marking {
     marks: Vec<Mark>,
@@ -31,7 +31,7 @@ impl Model for Marking {
 }
 
 impl Marking {
-    /// The marks.
+    /// The annotations, strictly sorted by place; at one place, a method comes before its result.
     pub fn marks(&self) -> &[Mark]
         ensures { result.now ≡ self.now }
     {
@@ -39,10 +39,11 @@ impl Marking {
     }
 }
 
-/// Why nothing is inferred.
+/// Why no marking was inferred.
 #[derive(Debug, Drop, Error)]
 pub enum InferErr {
-    /// No marking aligns the collectives up to this place.
+    /// No marking makes the program acceptable. The place is that of the first collective for which even the collectives up to it can't
+    /// be aligned.
     #[error("no marking of single values aligns the collectives")]
     NoMarking(Place),
     /// Out of memory.
@@ -61,7 +62,7 @@ impl From<Memory> for InferErr {
     }
 }
 
-// The greatest marking, or the first collective that no marking aligns.
+// The greatest marking, and the first collective that no marking aligns, if there is one. Errors only if it runs out of memory.
 fn settled(alloc: Global, p: &Program) -> Result<Settled, Memory>
     requires types { type_refusals (program_of p.now.parts) ≡ [] }
     requires stripped { stripped (program_of p.now.parts) ≡ program_of p.now.parts }
@@ -75,10 +76,11 @@ fn settled(alloc: Global, p: &Program) -> Result<Settled, Memory>
     settle(alloc, &names, &items, &edges)
 }
 
-/// The greatest marking of a program under which it's accepted: single are as many names as can be.
+/// Infers the greatest marking under which the program is accepted: each accepted marking is a subset of it.
 ///
-/// The program bears no `single` but at `main`, and breaks no rule of types and qualifiers. Where no marking is accepted, the answer
-/// tells the first collective up to which none is.
+/// The program must have no keyword `single` except at `main` and in casts, and break no rule of types and qualifiers. If no marking is
+/// accepted, the error is `NoMarking` with the place of the first collective up to which none is; the other error is running out of
+/// memory.
 pub fn infer(alloc: Global, p: &Program) -> Result<Marking, InferErr>
     requires types { type_refusals (program_of p.now.parts) ≡ [] }
     requires stripped { stripped (program_of p.now.parts) ≡ program_of p.now.parts }

@@ -1,4 +1,4 @@
-// What is inside a foreach: the variables in scope, and what those of foreach loops ask for.
+// The context of the body of a foreach: the variables in scope, and which annotations make foreach variables single.
 ghost use Rattle.std.specs.Prelude.{◌≡◌, false, [], map, IfOk};
 ghost use Rattle.ti_lang.specs.Program.Scope.{in_scope_of, contents_of};
 ghost use Rattle.ti_lang.specs.Program.Views.{expression_of};
@@ -17,7 +17,7 @@ use ti_blame::Mark;
 use ti_lang::program::{Expr, InScope, Scope};
 use ti_lang::typing::Seen;
 
-// The variables with that of a foreach over a domain of so many dimensions; over what is no domain there is none.
+// The variables with that of a foreach over a domain of `dim` dimensions. None is added if the expression isn't a domain.
 fn with_variable(
     alloc: Global,
     old: &[InScope],
@@ -40,7 +40,7 @@ fn with_variable(
     }
 }
 
-/// What is in scope in the body of a foreach.
+/// The scope of the body of a foreach whose variable has this number. Errors only if it runs out of memory.
 pub fn scope_inside(alloc: Global, a: Around, number: u32, domain: &Expr) -> Result<Scope, Memory>
     ensures this { IfOk result (λ s. s.this ≡ a.entry.scope.now.this) }
     ensures variables { IfOk result (λ s. (contents_of s).variables
@@ -56,7 +56,7 @@ pub fn scope_inside(alloc: Global, a: Around, number: u32, domain: &Expr) -> Res
     })
 }
 
-// What a domain asks for, each only once.
+// The annotations that make a domain single, without duplicates.
 fn distinct_asks(alloc: Global, a: Around, domain: &Expr) -> Result<Vec<Option<Mark>>, Memory>
     ensures { IfOk result (λ v. v.items ≡ with_new [] (asks_at a.entry.site a.entry.inside.now (expression_of domain.now))) }
 {
@@ -66,7 +66,7 @@ fn distinct_asks(alloc: Global, a: Around, domain: &Expr) -> Result<Vec<Option<M
     Ok(found)
 }
 
-/// What the variables of foreach loops ask for in the body of one: its own too, where its domain is one.
+/// What makes variables single in the body of a foreach: `a.inside`, and for its own variable that which makes its domain single.
 pub fn with_own(alloc: Global, a: Around, number: u32, domain: &Expr) -> Result<Vec<Inside>, Memory>
     ensures { IfOk result (λ v. inside_of v.items ≡ inside_foreach (program_at a.entry.site) (method_at a.entry.site) a.entry.whole
         (variables_at a.entry) (inside_of a.entry.inside.now) number (expression_of domain.now)) }

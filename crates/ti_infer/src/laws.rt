@@ -1,4 +1,4 @@
-// Laws of markings: functions that do nothing, whose contracts are the laws.
+// Theorems about markings: functions with an empty body whose contracts are the theorems.
 ghost use Rattle.std.specs.Prelude.{◌≡◌, not, Bool, true, false, List, [], ◌++◌, Option};
 ghost use Rattle.std.specs.List.{list_any};
 ghost use Rattle.ti_base.specs.declared.place.Place.{Place};
@@ -24,14 +24,16 @@ ghost use Rattle.ti_blame.specs.declared.mark.Mark.{Mark};
 ghost use Rattle.ti_blame.specs.Falling.{stands, KeepsEdges};
 ghost use Rattle.ti_blame.specs.Settling.{IsSettled};
 
-/// Where a program breaks no rule of single values under two markings, it breaks none under their union, whichever collectives count.
+/// If a program breaks no rule of single values under two markings, it breaks none under their union, whichever collectives are
+/// considered.
 pub fn union_keeps_single_rules()
     ensures { (counts : Place → Bool) (p : NumberedProgram) (m n : Marks) → KeepsSingle counts p m → KeepsSingle counts p n
         → KeepsSingle counts p (union m n) }
 {}
 
-/// Whichever collectives count, the rules by reasons are the rules of single values of the marked program; where all do, these are those
-/// that a text is checked by.
+/// For any set of considered collectives, the rules by reasons are the rules of single values of the marked program, if no result of the
+/// program has the qualifier `single`, as in a stripped one. If all collectives are considered, these are the rules by which programs are
+/// checked.
 pub fn reasons_are_rules()
     ensures by_rules { (counts : Place → Bool) (p : NumberedProgram) (m : Marks) → limited_refusals counts (marked m p) ≡ []
         → KeepsSingle counts p m }
@@ -41,7 +43,8 @@ pub fn reasons_are_rules()
     ensures stripped { (p : NumberedProgram) → HavePlainResults (stripped p).methods }
 {}
 
-/// The fewer collectives count, the more markings keep the rules; where all of the program count, the rules are kept as where every one does.
+/// The fewer collectives are considered, the more markings keep the rules. If all collectives of the program are considered, the rules
+/// are those with every place considered.
 pub fn fewer_collectives()
     ensures fewer { (fewer more : Place → Bool) (p : NumberedProgram) (m : Marks) → ((at : Place) → fewer at ≡ true → more at ≡ true)
         → KeepsSingle more p m → KeepsSingle fewer p m }
@@ -50,8 +53,8 @@ pub fn fewer_collectives()
         → KeepsSingle every_one p m }
 {}
 
-/// Taking away what is to blame loses no part that keeps the rules; where that takes nothing away and nothing fixed is to blame, the
-/// rules are kept; where something fixed is to blame, no part keeps them.
+/// Removing what is to blame loses no subset that keeps the rules. If that removes nothing and nothing fixed is to blame, the rules are
+/// kept; if something fixed is to blame, no subset keeps them.
 pub fn greatest_is_found()
     ensures stays { (counts : Place → Bool) (p : NumberedProgram) (a u : Marks) → IsPart a u → KeepsSingle counts p a
         → IsPart a (without (program_blamed p u) u) }
@@ -61,7 +64,8 @@ pub fn greatest_is_found()
         → list_any (is_fixed counts) (program_blamed p u) ≡ true → ⊥ }
 {}
 
-/// The marked program breaks no rule of types and qualifiers exactly where the marks can stand where they do.
+/// If a program breaks no rule of types and qualifiers, its marked program breaks none if and only if all annotations are allowed where
+/// they are.
 pub fn marks_and_types()
     ensures fits { (p : NumberedProgram) (m : Marks) → type_refusals p ≡ [] → MarksFit m p → type_refusals (marked m p) ≡ [] }
     ensures fit { (p : NumberedProgram) (m : Marks) → type_refusals (marked m p) ≡ [] → MarksFit m p }
@@ -73,7 +77,9 @@ pub fn union_is_accepted()
         → IsAccepted p (union m n) }
 {}
 
-/// The edges of a program say what is to blame in it, and which marks can't stand where they do.
+/// A marking that breaks no rule of single values satisfies the constraints of a program, and conversely if nothing is unconditionally to
+/// blame under it. A marking whose annotations are allowed where they are satisfies the constraints that rule out others, and conversely
+/// if the program breaks no rule of types and qualifiers.
 pub fn edges_are_rules()
     ensures kept { (counts : Place → Bool) (p : NumberedProgram) (m : Marks) → KeepsSingle counts p m
         → KeepsEdges (stands counts m) (all_reasons p) (program_edges p) }
@@ -85,40 +91,41 @@ pub fn edges_are_rules()
         → KeepsEdges (stands counts m) items (fit_edges p) → MarksFit m p }
 {}
 
-/// What is left once all that falls has fallen is the greatest accepted marking, or tells the first collective that no marking aligns.
-/// Nothing may be to blame in any case, as in the program of a text.
+/// The solution of the constraints is the greatest accepted marking, or has the first collective that no marking aligns. Requires that
+/// nothing is unconditionally to blame, as in a parsed program.
 pub fn settled_is_inferred()
     ensures { (p : NumberedProgram) (names marks : List Mark) (first : Option Place) → type_refusals p ≡ [] → HavePlainResults p.methods
         → ((m : Marks) → list_any is_always (program_blamed p m) ≡ false)
         → IsSettled names (all_reasons p) (program_edges p ++ fit_edges p) marks first → IsInferred p names marks first }
 {}
 
-/// The stripped program of a text is the program of a text.
+/// If a program is the result of name resolution of some source, so is its stripped program.
 pub fn stripped_is_numbered()
     ensures { (p : NumberedProgram) → ∥ IsNumbered p ∥₁ → ∥ IsNumbered (stripped p) ∥₁ }
 {}
 
-/// The marked program of the stripped program of a text is the program of a text, which has `single` where a marking says so: each use of
-/// a variable says of it what its declaration does. `main`, whose words are three, isn't marked; where the marked program breaks no rule
-/// of types and qualifiers, it isn't.
+/// If a stripped program is the result of name resolution of some source, so is its marked program, whose source has `single` where the
+/// marking has an annotation; each use of a variable agrees with its declaration. Requires that `main` isn't annotated, which holds if
+/// the marked program breaks no rule of types and qualifiers.
 pub fn marked_is_numbered()
     ensures numbered { (p : NumberedProgram) (m : Marks) → ∥ IsNumbered p ∥₁ → stripped p ≡ p → marks_main m p ≡ false
         → ∥ IsNumbered (marked m p) ∥₁ }
     ensures main { (p : NumberedProgram) (m : Marks) → ∥ IsNumbered p ∥₁ → type_refusals (marked m p) ≡ [] → marks_main m p ≡ false }
 {}
 
-/// In the stripped program of a text nothing is to blame in any case, whatever is marked: no statement calls `main`, and no update jumps.
+/// In the stripped program of some source nothing is unconditionally to blame, under any marking: no statement calls `main`, and no
+/// update has a jump in it.
 pub fn nothing_blamed_in_any_case()
     ensures { (p : NumberedProgram) (m : Marks) → ∥ IsNumbered p ∥₁ → type_refusals p ≡ [] → stripped p ≡ p
         → list_any is_always (program_blamed p m) ≡ false }
 {}
 
-/// A program without its marks has none to take off.
+/// Stripping a program twice is stripping it once.
 pub fn stripped_once()
     ensures { (p : NumberedProgram) → stripped (stripped p) ≡ stripped p }
 {}
 
-/// A program has at most one greatest marking, at most one first collective that no marking aligns, and never both.
+/// A program has at most one greatest marking and at most one first collective that no marking aligns, and never both.
 pub fn one_inference()
     ensures one_marking { (p : NumberedProgram) (m n : List Mark) → IsGreatest p m → IsGreatest p n → m ≡ n }
     ensures one_place { (p : NumberedProgram) (a b : Place) → IsFirstUnaligned p a → IsFirstUnaligned p b → a ≡ b }

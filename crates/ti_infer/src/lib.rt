@@ -1,4 +1,5 @@
-//! Which declarations of a program can be single.
+//! Inference of `single`: finds the greatest set of `single` annotations under which a program without them is accepted, or the first
+//! collective that no set of annotations aligns. It generates constraints from the program, which ti_blame solves.
 #![tactic(auto)]
 
 mod around;

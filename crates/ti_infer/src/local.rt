@@ -1,4 +1,4 @@
-// The variables that the statements of a method declare.
+// The local variables that the statements of a method declare, in source order.
 ghost use Rattle.std.specs.Prelude.{◌≡◌, ◌++◌, ◌∷◌, [], map, OnOk, IfOk};
 ghost use Rattle.ti_lang.specs.Program.Statements.{numbered_stms};
 ghost use Rattle.ti_lang.specs.Program.Views.{type_use_of, statement_of, numbered_method_of};
@@ -11,7 +11,7 @@ use ti_base::{Memory, Place};
 use ti_lang::program::{Method, Stmt, TypeUse};
 use ti_single::{boxed_statement, listed_statements};
 
-/// A variable where it's declared, by its number, and whether its type takes the word.
+/// A local variable: its number, the place of its declaration, and whether its type can be `single` there (`takes`).
 #[derive(Clone, Copy)]
 pub struct Local {
     pub number: u32,
@@ -59,7 +59,8 @@ fn in_maybe(alloc: Global, x: &Option<Box<Stmt>>, out: &mut Vec<Local>) -> Resul
     }
 }
 
-// Those that a statement declares; that of a foreach is none.
+// Appends the variables that a statement and the statements in it declare. The variable of a `foreach` isn't among them, since it can't
+// be annotated.
 #[cycle(locals)]
 #[tactic(auto, using(ti_lang::proofs::Lemmas::program_bridges, crate::proofs::Pushing::pushing))]
 fn in_statement(alloc: Global, x: &Stmt, out: &mut Vec<Local>) -> Result<(), Memory>
@@ -109,7 +110,8 @@ fn in_statement(alloc: Global, x: &Stmt, out: &mut Vec<Local>) -> Result<(), Mem
     }
 }
 
-/// Those that the statements of a method declare.
+/// The variables that the statements of a method declare, in source order; parameters aren't among them. Errors only if it runs out of
+/// memory.
 pub fn locals(alloc: Global, m: &Method) -> Result<Vec<Local>, Memory>
     ensures { IfOk result (λ v. v.items ≡ locals_in_all (numbered_stms (numbered_method_of m.now).body)) }
 {

@@ -1,4 +1,4 @@
-// Methods in which what is marked is single.
+// Adds the annotations of a marking to methods.
 ghost use Rattle.std.specs.Prelude.{◌≡◌, ℕ, ◌||◌, ◌++◌, ◌∷◌, [], false, if◌then◌else◌, get_or, map, OnOk, IfOk};
 ghost use Rattle.std.specs.Option.{option_map_or};
 ghost use Rattle.ti_syntax.specs.declared.tree.classes.Modifier.{Modifier as ModifierSeen};
@@ -18,7 +18,7 @@ use ti_syntax::tree::{Modifier, ModifierWord};
 
 // ---- variables
 
-// Whether the variable that is declared there is marked.
+// Whether the variable that is declared at this place is annotated. False without a place.
 fn is_declared_marked(marks: &[Mark], place: Option<Place>) -> bool
     ensures { result ≡ option_map_or (marks_of marks.now).variables place false }
 {
@@ -42,7 +42,7 @@ fn marked_among(
     Ok(found)
 }
 
-// Which variables of a method are marked.
+// A table of which variables of a method are annotated, by their numbers.
 fn marked_variables(alloc: Global, marks: &[Mark], m: &Method) -> Result<MarkedVariables, Memory>
     ensures { IfOk result (λ v. (number : ℕ) → get_or v.singles.items number false
         ≡ marks_variable (marks_of marks.now) (numbered_method_of m.now) number) }
@@ -80,6 +80,7 @@ fn mark_params(marks: &[Mark], params: &mut Params) -> Result<(), Memory>
     }
 }
 
+// Makes the type of a result single, if it is annotated; `void` stays.
 fn mark_result(single: bool, place: Place, t: &mut ResultType) -> Result<(), Memory>
     ensures { OnOk result (numbered_result_of t.new ≡ marked_result single place (numbered_result_of t.old)) }
 {
@@ -89,6 +90,7 @@ fn mark_result(single: bool, place: Place, t: &mut ResultType) -> Result<(), Mem
     }
 }
 
+// Appends the modifier `single` with this place, if the method is annotated.
 fn mark_words(single: bool, place: Place, words: &mut Vec<Modifier>) -> Result<(), Memory>
     ensures { OnOk result (words.new.items ≡ words.old.items ++ (if single then record { word = word.Single; place = place }
         ∷ [] else [])) }
@@ -104,6 +106,7 @@ fn mark_words(single: bool, place: Place, words: &mut Vec<Modifier>) -> Result<(
 
 // ---- methods
 
+// For the prover: a disjunction as a call with a contract.
 fn either(a: bool, b: bool) -> bool
     ensures { result ≡ (a || b) }
 {
@@ -125,7 +128,7 @@ fn mark_method(alloc: Global, marks: &[Mark], m: &mut Method) -> Result<(), Memo
     Ok(())
 }
 
-/// Marks each of these methods.
+/// Adds the annotations of a marking to each of these methods. Errors only if it runs out of memory.
 pub fn mark_methods(alloc: Global, marks: &[Mark], ms: &mut Vec<Method>) -> Result<(), Memory>
     ensures { OnOk result (map numbered_method_of ms.new.items ≡ map (marked_method (marks_of marks.now))
         (map numbered_method_of ms.old.items)) }

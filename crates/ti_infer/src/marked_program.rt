@@ -1,4 +1,4 @@
-// The program in which what is marked is single.
+// The program with the annotations of a marking.
 ghost use Rattle.std.specs.Prelude.{◌≡◌, false, IfOk};
 ghost use Rattle.ti_lang.specs.Program.Views.{program_of};
 ghost use Rattle.ti_blame.specs.Marks.{marks_of};
@@ -11,6 +11,7 @@ use std::alloc::Global;
 use ti_base::Memory;
 use ti_lang::program::{Parts, Program};
 
+// The parts of the program with the annotations of the marking added to its methods.
 fn marked_parts(alloc: Global, parts: Parts, m: &Marking) -> Result<Parts, Memory>
     ensures { IfOk result (λ q. program_of q ≡ marked (marks_of m.now) (program_of parts)) }
 {
@@ -27,10 +28,11 @@ fn marked_parts(alloc: Global, parts: Parts, m: &Marking) -> Result<Parts, Memor
     )
 }
 
-/// The program with `single` where a marking says so: behind the other words of methods, of results and of what is declared, at the
-/// place of the name. Each use of a variable says of it what its declaration does.
+/// Adds the annotations of a marking to a program: the keyword `single` after the other modifiers or qualifiers of methods, results and
+/// declared types, with the place of the name. Each use of a variable is made to agree with its declaration.
 ///
-/// The program bears no `single` but at `main`, which isn't marked: its word is there.
+/// The program must have no keyword `single` except at `main` and in casts, and the marking must not annotate `main`, which has its
+/// `single` already. Errors only if it runs out of memory.
 pub fn marked(alloc: Global, p: Program, m: &Marking) -> Result<Program, Memory>
     requires stripped { stripped (program_of p.parts) ≡ program_of p.parts }
     requires main { marks_main (marks_of m.now) (program_of p.parts) ≡ false }

@@ -1,4 +1,4 @@
-// Statements in which what is marked is single.
+// Adds the annotations of a marking to statements.
 ghost use Rattle.std.specs.Prelude.{◌≡◌, false, map, get_or, OnOk};
 ghost use Rattle.std.specs.List.{list_any};
 ghost use Rattle.ti_lang.specs.Program.Views.{type_use_of, statement_of};
@@ -13,7 +13,7 @@ use ti_base::{Memory, Place};
 use ti_blame::{Mark, MarkKind};
 use ti_lang::program::{Stmt, TypeUse};
 
-/// Which variables of a method are marked, by their numbers.
+/// Which variables of a method are annotated, by their numbers.
 #[derive(Drop)]
 pub struct MarkedVariables {
     pub singles: Vec<bool>,
@@ -30,9 +30,9 @@ impl Singles for MarkedVariables {
     }
 }
 
-// ---- marks
+// ---- annotations
 
-/// Whether this is one of the marks.
+/// Whether a marking has the annotation of this kind at this place.
 pub fn is_marked(marks: &[Mark], kind: MarkKind, place: Place) -> bool
     ensures { result ≡ list_any (is_mark kind place) marks.now }
 {
@@ -40,7 +40,7 @@ pub fn is_marked(marks: &[Mark], kind: MarkKind, place: Place) -> bool
     marks.iter().any(|other| is_mark(mark, *other))
 }
 
-/// Marks a type at a place, or says that it's not single.
+/// Makes a type single with the qualifier at this place, or clears its flag.
 pub fn mark_if(single: bool, place: Place, t: &mut TypeUse) -> Result<(), Memory>
     ensures { OnOk result (type_use_of t.new ≡ marked_type single place (type_use_of t.old)) }
 {
@@ -53,7 +53,8 @@ pub fn mark_if(single: bool, place: Place, t: &mut TypeUse) -> Result<(), Memory
 
 // ---- statements
 
-/// Marks the variables that these statements declare, and says of each use of one whether it's marked.
+/// Annotates the variables that these statements declare, and makes each use of a variable agree with its declaration. Errors only if it
+/// runs out of memory.
 #[cycle(mark_statement)]
 pub fn mark_statements(
     marks: &[Mark],

@@ -1,4 +1,5 @@
-// What falls with what in methods and programs.
+// The reasons and constraints of methods and programs. All reasons are in one list, so that a constraint can refer to
+// those of a statement by a range of indices.
 ghost use Rattle.std.specs.Prelude.{◌≡◌, ◌<◌, ◌≤◌, ◌+◌, ◌^◌, ◌++◌, [], map, flat_map, length, slice_get, Some, OnOk, IfOk, IfErr};
 ghost use Rattle.ti_lang.specs.Program.Scope.{parameters};
 ghost use Rattle.ti_lang.specs.Program.Statements.{numbered_stms};
@@ -21,7 +22,7 @@ use ti_single::listed_statements;
 
 // ---- the statements of a method
 
-// The next number, unless that is too large.
+// The next number. Errors if it doesn't fit in 32 bits.
 fn number_after(number: u32) -> Result<u32, Memory>
     ensures next { IfOk result (λ n. n ≡ number + 1) }
     ensures large { IfErr result (λ _. 2 ^ 32 ≤ number + 1) }
@@ -32,6 +33,7 @@ fn number_after(number: u32) -> Result<u32, Memory>
     }
 }
 
+// What makes parameters single: the annotation of each.
 fn inside_params(alloc: Global, ws: &[Param]) -> Result<Vec<Inside>, Memory>
     ensures { IfOk result (λ v. inside_of v.items ≡ params_inside 0 (map numbered_param_of ws.now)) }
 {
@@ -49,6 +51,7 @@ fn inside_params(alloc: Global, ws: &[Param]) -> Result<Vec<Inside>, Memory>
     Ok(found)
 }
 
+// The number of reasons that the result of a method is: 1, or 0 for `void`.
 fn result_size(site: Site) -> usize
     ensures { result ≡ length (result_reasons (program_at site.entry) (method_at site.entry) (method_at site.entry).result) }
 {
@@ -58,7 +61,8 @@ fn result_size(site: Site) -> usize
     }
 }
 
-// The reasons of the method of the number stand from a place on, and those of its statements behind that of its result.
+// Appends the constraints of the statements of method number `number`. The reasons of the method begin at index `i`, with that of its
+// result, if it has one.
 fn body_edges(
     alloc: Global,
     site: Site,
@@ -95,13 +99,14 @@ fn body_edges(
 
 // ---- methods
 
+// For the prover: the length as a call with a contract.
 fn count(items: &Vec<Blame>) -> usize
     ensures { result ≡ length items.now.items }
 {
     items.len()
 }
 
-// The reasons of the whole of a method.
+// Appends the reasons of a method, and returns the range of their indices.
 fn whole_reasons(site: Site, items: &mut Vec<Blame>) -> Result<Then, Memory>
     ensures items { OnOk result (items.new.items ≡ items.old.items ++ return_reasons (program_at site.entry) (method_at site.entry)) }
     ensures whole { IfOk result (λ w. w ≡ whole_of (program_at site.entry) (method_at site.entry) (length items.old.items)) }
@@ -111,7 +116,7 @@ fn whole_reasons(site: Site, items: &mut Vec<Blame>) -> Result<Then, Memory>
     Ok(Then::Between(i, count(items)))
 }
 
-// The reasons of the method of the number, and what falls with what in it.
+// Appends the reasons and the constraints of method number `number`.
 fn method_edges(
     alloc: Global,
     p: &Program,
@@ -140,7 +145,7 @@ fn method_edges(
 
 // ---- programs
 
-// A number of a method, unless it is too large.
+// An index as the number of a method. Errors if it doesn't fit in 32 bits.
 fn numbered(i: usize) -> Result<u32, Memory>
     ensures number { IfOk result (λ n. n ≡ i) }
     ensures large { IfErr result (λ _. 2 ^ 32 ≤ i) }
@@ -151,14 +156,14 @@ fn numbered(i: usize) -> Result<u32, Memory>
     }
 }
 
-/// The reasons of a program, and what falls with what in it.
+/// The reasons of a program (`items`) and its constraints (`edges`), which refer to them by index.
 #[derive(Drop)]
 pub struct Found {
     pub items: Vec<Blame>,
     pub edges: Vec<Edge>,
 }
 
-/// Those of a program.
+/// The reasons and the constraints of a program. Errors if it runs out of memory or an index gets too large.
 pub fn program_edges(alloc: Global, p: &Program) -> Result<Found, Memory>
     ensures items { IfOk result (λ f. f.items.items ≡ all_reasons (program_of p.now.parts)) }
     ensures edges { IfOk result (λ f. f.edges.items ≡ program_edges (program_of p.now.parts)) }
@@ -173,6 +178,7 @@ pub fn program_edges(alloc: Global, p: &Program) -> Result<Found, Memory>
     Ok(Found { items, edges })
 }
 
+// For the prover: the method at an index, as the specification sees it.
 fn method_of(methods: &[Method], i: usize) -> &Method
     requires { i < length methods.now }
     ensures { slice_get (map numbered_method_of methods.now) i ≡ Some (numbered_method_of result.now) }
@@ -180,7 +186,7 @@ fn method_of(methods: &[Method], i: usize) -> &Method
     &methods[i]
 }
 
-// The method of a number.
+// The method with this number.
 fn method_at(p: &Program, i: usize) -> &Method
     requires { i < length p.now.parts.methods.items }
     ensures { slice_get (program_of p.now.parts).methods i ≡ Some (numbered_method_of result.now) }

@@ -1,4 +1,4 @@
-// What can be marked.
+// Which annotations a method could have.
 ghost use Rattle.std.specs.Prelude.{◌≡◌, ◌++◌, map, OnOk};
 ghost use Rattle.ti_lang.specs.Program.Views.{numbered_param_of, numbered_result_of, numbered_method_of};
 ghost use Rattle.ti_infer.specs.Names.{variable_name, param_name, result_names, method_names};
@@ -50,7 +50,8 @@ fn of_locals(found: &[Local], out: &mut Vec<Mark>) -> Result<(), Memory>
     Ok(())
 }
 
-/// What can be marked in a method: itself, its result, its parameters and its variables.
+/// Appends the annotations that a method could have: its own, that of its result unless it's `void`, those of its parameters and those of
+/// its local variables.
 pub fn method_names(alloc: Global, m: &Method, out: &mut Vec<Mark>) -> Result<(), Memory>
     ensures { OnOk result (out.new.items ≡ out.old.items ++ method_names (numbered_method_of m.now)) }
 {

@@ -1,4 +1,4 @@
-// The places of the variables of a method, by their numbers.
+// A table of the places at which the variables of a method are declared, by their numbers.
 ghost use Rattle.std.specs.Prelude.{◌≡◌, ◌<◌, ℕ, map, length, get_or, slice_set, is_none, Some, None, OnOk, IfOk};
 ghost use Rattle.ti_lang.specs.Program.Views.{numbered_param_of, numbered_params_of, numbered_method_of};
 ghost use Rattle.ti_infer.specs.Marks.{variable_place};
@@ -10,7 +10,7 @@ use std::alloc::Global;
 use ti_base::{Memory, Place};
 use ti_lang::program::{Method, Param, Params};
 
-/// The parameters of a method, which are none where it takes its words.
+/// The declared parameters of a method; none for the form `String[] args`.
 pub fn listed_params(params: &Params) -> &[Param]
     ensures { map numbered_param_of result.now ≡ params_of (numbered_params_of params.now) }
 {
@@ -20,7 +20,7 @@ pub fn listed_params(params: &Params) -> &[Param]
     }
 }
 
-// Makes room for the place of a number.
+// Extends the table so that the number is an index of it.
 fn make_room(places: &mut Vec<Option<Place>>, number: usize) -> Result<(), Memory>
     ensures same { (n : ℕ) → get_or places.new.items n None ≡ get_or places.old.items n None }
     ensures room { OnOk result (number < length places.new.items) }
@@ -31,6 +31,7 @@ fn make_room(places: &mut Vec<Option<Place>>, number: usize) -> Result<(), Memor
     Ok(())
 }
 
+// For the prover: reads one entry of the table.
 fn is_empty_at(places: &Vec<Option<Place>>, number: usize) -> bool
     requires { number < length places.now.items }
     ensures { result ≡ is_none (get_or places.now.items number None) }
@@ -38,6 +39,7 @@ fn is_empty_at(places: &Vec<Option<Place>>, number: usize) -> bool
     places[number].is_none()
 }
 
+// For the prover: writes one entry of the table.
 fn set_at(places: &mut Vec<Option<Place>>, number: usize, at: Place)
     requires { number < length places.old.items }
     ensures { places.new.items ≡ slice_set places.old.items number (Some at) }
@@ -45,7 +47,7 @@ fn set_at(places: &mut Vec<Option<Place>>, number: usize, at: Place)
     places[number] = Some(at);
 }
 
-// Notes a place where there is none yet.
+// Enters a place for a number that has none yet; the first one stays.
 fn note(places: &mut Vec<Option<Place>>, number: usize, at: Place) -> Result<(), Memory>
     ensures { OnOk result (AreAdded places.old.items places.new.items (place_if number at)) }
 {
@@ -75,7 +77,8 @@ fn of_params(alloc: Global, params: &[Param]) -> Result<Vec<Option<Place>>, Memo
     Ok(found)
 }
 
-/// The places of the variables of a method.
+/// The places at which the variables of a method are declared, by their numbers: its parameters, and its local variables. Errors only if
+/// it runs out of memory.
 pub fn places(alloc: Global, m: &Method) -> Result<Vec<Option<Place>>, Memory>
     ensures { IfOk result (λ v. (number : ℕ) → place_in v.items number ≡ variable_place (numbered_method_of m.now) number) }
 {

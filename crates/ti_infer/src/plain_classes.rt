@@ -1,4 +1,4 @@
-// Classes without `single`.
+// Removes `single` from classes.
 ghost use Rattle.std.specs.Prelude.{◌≡◌, map};
 ghost use Rattle.ti_lang.specs.Program.Views.{numbered_field_of, numbered_class_of};
 ghost use Rattle.ti_infer.specs.Stripped.{plain_field, plain_class};
@@ -25,7 +25,7 @@ impl Stripped for Class {
     }
 }
 
-/// Takes the word away from each of these classes.
+/// Removes `single` from the fields of each of these classes.
 #[tactic(auto, using(crate::proofs::PlainParts::plain_lists))]
 pub fn strip_classes(classes: &mut Vec<Class>)
     ensures { map numbered_class_of classes.new.items ≡ map plain_class (map numbered_class_of classes.old.items) }

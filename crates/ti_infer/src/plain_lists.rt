@@ -1,17 +1,17 @@
-// Lists whose elements have words `single` to lose.
+// Removes `single` from each element of a list.
 ghost use Rattle.ti_lang.specs.Mirrors.Copies.{AreSame};
 
-/// What the word `single` can be taken away from, where it stands.
+/// A value from which the keyword `single` can be removed in place.
 pub trait Stripped {
-    /// When the second is the first without the word.
+    /// Whether the second value is the first without the keyword.
     ghost plain: { Self → Self → Type 0 };
 
-    /// Takes the word away.
+    /// Removes the keyword.
     fn strip(&mut self)
         ensures { plain self.old self.new };
 }
 
-/// Takes the word away from each element.
+/// Removes the keyword from each element.
 pub fn strip_each<T: Stripped>(xs: &mut Vec<T>)
     ensures { AreSame T.plain xs.old.items xs.new.items }
 {

@@ -1,4 +1,4 @@
-// Methods without `single`, but at `main`.
+// Removes `single` from methods, except from the modifiers of `main`.
 ghost use Rattle.std.specs.Prelude.{◌≡◌, map};
 ghost use Rattle.ti_lang.specs.Program.Views.{numbered_param_of, numbered_params_of, numbered_result_of, numbered_method_of};
 ghost use Rattle.ti_infer.specs.Stripped.{plain_type, plain_params, plain_result, plain_method, plain_methods};
@@ -33,7 +33,7 @@ fn strip_result(ty: &mut ResultType)
     }
 }
 
-// `main` keeps its words.
+// Removes `single` from a method; `main` keeps its modifiers.
 fn strip_method(is_main: bool, m: &mut Method)
     ensures { numbered_method_of m.new ≡ plain_method is_main (numbered_method_of m.old) }
 {
@@ -46,7 +46,7 @@ fn strip_method(is_main: bool, m: &mut Method)
     strip_statements(&mut m.body);
 }
 
-/// Takes the word away from each of these methods, in `main` from what stands in it alone.
+/// Removes `single` from these methods. Method number `main` keeps its modifiers; its result, parameters and body don't keep theirs.
 pub fn strip_methods(main: u32, methods: &mut Vec<Method>)
     ensures { map numbered_method_of methods.new.items ≡ plain_methods main 0 (map numbered_method_of methods.old.items) }
 {

@@ -1,4 +1,4 @@
-// The program without `single` at anything but `main`.
+// Removes `single` from a program, except at `main`.
 ghost use Rattle.std.specs.Prelude.{◌≡◌};
 ghost use Rattle.ti_lang.specs.Program.Views.{program_of};
 ghost use Rattle.ti_infer.specs.Stripped.{stripped};
@@ -14,8 +14,8 @@ fn strip_parts(parts: &mut Parts)
     strip_methods(parts.main, &mut parts.methods);
 }
 
-/// The program without its words `single`, but at `main` and in casts: none of its other declarations is single. It stands in the
-/// room of the one that was given.
+/// Removes the keyword `single` from a program, except at `main` and in casts; no other declaration is single afterwards. Works in place
+/// and doesn't allocate.
 pub fn stripped(p: Program) -> Program
     ensures { program_of result.parts ≡ stripped (program_of p.parts) }
 {

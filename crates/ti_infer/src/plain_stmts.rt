@@ -1,4 +1,4 @@
-// Statements without `single`.
+// Removes `single` from statements.
 ghost use Rattle.std.specs.Prelude.{◌≡◌, map};
 ghost use Rattle.ti_lang.specs.Program.Views.{initial_of, statement_of};
 ghost use Rattle.ti_infer.specs.Stripped.{plain_init, plain_stm};
@@ -16,7 +16,7 @@ fn strip_initial(value: &mut Init)
     }
 }
 
-/// Takes the word away from each of these statements.
+/// Removes `single` from each of these statements.
 #[cycle(strip_statement)]
 pub fn strip_statements(xs: &mut Vec<Stmt>)
     ensures { map statement_of xs.new.items ≡ map plain_stm (map statement_of xs.old.items) }

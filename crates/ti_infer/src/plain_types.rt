@@ -1,4 +1,4 @@
-// Words and types without `single`.
+// Removes `single` from modifiers, qualifiers and types.
 ghost use Rattle.std.specs.Prelude.{◌≡◌, not};
 ghost use Rattle.ti_syntax.specs.Trees.Views.{grid_of};
 ghost use Rattle.ti_lang.specs.Members as modifiers;
@@ -32,7 +32,7 @@ fn strip_qualifiers(words: &mut Vec<Qualifier>)
     );
 }
 
-/// Takes the word away from modifiers.
+/// Removes `single` from a list of modifiers.
 pub fn strip_modifiers(words: &mut Vec<Modifier>)
     ensures { words.new.items ≡ plain_modifiers words.old.items }
 {
@@ -51,7 +51,7 @@ impl Stripped for Brackets {
     }
 }
 
-/// Takes the word away from a type, behind its base and its grids.
+/// Removes `single` from a type: clears its flag, and removes it from the qualifiers after its base type and after each pair of brackets.
 #[tactic(auto, using(crate::proofs::PlainParts::plain_lists))]
 pub fn strip_type(t: &mut TypeUse)
     ensures { type_use_of t.new ≡ plain_type (type_use_of t.old) }

@@ -1,4 +1,5 @@
-// Why statements act.
+// The reasons for which a statement has global effects: the collectives in it, the methods that it calls, and the variables that it
+// declares or assigns.
 ghost use Rattle.std.specs.Prelude.{◌≡◌, ◌++◌, ◌∷◌, [], map, length, OnOk, IfOk};
 ghost use Rattle.std.specs.Option.{option_map};
 ghost use Rattle.ti_lang.specs.Program.Expressions.{place_of_numbered};
@@ -32,8 +33,9 @@ fn push(found: Option<Blame>, out: &mut Vec<Blame>) -> Result<(), Memory>
     Ok(())
 }
 
-// ---- what stands whole
+// ---- expressions
 
+// A called method, as a reason; `Always` if it is single already.
 fn called(m: Option<&Method>) -> Option<Blame>
     ensures { listed result ≡ method_reasons (option_map (λ m. numbered_method_of m.now) m.entry) }
 {
@@ -65,6 +67,7 @@ fn is_collective_call(site: Site, e: &Expr) -> bool
     }
 }
 
+// The collective that an expression is, as a reason.
 fn collective(site: Site, e: &Expr) -> Option<Blame>
     ensures { listed result ≡ guarded (is_collective_call (program_at site.entry) (this_of (method_at site.entry)) (expression_of e.now))
         (OfCollective (place_of_numbered (expression_of e.now)) ∷ []) }
@@ -76,6 +79,7 @@ fn collective(site: Site, e: &Expr) -> Option<Blame>
     }
 }
 
+// Appends the reasons of an expression that is a whole statement or right side: what it calls.
 #[tactic(auto, using(crate::proofs::Pushing::pushing))]
 fn acts(site: Site, e: &Expr, out: &mut Vec<Blame>) -> Result<(), Memory>
     ensures { OnOk result (out.new.items ≡ out.old.items ++ acts_reasons (program_at site.entry) (method_at site.entry)
@@ -86,6 +90,7 @@ fn acts(site: Site, e: &Expr, out: &mut Vec<Blame>) -> Result<(), Memory>
     push(collective(site, e), out)
 }
 
+// Appends the reasons of a right side.
 fn initial(site: Site, value: &Init, out: &mut Vec<Blame>) -> Result<(), Memory>
     ensures { OnOk result (out.new.items ≡ out.old.items ++ initial_reasons (program_at site.entry) (method_at site.entry)
         (initial_of value.now)) }
@@ -101,7 +106,7 @@ fn initial(site: Site, value: &Init, out: &mut Vec<Blame>) -> Result<(), Memory>
 
 // ---- targets
 
-/// The place of the variable of a number.
+/// The place of the declaration of the variable with this number; `None` if there is none.
 pub fn place_at(site: Site, number: u32) -> Option<Place>
     ensures { result ≡ variable_place (method_at site.entry) number }
 {
@@ -126,7 +131,7 @@ fn declared(site: Site, v: &Variable) -> Option<Blame>
     }
 }
 
-/// The variable that is assigned to, where it's a declared one.
+/// The assigned variable, as a reason; `None` if the target is a foreach variable or no variable.
 #[tactic(auto, using(ti_lang::proofs::Lemmas::program_bridges))]
 pub fn target(site: Site, e: &Expr) -> Option<Blame>
     ensures { listed result ≡ target_reasons (program_at site.entry) (method_at site.entry) (expression_of e.now) }
@@ -139,7 +144,7 @@ pub fn target(site: Site, e: &Expr) -> Option<Blame>
 
 // ---- statements
 
-/// Why one of these statements acts.
+/// Appends the reasons for which these statements have global effects, in source order.
 #[cycle(reasons)]
 pub fn reasons_of_all(site: Site, xs: &[Stmt], out: &mut Vec<Blame>) -> Result<(), Memory>
     ensures { OnOk result (out.new.items ≡ out.old.items ++ reasons_of_all (program_at site.entry) (method_at site.entry)
@@ -151,6 +156,7 @@ pub fn reasons_of_all(site: Site, xs: &[Stmt], out: &mut Vec<Blame>) -> Result<(
     Ok(())
 }
 
+/// Appends the reasons of an optional statement.
 #[cycle(reasons)]
 pub fn reasons_of_maybe(
     site: Site,
@@ -166,7 +172,7 @@ pub fn reasons_of_maybe(
     }
 }
 
-/// Why a statement acts.
+/// Appends the reasons for which a statement has global effects, including those of the statements in it.
 #[cycle(reasons)]
 #[tactic(auto, using(ti_lang::proofs::Lemmas::program_bridges, crate::proofs::Pushing::pushing))]
 pub fn reasons(site: Site, x: &Stmt, out: &mut Vec<Blame>) -> Result<(), Memory>
@@ -227,7 +233,7 @@ pub fn reasons(site: Site, x: &Stmt, out: &mut Vec<Blame>) -> Result<(), Memory>
 
 // ---- methods
 
-/// The result of the method, where it has one.
+/// The result of the method, as a reason; `None` if it is `void`.
 pub fn result(site: Site, t: &ResultType) -> Option<Blame>
     ensures { listed result ≡ result_reasons (program_at site.entry) (method_at site.entry) (numbered_result_of t.now) }
 {
@@ -237,7 +243,7 @@ pub fn result(site: Site, t: &ResultType) -> Option<Blame>
     }
 }
 
-/// Why a `return` of the method has an effect.
+/// Appends the reasons for which a `return` of the method has global effects: its result, and the reasons of all its statements.
 #[tactic(auto, using(crate::proofs::Pushing::pushing))]
 pub fn returning(site: Site, out: &mut Vec<Blame>) -> Result<(), Memory>
     ensures { OnOk result (out.new.items ≡ out.old.items ++ return_reasons (program_at site.entry) (method_at site.entry)) }
@@ -246,9 +252,9 @@ pub fn returning(site: Site, out: &mut Vec<Blame>) -> Result<(), Memory>
     reasons_of_all(site, listed_statements(&site.method.body), out)
 }
 
-// ---- how many
+// ---- counts
 
-/// How many reasons a statement has to act.
+/// The number of reasons of a statement. Errors only if it runs out of memory.
 pub fn size(alloc: Global, site: Site, x: &Stmt) -> Result<usize, Memory>
     ensures { IfOk result (λ n. n ≡ length (reasons (program_at site.entry) (method_at site.entry) (statement_of x.now))) }
 {
@@ -257,7 +263,7 @@ pub fn size(alloc: Global, site: Site, x: &Stmt) -> Result<usize, Memory>
     Ok(found.len())
 }
 
-/// The same of a statement, if there is one.
+/// The number of reasons of an optional statement: 0 if there is none. Errors only if it runs out of memory.
 pub fn size_of_maybe(alloc: Global, site: Site, x: &Option<Box<Stmt>>) -> Result<usize, Memory>
     ensures { IfOk result (λ n. n ≡ length (reasons_of_maybe (program_at site.entry) (method_at site.entry) (maybe_in x.now))) }
 {

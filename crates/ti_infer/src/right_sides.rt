@@ -1,4 +1,4 @@
-// What falls with what by what stands whole.
+// Constraints of expressions that are a whole statement or right side: only these can be calls and collectives.
 ghost use Rattle.std.specs.Prelude.{◌≡◌, ◌++◌, ◌∷◌, [], map, OnOk, if◌then◌else◌};
 ghost use Rattle.std.specs.Option.{option_map};
 ghost use Rattle.ti_lang.specs.Program.Expressions.{numbered_exps};
@@ -35,7 +35,7 @@ fn is_deleting(site: Site, receiver: &Expr, name: u32) -> bool
     is_delete(built_in(site, receiver, name))
 }
 
-// A collective that wants a single expression.
+// Appends constraints of a collective at a place: unless the expression is single, the collective is ruled out.
 fn wanting(
     alloc: Global,
     site: Site,
@@ -51,7 +51,7 @@ fn wanting(
     one_each(&found, Then::One(Blame::OfCollective(at)), out)
 }
 
-// A member form that deletes a region.
+// Appends the constraints of a member that deletes a region, whose receiver has to be single; none for other members.
 fn deleting(
     alloc: Global,
     site: Site,
@@ -72,7 +72,7 @@ fn deleting(
     }
 }
 
-// A member form or a call by a name behind an object.
+// Appends the constraints of a member form: those of its arguments if it calls a method, and those of a deletion.
 #[tactic(auto, using(crate::proofs::Pushing::pushing))]
 fn member(
     alloc: Global,
@@ -93,7 +93,7 @@ fn member(
     deleting(alloc, site, inside, at, receiver, name, out)
 }
 
-// A call by a name.
+// Appends the constraints of a call by a method's name.
 fn named(
     alloc: Global,
     site: Site,
@@ -111,7 +111,7 @@ fn named(
     call(alloc, site, whole, inside, m, args, out)
 }
 
-/// An expression that stands whole.
+/// Appends the constraints of an expression that is a whole statement or right side. `target` are the reasons of the method around it.
 #[tactic(auto, using(ti_lang::proofs::Lemmas::program_bridges))]
 pub fn whole(
     alloc: Global,
@@ -168,7 +168,7 @@ pub fn whole(
     }
 }
 
-/// A right side.
+/// Appends the constraints of a right side, without those of what it is assigned to. The root of a broadcast has to be single.
 pub fn initial(
     alloc: Global,
     site: Site,

@@ -1,4 +1,4 @@
-// Where variables are used: whether each is single.
+// Sets whether each use of a variable is single, for expressions and the parts of statements.
 ghost use Rattle.std.specs.Prelude.{◌≡◌, ℕ, Bool, false, map, option_map};
 ghost use Rattle.ti_syntax.specs.Trees.Views.{maybe_of};
 ghost use Rattle.ti_lang.specs.Program.Views.{expression_of, bound_of, extent_of, initial_of, printed_of, variable_of};
@@ -10,7 +10,7 @@ use ti_lang::program::{Declared, Dims, Expr, Init, Printed, Range, Variable};
 pub trait Singles {
     ghost says: { Self → ℕ → Bool };
 
-    /// Whether the variable of a number is single.
+    /// Whether the variable with this number is single.
     fn is_single(&self, number: u32) -> bool
         ensures { result ≡ says self.now number };
 }
@@ -75,7 +75,8 @@ fn set_in_range<S: Singles>(singles: &S, range: &mut Range)
     }
 }
 
-/// Each use of a variable in an expression says whether it is single.
+/// Sets at each use of a variable in an expression whether it is single. Uses of foreach variables don't state this and are left as they
+/// are.
 #[cycle(set_uses)]
 pub fn set_uses<S: Singles>(singles: &S, x: &mut Expr)
     ensures { expression_of x.new ≡ marked_exp (S.says singles.now) (expression_of x.old) }
@@ -116,7 +117,7 @@ pub fn set_uses<S: Singles>(singles: &S, x: &mut Expr)
     }
 }
 
-/// The same in an expression that may be left out.
+/// Sets in an optional expression whether each use of a variable is single.
 pub fn set_in_maybe<S: Singles>(singles: &S, x: &mut Option<Expr>)
     ensures { maybe_of expression_of x.new ≡ option_map (marked_exp (S.says singles.now)) (maybe_of expression_of x.old) }
 {
@@ -136,7 +137,7 @@ fn set_in_dims<S: Singles>(singles: &S, dims: &mut Dims)
     }
 }
 
-/// The same in a right side; the type of the elements of a new grid stays.
+/// Sets in a right side whether each use of a variable is single. The element type of a new grid isn't changed.
 pub fn set_in_initial<S: Singles>(singles: &S, value: &mut Init)
     ensures { initial_of value.new ≡ marked_init (S.says singles.now) (initial_of value.old) }
 {
@@ -155,7 +156,7 @@ pub fn set_in_initial<S: Singles>(singles: &S, value: &mut Init)
     }
 }
 
-/// The same in what a print writes.
+/// Sets in what a print writes whether each use of a variable is single.
 pub fn set_in_printed<S: Singles>(singles: &S, what: &mut Printed)
     ensures { printed_of what.new ≡ marked_print (S.says singles.now) (printed_of what.old) }
 {

@@ -1,4 +1,4 @@
-// What falls with what by statements, with the statements in them.
+// Generates the constraints of statements, including those of the statements in them.
 ghost use Rattle.std.specs.Prelude.{◌≡◌, ◌++◌, map, OnOk, IfOk};
 ghost use Rattle.ti_syntax.specs.Trees.Views.{maybe_of};
 ghost use Rattle.ti_lang.specs.Program.Scope.{contents_of, this_of};
@@ -22,9 +22,10 @@ use ti_blame::{Edge, Then};
 use ti_lang::program::{Expr, Scope, Stmt};
 use ti_single::{boxed_initial, boxed_statement, listed_statements};
 
-// ---- of a statement apart from those in it
+// ---- constraints of one statement, without its sub-statements
 
-// With what a plain condition of an `if` falls.
+// Constraints of the condition of an `if`, whose effects are those of the whole statement `x`: unless the condition is single, they are
+// ruled out.
 fn own_if(
     alloc: Global,
     a: Around,
@@ -41,7 +42,7 @@ fn own_if(
     condition(alloc, a, c, &whats, out)
 }
 
-// What falls with a plain condition of a loop without update, and with a jump out of it.
+// What the condition of a loop without update rules out unless it's single; a jump out of the loop rules out the same.
 fn body_targets(alloc: Global, a: Around, i: usize, body: &Stmt) -> Result<Vec<Then>, Memory>
     ensures { IfOk result (λ v. v.items ≡ loop_targets (program_at a.entry.site) (method_at a.entry.site) a.entry.whole i NoStm
         (statement_of body.now)) }
@@ -50,7 +51,7 @@ fn body_targets(alloc: Global, a: Around, i: usize, body: &Stmt) -> Result<Vec<T
     loop_targets(alloc, a.site, a.whole, i, &none, body)
 }
 
-// What falls by a `for`.
+// Constraints of a `for` by its condition, which rules out `whats` unless it's single, and by jumps in its update.
 #[tactic(auto, using(crate::proofs::Pushing::pushing))]
 fn own_for(
     alloc: Global,
@@ -68,9 +69,9 @@ fn own_for(
     update_jumps(a, update, out)
 }
 
-// ---- in a foreach
+// ---- the body of a foreach
 
-// With other variables in scope, and what those of foreach loops ask for.
+// For the prover: the context `a` with another scope and other foreach variables.
 fn within<'a>(a: Around<'a>, scope: &'a Scope, inside: &'a [Inside]) -> Around<'a>
     requires { scope.now.this ≡ a.scope.now.this }
     ensures { edges_around result ≡ edges_with a.entry.site a.entry.whole (contents_of scope.now).variables (inside_of inside.now) }
@@ -85,7 +86,8 @@ fn within<'a>(a: Around<'a>, scope: &'a Scope, inside: &'a [Inside]) -> Around<'
 
 // ---- statements
 
-/// What falls with what by statements, whose reasons stand from a place on.
+/// Appends the constraints of some statements and of those in them. The reasons of the statements begin at index `i` of the program's
+/// list of reasons; a jump out of the innermost loop has the effects `jump`.
 #[cycle(walk)]
 pub fn statements(
     alloc: Global,
@@ -105,7 +107,7 @@ pub fn statements(
     Ok(())
 }
 
-// The same of one statement, if there is one.
+// Appends the constraints of a statement, if there is one; its reasons begin at index `i`.
 #[cycle(walk)]
 fn maybe(
     alloc: Global,
@@ -123,7 +125,7 @@ fn maybe(
     }
 }
 
-// The same of one statement.
+// Appends the constraints of a statement and of those in it; its reasons begin at index `i`.
 #[cycle(walk)]
 #[tactic(auto, using(ti_lang::proofs::Lemmas::program_bridges, crate::proofs::Pushing::pushing))]
 fn statement(

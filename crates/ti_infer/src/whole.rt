@@ -1,4 +1,4 @@
-// What can be marked in a program, and marks that can't stand where they do.
+// Of a whole program: which annotations are possible, and the constraints that rule out those that aren't allowed where they would be.
 ghost use Rattle.std.specs.Prelude.{◌≡◌, ◌++◌, map, flat_map, OnOk, IfOk};
 ghost use Rattle.ti_lang.specs.Program.Views.{program_of, numbered_method_of};
 ghost use Rattle.ti_infer.specs.Names.{method_names, names_of};
@@ -20,7 +20,8 @@ fn names_in(alloc: Global, ms: &[Method], out: &mut Vec<Mark>) -> Result<(), Mem
     Ok(())
 }
 
-/// All that can be marked in a program.
+/// All annotations that a program could have: of its methods, their results, parameters and local variables. Errors only if it runs out
+/// of memory.
 pub fn names(alloc: Global, p: &Program) -> Result<Vec<Mark>, Memory>
     ensures { IfOk result (λ v. v.items ≡ names_of (program_of p.now.parts)) }
 {
@@ -38,7 +39,8 @@ fn fits_in(alloc: Global, ms: &[Method], out: &mut Vec<Edge>) -> Result<(), Memo
     Ok(())
 }
 
-/// What falls in a program since it can't stand where it does.
+/// Appends the constraints that rule out annotations not allowed where they would be, and tie those of parameters to that of their
+/// method.
 pub fn fits(alloc: Global, p: &Program, out: &mut Vec<Edge>) -> Result<(), Memory>
     ensures { OnOk result (out.new.items ≡ out.old.items ++ fit_edges (program_of p.now.parts)) }
 {

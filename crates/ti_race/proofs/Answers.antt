@@ -1,4 +1,4 @@
--- What a process is answered in two histories in which it has the same entries.
+-- A process receives the same results in two histories in which it has the same entries.
 use Rattle.std.proofs.Common.{◌≡◌, ℕ, suc, ◌+◌, ◌≤◌, ◌==◌, nat_lt, Bool, true, false, ◌&&◌, not, cond, if◌then◌else◌, count_by, sum_by, Option, Some, None, List, ◌∷◌, ◌++◌, refl, ap, ap₂, sym, ◌∙◌, subst, arith}
 use Rattle.std.specs.Option.{option_map, option_and_then, option_map_or}
 use Rattle.ti_base.specs.declared.value.Id.{Id}

@@ -1,4 +1,4 @@
--- Which domains a block may have.
+-- The test for domains of blocks accepts exactly the canonical domains with few enough points.
 use Rattle.std.proofs.Common.{◌≡◌, ◌↔◌, ap, ap₂, ℕ, ◌<◌, ◌≤◌, nat_le, leb-true, Bool, false, ◌&&◌, IsTrue, arith}
 use Rattle.ti_base.specs.declared.point.Rect.{Rect}
 use Rattle.ti_base.specs.Forms.{is_rect}

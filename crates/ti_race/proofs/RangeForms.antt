@@ -1,4 +1,4 @@
--- When a range is in its one form.
+-- The test for canonical ranges accepts exactly these.
 use Rattle.std.proofs.Common.{◌≡◌, ◌∙◌, ap, sym, ℕ, ◌+◌, ◌*◌, ◌/◌, ◌%◌, ◌<◌, ℤ, pos, ◌+ℤ◌, arith}
 use Rattle.std.proofs.lemmas.Int.{ints}
 use Rattle.std.proofs.Math.Nat.{mul-mod_left, div-add-mod, mul_comm, zero-mul}

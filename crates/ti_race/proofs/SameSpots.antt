@@ -1,4 +1,4 @@
--- Two uses clash as they are kept exactly where they clash as they are told.
+-- Two accesses clash in their stored form if and only if they clash in the specification.
 use Rattle.std.proofs.Common.{◌≡◌, ◌∙◌, refl, ap, ap₂, sym, subst, ℕ, ◌+◌, ◌==◌, ℤ, Bool, true, false, not, ◌&&◌, ◌||◌, if◌then◌else◌, All, map, filter, reverse, length, slice_get, codes, decimal, List, [], ◌∷◌, ◌++◌, Option, Some, None, arith, eq-eqb, eqb-true}
 use Rattle.std.specs.List.{list_any, flat_map}
 use Rattle.std.specs.Option.{option_map}

@@ -1,4 +1,4 @@
--- Views of views, where they are.
+-- Views of views are stored as the specification says, if they exist.
 use Rattle.std.proofs.Common.{◌≡◌, ◌↔◌, ℕ, ◌<◌, ◌≤◌, ◌==◌, nat_lt, Bool, true, false, ◌&&◌, if◌then◌else◌, Option, Some, None, Result, Ok, Err, refl, ap, ap₂, sym, ◌∙◌, subst, arith, eq-eqb, eqb-true, ltb-true, IfOk}
 use Rattle.std.proofs.lemmas.Bool.{ltb-false}
 use Rattle.std.specs.Result.{result_ok, result_err}

@@ -1,4 +1,4 @@
--- In a run the races of cells are those of what the entries tell.
+-- The races of a run are those that its entries determine without the program.
 use Rattle.std.proofs.Common.{◌≡◌, ◌⊎◌, inl, inr, ℕ, suc, ◌<◌, ◌==◌, Bool, true, false, not, ◌&&◌, ◌||◌, if◌then◌else◌, map, filter, reverse, length, slice_get, Option, Some, None, List, [], ◌∷◌, refl, ap, ap₂, sym, ◌∙◌, subst, arith, eq-eqb, eqb-true, nat_lt, ◌≤◌, ◌+◌, le-leb}
 use Rattle.std.proofs.lemmas.Bool.{ltb-false}
 use Rattle.std.specs.List.{list_any}

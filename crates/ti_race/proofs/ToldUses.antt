@@ -1,4 +1,4 @@
--- What one entry more makes of what is kept.
+-- One more entry updates the index and the list of accesses correctly.
 use Rattle.std.proofs.Common.{◌≡◌, ◌∙◌, refl, ap, sym, subst, ℕ, zero, suc, List, [], ◌∷◌, ◌++◌, All, reverse, length, slice_get, slice_index_or, Option, Some, None, IfSome}
 use Rattle.std.proofs.lemmas.List.{reverse-append, length-reverse, append-nil}
 use Rattle.std.proofs.lemmas.List.Elements.{All-append, All-nil, All-cons}

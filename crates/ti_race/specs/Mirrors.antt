@@ -1,4 +1,4 @@
--- Definitions that mirror code, as its private contracts speak of it: nobody has to believe them.
+-- Definitions that mirror the code. Only contracts of private functions and invariants cite them; callers rely on none of them.
 pub mod Lying
 pub mod Table
 pub mod Told

@@ -1,4 +1,4 @@
-// Which entries of a list stand in a race.
+// The entry points: which entries (events) of a list race.
 ghost use Rattle.std.specs.Prelude.{◌≡◌, List, map, IfOk};
 ghost use Rattle.ti_base.specs.declared.entry.Entry.{Entry as Listed};
 ghost use Rattle.ti_lang.specs.Program.Views.{program_of};
@@ -15,7 +15,7 @@ use std::alloc::Global;
 use ti_base::{Entry, Memory};
 use ti_lang::program::Program;
 
-// The numbers of the entries of these uses.
+// The numbers of the entries of these accesses.
 fn numbers_of(alloc: Global, uses: &[Use]) -> Result<Vec<u32>, Memory>
     ensures { IfOk result (λ numbers. numbers.items ≡ map (λ u. u.number) uses.now) }
 {
@@ -26,8 +26,8 @@ fn numbers_of(alloc: Global, uses: &[Use]) -> Result<Vec<u32>, Memory>
     Ok(numbers)
 }
 
-/// The numbers of the entries of any list that stand in a race, from 0 and rising. What an access goes to is told by the entries before it
-/// alone. The one error is want of memory.
+/// The numbers of the entries that race, of any list of entries, from 0 and increasing. Which memory location an access refers to is
+/// determined by the entries before it only. Errors if it runs out of memory, or if there are more than 2^32 - 1 entries.
 pub fn told_races(alloc: Global, entries: &[Entry]) -> Result<Vec<u32>, Memory>
     ensures { IfOk result (λ numbers. numbers.items ≡ races_told entries.now) }
 {
@@ -37,8 +37,9 @@ pub fn told_races(alloc: Global, entries: &[Entry]) -> Result<Vec<u32>, Memory>
     Ok(numbers)
 }
 
-/// The numbers of the entries of a run that stand in a race, from 0 and rising: two processes read or write one cell with no collective
-/// between them, and one of them writes. The one error is want of memory.
+/// The numbers of the entries of a run that race, from 0 and increasing. Two entries race if two processes access one memory location
+/// with no collective between them, and at least one of them writes. Errors if it runs out of memory, or if there are more than 2^32 - 1
+/// entries.
 pub fn races(
     alloc: Global,
     p: &Program,

@@ -1,4 +1,4 @@
-// What a watcher was told.
+// Ghost record of what a watcher has observed.
 
 ghost use Rattle.std.specs.Prelude.{◌≡◌, List, [], ◌∷◌, ◌++◌};
 ghost use Rattle.std.specs.Borrow.{ftrue};
@@ -9,7 +9,7 @@ ghost use Rattle.ti_base.specs.declared.entry.Entry.{Entry as Listed};
 use std::marker::Model;
 use ti_base::Entry;
 
-/// The entries that were told so far, for clauses alone: it takes no room, and its calls do nothing.
+/// The entries observed so far. Zero-sized; exists only for contracts.
 #[derive(Drop)]
 pub struct Heard {
     pub ghost entries: { List Listed } by { coded_list one_entry.the_row.coded },
@@ -20,14 +20,14 @@ impl Model for Heard {
 }
 
 impl Heard {
-    /// No entry.
+    /// No entries. No effect at run time.
     pub(crate) fn new() -> Heard
         ensures { result.entries ≡ [] }
     {
         Heard {}
     }
 
-    /// With one entry more.
+    /// These entries and one more. No effect at run time.
     pub(crate) fn and(&self, _e: &Entry) -> Heard
         ensures { result.entries ≡ self.now.entries ++ _e.now ∷ [] }
     {

@@ -1,4 +1,4 @@
-// Laws of runs without a race: functions whose contracts are the laws; they do nothing.
+// Theorems about races: functions with an empty body whose contracts are the theorems.
 ghost use Rattle.std.specs.Prelude.{◌≡◌, ◌≤◌, List};
 ghost use Rattle.ti_base.specs.declared.entry.Entry.{Entry as Listed};
 ghost use Rattle.ti_lang.specs.Program.Views.{program_of};
@@ -13,9 +13,8 @@ ghost use Rattle.ti_lang.specs.Meaning.Determinacy.{Determines};
 use ti_base::Entry;
 use ti_lang::program::Program;
 
-/// Where all processes have their end in a run of an aligned program, and nothing in it stands in a race, each process
-/// makes in every run of that program with as many processes and as much fuel the entries that it makes in this
-/// one, as far as that run goes.
+/// Determinacy: if a run of an aligned program has no race and all processes terminated in it, then in every run of that program with as
+/// many processes and as much fuel, the entries of each process are a prefix of its entries in this run.
 pub fn determinate(p: &Program, procs: u32, fuel: u32, entries: &[Entry])
     requires some_procs { 1 ≤ procs }
     requires few_procs { procs ≤ most_procs }
@@ -26,9 +25,9 @@ pub fn determinate(p: &Program, procs: u32, fuel: u32, entries: &[Entry])
     ensures { Determines (record { program = program_of p.now.parts; procs = procs; fuel = fuel }) entries.now }
 {}
 
-/// In a run the entries that stand in a race are told by the entries alone, without the program: two accesses meet
-/// in a cell exactly where the entries that made what they use and the place in it are the same. What the
-/// processes hand in is to be in its one form, as in every run of a checked program.
+/// Which entries of a run race is determined by the entries only, without the program: two accesses refer to one memory location if and
+/// only if the same entry created its object or grid and the offset is the same. Requires that what processes contribute is canonical,
+/// as in every run of a checked program.
 pub fn races_are_told()
     ensures { (s : Setting) (es : List Listed) → IsRun s es → ((ds : List Listed) → IsRun s ds → ActionsFormed s ds) → races es
         ≡ races_told es }

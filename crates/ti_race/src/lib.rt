@@ -1,4 +1,5 @@
-//! Races of runs, and what follows where there is none.
+//! Data races: which accesses of a recorded run race, the watcher that reports them, and the theorem that a run without races is
+//! determinate.
 #![tactic(auto)]
 
 mod finding;

@@ -1,4 +1,4 @@
-// How grids lie in their blocks.
+// How grids (Titanium's arrays) are stored: each one is a view of a block of cells.
 ghost use Rattle.ti_base.specs.declared.point.Rect.{Rect as Domain};
 ghost use Rattle.ti_rect.specs.Views.{IsView};
 ghost use Rattle.ti_lang.specs.Meaning.Spots.{Block, viewed_told};
@@ -9,13 +9,14 @@ use ti_base::ViewHow;
 use ti_grid::{View, view_restrict, view_slice, view_translate};
 use ti_rect::{tests, views_inside};
 
-/// A grid: the number of the entry that made its block, and how it lies in it.
+/// A grid: the number of the entry that created its block, and its view of the block.
 #[derive(Drop)]
 pub struct Lying {
     pub number: u32,
     pub view: View,
 }
 
+// The view of a view; `None` if the numbers of dimensions don't match or making it is a fault.
 fn view_by(view: &View, how: ViewHow) -> Option<View>
     requires form { IsView how }
     ensures { SeenIf how view.now result }
@@ -46,7 +47,7 @@ fn view_by(view: &View, how: ViewHow) -> Option<View>
     }
 }
 
-/// The view of a grid, where there is one: where it suits the grid and has no fault.
+/// The view of a grid made in this way; `None` if the numbers of dimensions don't match or making it is a fault.
 pub fn viewed(grid: &Lying, how: ViewHow) -> Option<Lying>
     requires form { IsView how }
     ensures { (whole : Domain) (b : Block) → Keeps whole grid.now b → KeepsView whole result (viewed_told how (Some b)) }

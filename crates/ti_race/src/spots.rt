@@ -1,9 +1,9 @@
-// What entries read and write, as it is kept in tables.
+// Memory locations and accesses to them, as hash table keys.
 ghost use Rattle.std.specs.Prelude.{◌≡◌};
 
 use ti_base::{Id, Place, Point};
 
-/// The name of a thing.
+/// The identity of an object or grid, as a key.
 #[derive(Clone, Copy, PartialEq, Eq, Hash, Drop)]
 pub struct Name {
     pub maker: u32,
@@ -12,14 +12,14 @@ pub struct Name {
     pub region: u32,
 }
 
-/// A thing: by the number of the entry that made it, or by its name, where that wasn't told.
+/// An object: by the number of the entry that created it (`Made`), or by its identity if no observed entry did (`Untold`).
 #[derive(Clone, Copy, PartialEq, Eq, Hash, Drop)]
 pub enum Thing {
     Made(u32),
     Untold(Name),
 }
 
-/// A point of a grid.
+/// A point of a grid, as a key.
 #[derive(Clone, Copy, PartialEq, Eq, Hash, Drop)]
 pub struct At {
     pub dim: u8,
@@ -28,32 +28,32 @@ pub struct At {
     pub x3: i32,
 }
 
-/// Where an entry reads or writes.
+/// A memory location.
 #[derive(Clone, Copy, PartialEq, Eq, Hash, Drop)]
 pub enum Spot {
-    /// A field of an object.
+    /// A field of an object, by its number.
     FieldOf(Thing, u32),
-    /// A cell of a block: the number of the entry that made it, and that of the cell.
+    /// A cell of a block: the number of the entry that created the block, and that of the cell.
     CellOf(u32, u64),
-    /// A point of a grid that wasn't told, or outside its domain.
+    /// A point of a grid that no observed entry created, or outside the grid's domain.
     PointOf(Name, At),
 }
 
-/// A read or a write of a spot.
+/// A read or a write of a memory location by an entry.
 #[derive(Clone, Copy)]
 pub struct Use {
-    /// The number of the entry, from 0.
+    /// The number of the entry in the history, from 0.
     pub number: u32,
     pub proc: u32,
-    /// How many collectives its process has left before.
+    /// The number of collectives that its process has left before: two accesses of different processes can race only if it is equal.
     pub phase: u32,
     pub spot: Spot,
     pub writes: bool,
-    /// Where the entry stands in the text.
+    /// The source location of the entry.
     pub place: Place,
 }
 
-/// The name as a key of tables.
+/// An identity as a key.
 pub fn name_of(id: Id) -> Name
     ensures { result ≡ record { maker = id.maker; serial = id.serial; owner = id.owner; region = id.region } }
 {
@@ -65,7 +65,7 @@ pub fn name_of(id: Id) -> Name
     }
 }
 
-/// The point as a part of keys.
+/// A point as a key.
 pub fn at_of(p: Point) -> At
     ensures { result ≡ record { dim = p.dim; x1 = p.x1; x2 = p.x2; x3 = p.x3 } }
 {

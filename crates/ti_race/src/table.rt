@@ -1,4 +1,5 @@
-// A table of what is known of each spot in each phase.
+// Finds races with a table of who has accessed each memory location in each phase (between two collectives): one pass over the accesses
+// fills it, another one looks each of them up.
 ghost use Rattle.std.specs.Prelude.{◌≡◌, filter, ◌||◌, ◌&&◌, ◌==◌, not, ℕ, if◌then◌else◌, take, OnOk, IfOk};
 ghost use Rattle.std.specs.HashMap.{get};
 ghost use Rattle.ti_race.specs.Mirrors.Table.{others, Key, same_key, key_of, users_in, writers_in, used_by_others, written_by_others, racing_by, Tells, racing_in};
@@ -8,23 +9,24 @@ use indexmap::IndexMap;
 use std::alloc::Global;
 use ti_base::Memory;
 
-/// One process, or several.
+/// A set of processes, as far as it is needed to decide whether it has other members than a given one.
 #[derive(Clone, Copy)]
 pub enum Procs {
     One(u32),
     Several,
 }
 
-/// Who has used a spot in a phase, and who has written it.
+/// Which processes have accessed a memory location in a phase, and which have written it. `None` is the empty set.
 #[derive(Clone, Copy)]
 pub struct Seen {
     pub users: Option<Procs>,
     pub writers: Option<Procs>,
 }
 
+// The record of each memory location in each phase.
 type Table = IndexMap<(Spot, u32), Seen>;
 
-/// With one process more.
+/// This set with one more process.
 fn joined(procs: Option<Procs>, proc: u32) -> Option<Procs>
     ensures { (i : ℕ) → others result i ≡ (others procs i || not (proc == i)) }
 {
@@ -41,7 +43,7 @@ fn joined(procs: Option<Procs>, proc: u32) -> Option<Procs>
     }
 }
 
-/// Whether another process is among these.
+/// Whether the set has a member other than this process.
 fn has_others(procs: Option<Procs>, proc: u32) -> bool
     ensures { result ≡ others procs proc }
 {
@@ -52,7 +54,7 @@ fn has_others(procs: Option<Procs>, proc: u32) -> bool
     }
 }
 
-/// With one use more.
+/// The record of a location with one more access.
 fn noted(seen: Option<Seen>, u: Use) -> Seen
     ensures users { (i : ℕ) → others result.users i ≡ (others (users_in seen) i || not (u.proc == i)) }
     ensures writers { (i : ℕ) → others result.writers i ≡ (others (writers_in seen) i || (u.writes && not (u.proc == i))) }
@@ -71,7 +73,7 @@ fn noted(seen: Option<Seen>, u: Use) -> Seen
     }
 }
 
-/// Notes one use more, and answers where in the table.
+/// Enters one more access, and returns the index of its record in the table.
 fn note(table: &mut Table, u: Use) -> Result<usize, Memory>
     ensures users { OnOk result ((key : Key) (i : ℕ) → others (users_in (get same_key table.new key)) i
         ≡ (others (users_in (get same_key table.old key)) i || (same_key (key_of u) key && not (u.proc == i)))) }
@@ -84,7 +86,7 @@ fn note(table: &mut Table, u: Use) -> Result<usize, Memory>
     Ok(place)
 }
 
-/// What is known of all uses, and where in the table each was noted.
+/// The table of all accesses, and for each access the index of its record.
 fn table_of(alloc: Global, uses: &[Use]) -> Result<(Table, Vec<usize>), Memory>
     ensures { IfOk result (λ made. Tells made.0 uses.now) }
 {
@@ -97,7 +99,8 @@ fn table_of(alloc: Global, uses: &[Use]) -> Result<(Table, Vec<usize>), Memory>
     Ok((table, places))
 }
 
-/// What is known where a use is. The place is where it was noted: that spares a search, and nothing rests on it.
+/// The record of the location of an access. `place` is the index at which it is expected; this saves a lookup, but a wrong index does no
+/// harm.
 fn seen_by(table: &Table, u: Use, place: usize) -> Option<Seen>
     ensures { result ≡ get same_key table.now (key_of u) }
 {
@@ -109,7 +112,7 @@ fn seen_by(table: &Table, u: Use, place: usize) -> Option<Seen>
     table.get(&(u.spot, u.phase)).copied()
 }
 
-/// Whether a use stands in a race with one of these.
+/// Whether an access races with any of those in the table. A write races with each access, a read with each write, of another process.
 fn is_racing(table: &Table, u: Use, place: usize) -> bool
     ensures { result ≡ racing_by table.now u }
 {
@@ -119,7 +122,7 @@ fn is_racing(table: &Table, u: Use, place: usize) -> bool
     }
 }
 
-/// The uses that stand in a race, in their order.
+/// The accesses that race with another one of the list, in their order. Errors only if it runs out of memory.
 pub fn racing_of(alloc: Global, uses: &[Use]) -> Result<Vec<Use>, Memory>
     ensures { IfOk result (λ racing. racing.items ≡ racing_in uses.now) }
 {
@@ -128,7 +131,7 @@ pub fn racing_of(alloc: Global, uses: &[Use]) -> Result<Vec<Use>, Memory>
     Ok(racing)
 }
 
-/// Those uses that the table says stand in a race.
+/// The accesses that race with one in the table, in their order.
 fn racing_among(
     alloc: Global,
     table: &Table,

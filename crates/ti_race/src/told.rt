@@ -1,4 +1,5 @@
-// What the entries of a history tell of things, and of the collectives that processes have left.
+// An index built while scanning a history: which entry created each object and grid, how each grid is stored in its block, and how many
+// collectives each process has left.
 ghost use Rattle.std.specs.Prelude.{◌≡◌, ◌∷◌, [], true, false, ◌≤◌, Some, None, length, IsTrue, OnOk, OnErr, IfSome};
 ghost use Rattle.ti_base.specs.declared.entry.Entry.{Entry as Listed};
 ghost use Rattle.ti_lang.specs.Meaning.Histories.{History, is_departure, departures};
@@ -22,8 +23,9 @@ use ti_base::{
 use ti_grid::{View, index_of, view_of};
 use ti_rect::rect_size;
 
-/// What a history tells: of each name of an object the number of the entry that made it last, of each name of a grid how the one lies that
-/// was made last, of each process how many collectives it has left, and how many entries there are.
+/// What is known of a history: for each identity of an object the number of the entry that created it last (`objects`); for each identity
+/// of a grid how the last one created with it is stored, if that is known (`grids`); for each process how many collectives it has left
+/// (`phases`); and the number of entries (`count`).
 #[derive(Drop)]
 pub struct SoFar {
     pub objects: HashMap<Name, u32>,
@@ -32,10 +34,10 @@ pub struct SoFar {
     pub count: u32,
 }
 
-// The most cells of a block.
+// The maximum number of cells of a block.
 const MOST_CELLS: i32 = 1_048_576;
 
-// Whether a block may have this domain.
+// Whether a block can have this domain: it is canonical, and has at most `MOST_CELLS` points.
 fn is_block_domain(domain: &Rect) -> bool
     ensures value { result ≡ is_block domain.now }
     ensures form { IsTrue result → IsRect domain.now }
@@ -52,7 +54,7 @@ fn is_block_domain(domain: &Rect) -> bool
     }
 }
 
-// The number of a point's cell, where the view has the point.
+// The number of the cell of a point in its block; `None` if the view doesn't have the point.
 fn cell_in(view: &View, at: Point) -> Option<u64>
     ensures { result ≡ cell_number view.now at }
 {
@@ -63,7 +65,7 @@ fn cell_in(view: &View, at: Point) -> Option<u64>
     }
 }
 
-// An element of a grid that lies so.
+// The memory location of an element of a grid that is stored in this way.
 fn element_in(lying: &Lying, name: Name, at: Point) -> Spot
     ensures { (h : History) (id : Named) (b : Block) → name ≡ name_key id → Lies h (Some lying.now) (Some b)
         → IsSpot h result (spec.element_spot id at (Some b)) }
@@ -74,7 +76,7 @@ fn element_in(lying: &Lying, name: Name, at: Point) -> Spot
     }
 }
 
-// The object that an answer names.
+// The object that a result refers to, if it refers to one.
 fn object_of(answer: Answer) -> Option<Id>
     ensures { result ≡ object_in answer }
 {
@@ -84,7 +86,7 @@ fn object_of(answer: Answer) -> Option<Id>
     }
 }
 
-// The grid that an answer names.
+// The grid that a result refers to, if it refers to one.
 fn grid_of(answer: Answer) -> Option<Id>
     ensures { result ≡ grid_in answer }
 {
@@ -94,35 +96,35 @@ fn grid_of(answer: Answer) -> Option<Id>
     }
 }
 
-// Whether an action makes an object.
+// Whether an operation creates an object.
 fn makes_object(action: Action) -> bool
     ensures { result ≡ spec.makes_object action }
 {
     matches!(action, Action::NewObj { .. })
 }
 
-// Whether an action makes a grid or a view.
+// Whether an operation creates a grid or a view.
 fn makes_grid(action: Action) -> bool
     ensures { result ≡ spec.makes_grid action }
 {
     matches!(action, Action::NewGrid { .. } | Action::MakeView { .. })
 }
 
-// Whether an action leaves a collective.
+// Whether an operation leaves a collective.
 fn departs(action: Action) -> bool
     ensures { result ≡ is_departure action }
 {
     matches!(action, Action::Depart)
 }
 
-// Whether an action writes.
+// Whether an operation writes.
 fn writes(action: Action) -> bool
     ensures { result ≡ is_put action }
 {
     matches!(action, Action::PutField { .. } | Action::PutElem { .. })
 }
 
-// How the grid lies of which the block is made by the entry of this number, where it may have this domain.
+// How a grid is stored that an entry with this number creates with a block of its own; `None` if no block can have this domain.
 fn block_of(number: u32, id: Id, domain: &Rect) -> Option<Lying>
     ensures { (e : Listed) (h : History) (zero : First) → number ≡ length h → block_made e.act ≡ Some domain.now
         → Lies (e ∷ h) result (block_told id number zero domain.now) }
@@ -137,7 +139,7 @@ fn block_of(number: u32, id: Id, domain: &Rect) -> Option<Lying>
 }
 
 impl SoFar {
-    /// Of no entry.
+    /// The index of the empty history.
     pub fn new(alloc: Global) -> SoFar
         ensures { Tells result [] }
     {
@@ -149,7 +151,7 @@ impl SoFar {
         }
     }
 
-    // The object of this name.
+    // The object with this identity.
     fn thing(&self, id: Id) -> Thing
         ensures { (h : History) → Tells self.now h → IsSpot h (Spot.FieldOf result 0)
             (spec.FieldOf (spec.object_thing id (spec.object_told id h)) 0) }
@@ -161,7 +163,7 @@ impl SoFar {
         }
     }
 
-    // An element of the grid of this name.
+    // The memory location of an element of the grid with this identity.
     fn element(&self, grid: Id, at: Point) -> Spot
         ensures { (h : History) → Tells self.now h → IsSpot h result (spec.element_spot grid at (spec.grid_told grid h)) }
     {
@@ -173,7 +175,7 @@ impl SoFar {
         }
     }
 
-    // Where an action reads or writes.
+    // The memory location that an operation accesses, if it accesses one.
     fn spot(&self, action: Action) -> Option<Spot>
         ensures { (h : History) → Tells self.now h → IsSpotIf h result (spot_used action h) }
     {
@@ -186,7 +188,7 @@ impl SoFar {
         }
     }
 
-    /// The use of an entry behind the history.
+    /// The access of an entry that follows the history, if it is one.
     pub fn use_of(&self, e: &Entry) -> Option<Use>
         ensures told { (h : History) → Tells self.now h → IsUseIf h result (use_told e.now h) }
         ensures entry { IfSome result (λ u. (u.number ≡ self.now.count) × (u.proc ≡ e.now.proc) × (u.place ≡ e.now.place)) }
@@ -204,7 +206,7 @@ impl SoFar {
         }
     }
 
-    // How many collectives a process has left.
+    // The number of collectives that a process has left.
     fn phase(&self, proc: u32) -> u32
         ensures { (h : History) → TellsPhases self.now h → result ≡ departures proc h }
     {
@@ -214,7 +216,7 @@ impl SoFar {
         }
     }
 
-    // How a view lies of the grid of this name.
+    // How a view of the grid with this identity is stored; `None` if that of the grid isn't known or the view can't be made.
     fn view_made(&self, grid: Id, how: ViewHow) -> Option<Lying>
         ensures { (h : History) → TellsGrids self.now h → Lies h result (view_told how (spec.grid_told grid h)) }
     {
@@ -229,7 +231,7 @@ impl SoFar {
         }
     }
 
-    // How the grid lies that an action makes under this name.
+    // How a grid is stored that an operation creates with this identity; `None` if that isn't known.
     fn grid_made(&self, action: Action, id: Id) -> Option<Lying>
         ensures { (e : Listed) (h : History) → self.now.count ≡ length h → TellsGrids self.now h → e.act ≡ action
             → Lies (e ∷ h) result (spec.grid_from id (length h) action (λ v. spec.grid_told v h)) }
@@ -241,7 +243,7 @@ impl SoFar {
         }
     }
 
-    // Notes the object that an entry makes.
+    // Records the object that an entry creates, if it creates one.
     fn note_object(&mut self, e: &Entry) -> Result<(), Memory>
         ensures objects { OnOk result ((h : History) → self.old.count ≡ length h → TellsObjects self.old h
             → TellsObjects self.new (e.now ∷ h)) }
@@ -257,7 +259,7 @@ impl SoFar {
         Ok(())
     }
 
-    // Notes the grid that an entry makes.
+    // Records the grid or view that an entry creates, if it creates one.
     fn note_grid(&mut self, e: &Entry) -> Result<(), Memory>
         ensures grids { OnOk result ((h : History) → self.old.count ≡ length h → TellsGrids self.old h → TellsGrids self.new (e.now ∷ h)) }
         ensures kept { OnErr result ((h : History) → TellsGrids self.old h → TellsGrids self.new h) }
@@ -274,7 +276,7 @@ impl SoFar {
         Ok(())
     }
 
-    // Notes the collective that an entry leaves.
+    // Records the departure of an entry, if it is one. Errors also if the count doesn't fit in 32 bits.
     fn note_departure(&mut self, e: &Entry) -> Result<(), Memory>
         ensures phases { OnOk result ((h : History) → TellsPhases self.old h → TellsPhases self.new (e.now ∷ h)) }
         ensures kept { OnErr result ((h : History) → TellsPhases self.old h → TellsPhases self.new h) }
@@ -290,7 +292,8 @@ impl SoFar {
         Ok(())
     }
 
-    /// Notes an entry behind the history. On want of memory it tells as before.
+    /// Appends an entry to the history. Errors if it runs out of memory, or if there are more than 2^32 - 1 entries; the index is then
+    /// still that of the history before.
     pub fn note(&mut self, e: &Entry) -> Result<(), Memory>
         ensures told { OnOk result ((h : History) → Tells self.old h → Tells self.new (e.now ∷ h)) }
         ensures kept { OnErr result ((h : History) → Tells self.old h → Tells self.new h) }

@@ -8,15 +8,15 @@ use crate::told::SoFar;
 use std::alloc::Global;
 use ti_base::{Entry, Memory};
 
-/// What is kept of a list of entries that are told one by one.
+/// The accesses of entries that are observed one by one, with the index of the history so far (`told`).
 #[derive(Drop)]
 pub struct Uses {
     pub told: SoFar,
-    /// The uses in the order of the entries.
+    /// The accesses in the order of their entries.
     pub found: Vec<Use>,
 }
 
-// Adds a use, where there is one.
+// Appends an access, if there is one.
 fn push_use(found: &mut Vec<Use>, u: Option<Use>) -> Result<(), Memory>
     ensures items { OnOk result (found.new.items ≡ found.old.items ++ one_or_none u) }
     ensures kept { OnErr result (found.new.items ≡ found.old.items) }
@@ -28,7 +28,7 @@ fn push_use(found: &mut Vec<Use>, u: Option<Use>) -> Result<(), Memory>
 }
 
 impl Uses {
-    /// Of no entry.
+    /// No entry observed.
     pub fn new(alloc: Global) -> Uses
         ensures { Gathers result [] }
     {
@@ -38,7 +38,7 @@ impl Uses {
         }
     }
 
-    /// Is told an entry. On want of memory it was told nothing.
+    /// Observes an entry. On an error it hasn't observed it.
     pub fn see(&mut self, e: &Entry) -> Result<(), Memory>
         ensures told { OnOk result ((es : List Listed) → Gathers self.old es → Gathers self.new (es ++ e.now ∷ [])) }
         ensures kept { OnErr result ((es : List Listed) → Gathers self.old es → Gathers self.new es) }
@@ -56,7 +56,8 @@ impl Uses {
     }
 }
 
-/// What is kept of a list of entries.
+/// The accesses of a list of entries, with the index of these. Errors only if it runs out of memory, or if there are more than 2^32 - 1
+/// entries.
 pub fn uses_of(alloc: Global, entries: &[Entry]) -> Result<Uses, Memory>
     ensures { IfOk result (λ uses. Gathers uses entries.now) }
 {

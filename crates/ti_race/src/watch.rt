@@ -1,4 +1,4 @@
-// The report of races: a line for each entry that stands in one.
+// The report of races: one line for each entry that races.
 ghost use Rattle.std.specs.Prelude.{◌≡◌, [], ◌∷◌, ◌++◌, codes, decimal, flat_map, take, vec_len, OnOk};
 ghost use Rattle.ti_race.specs.Mirrors.Told.{use_line, report_of};
 
@@ -11,9 +11,9 @@ use std::marker::Model;
 use ti_base::{Entry, Memory};
 use ti_watch::{Line, Watch};
 
-/// Lists the entries that stand in a race, a line for each. Its kind is 2.
+/// A watcher that lists the entries that race, one line for each. Its kind is 2.
 ///
-/// It keeps the reads and writes, and of the other entries what they tell of things and phases.
+/// It stores only the reads and writes, and the index of the history (`SoFar`), not all entries.
 #[derive(Drop)]
 pub struct RaceWatch {
     uses: Uses,
@@ -34,7 +34,7 @@ impl Model for RaceWatch {
 }
 
 impl RaceWatch {
-    /// A watcher that was told nothing.
+    /// A watcher that has observed no entry.
     pub fn new(alloc: Global) -> Self
         ensures { result ≡ [] }
     {
@@ -46,7 +46,7 @@ impl RaceWatch {
     }
 }
 
-// How many entries stand in a race.
+// The line with the number of racing entries.
 fn count_line(count: usize) -> Line
     ensures { result ≡ codes "races " ++ decimal count ++ 10 ∷ [] }
 {
@@ -56,7 +56,7 @@ fn count_line(count: usize) -> Line
     line
 }
 
-// The line of the entry of a use.
+// The line of the entry of an access: its number, process and source location.
 fn race_line(u: &Use) -> Line
     ensures { result ≡ use_line u.now }
 {
@@ -69,7 +69,7 @@ fn race_line(u: &Use) -> Line
     line
 }
 
-// Adds the lines of the entries of these uses, or some bytes.
+// Appends the lines of the entries of these accesses. If it runs out of memory, it may have appended a part of them.
 fn add_lines(uses: &[Use], out: &mut Vec<u8>) -> Result<(), Memory>
     ensures text { OnOk result (out.new.items ≡ out.old.items ++ flat_map use_line uses.now) }
     ensures kept { take (vec_len out.old) out.new.items ≡ out.old.items }
@@ -80,7 +80,7 @@ fn add_lines(uses: &[Use], out: &mut Vec<u8>) -> Result<(), Memory>
     Ok(())
 }
 
-// Adds the report, or some bytes.
+// Appends the report. If it runs out of memory, it may have appended a part of it.
 fn add_report(alloc: Global, uses: &[Use], out: &mut Vec<u8>) -> Result<(), Memory>
     ensures text { OnOk result (out.new.items ≡ out.old.items ++ report_of uses.now) }
     ensures kept { take (vec_len out.old) out.new.items ≡ out.old.items }

@@ -1,13 +1,13 @@
-// Why a row has no answer.
+// Errors of a row.
 
 use std::alloc::{AllocError, AllocFailed};
 use thiserror::Error;
 use ti_base::Memory;
 
-/// Why a row has no answer.
+/// Why a row has no result.
 #[derive(Clone, Copy, Debug, Error)]
 pub enum RowErr {
-    /// The heading above the row asks nothing that is known.
+    /// The heading above the row requests nothing that is known.
     #[error("no heading that is known")]
     Heading,
     /// The row, or the file that it names, can't be read.

@@ -1,4 +1,4 @@
-// Files of rows, and what is printed of them.
+// Runs files of rows and prints the results.
 
 use crate::judge::Judge;
 use crate::judging::judged;
@@ -7,7 +7,7 @@ use std::env::Env;
 use std::rt::Files;
 use std::{env, fs, io};
 
-/// Judges a row, prints it with what was found where it doesn't hold, and returns whether it holds.
+/// Checks a row, prints it with its actual result or error if it fails, and returns whether it passes.
 fn row_holds<R: Files + Print + AllocGlobal, J: Judge>(
     rt: &R,
     judge: &J,
@@ -25,7 +25,7 @@ fn row_holds<R: Files + Print + AllocGlobal, J: Judge>(
     Ok(false)
 }
 
-/// Judges the rows of a section, whose first line is a heading, and returns how many hold.
+/// Checks the rows of a section, whose first line is the rest of its heading, and returns how many pass.
 fn judge_section<R: Files + Print + AllocGlobal, J: Judge>(
     rt: &R,
     judge: &J,
@@ -48,7 +48,7 @@ fn judge_section<R: Files + Print + AllocGlobal, J: Judge>(
     Ok(holding)
 }
 
-/// Judges the rows of a text that begins with an empty line.
+/// Checks the rows of a file's contents, which begin with an empty line, so that each heading follows a line end. Prints how many pass.
 fn judge_text<R: Files + Print + AllocGlobal, J: Judge>(
     rt: &R,
     judge: &J,
@@ -62,7 +62,7 @@ fn judge_text<R: Files + Print + AllocGlobal, J: Judge>(
     println!(rt; "{file}: {holding} rows hold")
 }
 
-/// Judges the rows of a file.
+/// Checks the rows of a file, or prints that it can't be read.
 fn judge_file<R: Files + Print + AllocGlobal, J: Judge>(
     rt: &R,
     judge: &J,
@@ -77,7 +77,7 @@ fn judge_file<R: Files + Print + AllocGlobal, J: Judge>(
     }
 }
 
-/// Judges the rows of the files that the program's arguments name.
+/// Checks the rows of the files that the program's arguments name, one after the other.
 pub fn judge_files<R: Files + Print + Env + AllocGlobal, J: Judge>(
     rt: &R,
     judge: &J,

@@ -1,20 +1,20 @@
-// What a program hands in.
+// The interface to a program that computes results.
 
 use crate::error::RowErr;
 
-/// The text of a row.
+/// The input of a row.
 #[derive(Clone, Copy)]
 pub struct Row<'a> {
-    /// What stands before `<-`; nothing where the row has no `<-`.
+    /// What comes before `<-`; `None` if the row has no `<-`.
     pub given: Option<&'a str>,
-    /// The text as the row spells it.
+    /// The input as the row writes it.
     pub spelled: &'a str,
-    /// The bytes of the text in its frame.
+    /// The bytes of the input, decoded and with the context that the heading names.
     pub text: &'a [u8],
 }
 
-/// Says what comes of the texts of rows.
+/// Computes the results of inputs.
 pub trait Judge {
-    /// What comes of the text of a row whose heading asks this, such as `tokens`.
+    /// The result of an input below a heading that requests `asked`, such as `tokens`.
     fn answer(&self, asked: &str, row: Row) -> Result<Vec<u8>, RowErr>;
 }

@@ -1,4 +1,4 @@
-// Rows, held against what comes of their texts.
+// Compares the actual result of a row with the expected one.
 
 use crate::error::RowErr;
 use crate::judge::{Judge, Row};
@@ -7,7 +7,7 @@ use crate::texts::{bytes_of, escaped, text_of};
 use std::alloc::Global;
 use std::rt::Files;
 
-/// What comes of a row below a heading such as `tokens whole`.
+/// The result of a row below a heading such as `tokens whole`: what is requested, and the context of inputs.
 fn found<R: Files + AllocGlobal, J: Judge>(
     rt: &R,
     judge: &J,
@@ -29,14 +29,14 @@ fn found<R: Files + AllocGlobal, J: Judge>(
     )
 }
 
-/// Whether what was found is what a row expects.
+/// Whether the result is as the row expects.
 fn holds(alloc: Global, found: &[u8], expected: &str) -> Result<bool, RowErr> {
     let wanted = wanted_by(expected);
     let bytes = bytes_of(alloc, wanted.bytes)?;
     Ok(fits(found, wanted.is_end, wanted.is_front, &bytes))
 }
 
-/// What was found, as a row spells it, where something else is expected.
+/// The actual result in the notation of rows if it isn't as expected; otherwise `None`.
 pub fn differing(alloc: Global, found: &[u8], expected: &str) -> Result<Option<String>, RowErr> {
     if holds(alloc, found, expected)? {
         Ok(None)
@@ -45,7 +45,7 @@ pub fn differing(alloc: Global, found: &[u8], expected: &str) -> Result<Option<S
     }
 }
 
-/// What comes of a row, as a row spells it, where the row expects something else.
+/// The actual result of a row, in the notation of rows, if the row expects something else; otherwise `None`.
 pub(crate) fn judged<R: Files + AllocGlobal, J: Judge>(
     rt: &R,
     judge: &J,

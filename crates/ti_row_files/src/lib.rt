@@ -1,5 +1,6 @@
-//! Files of rows: each row is a text with what is expected of it. A program hands in what comes of a text; this crate reads the files,
-//! prints each row that doesn't hold with what was found, and after each file how many of its rows hold.
+//! A test runner for files of rows (test cases): each row is an input with its expected result. A program implements `Judge`, which
+//! computes the result of an input; this crate reads the files, prints each failing row with its actual result, and after each file the
+//! number of rows that pass.
 #![tactic(auto)]
 
 mod error;

@@ -1,13 +1,14 @@
-// Lines of files of rows.
+// The lines of files of rows.
 
-/// A line below a heading: a row such as `: a b => 1:1=Name(a) 1:3=Name(b) 1:4=End`, an empty line or a comment, or none of these.
+/// A line below a heading: a row such as `: a b => 1:1=Name(a) 1:3=Name(b) 1:4=End`, as its input and its expected result; an empty line
+/// or a comment; or neither.
 pub enum Line<'a> {
     Row(&'a str, &'a str),
     Comment,
     Other,
 }
 
-/// What a line below a heading is.
+/// Classifies a line below a heading.
 pub fn read_line(line: &str) -> Line {
     match line.strip_prefix(": ") {
         Some(row) => match row.split_once(" => ") {
@@ -19,7 +20,7 @@ pub fn read_line(line: &str) -> Line {
     }
 }
 
-/// What a row has before `<-`, and its text.
+/// What a row's input has before `<-`, if there is one, and the input proper.
 pub fn parted(row: &str) -> (Option<&str>, &str) {
     if let Some(text) = row.strip_prefix("<- ") {
         return (Some(""), text);
@@ -30,17 +31,17 @@ pub fn parted(row: &str) -> (Option<&str>, &str) {
     }
 }
 
-/// What has to be found: these bytes, or more before or after them.
+/// An expected result: these bytes, or bytes that end with them, begin with them or contain them.
 #[derive(Clone, Copy)]
 pub(crate) struct Wanted<'a> {
-    /// More may stand before the bytes.
+    /// Other bytes may come before them.
     pub(crate) is_end: bool,
-    /// More may stand after the bytes.
+    /// Other bytes may come after them.
     pub(crate) is_front: bool,
     pub(crate) bytes: &'a str,
 }
 
-/// What a row expects, where three dots stand for whatever is found there.
+/// The expected result of a row. Three dots at its beginning or end allow any bytes there.
 pub(crate) fn wanted_by(expected: &str) -> Wanted {
     let (is_end, left) = match expected.strip_prefix("...") {
         Some(left) => (true, left),
@@ -57,12 +58,12 @@ pub(crate) fn wanted_by(expected: &str) -> Wanted {
     }
 }
 
-/// Whether bytes stand somewhere in others.
+/// Whether some bytes contain others; never true of no bytes.
 fn stands_in(found: &[u8], part: &[u8]) -> bool {
     !part.is_empty() && found.windows(part.len()).any(|piece| piece == part)
 }
 
-/// Whether bytes were found as they are wanted.
+/// Whether the result matches the expected bytes: exactly, as a suffix (`is_end`), as a prefix (`is_front`), or anywhere (both).
 pub(crate) fn fits(found: &[u8], is_end: bool, is_front: bool, bytes: &[u8]) -> bool {
     match (is_end, is_front) {
         (true, true) => stands_in(found, bytes),

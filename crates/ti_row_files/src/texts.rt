@@ -1,60 +1,60 @@
-// The texts of rows. Some are long, and some have bytes that can't be seen.
+// Decodes the inputs of rows, which have a notation for repetitions and for unprintable bytes, and embeds them in a context.
 
 use crate::error::RowErr;
 use std::alloc::{AllocError, Global};
 use std::fs;
 use std::rt::Files;
 
-/// What stands before each text of a frame, and after it.
+/// What a context puts before and after each input.
 #[derive(Clone, Copy)]
 struct Ends {
     before: &'static str,
     after: &'static str,
 }
 
-/// Around whole texts.
+/// No context: the input is a whole source file.
 const WHOLE: Ends = Ends {
     before: "",
     after: "",
 };
 
-/// Around statements of a method, which begin in line 2.
+/// The input is statements of a method; it begins in line 2.
 const STATEMENTS: Ends = Ends {
     before: "class C { void f() {\n",
     after: "\n} }",
 };
 
-/// Around statements of `main`, which begin in column 62.
+/// The input is statements of `main`; it begins in column 62.
 const MAIN: Ends = Ends {
     before: "class Main { public static single void main(String[] args) { ",
     after: " } }",
 };
 
-/// Around an expression, which begins in column 100, after an int variable and one for a grid of ints.
+/// The input is an expression; it begins in column 100. An `int` variable `x` and a null grid variable `a` are in scope.
 const PRINTED: Ends = Ends {
     before: "class Main { public static single void main(String[] args) { int x = 5; int [1d] a = null; println(",
     after: "); } }",
 };
 
-/// Around classes, after which stands the class `Main`.
+/// The input is classes; the class `Main` follows them.
 const WITH_MAIN: Ends = Ends {
     before: "",
     after: " class Main { public static single void main(String[] args) {  } }",
 };
 
-/// Around members of the class `Main`, which begin in column 14; after them stands `main`, which prints 7.
+/// The input is members of the class `Main`; it begins in column 14. A `main` that prints 7 follows them.
 const WITH_METHOD: Ends = Ends {
     before: "class Main { ",
     after: " public static single void main(String[] args) { println(7); } }",
 };
 
-/// Around statements of `main` after a class with two fields, which begin in column 95.
+/// The input is statements of `main` after a class with two fields; it begins in column 95.
 const WITH_CLASS: Ends = Ends {
     before: "class C { int v; C local near; } class Main { public static single void main(String[] args) { ",
     after: " } }",
 };
 
-/// What stands around the texts of a frame.
+/// The context with this name.
 fn ends_of(frame: &str) -> Option<Ends> {
     match frame {
         "whole" => Some(WHOLE),
@@ -68,7 +68,7 @@ fn ends_of(frame: &str) -> Option<Ends> {
     }
 }
 
-/// Appends a piece as many times as is said.
+/// Appends a string `count` times.
 fn push_all(text: &mut String, piece: &str, count: usize) -> Result<(), AllocError> {
     for _ in 0..count {
         text.push_str(piece)?;
@@ -76,7 +76,7 @@ fn push_all(text: &mut String, piece: &str, count: usize) -> Result<(), AllocErr
     Ok(())
 }
 
-/// Appends 0, 1, 2 and so on, each between these two.
+/// Appends 0, 1, 2 and so on, each between these two strings, `count` numbers in all.
 fn push_numbers(
     text: &mut String,
     before: &str,
@@ -89,7 +89,7 @@ fn push_numbers(
     Ok(())
 }
 
-/// Appends a piece as many times as is said, where a `$` in it stands for 0, 1, 2 and so on.
+/// Appends a string `count` times, with its first `$` replaced by 0, 1, 2 and so on.
 fn repeat(text: &mut String, piece: &str, count: usize) -> Result<(), AllocError> {
     match piece.split_once('$') {
         Some((before, after)) => push_numbers(text, before, after, count),
@@ -97,7 +97,7 @@ fn repeat(text: &mut String, piece: &str, count: usize) -> Result<(), AllocError
     }
 }
 
-/// Appends what stands between two backquotes: what it has after `#` as many times as it says before.
+/// Appends the contents of two backquotes: `N#S` is the string `S` repeated `N` times.
 fn push_repeated(text: &mut String, part: &str) -> Result<(), RowErr> {
     let Some((count, piece)) = part.split_once('#') else {
         return Err(RowErr::Row);
@@ -108,7 +108,7 @@ fn push_repeated(text: &mut String, part: &str) -> Result<(), RowErr> {
     }
 }
 
-/// Appends the parts of a row's text, every other of which is repeated.
+/// Appends the parts of an input between backquotes; every other one is a repetition.
 fn push_parts(text: &mut String, spelled: &str) -> Result<(), RowErr> {
     let mut is_repeated = false;
     for part in spelled.split('`') {
@@ -122,7 +122,7 @@ fn push_parts(text: &mut String, spelled: &str) -> Result<(), RowErr> {
     Ok(())
 }
 
-/// How far a byte of a text has been read.
+/// The state of the decoder of escapes.
 #[derive(Clone, Copy)]
 enum Reads {
     Plain,
@@ -130,11 +130,11 @@ enum Reads {
     Escape,
     /// After a backslash and `x`.
     High,
-    /// After these and the first digit.
+    /// After a backslash, `x` and the first digit, which has this value.
     Low(u8),
 }
 
-/// What a byte means after a backslash.
+/// The byte that a backslash and this byte denote.
 fn meant(byte: u8) -> Option<u8> {
     match byte {
         b'n' => Some(b'\n'),
@@ -146,7 +146,7 @@ fn meant(byte: u8) -> Option<u8> {
     }
 }
 
-/// The value of a hexadecimal digit.
+/// The value of a lower-case hexadecimal digit.
 fn digit(byte: u8) -> Option<u8> {
     match byte {
         b'0'..=b'9' => Some(byte.wrapping_sub(b'0')),
@@ -155,7 +155,7 @@ fn digit(byte: u8) -> Option<u8> {
     }
 }
 
-/// What has been read after one more byte, and the byte of the text that ends with it.
+/// The state after one more byte, and the decoded byte that it completes, if any. `None` for an invalid escape.
 fn read_byte(reads: Reads, byte: u8) -> Option<(Reads, Option<u8>)> {
     match (reads, byte) {
         (Reads::Plain, b'\\') => Some((Reads::Escape, None)),
@@ -170,7 +170,7 @@ fn read_byte(reads: Reads, byte: u8) -> Option<(Reads, Option<u8>)> {
     }
 }
 
-/// Appends the bytes that are spelled with escapes.
+/// Appends the bytes that a string with escapes denotes.
 fn push_unescaped(bytes: &mut Vec<u8>, spelled: &[u8]) -> Result<(), RowErr> {
     let mut reads = Reads::Plain;
     for byte in spelled {
@@ -185,21 +185,21 @@ fn push_unescaped(bytes: &mut Vec<u8>, spelled: &[u8]) -> Result<(), RowErr> {
     Ok(())
 }
 
-/// Appends the bytes that a row spells.
+/// Appends the bytes that a row's notation denotes.
 fn push_bytes(alloc: Global, bytes: &mut Vec<u8>, spelled: &str) -> Result<(), RowErr> {
     let mut text = String::new(alloc);
     push_parts(&mut text, spelled)?;
     push_unescaped(bytes, text.as_bytes())
 }
 
-/// The bytes that a row spells: first it is repeated where it says so, and then escapes are read.
+/// The bytes that a row's notation denotes: repetitions are expanded first, then escapes are decoded.
 pub fn bytes_of(alloc: Global, spelled: &str) -> Result<Vec<u8>, RowErr> {
     let mut bytes = Vec::new(alloc);
     push_bytes(alloc, &mut bytes, spelled)?;
     Ok(bytes)
 }
 
-/// A text between its ends.
+/// An input in its context.
 fn between(alloc: Global, ends: Ends, spelled: &str) -> Result<Vec<u8>, RowErr> {
     let mut bytes = Vec::new(alloc);
     bytes.extend_from_slice(ends.before.as_bytes())?;
@@ -208,7 +208,7 @@ fn between(alloc: Global, ends: Ends, spelled: &str) -> Result<Vec<u8>, RowErr> 
     Ok(bytes)
 }
 
-/// A text in its frame; in the frame `file` what the file holds that the row names.
+/// The bytes of an input in the named context; in the context `file`, the contents of the file that the input names.
 pub fn text_of<R: Files + AllocGlobal>(
     rt: &R,
     frame: &str,
@@ -226,7 +226,7 @@ pub fn text_of<R: Files + AllocGlobal>(
     }
 }
 
-/// Appends a byte as a row spells it.
+/// Appends a byte in the notation of rows.
 fn push_escaped(text: &mut String, byte: u8) -> Result<(), AllocError> {
     match byte {
         b'\n' => text.push_str("\\n"),
@@ -236,7 +236,7 @@ fn push_escaped(text: &mut String, byte: u8) -> Result<(), AllocError> {
     }
 }
 
-/// Bytes as a row spells them.
+/// Bytes in the notation of rows.
 pub(crate) fn escaped(alloc: Global, bytes: &[u8]) -> Result<String, AllocError> {
     let mut text = String::new(alloc);
     for byte in bytes {

@@ -1,4 +1,4 @@
--- Passes as they were handed out, and as they come back.
+-- Passes that were issued are all returned.
 use Rattle.std.proofs.Common.{◌≡◌, ℕ, suc, ◌+◌, List, [], ◌∷◌, ◌++◌, take, drop, length, length-append, get_or, ◌<◌, refl, subst, ap, ◌∙◌, arith}
 use Rattle.std.proofs.lemmas.List.{get_or_append_left, get_or_push}
 use Rattle.std.specs.List.{All}

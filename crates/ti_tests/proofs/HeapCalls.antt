@@ -1,4 +1,4 @@
--- What calls on a heap leave: how much each process has made, the cells that are there, and the dimensions of grids.
+-- How calls on a heap change the number of objects of each process, which cells exist, and the dimensions of grids.
 use Rattle.std.proofs.Common.{◌≡◌, ℕ, ◌+◌, ◌<◌, ◌≤◌, IsSome, IsSomeAnd, IfOk, OnErr, eqb, Bool, true, false, ◌||◌, if◌then◌else◌, List, [], ◌∷◌, ◌++◌, length, Option, Some, None, Result, Ok, Err, refl, sym, ap, subst, lit≤, arith}
 use Rattle.std.proofs.lemmas.List.{length-append, length-map}
 use Rattle.ti_base.specs.declared.point.Point.{Point}

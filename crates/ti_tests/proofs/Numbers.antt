@@ -1,4 +1,4 @@
--- The numbers of a list that is its own log.
+-- The numbers of a list that is its own log are those of its pairs.
 use Rattle.std.proofs.Common.{◌≡◌, ℕ, zero, suc, ◌<◌, List, [], ◌∷◌, length, get_or, refl, arith}
 use Rattle.ti_turnstile.specs.Passes.{number_at}
 

@@ -1,15 +1,15 @@
-// Gates, passed by processes that run in turn.
+// Scheduling hooks: a gate that holds the second pass of each of two processes until the other one has begun its own, or gives up.
 
 use std::test::Fail;
 use ti_io::{Gate, HoldGate, OpenGate};
 
-/// The processes that pass a gate, one after the other, and whether one of those that it holds gives up.
+/// The processes that pass a gate, one after the other, and whether one that it holds is expected to give up.
 struct Passing {
     passes: &'static [u32],
     gives_up: bool,
 }
 
-/// A gate that holds the processes 0 and 1.
+/// Cases for a gate that holds processes 0 and 1.
 const PASSINGS: &[Passing] = &[
     Passing {
         passes: &[0, 1],
@@ -29,7 +29,7 @@ const PASSINGS: &[Passing] = &[
     },
 ];
 
-/// Whether one gives up behind these passes.
+/// Whether a process gave up after these passes.
 fn gives_up(passes: &[u32]) -> bool {
     let gate = HoldGate::new(0, 1, 10);
     for process in passes {

@@ -1,4 +1,4 @@
-// Objects and grids on the heap: what is read after a write, views that share cells, faults, and dropped regions.
+// Objects and grids on the heap: reads after writes, views that share cells, faults, and deleted regions.
 
 ghost use Rattle.std.specs.Prelude.{◌≡◌, IfOk};
 ghost use Rattle.ti_base.specs.Points.{IsPoint};
@@ -10,7 +10,7 @@ use ti_base::{FaultKind, Id, Memory, Point, Rect, Value, ViewHow, Zero};
 use ti_heap::{Heap, HeapErr};
 use ti_rect::{BadStride, rect_make};
 
-/// The point with one coordinate.
+/// The point with this coordinate.
 fn at(x1: i32) -> Point
     ensures form { IsPoint result }
     ensures dim { result.dim ≡ 1 }
@@ -23,7 +23,7 @@ fn at(x1: i32) -> Point
     }
 }
 
-/// The point with two coordinates.
+/// The point with these two coordinates.
 fn cell(x1: i32, x2: i32) -> Point
     ensures form { IsPoint result }
     ensures dim { result.dim ≡ 2 }
@@ -36,7 +36,7 @@ fn cell(x1: i32, x2: i32) -> Point
     }
 }
 
-/// The points from one number to another.
+/// The one-dimensional rectangle with these bounds and this stride.
 fn line(low: i32, high: i32, step: i32) -> Result<Rect, BadStride>
     ensures form { IfOk result IsRect }
     ensures dim { IfOk result (λ r. r.dim ≡ 1) }
@@ -44,7 +44,7 @@ fn line(low: i32, high: i32, step: i32) -> Result<Rect, BadStride>
     rect_make(&at(low), &at(high), &at(step))
 }
 
-/// Three rows of four cells, counted from 0.
+/// Three rows of four points, with indices from 0.
 fn table() -> Result<Rect, BadStride>
     ensures form { IfOk result IsRect }
     ensures dim { IfOk result (λ r. r.dim ≡ 2) }
@@ -52,7 +52,8 @@ fn table() -> Result<Rect, BadStride>
     rect_make(&cell(0, 0), &cell(2, 3), &cell(1, 1))
 }
 
-/// An object with a number and a name, and what its fields hold before the name is written and after that.
+/// Creates an object with two fields, a number and a reference, and writes the second one. Returns the object and what both fields hold
+/// before and after the write.
 fn write_a_field(alloc: Global) -> Result<(Id, [Value; 4]), HeapErr> {
     let mut heap = Heap::new(alloc, 2)?;
     let obj = heap.new_obj(alloc, 1, &[Zero::Int, Zero::Obj], 0)?;
@@ -84,7 +85,7 @@ fn a_field_holds_what_was_written(rt: HostRuntime) -> Result<(), Fail> {
     Ok(())
 }
 
-/// What calls on the elements of a grid answer.
+/// The results of calls on the elements of a grid.
 #[derive(Drop)]
 struct Elements {
     writes: [Result<(), FaultKind>; 2],
@@ -92,7 +93,7 @@ struct Elements {
     domain: Rect,
 }
 
-/// 7 is written at 6, and 8 at 5; then 6, 4 and 22 are read.
+/// Writes 7 at point 6 and 8 at point 5, and then reads points 6, 4 and 22.
 fn write_elements(alloc: Global, dom: &Rect) -> Result<Elements, HeapErr>
     requires form { IsRect dom.now }
     requires one { dom.now.dim ≡ 1 }
@@ -123,7 +124,7 @@ fn an_element_holds_what_was_written(rt: HostRuntime) -> Result<(), Fail> {
     Ok(())
 }
 
-/// How many cells are in the region.
+/// The number of cells in the region.
 fn count_cells(heap: &Heap, region: u32) -> u64 {
     let mut count = 0u64;
     for _value in heap.cells_of(region) {
@@ -132,8 +133,8 @@ fn count_cells(heap: &Heap, region: u32) -> u64 {
     count
 }
 
-/// How many cells are in regions 4 and 0, before region 4 is dropped and after that: a grid lies in region 4, and
-/// an object with one field in none.
+/// The numbers of cells in regions 4 and 0 before and after region 4 is deleted. Region 4 contains a grid; an object with one field is
+/// in region 0, which is no region.
 fn drop_a_grid(alloc: Global, dom: &Rect) -> Result<[u64; 4], HeapErr>
     requires { IsRect dom.now }
 {
@@ -155,7 +156,8 @@ fn a_dropped_region_has_no_cells(rt: HostRuntime) -> Result<(), Fail> {
     Ok(())
 }
 
-/// 9 is written at 3 of row 1; then (1, 3) of the table is read, and (11, 2) and (1, 3) of the table moved by (10, -1).
+/// Writes 9 at element 3 of the view of row 1. Returns what is then at (1, 3) of the table, and at (11, 2) and (1, 3) of the table
+/// translated by (10, -1).
 fn write_through_a_row(
     alloc: Global,
     dom: &Rect,
@@ -182,7 +184,7 @@ fn a_view_shares_the_cells(rt: HostRuntime) -> Result<(), Fail> {
     Ok(())
 }
 
-/// Row 3, a coordinate that isn't there, and a move that leaves the numbers of 32 bits.
+/// Requests views that fail: slices at row 3 and in a dimension that doesn't exist, and a translation that leaves the range of 32 bits.
 fn ask_for_no_views(alloc: Global, dom: &Rect) -> Result<[Option<HeapErr>; 3], HeapErr>
     requires form { IsRect dom.now }
     requires two { dom.now.dim ≡ 2 }
@@ -203,8 +205,8 @@ fn a_view_that_is_not_there_has_a_fault(rt: HostRuntime) -> Result<(), Fail> {
     Ok(())
 }
 
-/// Process 0 makes a grid over `most`, one over `fits` in region 5, and an object; process 1 makes an object; and
-/// process 0 one more, once region 5 is dropped.
+/// Process 0 creates a grid over `most`, one over `fits` in region 5, and an object; process 1 creates an object; and process 0 creates
+/// one more after region 5 is deleted. Returns the errors.
 fn fill_up(alloc: Global, most: &Rect, fits: &Rect) -> Result<[Option<HeapErr>; 5], Memory>
     requires most { IsRect most.now }
     requires fits { IsRect fits.now }
@@ -234,7 +236,7 @@ fn a_process_has_1048576_cells(rt: HostRuntime) -> Result<(), Fail> {
     Ok(())
 }
 
-/// Process 0 makes a grid, a view of all of it, and an object.
+/// Process 0 creates a grid, a view of all of it, and an object. Returns the errors of the last two.
 fn fill_up_by_a_view(alloc: Global, dom: &Rect) -> Result<[Option<HeapErr>; 2], HeapErr>
     requires { IsRect dom.now }
 {

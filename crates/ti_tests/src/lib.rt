@@ -1,4 +1,5 @@
-//! Tests of what isn't a text, and nothing else: so no other crate is proved twice.
+//! Tests of library functions that the row crates don't reach, since their input isn't a source file. A crate with tests is proved twice,
+//! so this one contains nothing else, and no other crate has tests.
 #![tactic(auto)]
 
 #[cfg(test)]

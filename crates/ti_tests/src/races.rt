@@ -1,4 +1,4 @@
-// Races of lists of entries, of which most are no runs: what an access goes to is told by the entries before it alone.
+// Races of lists of entries, most of which aren't runs: the location of an access is determined by the entries before it only.
 
 use std::alloc::Global;
 use std::test::Fail;
@@ -8,23 +8,23 @@ use ti_base::{
 use ti_race::{RaceWatch, told_races};
 use ti_watch::Watch;
 
-/// How a view is made of a grid of one dimension.
+/// How a view of a one-dimensional grid is made.
 #[derive(Clone, Copy)]
 enum Seen {
-    /// Its points are moved by so much.
+    /// Translation by this offset.
     Moved(i32),
-    /// They are moved as in a grid of two dimensions, so that there is no such view.
+    /// Translation by a two-dimensional point, so that there is no such view.
     MovedInPlane,
-    /// The points from one number to another.
+    /// Restriction to these bounds.
     Cut(i32, i32),
 }
 
 /// What a process does.
 #[derive(Clone, Copy)]
 enum Does {
-    /// It makes `GRID` over the points from one number to another with this step.
+    /// Creates `GRID` with these bounds and this stride.
     MakesGrid(i32, i32, u32),
-    /// It makes a view of the first name of a grid of the second.
+    /// Creates a view with the first identity of the grid with the second one.
     MakesView(Id, Id, Seen),
     MakesObject(Id),
     Puts(Id, i32),
@@ -38,7 +38,7 @@ enum Does {
 /// A process, and what it does.
 struct Step(u32, Does);
 
-/// A list of entries, of which that of number n stands at 1:n, and the report on it.
+/// A list of entries, of which number n has the source location 1:n, and the expected report.
 struct Case {
     about: &'static str,
     told: &'static [Step],
@@ -329,7 +329,7 @@ const CASES: &[Case] = &[
     },
 ];
 
-/// The point with one coordinate.
+/// The point with this coordinate.
 fn at(x1: i32) -> Point {
     Point {
         dim: 1,
@@ -339,7 +339,7 @@ fn at(x1: i32) -> Point {
     }
 }
 
-/// The points from one number to another, which may not be in their one form.
+/// The one-dimensional rectangle with these bounds and this stride, which need not be canonical.
 fn line(low: i32, high: i32, step: u32) -> Rect {
     Rect {
         dim: 1,

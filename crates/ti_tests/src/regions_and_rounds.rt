@@ -1,4 +1,4 @@
-// Shared regions with their counts, and rounds in which one process is ahead of another.
+// Shared regions with their reference counts, and collectives of which one process is ahead of another.
 
 use std::alloc::Global;
 use std::test::Fail;
@@ -6,7 +6,7 @@ use ti_base::{CollKind, Deposit, Id, Memory, Place, Value};
 use ti_region::Regions;
 use ti_rounds::Rounds;
 
-/// What the calls on two regions answer, in their order.
+/// The results of calls on two regions, in their order.
 #[derive(Debug, Drop, PartialEq)]
 struct Counted {
     numbers: [u32; 3],
@@ -37,7 +37,8 @@ const OBJECT_IN_2: Value = Value::Obj(Some(Id {
     region: 2,
 }));
 
-/// Cells in no region and in region 2 name things, then others, and region 1 is deleted.
+/// Cells outside all regions and in regions 1 and 2 get references, then other values, and region 1 is deleted. Counts are taken in
+/// between.
 fn count_references(alloc: Global) -> Result<Counted, Memory> {
     let mut regions = Regions::new(alloc);
     let first = regions.make()?;
@@ -64,7 +65,7 @@ const PLACE: Place = Place { line: 2, col: 7 };
 
 const NEXT_PLACE: Place = Place { line: 3, col: 1 };
 
-/// What the calls on rounds of two processes answer, in their order.
+/// The results of calls on the collectives of two processes, in their order.
 #[derive(Drop, PartialEq)]
 struct Passed {
     complete: [bool; 3],
@@ -73,7 +74,7 @@ struct Passed {
     deposits: [Deposit; 5],
 }
 
-/// A broadcast from process 1, which leaves it and arrives at an exchange before process 0 leaves.
+/// Passes a broadcast from process 1, which leaves it and arrives at an exchange before process 0 has left.
 fn pass_rounds(alloc: Global) -> Result<Passed, Memory> {
     let mut rounds = Rounds::new(alloc, 2)?;
     rounds.arrive(0, CollKind::Broadcast, PLACE, Some(1), Deposit::Nothing);

@@ -1,4 +1,4 @@
-// Reports of watchers that are told entries one by one.
+// Reports of watchers that observe entries one by one.
 
 use std::alloc::Global;
 use std::test::Fail;
@@ -8,14 +8,14 @@ use ti_base::{
 };
 use ti_watch::{StatsWatch, TraceWatch, Watch};
 
-/// An act with its answer, and how the two are written.
+/// An operation with its result, and how the two are written.
 struct Act {
     act: Action,
     answer: Answer,
     written: &'static str,
 }
 
-/// An act, and how many entries there are of it.
+/// An operation, and how many entries have it.
 struct Count(Action, u32);
 
 const THING: Id = Id {
@@ -107,7 +107,7 @@ const SPACE: Rect = Rect {
     step: [1, 1, 2],
 };
 
-/// The empty domain of three dimensions.
+/// The empty three-dimensional domain.
 const NONE: Rect = Rect {
     dim: 3,
     lo: Point {
@@ -415,7 +415,7 @@ end 1
 fault 0
 ";
 
-/// How often four processes do what, where each fills a grid and one sums them all up.
+/// The operations of a run of four processes, in which each fills a grid and one sums up all of them, with their numbers.
 const COUNTS: &[Count] = &[
     Count(
         Action::NewGrid {
@@ -478,7 +478,7 @@ end 4
 fault 0
 ";
 
-/// The report of a watcher, behind what stands in `out`.
+/// Appends the report of a watcher on these entries to `out`.
 fn report_on<W: Watch>(watch: W, entries: &[Entry], out: &mut Vec<u8>) -> Result<(), Memory> {
     let mut watch = watch;
     for entry in entries {
@@ -487,7 +487,7 @@ fn report_on<W: Watch>(watch: W, entries: &[Entry], out: &mut Vec<u8>) -> Result
     watch.report(out)
 }
 
-/// An entry of process 2 at 3:5.
+/// An entry of process 2 at source location 3:5.
 fn entry_of(act: Action, answer: Answer) -> Entry {
     Entry {
         proc: 2,
@@ -497,7 +497,7 @@ fn entry_of(act: Action, answer: Answer) -> Entry {
     }
 }
 
-/// The entries of acts, each so many times.
+/// Entries with these operations, each as many times as `counts` says.
 fn entries_of(alloc: Global, counts: &[Count]) -> Result<Vec<Entry>, Memory> {
     let mut entries = Vec::new(alloc);
     for Count(act, count) in counts {

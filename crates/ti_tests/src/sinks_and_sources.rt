@@ -1,41 +1,41 @@
-// Each public call of sources and sinks, and calls that fail.
+// Each public function of sources and sinks, and calls that fail.
 
 use std::alloc::{AllocError, Global};
 use std::fs;
 use std::test::Fail;
 use ti_io::{FileSource, MemSink, MemSource, Sink, Source, StdSink, write_piece};
 
-/// A call of a source.
+/// A call of a source, and what its result is counted as.
 #[derive(Clone, Copy)]
 enum Take {
-    /// Whether the name is there, as 0 and 1.
+    /// Finds a file: 1 if it exists, 0 if not.
     Find(&'static str),
-    /// How many bytes were read.
+    /// Reads: the number of bytes read.
     Read,
 }
 
-/// A call of a sink.
+/// A call of a sink, and what its result is counted as.
 #[derive(Clone, Copy)]
 enum Give {
-    /// How many bytes were taken.
+    /// Writes: the number of bytes accepted.
     Write(&'static [u8]),
-    /// 0.
+    /// Flushes: always 0.
     Flush,
 }
 
-/// Calls of a source, and what each answers, where none stands for a failure.
+/// Calls of a source with their expected results; `None` is a failure.
 type Takes = &'static [(Take, Option<usize>)];
 
-/// Calls of a sink, and what each answers, where none stands for a failure.
+/// Calls of a sink with their expected results; `None` is a failure.
 type Gives = &'static [(Give, Option<usize>)];
 
-/// The numbers of the calls that fail, and all calls.
+/// The indices of the calls that fail, and all calls.
 struct Reading {
     fails: &'static [u32],
     calls: Takes,
 }
 
-/// The numbers of the calls that fail, all calls, what was taken, and how much of it is flushed.
+/// The indices of the calls that fail, all calls, the bytes that the sink accepted, and how many of them are flushed.
 struct Writing {
     fails: &'static [u32],
     calls: Gives,
@@ -43,7 +43,7 @@ struct Writing {
     flushed: usize,
 }
 
-/// The numbers of the calls that fail, whether a piece was written, and what was taken.
+/// The indices of the calls that fail, whether all bytes were written, and the bytes that the sink accepted.
 struct Piece {
     fails: &'static [u32],
     is_written: bool,
@@ -194,7 +194,7 @@ const PIECES: &[Piece] = &[
     },
 ];
 
-/// Of a file that holds `abc`, in four bytes.
+/// Calls on a file that contains `abc`, with a buffer of four bytes.
 const OF_A_FILE: Takes = &[
     (Take::Read, Some(0)),
     (Take::Find("no_such_file.txt"), None),
@@ -211,7 +211,7 @@ const TO_OUT: Gives = &[
 
 const TO_ERR: Gives = &[(Give::Write(b"err\n"), Some(4)), (Give::Flush, Some(0))];
 
-/// What a call of a source answers.
+/// The result of a call of a source.
 fn taken<S: Source>(source: &mut S, call: Take, buf: &mut [u8]) -> Option<usize> {
     match call {
         Take::Find(name) => match source.find(name) {
@@ -222,7 +222,7 @@ fn taken<S: Source>(source: &mut S, call: Take, buf: &mut [u8]) -> Option<usize>
     }
 }
 
-/// Whether the calls of a source answer as they say.
+/// Whether the calls of a source have the expected results.
 fn takes<S: Source>(source: &mut S, calls: &[(Take, Option<usize>)], buf: &mut [u8]) -> bool {
     for (call, answer) in calls {
         if taken(source, *call, buf) != *answer {
@@ -232,7 +232,7 @@ fn takes<S: Source>(source: &mut S, calls: &[(Take, Option<usize>)], buf: &mut [
     true
 }
 
-/// What a call of a sink answers.
+/// The result of a call of a sink.
 fn given<K: Sink>(sink: &mut K, call: Give) -> Option<usize> {
     match call {
         Give::Write(piece) => sink.write(piece).ok(),
@@ -243,7 +243,7 @@ fn given<K: Sink>(sink: &mut K, call: Give) -> Option<usize> {
     }
 }
 
-/// Whether the calls of a sink answer as they say.
+/// Whether the calls of a sink have the expected results.
 fn gives<K: Sink>(sink: &mut K, calls: &[(Give, Option<usize>)]) -> bool {
     for (call, answer) in calls {
         if given(sink, *call) != *answer {
@@ -253,7 +253,7 @@ fn gives<K: Sink>(sink: &mut K, calls: &[(Give, Option<usize>)]) -> bool {
     true
 }
 
-/// A source with three files, of which two have one name, that gives two bytes a read.
+/// A source with three files, two of which have the same name, that returns at most two bytes for each read.
 fn source_of(alloc: Global, fails: &[u32]) -> Result<MemSource, AllocError> {
     let mut files = Vec::new(alloc);
     for (name, bytes) in [("a", b"abcde".as_slice()), ("b", b"x"), ("a", b"zz")] {
@@ -262,7 +262,7 @@ fn source_of(alloc: Global, fails: &[u32]) -> Result<MemSource, AllocError> {
     Ok(MemSource::new(files, 2, fails.to_vec(alloc)?))
 }
 
-/// A sink that takes three bytes a write, and so many in all.
+/// A sink that accepts at most three bytes for each write, and at most `room` in all.
 fn sink_of(alloc: Global, room: usize, fails: &[u32]) -> Result<MemSink, Fail> {
     Ok(MemSink::new(alloc, 3, room, fails.to_vec(alloc)?)?)
 }
@@ -308,7 +308,7 @@ fn writes_whole_pieces(rt: HostRuntime) -> Result<(), Fail> {
     Ok(())
 }
 
-/// Whether the calls answer as they say, and what was read last stands in the buffer.
+/// Whether the calls have the expected results and the buffer keeps the bytes of the last successful read.
 fn file_is_read(rt: &HostRuntime) -> bool {
     let mut buf = [0u8; 4];
     let mut source = FileSource::new(rt);

@@ -1,4 +1,4 @@
-// Copies of spellings.
+// Copies of identifier spellings.
 
 use std::test::Fail;
 use ti_syntax::Spelled;

@@ -1,4 +1,4 @@
-// A list of pairs behind a turnstile, to which passes add in turn and from threads of their own.
+// A list of pairs protected by a turnstile, to which passes append sequentially and from threads of their own.
 
 mod members;
 mod pairs;
@@ -12,7 +12,7 @@ use std::thread::Threads;
 use ti_base::Memory;
 use ti_turnstile::Turnstile;
 
-/// Three passes add 5, 6 and 7 in turn. The last of the members has the number 0.
+/// Three passes append 5, 6 and 7 sequentially. The last of the members has number 0.
 fn added_in_turn<R: Wait>(rt: &R, alloc: Global) -> Result<Pairs, Memory> {
     let (turnstile, passes) = Turnstile::new(alloc, 3, Pairs::new(alloc))?;
     let mut members = members_of(alloc, &turnstile, passes, 3)?;
@@ -22,7 +22,7 @@ fn added_in_turn<R: Wait>(rt: &R, alloc: Global) -> Result<Pairs, Memory> {
     closed(alloc, turnstile, members)
 }
 
-/// Four passes add the numbers below 100, each from a thread of its own.
+/// Four passes append the numbers below 100, each from a thread of its own.
 fn added_by_threads<R: Threads + Wait + Sync>(rt: &R, alloc: Global) -> Result<Pairs, Memory> {
     let (turnstile, passes) = Turnstile::new(alloc, 4, Pairs::new(alloc))?;
     let members = members_of(alloc, &turnstile, passes, 4)?;
@@ -37,7 +37,7 @@ fn passes_add_in_turn(rt: HostRuntime) -> Result<(), Fail> {
     Ok(())
 }
 
-// None is lost, none comes twice, and those of each number stand in their order.
+// No item is lost or duplicated, and the items of each number are in their order.
 #[test]
 fn threads_add_in_their_order(rt: HostRuntime) -> Result<(), Fail> {
     let pairs = added_by_threads(&rt, rt.alloc())?;

@@ -1,7 +1,7 @@
-// Whole numbers, points, rectangles, domains and views.
+// Integers, points, rectangles, domains and views.
 //
-// The expected values of the arithmetic were worked out from its definition with whole numbers of any size.
-// Rectangles and domains are compared with plain arithmetic on each point of a small box, and views with lists of points.
+// The expected values of the arithmetic were computed from its definition with unbounded integers. Rectangles and domains are compared
+// with a membership test of each point of a small box, and views with lists of points.
 
 mod domains;
 mod grids;

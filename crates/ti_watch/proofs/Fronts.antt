@@ -1,4 +1,4 @@
--- What stood in a list before more was added.
+-- What a buffer held before bytes were appended is a prefix of what it holds afterwards.
 use Rattle.std.proofs.Common.{◌≡◌, ℕ, ◌≤◌, List, ◌++◌, length, take, sym, ap, ◌∙◌, arith, length-append}
 use Rattle.std.proofs.lemmas.List.{take-take, take_at}
 

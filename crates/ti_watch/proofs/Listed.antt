@@ -1,4 +1,4 @@
--- Texts of one, two or three dimensions with `,` between them.
+-- Comma-separated lists of one, two or three elements are what the code writes.
 use Rattle.std.proofs.Common.{◌≡◌, ◌≢◌, ℕ, zero, suc, List, [], ◌∷◌, ◌++◌, take, refl, append_assoc, arith}
 use Rattle.std.proofs.lemmas.List.{take_all}
 use Rattle.std.specs.Prelude.{codes}

@@ -1,4 +1,4 @@
--- How acts and answers are written in reports.
+-- How operations and their results are written in reports.
 use Rattle.std.specs.Prelude.{ℕ, List, [], ◌++◌, Option, Some, None, codes, decimal}
 use Rattle.std.specs.Fmt.{signed_decimal}
 use Rattle.ti_base.specs.declared.action.Action.{Action}
@@ -19,7 +19,7 @@ use Rattle.ti_base.specs.declared.value.Zero.{Zero}
 use Rattle.ti_base.specs.FaultNames.{name_of}
 use Rattle.ti_watch.specs.Texts.{point_text, rect_text, object_text, grid_text, value_text, zero_text}
 
--- the word of an act
+-- the name of an operation
 abbrev pub word_of : Action → List ℕ
 word_of (act.GetField obj field) = codes "getField"
 word_of (act.PutField obj field value) = codes "putField"
@@ -36,9 +36,9 @@ word_of (act.Take who) = codes "take"
 word_of act.End = codes "end"
 word_of (act.Fault kind) = codes "fault"
 
--- ---- operands, each behind a blank
+-- ---- operands, each after a space
 
--- what may be absent is written as `-` then
+-- an optional operand is written as `-` if it is missing
 abbrev pub optional : {A : Type 0} → (A → List ℕ) → Option A → List ℕ
 optional text None = codes "-"
 optional text (Some x) = text x
@@ -53,7 +53,7 @@ collective_text Exchange = codes "exchange"
 collective_text MakeRegion = codes "makeRegion"
 collective_text DeleteRegion = codes "deleteRegion"
 
--- what a process gives at its arrival
+-- what a process contributes at its arrival
 abbrev pub deposit_text : Deposit → List ℕ
 deposit_text Nothing = codes "-"
 deposit_text (One value) = value_text value
@@ -83,7 +83,7 @@ print_text literal value = codes " " ++ optional literal_text literal ++ codes "
 abbrev pub arrival_text : CollKind → Option ℕ → Deposit → List ℕ
 arrival_text kind arg deposit = codes " " ++ collective_text kind ++ codes " " ++ optional decimal arg ++ codes " " ++ deposit_text deposit
 
--- all operands of an act
+-- all operands of an operation
 abbrev pub operands_text : Action → List ℕ
 operands_text (act.GetField obj field) = field_text obj field
 operands_text (act.PutField obj field value) = field_text obj field ++ codes " " ++ value_text value
@@ -100,7 +100,7 @@ operands_text (act.Take who) = codes " " ++ decimal who
 operands_text act.End = []
 operands_text (act.Fault kind) = codes " " ++ name_of kind
 
--- ---- acts and answers
+-- ---- operations and results
 
 abbrev pub act_text : Action → List ℕ
 act_text a = word_of a ++ operands_text a

@@ -1,6 +1,6 @@
--- Lines, which are formed without taking memory.
+-- The buffer for one line.
 use Rattle.std.specs.Prelude.{ℕ}
 
--- a line has at most so many bytes
+-- the size of the buffer in bytes
 abbrev pub line_room : ℕ
 line_room = 512

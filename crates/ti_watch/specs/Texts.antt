@@ -1,4 +1,4 @@
--- How places, points, domains, things and values are written in reports.
+-- How source locations, points, domains, references and values are written in reports.
 use Rattle.std.specs.Prelude.{ℕ, true, false, if◌then◌else◌, List, [], ◌∷◌, ◌++◌, take, Some, None, codes, decimal}
 use Rattle.std.specs.Fmt.{signed_decimal}
 use Rattle.ti_base.specs.declared.place.Place.{Place}
@@ -16,7 +16,7 @@ use Rattle.ti_base.specs.Rects.{first_range, second_range, third_range, is_empty
 abbrev pub place_text : Place → List ℕ
 place_text p = decimal p.line ++ codes ":" ++ decimal p.col
 
--- texts with `,` between them
+-- byte strings with `,` between them
 abbrev pub listed : List (List ℕ) → List ℕ
 listed [] = []
 listed (t ∷ []) = t
@@ -24,28 +24,28 @@ listed (t ∷ next ∷ rest) = t ++ codes "," ++ listed (next ∷ rest)
 
 -- ---- points and domains
 
--- the coordinates that are used
+-- as many coordinates as there are dimensions
 abbrev pub coordinate_texts : Point → List (List ℕ)
 coordinate_texts p = take p.dim (signed_decimal p.x1 ∷ signed_decimal p.x2 ∷ signed_decimal p.x3 ∷ [])
 
 abbrev pub point_text : Point → List ℕ
 point_text p = codes "[" ++ listed (coordinate_texts p) ++ codes "]"
 
--- from where to where, and by which steps
+-- lower bound, upper bound and stride
 abbrev pub range_text : Range → List ℕ
 range_text r = signed_decimal r.low ++ codes ":" ++ signed_decimal r.high ++ codes ":" ++ decimal r.step
 
--- the ranges that are used
+-- as many ranges as there are dimensions
 abbrev pub range_texts : Rect → List (List ℕ)
 range_texts r = take r.dim (range_text (first_range r) ∷ range_text (second_range r) ∷ range_text (third_range r) ∷ [])
 
--- an empty domain is written by its dimension alone
+-- of an empty domain only the number of dimensions is written
 abbrev pub rect_text : Rect → List ℕ
 rect_text r = if is_empty r then codes "empty" ++ decimal r.dim else codes "[" ++ listed (range_texts r) ++ codes "]"
 
--- ---- things and values
+-- ---- references and values
 
--- the maker of a thing and its serial number
+-- the number of the creating process, and the serial number
 abbrev pub id_text : Id → List ℕ
 id_text id = decimal id.maker ++ codes "." ++ decimal id.serial
 
@@ -68,7 +68,7 @@ value_text (v.Grid None) = codes "null"
 value_text (v.Grid (Some id)) = grid_text id
 value_text (v.Region n) = codes "region" ++ decimal n
 
--- what a new element holds, by its type
+-- the type of the initial value of elements
 abbrev pub zero_text : Zero → List ℕ
 zero_text z.Int = codes "int"
 zero_text z.Long = codes "long"

@@ -1,4 +1,4 @@
-// How acts and answers are written.
+// How operations and their results are written.
 ghost use Rattle.std.specs.Prelude.{◌≡◌, ◌+◌, ◌≤◌, ◌++◌, length, codes, decimal};
 ghost use Rattle.ti_base.specs.FaultNames.{name_of};
 ghost use Rattle.ti_watch.specs.Lines.{line_room};
@@ -10,7 +10,7 @@ use ti_base::{
     Action, Answer, CollKind, Deposit, FaultKind, Id, Point, Rect, Value, ViewHow, Zero, fault_name,
 };
 
-/// The word of an act.
+/// The name of an operation, of at most 8 bytes.
 pub fn act_word(act: Action) -> &'static str
     ensures word { result.now ≡ spec.word_of act }
     ensures short { length result.now ≤ 8 }
@@ -33,7 +33,7 @@ pub fn act_word(act: Action) -> &'static str
     }
 }
 
-// The name of a fault, which is short enough for a line.
+// The name of a fault, of at most 16 bytes.
 fn name_bytes(kind: FaultKind) -> &'static [u8]
     ensures value { result.now ≡ name_of kind }
     ensures short { length result.now ≤ 16 }
@@ -41,7 +41,7 @@ fn name_bytes(kind: FaultKind) -> &'static [u8]
     fault_name(kind).as_bytes()
 }
 
-/// The name of a collective.
+/// The name of a collective, of at most 12 bytes.
 pub fn collective_name(kind: CollKind) -> &'static [u8]
     ensures value { result.now ≡ spec.collective_text kind }
     ensures short { length result.now ≤ 12 }
@@ -55,9 +55,9 @@ pub fn collective_name(kind: CollKind) -> &'static [u8]
     }
 }
 
-// What these write begins with a blank.
+// Operands, each preceded by a space. `requires` clauses say how many bytes of the line have to be free.
 impl Line {
-    /// Adds a blank, and a number behind a piece of text, or `-`.
+    /// Appends a space and the label with the number, or a space and `-` if there is none.
     pub fn optional(&mut self, label: &[u8], number: Option<u32>)
         requires { length self.old + length label.now + 11 ≤ line_room }
         ensures text { self.new ≡ self.old ++ codes " " ++ spec.optional (λ n. label.now ++ decimal n) number }
@@ -70,7 +70,7 @@ impl Line {
         }
     }
 
-    /// Adds a blank and a value.
+    /// Appends a space and a value.
     pub fn operand(&mut self, value: Value)
         requires { length self.old + 107 ≤ line_room }
         ensures text { self.new ≡ self.old ++ codes " " ++ text.value_text value }
@@ -80,7 +80,7 @@ impl Line {
         self.value(value);
     }
 
-    // Adds a value, or `-`.
+    // Appends a space and a value, or a space and `-` if there is none.
     fn printed(&mut self, value: Option<Value>)
         requires { length self.old + 107 ≤ line_room }
         ensures text { self.new ≡ self.old ++ codes " " ++ spec.optional text.value_text value }
@@ -92,7 +92,7 @@ impl Line {
         }
     }
 
-    // Adds what was given at an arrival.
+    // Appends what a process contributes at its arrival.
     fn deposit(&mut self, deposit: Deposit)
         requires { length self.old + 107 ≤ line_room }
         ensures text { self.new ≡ self.old ++ codes " " ++ spec.deposit_text deposit }
@@ -105,7 +105,7 @@ impl Line {
         }
     }
 
-    // Adds how a view is made.
+    // Appends how a view is made.
     fn view(&mut self, how: ViewHow)
         requires { length self.old + 116 ≤ line_room }
         ensures text { self.new ≡ self.old ++ codes " " ++ spec.view_text how }
@@ -127,7 +127,7 @@ impl Line {
         }
     }
 
-    // Adds a field of an object.
+    // Appends an object and the number of its field.
     fn field(&mut self, obj: Id, field: u32)
         requires { length self.old + 37 ≤ line_room }
         ensures text { self.new ≡ self.old ++ spec.field_text obj field }
@@ -137,7 +137,7 @@ impl Line {
         self.labelled(b" ", field);
     }
 
-    // Adds an element of a grid.
+    // Appends a grid and the point of its element.
     fn element(&mut self, grid: Id, at: &Point)
         requires { length self.old + 64 ≤ line_room }
         ensures text { self.new ≡ self.old ++ spec.element_text grid at.now }
@@ -148,7 +148,7 @@ impl Line {
         self.point(at);
     }
 
-    // Adds what a new grid holds, its domain and its region.
+    // Appends the initial value of the elements of a new grid, its domain and its region.
     fn new_grid(&mut self, zero: Zero, dom: &Rect, region: u32)
         requires { length self.old + 127 ≤ line_room }
         ensures text { self.new ≡ self.old ++ spec.new_grid_text zero dom.now region }
@@ -161,7 +161,7 @@ impl Line {
         self.labelled(b" ", region);
     }
 
-    // Adds what is said at an arrival.
+    // Appends the operands of an arrival: the collective, its argument and the contribution.
     fn arrival(&mut self, kind: CollKind, arg: Option<u32>, deposit: Deposit)
         requires { length self.old + 131 ≤ line_room }
         ensures text { self.new ≡ self.old ++ spec.arrival_text kind arg deposit }
@@ -173,7 +173,7 @@ impl Line {
         self.deposit(deposit);
     }
 
-    // Adds what stands behind the word of an act.
+    // Appends all operands of an operation.
     fn operands(&mut self, act: Action)
         requires { length self.old + 171 ≤ line_room }
         ensures text { self.new ≡ self.old ++ spec.operands_text act }
@@ -217,7 +217,7 @@ impl Line {
 }
 
 impl Line {
-    /// Adds an act.
+    /// Appends an operation: its name and its operands. Requires 179 free bytes.
     pub fn act(&mut self, act: Action)
         requires { length self.old + 179 ≤ line_room }
         ensures text { self.new ≡ self.old ++ spec.act_text act }
@@ -227,7 +227,7 @@ impl Line {
         self.operands(act);
     }
 
-    /// Adds an answer.
+    /// Appends the result of an operation. Requires 106 free bytes.
     pub fn answer(&mut self, answer: Answer)
         requires { length self.old + 106 ≤ line_room }
         ensures text { self.new ≡ self.old ++ spec.answer_text answer }

@@ -1,4 +1,5 @@
-//! Watchers, which are told the entries of a run one by one and report on them, and the lines that they write.
+//! Watchers, which observe the entries (events) of a run one by one and report on them: the interface, two of its implementations, and
+//! the format of their lines.
 #![tactic(auto)]
 
 mod acts;

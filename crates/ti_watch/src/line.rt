@@ -1,4 +1,4 @@
-// A line that is formed without taking memory.
+// A buffer for one line, which doesn't allocate.
 ghost use Rattle.std.specs.Prelude.{◌≡◌, ◌+◌, ◌≤◌, [], ◌++◌, length};
 ghost use Rattle.ti_watch.specs.Lines.{line_room};
 
@@ -6,7 +6,7 @@ use arrayvec::ArrayVec;
 use itoa::{Buffer, Integer};
 use std::marker::Model;
 
-/// A line of up to 512 bytes, which is formed without taking memory. Contracts see it as a list.
+/// A line of up to 512 bytes in a fixed buffer, so that writing it can't run out of memory. Contracts see it as the list of its bytes.
 #[derive(Drop)]
 pub struct Line {
     bytes: ArrayVec<u8, 512>,
@@ -37,7 +37,7 @@ impl Line {
         self.bytes.as_slice()
     }
 
-    /// Adds a piece of text.
+    /// Appends some bytes, for which there has to be space.
     pub fn text(&mut self, piece: &[u8])
         requires { length self.old + length piece.now ≤ line_room }
         ensures text { self.new ≡ self.old ++ piece.now }
@@ -46,7 +46,7 @@ impl Line {
         self.bytes.try_extend_from_slice(piece).unwrap();
     }
 
-    /// Adds a whole number in decimal digits, behind `-` where it is negative.
+    /// Appends an integer in decimal digits, after `-` if it is negative. There has to be space for the longest number of its type.
     pub fn number<I: Integer>(&mut self, n: I)
         requires { length self.old + I.MAX_STR_LEN ≤ line_room }
         ensures text { self.new ≡ self.old ++ I.text n }
@@ -56,7 +56,7 @@ impl Line {
         self.text(buffer.format(n).as_bytes());
     }
 
-    /// Adds a piece of text, and a whole number behind it.
+    /// Appends a label and, directly after it, an integer in decimal digits.
     pub fn labelled<I: Integer>(&mut self, label: &[u8], n: I)
         requires { length self.old + length label.now + I.MAX_STR_LEN ≤ line_room }
         ensures text { self.new ≡ self.old ++ label.now ++ I.text n }

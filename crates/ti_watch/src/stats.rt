@@ -1,4 +1,4 @@
-// Statistics: how many entries there are of each act.
+// Statistics: the number of entries of each operation.
 ghost use Rattle.std.specs.Prelude.{◌≡◌, ◌≤◌, [], ◌++◌, length, take, vec_len, count_by, flat_map, bytes_eq, OnOk};
 ghost use Rattle.ti_watch.specs.Acts.{word_of};
 ghost use Rattle.ti_watch.specs.Reports.{number_text, count_text, stats_text};
@@ -10,13 +10,13 @@ use std::alloc::Global;
 use std::marker::Model;
 use ti_base::{Entry, Memory};
 
-// The words of acts in the order of the lines.
+// The names of operations, in the order of the lines of the report.
 const WORDS: [&str; 14] = [
     "getField", "putField", "newObj", "newGrid", "getElem", "putElem", "makeView", "domainOf",
     "print", "arrive", "depart", "take", "end", "fault",
 ];
 
-/// Counts the entries of each act. Its kind is 1.
+/// A watcher that reports how many entries there are of each operation. Its kind is 1.
 #[derive(Drop)]
 pub struct StatsWatch {
     told: Vec<Entry>,
@@ -32,7 +32,7 @@ impl Model for StatsWatch {
 }
 
 impl StatsWatch {
-    /// A watcher that was told nothing.
+    /// A watcher that has observed no entry.
     pub fn new(alloc: Global) -> Self
         ensures { result ≡ [] }
     {
@@ -42,7 +42,7 @@ impl StatsWatch {
     }
 }
 
-// How many entries there are of an act.
+// The number of entries of the operation with this name.
 fn count_of(entries: &[Entry], word: &str) -> usize
     ensures { result ≡ count_by (λ e. bytes_eq (word_of e.act) word.now) entries.now }
 {
@@ -55,7 +55,7 @@ fn count_of(entries: &[Entry], word: &str) -> usize
     count
 }
 
-// A piece of text and a number behind a blank, with the line end.
+// A line with a label, a space and a number.
 fn number_line(label: &[u8], n: usize) -> Line
     requires { length label.now ≤ 100 }
     ensures { result ≡ label.now ++ number_text n }
@@ -67,7 +67,7 @@ fn number_line(label: &[u8], n: usize) -> Line
     line
 }
 
-// Adds the line of an act, or some bytes.
+// Appends the line of one operation. If it runs out of memory, it may have appended a part of it.
 fn add_count(entries: &[Entry], word: &str, out: &mut Vec<u8>) -> Result<(), Memory>
     ensures text { OnOk result (out.new.items ≡ out.old.items ++ count_text entries.now word.now) }
     ensures kept { take (vec_len out.old) out.new.items ≡ out.old.items }
@@ -77,7 +77,7 @@ fn add_count(entries: &[Entry], word: &str, out: &mut Vec<u8>) -> Result<(), Mem
     Ok(())
 }
 
-// Adds the lines of these acts, or some bytes.
+// Appends the lines of these operations. If it runs out of memory, it may have appended a part of them.
 fn add_counts(entries: &[Entry], words: &[&'static str], out: &mut Vec<u8>) -> Result<(), Memory>
     ensures text { OnOk result (out.new.items ≡ out.old.items ++ flat_map (λ word. count_text entries.now word.now) words.now) }
     ensures kept { take (vec_len out.old) out.new.items ≡ out.old.items }
@@ -88,7 +88,7 @@ fn add_counts(entries: &[Entry], words: &[&'static str], out: &mut Vec<u8>) -> R
     Ok(())
 }
 
-// Adds the report, or some bytes.
+// Appends the report. If it runs out of memory, it may have appended a part of it.
 fn add_report(entries: &[Entry], out: &mut Vec<u8>) -> Result<(), Memory>
     ensures text { OnOk result (out.new.items ≡ out.old.items ++ stats_text entries.now) }
     ensures kept { take (vec_len out.old) out.new.items ≡ out.old.items }

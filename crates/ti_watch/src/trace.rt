@@ -1,4 +1,4 @@
-// Traces: a line for each entry.
+// Traces: one line for each entry.
 ghost use Rattle.std.specs.Prelude.{◌≡◌, ◌+◌, ◌≤◌, [], ◌++◌, length, take, vec_len, OnOk};
 ghost use Rattle.ti_watch.specs.Lines.{line_room};
 ghost use Rattle.ti_watch.specs.Reports.{entry_text, trace_text};
@@ -9,7 +9,7 @@ use std::alloc::Global;
 use std::marker::Model;
 use ti_base::{Entry, Memory};
 
-/// Lists the entries, a line for each. Its kind is 0.
+/// A watcher that lists the entries, one line for each. Its kind is 0.
 #[derive(Drop)]
 pub struct TraceWatch {
     told: Vec<Entry>,
@@ -25,7 +25,7 @@ impl Model for TraceWatch {
 }
 
 impl TraceWatch {
-    /// A watcher that was told nothing.
+    /// A watcher that has observed no entry.
     pub fn new(alloc: Global) -> Self
         ensures { result ≡ [] }
     {
@@ -36,7 +36,7 @@ impl TraceWatch {
 }
 
 impl Line {
-    // Adds the line of an entry.
+    // Appends the line of an entry: its number, process, source location, operation and result. Requires 345 free bytes.
     fn entry(&mut self, number: usize, e: &Entry)
         requires { length self.old + 345 ≤ line_room }
         ensures { self.new ≡ self.old ++ entry_text number e.now }
@@ -53,7 +53,7 @@ impl Line {
     }
 }
 
-// The line of an entry.
+// The line of an entry, whose index in the history is `number`.
 fn entry_line(number: usize, e: &Entry) -> Line
     ensures { result ≡ entry_text number e.now }
 {
@@ -62,7 +62,7 @@ fn entry_line(number: usize, e: &Entry) -> Line
     line
 }
 
-// Adds the lines of these entries, or some bytes.
+// Appends the lines of these entries. If it runs out of memory, it may have appended a part of them.
 fn add_lines(entries: &[Entry], out: &mut Vec<u8>) -> Result<(), Memory>
     ensures text { OnOk result (out.new.items ≡ out.old.items ++ trace_text entries.now) }
     ensures kept { take (vec_len out.old) out.new.items ≡ out.old.items }

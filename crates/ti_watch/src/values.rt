@@ -1,4 +1,4 @@
-// How places, points, domains, things and values are written.
+// How source locations, points, domains, references and values are written.
 ghost use Rattle.std.specs.Prelude.{◌≡◌, ◌+◌, ◌≤◌, ◌++◌, length};
 ghost use Rattle.ti_base.specs.Rects.{is_empty};
 ghost use Rattle.ti_watch.specs.Lines.{line_room};
@@ -7,7 +7,7 @@ ghost use Rattle.ti_watch.specs.Texts as text;
 use crate::line::Line;
 use ti_base::{Id, Point, Rect, Value, Zero};
 
-// Whether no point is in the domain.
+// Whether the domain is empty.
 fn has_no_points(r: &Rect) -> bool
     ensures { result ≡ is_empty r.now }
 {
@@ -15,7 +15,7 @@ fn has_no_points(r: &Rect) -> bool
 }
 
 impl Line {
-    // Adds the coordinates of a point.
+    // Appends as many coordinates of a point as it has dimensions, with commas between them.
     fn coordinates(&mut self, p: &Point)
         requires { length self.old + 35 ≤ line_room }
         ensures text { self.new ≡ self.old ++ text.listed (text.coordinate_texts p.now) }
@@ -35,7 +35,7 @@ impl Line {
         self.labelled(b",", p.x3);
     }
 
-    /// Adds a point.
+    /// Appends a point, in brackets. Requires 37 free bytes.
     pub fn point(&mut self, p: &Point)
         requires { length self.old + 37 ≤ line_room }
         ensures text { self.new ≡ self.old ++ text.point_text p.now }
@@ -46,7 +46,7 @@ impl Line {
         self.text(b"]");
     }
 
-    // Adds a piece of text, and a range behind it.
+    // Appends a label and a range: its lower bound, upper bound and stride.
     fn range(&mut self, label: &[u8], low: i32, high: i32, step: u32)
         requires { length self.old + length label.now + 34 ≤ line_room }
         ensures text { self.new ≡ self.old ++ label.now ++ text.range_text (record { low = low; high = high; step = step }) }
@@ -57,7 +57,7 @@ impl Line {
         self.labelled(b":", step);
     }
 
-    // Adds the ranges of a domain.
+    // Appends as many ranges of a domain as it has dimensions, with commas between them.
     fn ranges(&mut self, r: &Rect)
         requires { length self.old + 104 ≤ line_room }
         ensures text { self.new ≡ self.old ++ text.listed (text.range_texts r.now) }
@@ -77,7 +77,7 @@ impl Line {
         self.range(b",", r.lo.x3, r.hi.x3, r.step[2]);
     }
 
-    /// Adds a rectangular domain.
+    /// Appends a rectangular domain: its ranges in brackets, or `empty` with the number of dimensions. Requires 106 free bytes.
     pub fn domain(&mut self, r: &Rect)
         requires { length self.old + 106 ≤ line_room }
         ensures text { self.new ≡ self.old ++ text.rect_text r.now }
@@ -92,7 +92,7 @@ impl Line {
         self.text(b"]");
     }
 
-    /// Adds a piece of text, and the maker of a thing and its serial number behind it.
+    /// Appends a label, the number of the process that created an object or grid, a dot, and its serial number.
     pub fn id(&mut self, label: &[u8], id: Id)
         requires { length self.old + length label.now + 21 ≤ line_room }
         ensures text { self.new ≡ self.old ++ label.now ++ text.id_text id }
@@ -102,7 +102,7 @@ impl Line {
         self.labelled(b".", id.serial);
     }
 
-    /// Adds a value.
+    /// Appends a value. Requires 106 free bytes.
     pub fn value(&mut self, value: Value)
         requires { length self.old + 106 ≤ line_room }
         ensures text { self.new ≡ self.old ++ text.value_text value }
@@ -126,7 +126,7 @@ impl Line {
         }
     }
 
-    /// Adds what a new element holds.
+    /// Appends the type of the initial value of a grid's elements. Requires 8 free bytes.
     pub fn zero(&mut self, zero: Zero)
         requires { length self.old + 8 ≤ line_room }
         ensures text { self.new ≡ self.old ++ text.zero_text zero }

@@ -1,4 +1,4 @@
--- What is left behind the first bytes of a word, and which words can stand.
+-- The test of the code for arguments that can occur on the command line agrees with the specification.
 use Rattle.std.proofs.Common.{◌≡◌, ◌≢◌, ◌∙◌, ◌==◌, ◌||◌, Bool, cond, true, false, refl, sym, ap, arith, [], ◌∷◌, ◌++◌, Option, Some, None, option_map, codes}
 use Rattle.std.specs.Prelude.{MatchOption}
 use Rattle.std.specs.Borrow.{Bor}

@@ -1,4 +1,4 @@
--- Uses one after the other are those that the words are cut into, where none is used twice.
+-- Reading options one after the other yields the uses of the specification, if none is used twice.
 use Rattle.std.proofs.Common.{append-nil, append_assoc, ◌≡◌, ◌∙◌, ◌&&◌, ◌||◌, Bool, true, false, true≢false, refl, sym, ap, ap₂, List, [], ◌∷◌, ◌++◌, Option, Some, None, codes}
 use Rattle.std.specs.Prelude.{not, option_and_then}
 use Rattle.std.specs.List.{list_all}

@@ -1,4 +1,4 @@
--- From the answer of `clap` to what the words give each argument.
+-- The result of `clap` determines the value of each option as the specification says.
 use Rattle.std.proofs.Common.{◌≡◌, ◌∙◌, ◌&&◌, Bool, cond, true, false, true≢false, refl, sym, ap, List, [], ◌∷◌, map, Option, Some, None, option_map, codes}
 use Rattle.std.specs.Prelude.{option_and_then}
 use Rattle.std.specs.List.{find, fold, list_all}

@@ -1,4 +1,4 @@
--- What is found in the matches, with the defaults of the reports.
+-- Looking up an option in the matches finds its value, with the defaults of options without a value.
 use Rattle.std.proofs.Common.{◌≡◌, ◌∙◌, ◌||◌, Bool, cond, true, false, true≢false, refl, sym, ap, List, [], ◌∷◌, map, Option, Some, None, option_map, codes}
 use Rattle.std.specs.Prelude.{option_and_then, slice_get}
 use Rattle.std.specs.List.{find, fold, list_any}

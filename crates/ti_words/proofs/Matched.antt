@@ -1,4 +1,4 @@
--- What `clap` matches are the uses that the words are cut into.
+-- What `clap` matches are the uses of options that the specification finds in the arguments.
 use Rattle.std.proofs.Common.{◌≡◌, ◌∙◌, ◌==◌, ◌&&◌, ◌||◌, ℕ, Bool, cond, true, false, true≢false, refl, sym, ap, ap₂, List, [], ◌∷◌, ◌++◌, map, Option, Some, None, option_map, codes}
 use Rattle.std.specs.Prelude.{not}
 use Rattle.std.specs.Str.{bytes_eq}

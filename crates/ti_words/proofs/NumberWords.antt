@@ -1,4 +1,4 @@
--- Words that are numbers.
+-- The test of the code for numbers agrees with the specification, and a number that doesn't parse as `u32` is too large.
 use Rattle.std.proofs.Common.{◌≡◌, inl, inr, ℕ, ◌<◌, ◌≤◌, ◌^◌, true, false, ◌==◌, List, length, None, Err, arith, rules, refl}
 use Rattle.std.specs.Char.{is_ascii_digit}
 use Rattle.std.specs.List.{list_all}

@@ -1,4 +1,4 @@
--- What `clap` makes of one word of the command.
+-- One step of `clap`, for one argument of the command line.
 use Rattle.std.proofs.Common.{append-nil, ◌≡◌, ◌∙◌, ◌==◌, ◌&&◌, ◌||◌, ℕ, Bool, cond, true, false, true≢false, refl, sym, ap, ap₂, List, [], ◌∷◌, ◌++◌, Option, Some, None, codes}
 use Rattle.std.specs.Prelude.{not, option_and_then}
 use Rattle.std.specs.Option.{option_map_or}

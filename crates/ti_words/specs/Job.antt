@@ -1,4 +1,4 @@
--- What the words of the command line ask for.
+-- What the command line requests.
 use Rattle.std.specs.Prelude.{ℕ, Bool, ◌&&◌, ◌*◌, nat_lt, nat_le, if◌then◌else◌}
 use Rattle.std.specs.Prelude.{List, [], map, length, codes, Option, Some, None, option_map, option_and_then}
 use Rattle.std.specs.Char.{is_ascii_digit}
@@ -10,7 +10,7 @@ use Rattle.ti_words.specs.declared.job.Job.{Job}
 use Rattle.ti_words.specs.declared.job.Mode.{Mode}
 use Rattle.ti_words.specs.declared.job.Mode.TheVariants.{Run, Check, Code, Gen, Verify, Infer}
 
--- what the words give each argument
+-- the value of each option, if given
 pub record Values : Type 0 where
   pub mode : Option Word
   pub procs : Option Word
@@ -23,7 +23,7 @@ pub record Values : Type 0 where
   pub races : Bool
   pub file : Option Word
 
--- what the uses give each argument
+-- the value of each option according to some uses of options
 abbrev pub values_of : List Use → Values
 values_of uses = record {
   mode = value_of (codes "mode") uses;
@@ -38,15 +38,15 @@ values_of uses = record {
   file = value_of (codes "FILE") uses;
 }
 
--- what uses give each argument, where none is used twice
+-- the value of each option, if none is used twice
 abbrev pub values_once : List Use → Option Values
 values_once uses = if is_each_once uses then Some (values_of uses) else None
 
--- what the words give each argument, where they are uses of arguments and none is used twice
+-- the value of each option, if the arguments are uses of options and none is used twice
 abbrev pub values_in : List Word → Option Values
 values_in words = option_and_then values_once (uses_of (map piece_of words))
 
--- the mode of a name, and without one the run
+-- the mode with this name; without a name, `Run`
 abbrev pub mode_of : Option Word → Option Mode
 mode_of None = Some Run
 mode_of (Some word) =
@@ -58,34 +58,34 @@ mode_of (Some word) =
     else if bytes_eq word (codes "infer") then Some Infer
     else None
 
--- a word that is a number has 1 to 10 decimal digits and nothing else
+-- a number is 1 to 10 decimal digits and nothing else
 abbrev pub is_number : Word → Bool
 is_number word = nat_lt 0 (length word) && nat_le (length word) 10 && list_all is_ascii_digit word
 
--- the number that a word of digits writes
+-- the number that decimal digits represent
 abbrev pub number_of : Word → ℕ
 number_of word = digits_value 10 word
 
--- the number that a word writes, where it is from `least` to `most`
+-- the number that an argument represents, if it is one from `least` to `most`
 abbrev pub number_in : ℕ → ℕ → Word → Option ℕ
 number_in least most word =
     if is_number word && nat_le least (number_of word) && nat_le (number_of word) most then Some (number_of word) else None
 
--- the number of a word, from `least` to `most`, and without a word the default
+-- the number that an argument represents, if it is one from `least` to `most`; the default if there is no argument
 abbrev pub number_within : ℕ → ℕ → ℕ → Option Word → Option ℕ
 number_within least most default None = Some default
 number_within least most default (Some word) = number_in least most word
 
--- the default, where there is no word
+-- the default if the option isn't given; it must not be
 abbrev pub unsaid : {X : Type 0} → X → Option Word → Option X
 unsaid default None = Some default
 unsaid default (Some word) = None
 
--- at most so many processes run
+-- the maximum number of processes
 abbrev pub most_procs : ℕ
 most_procs = 32
 
--- all processes together have at most so many ticks
+-- the maximum fuel of all processes together
 abbrev pub most_fuel : ℕ
 most_fuel = 4000000
 
@@ -93,20 +93,20 @@ most_fuel = 4000000
 abbrev pub most_seed : ℕ
 most_seed = 4294967295
 
--- how many processes run
+-- the number of processes
 abbrev pub procs_of : Values → Option ℕ
 procs_of values = number_within 1 most_procs 1 values.procs
 
--- on how many threads so many processes run: no more than processes, and unless it is said as many
+-- the number of threads of these processes: at most one for each, which is the default
 abbrev pub workers_of : ℕ → Values → Option ℕ
 workers_of procs values = number_within 1 procs procs values.workers
 
--- how many ticks each of so many processes has
+-- the fuel of each of these processes
 abbrev pub fuel_of : ℕ → Values → Option ℕ
 fuel_of procs values = option_and_then (λ fuel. if nat_le (procs * fuel) most_fuel then Some fuel else None)
     (number_within 1 most_fuel 100000 values.fuel)
 
--- the number that a text is generated from, which is written in mode gen alone
+-- the seed of a generated program, which may be given in mode gen only
 abbrev pub seed_of : Mode → Option Word → Option ℕ
 seed_of Gen word = number_within 0 most_seed 1 word
 seed_of Run word = unsaid 1 word
@@ -115,7 +115,7 @@ seed_of Code word = unsaid 1 word
 seed_of Verify word = unsaid 1 word
 seed_of Infer word = unsaid 1 word
 
--- the name of the file, which is there in every mode but gen, and empty in that
+-- the name of the source file, which must be given in every mode except gen, and not in that one
 abbrev pub file_of : Mode → Option Word → Option Word
 file_of Gen word = unsaid [] word
 file_of Run word = word
@@ -124,7 +124,7 @@ file_of Code word = word
 file_of Verify word = word
 file_of Infer word = word
 
--- the name of the trace that is held against the program, which is there in mode verify alone, and empty in every other
+-- the name of the trace, which must be given in mode verify, and not in any other
 abbrev pub against_of : Mode → Option Word → Option Word
 against_of Verify word = word
 against_of Run word = unsaid [] word
@@ -133,7 +133,7 @@ against_of Code word = unsaid [] word
 against_of Gen word = unsaid [] word
 against_of Infer word = unsaid [] word
 
--- the job of these values, of which each has to be one that its argument may have
+-- the job of these values, if each of them is valid
 abbrev pub job_by : Values → Option Job
 job_by values =
     option_and_then (λ mode. option_and_then (λ file. option_and_then
@@ -152,6 +152,6 @@ job_by values =
     (file_of mode values.file))
     (mode_of values.mode)
 
--- the job that the words ask for, or nothing where they are no command
+-- the job that the arguments request, if they are a valid command
 abbrev pub job_of : List Word → Option Job
 job_of words = option_and_then job_by (values_in words)

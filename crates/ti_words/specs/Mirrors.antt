@@ -1,3 +1,3 @@
--- What private parts of the code answer.
+-- Definitions that mirror the code. Only contracts of private functions cite them; what callers rely on doesn't depend on them.
 pub mod Command
 pub mod Seen

@@ -1,4 +1,4 @@
-// What the words give each argument, found by `clap`.
+// Finds the value of each option with `clap`.
 ghost use Rattle.std.specs.Prelude.{◌≡◌, false, None, Some, IfErr, IfOk, codes, map, option_and_then, option_map, string_bytes};
 ghost use Rattle.clap.specs.Words.{app_of, first_value, found_of, matched_of, rule_of};
 ghost use Rattle.ti_words.specs.Job.{values_in};
@@ -13,7 +13,7 @@ use clap::parser::ValueSource;
 use clap::{Arg, ArgAction, ArgMatches, Command};
 use std::alloc::{AllocError, Global};
 
-/// What the words give each argument.
+/// The value of each option, if it was given; for `trace`, `stats` and `races`, whether it was given.
 #[derive(Clone, Copy)]
 pub struct Given<'a> {
     pub mode: Option<&'a str>,
@@ -28,7 +28,7 @@ pub struct Given<'a> {
     pub file: Option<&'a str>,
 }
 
-// A flag: with a value, as `--NAME VALUE` and `--NAME=VALUE`, or with none, as `--NAME`.
+// An option `--name`: with a value, given as `--NAME VALUE` or `--NAME=VALUE`, or without one.
 fn flag<'a>(alloc: Global, has_value: bool, name: &'a str) -> Arg<'a>
     ensures rule { rule_of result ≡ flag_rule has_value name.now }
     ensures local { result.global ≡ false }
@@ -41,7 +41,7 @@ fn flag<'a>(alloc: Global, has_value: bool, name: &'a str) -> Arg<'a>
     Arg::new(alloc, name).long(name).action(action)
 }
 
-// A command with these flags.
+// Adds these options to a command, all with a value or all without.
 fn with_flags<'a>(
     alloc: Global,
     command: Command<'a>,
@@ -57,7 +57,7 @@ fn with_flags<'a>(
     Ok(command)
 }
 
-// The argument that is no flag.
+// The positional argument, the source file.
 fn file<'a>(alloc: Global) -> Arg<'a>
     ensures rule { rule_of result ≡ file_rule }
     ensures local { result.global ≡ false }
@@ -65,7 +65,7 @@ fn file<'a>(alloc: Global) -> Arg<'a>
     Arg::new(alloc, "FILE").action(ArgAction::Set)
 }
 
-// The command without arguments.
+// The command without options: the program's name isn't among its arguments, and it has no option `--help`.
 fn bare<'a>(alloc: Global) -> Command<'a>
     ensures { app_of result ≡ bare }
 {
@@ -74,7 +74,7 @@ fn bare<'a>(alloc: Global) -> Command<'a>
         .disable_help_flag(true)
 }
 
-// The command and its arguments.
+// The command with all options. Errors only if it runs out of memory.
 fn command<'a>(alloc: Global) -> Result<Command<'a>, AllocError>
     ensures { IfOk result (λ c. app_of c ≡ titan) }
 {
@@ -83,7 +83,7 @@ fn command<'a>(alloc: Global) -> Result<Command<'a>, AllocError>
     with_flags(alloc, command, false, &["trace", "stats", "races"])?.arg(file(alloc))
 }
 
-// Whether the words ask for a report.
+// Whether an option without a value was given.
 fn is_from_words(matches: &ArgMatches<'_>, report: &str) -> bool
     ensures { result ≡ is_from_words (option_and_then (λ a. a.source) (matched_of (found_of matches.now) report.now)) }
 {
@@ -94,7 +94,7 @@ fn is_from_words(matches: &ArgMatches<'_>, report: &str) -> bool
     }
 }
 
-// What the matches have for each argument.
+// The value of each option according to the matches.
 fn given_in<'a>(matches: &ArgMatches<'a>) -> Given<'a>
     ensures mode { option_map (λ s. s.now) result.mode ≡ first_value (found_of matches.now) (codes "mode") }
     ensures procs { option_map (λ s. s.now) result.procs ≡ first_value (found_of matches.now) (codes "procs") }
@@ -121,7 +121,8 @@ fn given_in<'a>(matches: &ArgMatches<'a>) -> Given<'a>
     }
 }
 
-/// Finds what the words give each argument, where they are uses of arguments and none is used twice.
+/// Finds the value of each option. The error is `Usage` if an argument is none of the options and no file name, a value is missing, or an
+/// option or the file is given twice, and `Memory` if it runs out of memory.
 pub fn find_arguments<'a>(alloc: Global, words: &'a [String]) -> Result<Given<'a>, WordsErr>
     ensures given { IfOk result (λ g. values_in (map string_bytes words.now) ≡ Some (values_seen g)) }
     ensures usage { IfErr result (λ e. e ≡ Usage → values_in (map string_bytes words.now) ≡ None) }

@@ -1,11 +1,11 @@
-// Why words have no job.
+// Errors of the command line.
 use std::alloc::AllocError;
 use thiserror::Error;
 
-/// Why words were not turned into a job.
+/// Why the command-line arguments yield no job.
 #[derive(Debug, Drop, PartialEq, Eq, Error)]
 pub enum WordsErr {
-    /// The words are no command.
+    /// They aren't a valid command.
     #[error("the words are no command")]
     Usage,
     /// Out of memory.

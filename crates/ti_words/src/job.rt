@@ -1,27 +1,27 @@
-// What the words of the command line ask for.
+// What the command line requests.
 ghost use Rattle.std.specs.Prelude.{◌≡◌, IfOk, string_bytes};
 
 use std::alloc::{AllocError, Global};
 use std::marker::Model;
 
-/// What is to be done.
+/// What to do.
 #[derive(Clone, Copy, Debug, PartialEq, Eq)]
 pub enum Mode {
-    /// The program of the file is run.
+    /// Run the program of the source file.
     Run,
-    /// The text of the file is checked.
+    /// Check the source file only.
     Check,
-    /// The code of the program of the file is written.
+    /// Print the bytecode of the program of the source file.
     Code,
-    /// A program is generated and run.
+    /// Generate a program from a seed and run it.
     Gen,
-    /// A trace is held against the program of the file.
+    /// Check a trace against the program of the source file.
     Verify,
-    /// The marks of single values of the file are inferred.
+    /// Infer the `single` annotations of the source file.
     Infer,
 }
 
-/// The name of a file. Contracts see it as the list of its bytes.
+/// A file name. Contracts see it as the list of its bytes.
 #[derive(Debug, Drop)]
 pub struct FileName {
     text: String,
@@ -36,7 +36,7 @@ impl Model for FileName {
 }
 
 impl FileName {
-    /// This name in room of its own.
+    /// An owned copy of this name.
     pub fn copy_of(alloc: Global, name: &str) -> Result<Self, AllocError>
         ensures { IfOk result (λ copy. copy ≡ name.now) }
     {
@@ -45,7 +45,7 @@ impl FileName {
         })
     }
 
-    /// The name, where it is.
+    /// The name as a string slice.
     pub fn as_str(&self) -> &str
         ensures { result.now ≡ self.now }
     {
@@ -53,26 +53,26 @@ impl FileName {
     }
 }
 
-/// What the words ask for.
+/// What the command line requests.
 #[derive(Debug, Drop)]
 pub struct Job {
     pub mode: Mode,
-    /// How many processes run.
+    /// The number of processes, from 1 to 32.
     pub procs: u32,
-    /// On how many threads.
+    /// The number of threads that carry them, from 1 to `procs`.
     pub workers: u32,
-    /// How many ticks each process has.
+    /// The units of fuel that each process has; `procs * fuel` is at most 4,000,000.
     pub fuel: u32,
-    /// What the program is generated from, in that mode.
+    /// The seed of the generated program in mode `Gen`; 1 in all others.
     pub seed: u32,
-    /// Whether the history is to be reported.
+    /// Whether to report each entry (event) of the history.
     pub trace: bool,
-    /// Whether the counts of the run are to be reported.
+    /// Whether to report how many entries of each kind there are.
     pub stats: bool,
-    /// Whether the races of the run are to be reported.
+    /// Whether to report the data races.
     pub races: bool,
-    /// The file that is named, and in mode `Gen` the empty name.
+    /// The name of the source file; empty in mode `Gen`.
     pub file: FileName,
-    /// The trace that is named in mode `Verify`, and in every other mode the empty name.
+    /// The name of the trace in mode `Verify`; empty in all others.
     pub against: FileName,
 }

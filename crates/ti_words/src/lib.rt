@@ -1,4 +1,4 @@
-//! The words of the command line become a job.
+//! Parses the command-line arguments into a job.
 #![tactic(auto)]
 
 mod arguments;

@@ -1,20 +1,20 @@
-// Numbers of the command line.
+// Numbers on the command line.
 ghost use Rattle.std.specs.Prelude.{◌≡◌, ◌≤◌, IfSome, option_map};
 ghost use Rattle.std.specs.Char.{is_ascii_digit};
 ghost use Rattle.std.specs.List.{list_all};
 ghost use Rattle.ti_words.specs.Job.{is_number, number_in, number_within};
 
-// A number has at most so many digits.
+// The maximum number of digits, enough for each `u32`.
 const MOST_DIGITS: usize = 10;
 
-// Whether each byte of a word is a decimal digit.
+// Whether each byte of an argument is a decimal digit.
 fn has_digits_alone(word: &str) -> bool
     ensures { result ≡ list_all is_ascii_digit word.now }
 {
     word.bytes().all(|byte| byte.is_ascii_digit())
 }
 
-// Whether a word is a number.
+// Whether an argument is a number: 1 to `MOST_DIGITS` decimal digits and nothing else.
 fn is_number(word: &str) -> bool
     ensures { result ≡ is_number word.now }
 {
@@ -24,7 +24,7 @@ fn is_number(word: &str) -> bool
     has_digits_alone(word)
 }
 
-// The number that a word writes, from `least` to `most`.
+// The number that an argument represents, if it is one from `least` to `most`.
 fn number_in(least: u32, most: u32, word: &str) -> Option<u32>
     ensures { result ≡ number_in least most word.now }
 {
@@ -41,7 +41,7 @@ fn number_in(least: u32, most: u32, word: &str) -> Option<u32>
     }
 }
 
-/// The number that a word writes, from `least` to `most`; without a word the default.
+/// The number that an argument represents, if it is one from `least` to `most`; the default if there is no argument.
 pub fn number_within(least: u32, most: u32, default: u32, word: Option<&str>) -> Option<u32>
     requires { default ≤ most }
     ensures value { result ≡ number_within least most default (option_map (λ s. s.now) word.entry) }

@@ -1,16 +1,16 @@
-// Which words can stand in a command.
+// Checks each argument by itself before `clap` matches them: it isn't empty, and if it begins with `-`, it is one of the options.
 ghost use Rattle.std.specs.Prelude.{◌≡◌, map, option_map, string_bytes};
 ghost use Rattle.ti_words.specs.Uses.{behind, dashed_piece, piece_of};
 ghost use Rattle.ti_words.specs.Mirrors.Command.{all_stand, can_stand, is_setting};
 
-// What is left of a word behind its first bytes, where they are these.
+// What follows a prefix in an argument, if it has the prefix.
 fn behind<'a>(front: &str, word: &'a str) -> Option<&'a [u8]>
     ensures { option_map (λ s. s.now) result ≡ behind front.now word.now }
 {
     word.as_bytes().strip_prefix(front.as_bytes())
 }
 
-// Whether a word is this flag, or begins so and has a value behind it.
+// Whether an argument is this option, or begins with `front` and has a non-empty value after it.
 fn is_setting(word: &str, flag: &str, front: &str) -> bool
     ensures { result ≡ is_setting flag.now front.now word.now }
 {
@@ -23,7 +23,7 @@ fn is_setting(word: &str, flag: &str, front: &str) -> bool
     }
 }
 
-// Whether a word that begins with `-` can stand in a command.
+// Whether an argument that begins with `-` is one of the options.
 fn is_argument(word: &str) -> bool
     ensures { result ≡ can_stand (dashed_piece word.now) }
 {
@@ -38,7 +38,7 @@ fn is_argument(word: &str) -> bool
         || word == "--races"
 }
 
-// Whether a word can stand in a command.
+// Whether an argument can occur on the command line: it isn't empty, and if it begins with `-`, it is one of the options.
 fn can_stand(word: &str) -> bool
     ensures { result ≡ can_stand (piece_of word.now) }
 {
@@ -49,7 +49,7 @@ fn can_stand(word: &str) -> bool
     }
 }
 
-/// Whether each of the words can stand in a command.
+/// Whether each argument can occur on the command line.
 pub fn all_stand(words: &[String]) -> bool
     ensures { result ≡ all_stand (map string_bytes words.now) }
 {

@@ -1,4 +1,4 @@
-// The words of the command line, read.
+// The entry point: reads the command line, and checks the values of options.
 ghost use Rattle.std.specs.Prelude.{◌≡◌, map, option_map, string_bytes, None, Some, IfErr, IfOk, MatchOption};
 ghost use Rattle.ti_words.specs.Job.{against_of, file_of, job_by, job_of, mode_of, seed_of};
 ghost use Rattle.ti_words.specs.Mirrors.Seen.{job_asked, values_seen};
@@ -10,19 +10,19 @@ use crate::job::{FileName, Job, Mode};
 use crate::numbers::number_within;
 use std::alloc::Global;
 
-// A run has at most so many processes.
+// The maximum number of processes of a run.
 const MOST_PROCS: u32 = 32;
 
-// All processes of a run together have at most so many ticks.
+// The maximum fuel of all processes of a run together.
 const MOST_FUEL: u32 = 4_000_000;
 
-// So many ticks a process has where the words don't say it.
+// The default fuel of each process.
 const DEFAULT_FUEL: u32 = 100_000;
 
-// A program is generated from this number where the words don't say it.
+// The default seed of a generated program.
 const DEFAULT_SEED: u32 = 1;
 
-/// A job whose file is named by a text.
+/// A job that borrows its file names.
 #[derive(Clone, Copy)]
 pub struct Asked<'a> {
     mode: Mode,
@@ -37,7 +37,7 @@ pub struct Asked<'a> {
     against: &'a str,
 }
 
-// The mode that a word names, and without a word the run.
+// The mode with this name; without one, `Run`. `None` if there is no such mode.
 fn mode_of(word: Option<&str>) -> Option<Mode>
     ensures { result ≡ mode_of (option_map (λ s. s.now) word.entry) }
 {
@@ -53,7 +53,7 @@ fn mode_of(word: Option<&str>) -> Option<Mode>
     }
 }
 
-// The seed in this mode: it is written where a program is generated and nowhere else.
+// The seed in this mode. `None` if it isn't a number from 0 to 2^32 - 1, or is given in a mode other than `Gen`.
 fn seed_of(mode: Mode, word: Option<&str>) -> Option<u32>
     ensures { result ≡ seed_of mode (option_map (λ s. s.now) word.entry) }
 {
@@ -64,7 +64,7 @@ fn seed_of(mode: Mode, word: Option<&str>) -> Option<u32>
     }
 }
 
-// The name of the file in this mode: it is empty where a program is generated, and is written everywhere else.
+// The name of the source file in this mode, which is empty in mode `Gen`. `None` if it is missing in another mode, or given in that mode.
 fn file_of<'a>(mode: Mode, word: Option<&'a str>) -> Option<&'a str>
     ensures { option_map (λ s. s.now) result ≡ file_of mode (option_map (λ s. s.now) word.entry) }
 {
@@ -75,7 +75,8 @@ fn file_of<'a>(mode: Mode, word: Option<&'a str>) -> Option<&'a str>
     }
 }
 
-// The name of the trace in this mode: it is written where a trace is held against a program, and is empty everywhere else.
+// The name of the trace in this mode, which is empty in all modes but `Verify`. `None` if it is missing in that mode, or given in another
+// one.
 fn against_of<'a>(mode: Mode, word: Option<&'a str>) -> Option<&'a str>
     ensures { option_map (λ s. s.now) result ≡ against_of mode (option_map (λ s. s.now) word.entry) }
 {
@@ -86,7 +87,7 @@ fn against_of<'a>(mode: Mode, word: Option<&'a str>) -> Option<&'a str>
     }
 }
 
-// What the values ask for, where each is one that its argument may have.
+// The job of these values; `None` if one of them isn't valid, or the fuel of all processes together is too much.
 fn job_by<'a>(given: Given<'a>) -> Option<Asked<'a>>
     ensures { MatchOption result (job_by (values_seen given.entry) ≡ None) (λ a. job_by (values_seen given.entry) ≡ Some (job_asked a)) }
 {
@@ -114,7 +115,8 @@ fn job_by<'a>(given: Given<'a>) -> Option<Asked<'a>>
     })
 }
 
-/// Reads the words that stand behind the program's name.
+/// Parses the command-line arguments after the program's name. The error is `Usage` if they aren't a valid command, and `Memory` if it
+/// runs out of memory.
 pub fn read_words(alloc: Global, words: &[String]) -> Result<Job, WordsErr>
     ensures job { IfOk result (λ job. job_of (map string_bytes words.now) ≡ Some job) }
     ensures usage { IfErr result (λ e. e ≡ Usage → job_of (map string_bytes words.now) ≡ None) }

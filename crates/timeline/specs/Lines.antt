@@ -3,19 +3,19 @@ use Rattle.std.specs.Prelude.{ℕ, ◌≤◌, List, ◌++◌, codes, decimal}
 use Rattle.timeline.specs.declared.entry.Entry.{Entry}
 use Rattle.timeline.specs.declared.entry.Place.{Place}
 
--- a place is a line and a column
+-- a source location: line and column
 abbrev pub place_text : Place → List ℕ
 place_text p = decimal p.line ++ (codes ":" ++ decimal p.column)
 
--- a byte that can be shown is neither a control nor above 126
+-- a printable byte: neither a control character nor above 126
 abbrev pub IsShown : ℕ → Type 0
 IsShown byte = (32 ≤ byte) × (byte ≤ 126)
 
--- what stands behind the place of an entry: what was done, and the answer
+-- what follows the source location of an entry: the operation and its result
 abbrev pub act_text : Entry → List ℕ
 act_text e = e.done.now ++ (codes " -> " ++ e.answer.now)
 
--- what stands behind the number of an entry
+-- what follows the number of an entry
 abbrev pub rest_text : Entry → List ℕ
 rest_text e = codes "p" ++ (decimal e.process ++ (codes " " ++ (decimal e.place.line
     ++ (codes ":" ++ (decimal e.place.column ++ (codes " " ++ act_text e))))))

@@ -1,10 +1,10 @@
--- How texts are written in a picture.
+-- How text is written in SVG.
 use Rattle.std.specs.Prelude.{ℕ, ◌==◌, if◌then◌else◌, List, ◌++◌, flat_map, codes}
 use Rattle.std.specs.Char.{encode_utf8}
 use Rattle.timeline.specs.declared.entry.Entry.{Entry}
 use Rattle.timeline.specs.Lines.{entry_text}
 
--- the four bytes that have a meaning in a picture are written by their names, each other as the character with its number
+-- the four bytes with a meaning in SVG are written as character entities, each other as its character
 abbrev pub escape_of : ℕ → List ℕ
 escape_of byte =
     if byte == 38 then codes "&amp;" else if byte == 60 then codes "&lt;" else if byte == 62 then codes "&gt;" else if byte == 34 then codes
@@ -13,6 +13,6 @@ escape_of byte =
 abbrev pub escaped : List ℕ → List ℕ
 escaped text = flat_map escape_of text
 
--- what an entry of the picture tells of itself: the line that told it
+-- the tooltip of an entry: its line in the trace
 abbrev pub title_text : ℕ → Entry → List ℕ
 title_text number e = codes "<title>" ++ (escaped (entry_text number e) ++ codes "</title>")

@@ -1,10 +1,10 @@
-// An entry of a run, as a line of the trace tells it.
+// An entry (event) of a run, parsed from a line of the trace.
 ghost use Rattle.std.specs.Prelude.{◌<◌};
 
-/// How many processes a run has at most.
+/// The maximum number of processes of a run.
 pub(crate) const PROCESSES: usize = 32;
 
-/// What kind of act an entry is.
+/// The kind of an entry's operation.
 #[derive(Clone, Copy)]
 pub(crate) enum Act {
     Read,
@@ -17,14 +17,15 @@ pub(crate) enum Act {
     Fault,
 }
 
-/// A place of the text.
+/// A source location.
 #[derive(Clone, Copy)]
 pub(crate) struct Place {
     pub(crate) line: u32,
     pub(crate) column: u32,
 }
 
-/// An entry: whose it is, where it stands in the text, what was done and what was the answer.
+/// An entry: its process, its source location, the kind of its operation (`act`), and the operation (`done`) and its result (`answer`) as
+/// the trace writes them.
 #[derive(Clone, Copy)]
 pub(crate) struct Entry<'a> {
     pub(crate) process: usize,

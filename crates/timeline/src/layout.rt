@@ -1,30 +1,30 @@
-// Where entries stand in the picture.
+// The layout of entries in the picture.
 //
-// Between two collectives a process's entries stand below each other, and those of all processes begin at one height: their order
-// there isn't fixed. Its arrival stands right above the line of the collective, and its departure on it.
+// Between two collectives, the entries of each process are stacked below each other, and those of all processes begin at the same height,
+// since their order isn't fixed. An arrival is directly above the line of its collective, and a departure on it.
 
 use crate::entry::{Act, Entry, PROCESSES};
 use std::alloc::{AllocError, Global};
 
-/// Where an entry stands between two collectives.
+/// The vertical position of an entry between two collectives.
 #[derive(Clone, Copy)]
 pub(crate) enum Height {
-    /// So many entries of its process come before it.
+    /// In the row with this index: the number of entries of its process that come before it.
     Row(usize),
-    /// Right above the line.
+    /// Directly above the line.
     Foot,
     /// On the line.
     Line,
 }
 
-/// The collectives that came before an entry, and where it stands behind them.
+/// The position of an entry: the number of collectives that its process has left before it (`phase`), and the height after these.
 #[derive(Clone, Copy)]
 pub(crate) struct Spot {
     pub(crate) phase: usize,
     pub(crate) height: Height,
 }
 
-/// How far a process has come.
+/// How far the layout of a process has come: its phase, the rows used in it, and whether the process has arrived at the next collective.
 #[derive(Clone, Copy)]
 struct Lane {
     phase: usize,
@@ -32,13 +32,14 @@ struct Lane {
     has_arrived: bool,
 }
 
+// A process before the first entry of a phase.
 const START: Lane = Lane {
     phase: 0,
     rows: 0,
     has_arrived: false,
 };
 
-/// The lane behind one more entry, and where this one stands.
+/// The state of a process after one more entry, and the position of this entry.
 fn advanced(lane: Lane, act: Act) -> (Lane, Spot) {
     let phase = lane.phase;
     match act {
@@ -82,7 +83,7 @@ fn advanced(lane: Lane, act: Act) -> (Lane, Spot) {
     }
 }
 
-/// Where each of these entries stands.
+/// The positions of these entries.
 fn spots(alloc: Global, entries: &[Entry]) -> Result<Vec<Spot>, AllocError> {
     let mut lanes = [START; PROCESSES];
     let mut spots = Vec::new(alloc);
@@ -94,7 +95,7 @@ fn spots(alloc: Global, entries: &[Entry]) -> Result<Vec<Spot>, AllocError> {
     Ok(spots)
 }
 
-/// How many rows a spot of this phase asks for.
+/// The number of rows that an entry at this position needs in this phase.
 fn rows_for(spot: &Spot, phase: usize) -> usize {
     match spot.height {
         Height::Row(row) if spot.phase == phase => row.saturating_add(1),
@@ -102,7 +103,7 @@ fn rows_for(spot: &Spot, phase: usize) -> usize {
     }
 }
 
-/// How many rows a phase takes above its line: those of entries, and one for arrivals.
+/// The number of rows of a phase above its line: those of entries, and one for arrivals.
 fn rows_of(spots: &[Spot], phase: usize) -> usize {
     let mut rows = 0;
     for spot in spots {
@@ -111,7 +112,7 @@ fn rows_of(spots: &[Spot], phase: usize) -> usize {
     rows.saturating_add(1)
 }
 
-/// How many collectives somebody left.
+/// The greatest phase of an entry: how many collectives its process has left before it.
 fn lines_of(spots: &[Spot]) -> usize {
     let mut phases = 0;
     for spot in spots {
@@ -120,7 +121,7 @@ fn lines_of(spots: &[Spot]) -> usize {
     phases
 }
 
-/// How many processes have entries: up to the greatest number.
+/// The number of lanes: one more than the greatest process number.
 fn processes_of(entries: &[Entry]) -> usize {
     let mut processes = 0;
     for entry in entries {
@@ -129,7 +130,7 @@ fn processes_of(entries: &[Entry]) -> usize {
     processes
 }
 
-/// The rows of lines of collectives, each below the rows of its phase.
+/// The row of the line of each phase, below the rows of the phase.
 fn line_rows(alloc: Global, spots: &[Spot]) -> Result<Vec<usize>, AllocError> {
     let mut rows = Vec::new(alloc);
     let mut next = 0usize;
@@ -141,7 +142,8 @@ fn line_rows(alloc: Global, spots: &[Spot]) -> Result<Vec<usize>, AllocError> {
     Ok(rows)
 }
 
-/// Where all entries stand. Behind the last collective is a last phase, at the end of the picture.
+/// The positions of all entries, in a picture of `processes` lanes and `lines` collectives. After the last collective there is one more
+/// phase, which ends at the bottom of the picture.
 #[derive(Drop)]
 pub(crate) struct Layout {
     pub(crate) processes: usize,
@@ -151,7 +153,7 @@ pub(crate) struct Layout {
 }
 
 impl Layout {
-    /// Of these entries.
+    /// The layout of these entries. Errors only if it runs out of memory.
     pub(crate) fn of(alloc: Global, entries: &[Entry]) -> Result<Layout, AllocError> {
         let spots = spots(alloc, entries)?;
         Ok(Layout {
@@ -176,7 +178,7 @@ impl Layout {
         }
     }
 
-    /// The row of the entry with a number.
+    /// The row of the entry with this number.
     pub(crate) fn row(&self, number: usize) -> usize {
         match self.spots.get(number) {
             Some(

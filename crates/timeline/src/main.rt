@@ -1,4 +1,5 @@
-//! `timeline`: reads the report of a trace, with that of races behind it or without, and writes a picture of the run.
+//! `timeline`: reads the report of a trace, optionally followed by that of races, from standard input, and writes a picture of the run
+//! (SVG) to standard output.
 #![tactic(auto)]
 
 mod entry;
@@ -13,10 +14,10 @@ use report::{NoReport, read_report};
 use std::io::{self, BufRead, BufReader};
 use std::process::ExitCode;
 
-// A report of 2,000 entries, all of which race, has this many lines.
+// The number of lines of a report of 2,000 entries, all of which race.
 const MOST_LINES: usize = 4_001;
 
-// The lines of standard input.
+// Reads the lines of standard input, at most `MOST_LINES`.
 fn read_lines(rt: &HostRuntime) -> Result<Vec<String>, NoReport> {
     let alloc = rt.alloc();
     let mut lines = Vec::new(alloc);
@@ -35,7 +36,7 @@ fn read_lines(rt: &HostRuntime) -> Result<Vec<String>, NoReport> {
     Ok(lines)
 }
 
-// The picture of the run that standard input tells of.
+// The picture of the run that standard input reports.
 fn draw(rt: &HostRuntime) -> Result<String, NoReport> {
     let alloc = rt.alloc();
     let lines = read_lines(rt)?;
@@ -43,7 +44,7 @@ fn draw(rt: &HostRuntime) -> Result<String, NoReport> {
     Ok(picture::picture(alloc, &report)?)
 }
 
-// Writes the picture, or the line on err.
+// Writes the picture to standard output, or an error message to standard error.
 fn run(rt: &HostRuntime) -> io::Result<ExitCode> {
     match draw(rt) {
         Ok(text) => {

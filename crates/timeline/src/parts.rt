@@ -1,11 +1,11 @@
-// The parts of a line of a report.
+// Parses the parts of a line of a report. Only the notation of titan is accepted, so that each line can be restored from what was parsed.
 ghost use Rattle.std.specs.Prelude.{◌≡◌, ◌↔◌, IsTrue, All, decimal, IfSome};
 ghost use Rattle.timeline.specs.Lines.{place_text, IsShown};
 
 use crate::entry::Place;
 use itoa::Buffer;
 
-/// A number as titan writes it.
+/// Parses a decimal number without leading zeros or sign.
 pub(crate) fn number(text: &str) -> Option<u32>
     ensures { IfSome result (λ n. text.now ≡ decimal n) }
 {
@@ -18,7 +18,7 @@ pub(crate) fn number(text: &str) -> Option<u32>
     }
 }
 
-/// A place as titan writes it.
+/// Parses a source location, `LINE:COLUMN`.
 pub(crate) fn place(text: &str) -> Option<Place>
     ensures { IfSome result (λ p. text.now ≡ place_text p) }
 {
@@ -29,7 +29,7 @@ pub(crate) fn place(text: &str) -> Option<Place>
     })
 }
 
-/// Whether each byte of a text can be shown: no control, and none above 126.
+/// Whether each byte is printable: neither a control character nor above 126.
 pub(crate) fn is_shown(text: &str) -> bool
     ensures { IsTrue result ↔ All IsShown text.now }
 {

@@ -1,4 +1,4 @@
-// The picture of a run.
+// Writes the picture of a run as SVG. Coordinates are in pixels.
 
 use crate::entry::{Act, Entry, Place};
 use crate::layout::Layout;
@@ -7,17 +7,22 @@ use crate::shapes::{escaped, label_of, look, title_of};
 use std::alloc::{AllocError, Global};
 use std::fmt::Write;
 
+// The width of the margin at the left.
 const LEFT: usize = 16;
 
+// The height of the header.
 const TOP: usize = 44;
 
+// The distance between lanes.
 const LANE: usize = 304;
 
+// The width of a box.
 const BOX: usize = 284;
 
+// The height of a row.
 const ROW: usize = 24;
 
-// How many letters a box has room for.
+// The number of characters that fit in a box.
 const LETTERS: usize = 30;
 
 const STYLE: &str = "<style>\
@@ -31,22 +36,22 @@ rect{stroke:#8c959f}\
 .fault{fill:#ffb3ad;stroke:#a40e26}.race{fill:#ffd8d3;stroke:#cf222e;stroke-width:2.5}\
 </style>\n";
 
-/// How far to the right the lane of a process begins.
+/// The x coordinate of the lane of a process.
 fn left(process: usize) -> usize {
     process.saturating_mul(LANE).saturating_add(LEFT)
 }
 
-/// How far down a row begins.
+/// The y coordinate of a row.
 fn top(row: usize) -> usize {
     row.saturating_mul(ROW).saturating_add(TOP)
 }
 
-/// The front of a text that a box has room for.
+/// The prefix of a label that fits in a box.
 fn cut(text: &str) -> &str {
     text.get(..LETTERS).unwrap_or(text)
 }
 
-/// Adds the head of a picture of this size.
+/// Appends the header of a picture of this size.
 fn add_head(out: &mut String, width: usize, height: usize) -> Result<(), AllocError> {
     writeln!(
         out,
@@ -59,7 +64,7 @@ fn add_head(out: &mut String, width: usize, height: usize) -> Result<(), AllocEr
     )
 }
 
-/// Adds the lane of a process, with its name above.
+/// Appends the lane of a process, with its name above.
 fn add_lane(out: &mut String, process: usize, height: usize) -> Result<(), AllocError> {
     let middle = left(process).saturating_add(BOX / 2);
     writeln!(
@@ -68,7 +73,7 @@ fn add_lane(out: &mut String, process: usize, height: usize) -> Result<(), Alloc
     )
 }
 
-/// Adds the line of a collective across all lanes.
+/// Appends the line of a collective across all lanes.
 fn add_line(out: &mut String, row: usize, processes: usize) -> Result<(), AllocError> {
     let y = top(row).saturating_add(ROW / 2);
     let right = left(processes);
@@ -78,7 +83,7 @@ fn add_line(out: &mut String, row: usize, processes: usize) -> Result<(), AllocE
     )
 }
 
-/// Adds the box of an entry, with a label and its place.
+/// Appends the box of an entry, with a label and its source location.
 fn add_box(
     out: &mut String,
     look: &str,
@@ -103,7 +108,7 @@ fn add_box(
     )
 }
 
-/// Adds the dot of a departure on the line of its collective, with a label.
+/// Appends the dot of a departure on the line of its collective, with a label.
 fn add_dot(out: &mut String, x: usize, y: usize, label: &str) -> Result<(), AllocError> {
     let (middle, text) = (x.saturating_add(BOX / 2), x.saturating_add(BOX / 2 + 10));
     let (center, base) = (y.saturating_add(ROW / 2), y.saturating_add(ROW / 2 - 5));
@@ -113,7 +118,7 @@ fn add_dot(out: &mut String, x: usize, y: usize, label: &str) -> Result<(), Allo
     )
 }
 
-/// Adds an entry at a place of the picture, with the line that tells it.
+/// Appends an entry at this height, with its line in the trace as a tooltip.
 fn add_entry(
     alloc: Global,
     out: &mut String,
@@ -134,7 +139,7 @@ fn add_entry(
     out.push_str("</g>\n")
 }
 
-/// Adds the lanes, and the lines across them.
+/// Appends the lanes and the lines of collectives.
 fn add_lanes(out: &mut String, layout: &Layout, height: usize) -> Result<(), AllocError> {
     for process in 0..layout.processes {
         add_lane(out, process, height)?;
@@ -145,7 +150,7 @@ fn add_lanes(out: &mut String, layout: &Layout, height: usize) -> Result<(), All
     Ok(())
 }
 
-/// The picture of a report.
+/// The picture of a report. Errors only if it runs out of memory.
 pub(crate) fn picture(alloc: Global, report: &Report) -> Result<String, AllocError> {
     let layout = Layout::of(alloc, &report.entries)?;
     let (width, height) = (left(layout.processes), top(layout.line(layout.lines)));

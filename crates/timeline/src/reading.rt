@@ -1,11 +1,11 @@
-// Lines of a trace become entries.
+// Parses the lines of a trace.
 ghost use Rattle.std.specs.Prelude.{◌≡◌, ◌<◌, ◌++◌, codes, decimal, IfSome};
 ghost use Rattle.timeline.specs.Lines.{rest_text, entry_text};
 
 use crate::entry::{Act, Entry, PROCESSES};
 use crate::parts::{is_shown, number, place as place_of};
 
-/// The kind of the act with a word.
+/// The kind of the operation with this name.
 fn act_of(word: &str) -> Option<Act> {
     match word {
         "getField" | "getElem" | "domainOf" | "take" => Some(Act::Read),
@@ -20,7 +20,7 @@ fn act_of(word: &str) -> Option<Act> {
     }
 }
 
-/// The number of a process, such as `p3`.
+/// Parses the number of a process, such as `p3`.
 fn process_of(text: &str) -> Option<usize>
     ensures { IfSome result (λ p. (p < 32) × (text.now ≡ codes "p" ++ decimal p)) }
 {
@@ -32,7 +32,7 @@ fn process_of(text: &str) -> Option<usize>
     }
 }
 
-/// The first word of a text.
+/// What comes before the first space; all if there is none.
 fn first_word(text: &str) -> &str {
     match text.split_once(' ') {
         Some((word, _)) => word,
@@ -40,7 +40,7 @@ fn first_word(text: &str) -> &str {
     }
 }
 
-/// What stands behind the number of an entry.
+/// Parses what follows the number of an entry.
 fn read_rest<'a>(rest: &'a str) -> Option<Entry<'a>>
     ensures { IfSome result (λ e. rest.now ≡ rest_text e) }
 {
@@ -57,7 +57,7 @@ fn read_rest<'a>(rest: &'a str) -> Option<Entry<'a>>
     })
 }
 
-/// The entry of this number that a line tells.
+/// Parses the line of the entry with this number. `None` if it isn't the line of an entry, or is that of another one.
 pub(crate) fn read_entry<'a>(line: &'a str, expected: usize) -> Option<Entry<'a>>
     ensures { IfSome result (λ e. line.now ≡ entry_text expected e) }
 {

@@ -1,4 +1,4 @@
-// The report of a run: its entries, and which of them stand in a race.
+// Parses the report of a run: its entries, and which of them race.
 ghost use Rattle.std.specs.Prelude.{◌≤◌, vec_len, IfOk};
 
 use crate::entry::Entry;
@@ -7,13 +7,13 @@ use crate::reading::read_entry;
 use std::alloc::{AllocError, AllocFailed, Global};
 use std::fmt;
 
-/// How many entries a picture shows at most.
+/// The maximum number of entries of a picture.
 const MOST_ENTRIES: usize = 2_000;
 
 /// Why there is no picture.
 #[derive(Drop)]
 pub(crate) enum NoReport {
-    /// The line of this number, from 1, isn't what a report has there.
+    /// The line with this number, from 1, isn't one that a report has there.
     Other(usize),
     TooLong,
     Unreadable,
@@ -43,14 +43,14 @@ impl<T: Drop> From<AllocFailed<T>> for NoReport {
     }
 }
 
-/// The entries of a run in their order, and the numbers of those that stand in a race.
+/// The entries of a run in their order, and the numbers of those that race.
 #[derive(Drop)]
 pub(crate) struct Report<'a> {
     pub(crate) entries: Vec<Entry<'a>>,
     pub(crate) racing: Vec<usize>,
 }
 
-/// The entries of the lines up to the first that is none.
+/// Parses lines as entries up to the first line that isn't one. Errors if there are more than `MOST_ENTRIES`.
 fn read_entries<'a>(alloc: Global, lines: &'a [String]) -> Result<Vec<Entry<'a>>, NoReport>
     ensures { IfOk result (λ entries. vec_len entries ≤ MOST_ENTRIES) }
 {
@@ -67,7 +67,7 @@ fn read_entries<'a>(alloc: Global, lines: &'a [String]) -> Result<Vec<Entry<'a>>
     Ok(entries)
 }
 
-/// The number of the entry that a line of the report of races names: the line is how that entry's own begins.
+/// The number of the entry that a line of the report of races names. The line must be a prefix of that entry's own line.
 fn read_racing(lines: &[String], line: &str) -> Option<usize> {
     let (found, _) = line.split_once(' ')?;
     let number = number(found)? as usize;
@@ -79,7 +79,7 @@ fn read_racing(lines: &[String], line: &str) -> Option<usize> {
     }
 }
 
-/// The numbers of the entries in a race, from the lines behind the heading.
+/// The numbers of the entries that race, from the lines after the heading.
 fn read_races(alloc: Global, lines: &[String], from: usize) -> Result<Vec<usize>, NoReport> {
     let mut racing = Vec::new(alloc);
     for (at, line) in lines.iter().enumerate().skip(from) {
@@ -91,12 +91,12 @@ fn read_races(alloc: Global, lines: &[String], from: usize) -> Result<Vec<usize>
     Ok(racing)
 }
 
-/// How many lines the heading of the report of races says.
+/// The number of lines that the heading of the report of races announces.
 fn heading(line: &str) -> Option<usize> {
     Some(number(line.strip_prefix("races ")?)? as usize)
 }
 
-/// The report that lines spell.
+/// Parses the lines of a trace, optionally followed by the report of races, whose heading must have the right count.
 pub(crate) fn read_report<'a>(alloc: Global, lines: &'a [String]) -> Result<Report<'a>, NoReport> {
     let entries = read_entries(alloc, lines)?;
     let count = entries.len();

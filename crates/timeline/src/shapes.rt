@@ -1,4 +1,4 @@
-// Pieces of the picture's text.
+// Parts of the picture's SVG source.
 ghost use Rattle.std.specs.Prelude.{◌≡◌, ◌++◌, string_bytes, IfOk, OnOk};
 ghost use Rattle.timeline.specs.Shapes.{escape_of, escaped, title_text};
 ghost use Rattle.timeline.specs.Lines.{entry_text};
@@ -6,7 +6,7 @@ ghost use Rattle.timeline.specs.Lines.{entry_text};
 use crate::entry::{Act, Entry, Place};
 use std::alloc::{AllocError, Global};
 
-/// Adds a byte as it is written in a picture.
+/// Appends a byte, escaped if it has a meaning in SVG.
 fn push_escaped(out: &mut String, byte: u8) -> Result<(), AllocError>
     ensures { OnOk result (string_bytes out.new ≡ string_bytes out.old ++ escape_of byte) }
 {
@@ -19,7 +19,7 @@ fn push_escaped(out: &mut String, byte: u8) -> Result<(), AllocError>
     }
 }
 
-/// A text as it is written in a picture.
+/// A string, escaped for SVG.
 pub(crate) fn escaped(alloc: Global, text: &str) -> Result<String, AllocError>
     ensures { IfOk result (λ s. string_bytes s ≡ escaped text.now) }
 {
@@ -30,7 +30,7 @@ pub(crate) fn escaped(alloc: Global, text: &str) -> Result<String, AllocError>
     Ok(out)
 }
 
-/// The line that tells an entry.
+/// The line of an entry in the trace.
 fn line_of(alloc: Global, number: usize, entry: &Entry) -> Result<String, AllocError>
     ensures { IfOk result (λ s. string_bytes s ≡ entry_text number entry.now) }
 {
@@ -44,7 +44,7 @@ fn line_of(alloc: Global, number: usize, entry: &Entry) -> Result<String, AllocE
     format!(in alloc; "{number} p{process} {line}:{column} {done} -> {answer}")
 }
 
-/// What the picture tells of an entry where one points at it: its line.
+/// The tooltip of an entry: its line in the trace.
 pub(crate) fn title_of(alloc: Global, number: usize, entry: &Entry) -> Result<String, AllocError>
     ensures { IfOk result (λ s. string_bytes s ≡ title_text number entry.now) }
 {
@@ -53,7 +53,7 @@ pub(crate) fn title_of(alloc: Global, number: usize, entry: &Entry) -> Result<St
     format!(in alloc; "<title>{line}</title>")
 }
 
-/// How entries of an act look. No contract says which look is whose: it decides nothing but colors.
+/// The CSS class of an entry. No contract says which class an operation has, since it decides nothing but colors.
 pub(crate) fn look(act: Act, is_racing: bool) -> &'static str {
     match act {
         _ if is_racing => "race",
@@ -67,7 +67,7 @@ pub(crate) fn look(act: Act, is_racing: bool) -> &'static str {
     }
 }
 
-/// What the picture shows of an entry: what was done and what came of it, without what says nothing.
+/// The label of an entry: its operation and its result, without parts that say nothing (`-`, `done` and the word `arrive` or `depart`).
 pub(crate) fn label_of(alloc: Global, entry: &Entry) -> Result<String, AllocError> {
     let done = match entry.done.strip_prefix("arrive ") {
         Some(arrival) => arrival,

@@ -1,5 +1,4 @@
--- Nobody has to believe this: it mirrors code, and only contracts of private functions speak of it.
--- What stands while things fall.
+-- Mirrors the code, for contracts of private functions: the state of the worklist algorithm.
 use Rattle.std.specs.Prelude.{◌≡◌, ℕ, ◌+◌, ◌*◌, ◌-◌, ◌<◌, ◌≤◌, ◌⊎◌, Bool, true, false, List, [], length, take, drop, get_or, Option, Some, IfSome}
 use Rattle.std.specs.List.{list_any}
 use Rattle.std.specs.Option.{option_map_or}
@@ -26,7 +25,7 @@ has s m = contains name_cmp s.standing (name_of m)
 abbrev pub is_fallen : List Mark → Name → Bool
 is_fallen ms n = list_any (λ m. is_at (name_cmp n) (name_of m)) ms
 
--- what stands
+-- the reason hasn't been ruled out
 abbrev pub left : Falls → Blame → Bool
 left s (OfMethod at) = has s (record { place = at; kind = kind.Method })
 left s (OfResult at) = has s (record { place = at; kind = kind.Result })
@@ -34,16 +33,16 @@ left s (OfVariable at) = has s (record { place = at; kind = kind.Variable })
 left s (OfCollective at) = before s.blamed at
 left s Always = false
 
--- what is held stands, and no collective that is held has fallen
+-- the annotations that hold are all assumed, and the first collective that was ruled out doesn't hold
 pub record Covers (held : Blame → Bool) (s : Falls) : Type 0 where
   pub names : (m : Mark) → held (blame_of m) ≡ true → has s m ≡ true
   pub collective : IfSome s.blamed (λ l. held (OfCollective l) ≡ false)
 
--- what is still to be followed has fallen
+-- the annotations on the worklist aren't assumed any more
 abbrev pub Apart : Falls → Type 0
 Apart s = (n : Name) → is_fallen s.fallen.items n ≡ true → contains name_cmp s.standing n ≡ false
 
--- from the first state to the second things fall alone, and each that falls is noted
+-- from the first state to the second reasons are only ruled out, and each annotation that is removed is put on the worklist
 pub record Steps (s t : Falls) : Type 0 where
   pub stays : (b : Blame) → left t b ≡ true → left s b ≡ true
   pub fewer : (n : Name) → contains name_cmp t.standing n ≡ true → contains name_cmp s.standing n ≡ true
@@ -53,35 +52,35 @@ pub record Steps (s t : Falls) : Type 0 where
   pub apart : Apart s → Apart t
   pub room : 2 * btree_set_len t.standing + length t.fallen.items ≤ 2 * btree_set_len s.standing + length s.fallen.items
 
--- where a part of the list is said to have fallen, it has
+-- ranges recorded as ruled out have been ruled out
 abbrev pub AreDone : List Blame → Falls → Type 0
 AreDone items s = (i : ℕ) → i < length s.done.items → list_any (left s) (take (get_or s.done.items i 0 - i) (drop i items)) ≡ false
 
--- what is said to have fallen is as before but at one place, or as it was
+-- a record that differs from the old one at most at one index
 abbrev pub MoreDone : ℕ → ℕ → List ℕ → List ℕ → Type 0
 MoreDone from to old new = (length new ≡ length old) × ((i : ℕ) → ((i ≡ from) × (get_or new i 0 ≡ to)) ⊎ (get_or new i 0 ≡ get_or old i 0))
 
--- ---- what waits
+-- ---- registered constraints
 
--- what waits for a mark to fall
+-- the conclusions registered with a premise
 abbrev pub thens : BTreeMap Name (Vec Then Global) Global → Name → List Then
 thens w n = option_map_or (λ (v : Vec Then Global). v.items) (get name_cmp w n) []
 
--- nothing that is meant by these stands
+-- some reason of these conclusions holds
 abbrev pub any_left : (Blame → Bool) → List Blame → List Then → Bool
 any_left held items ts = list_any (λ t. list_any held (meaning items t)) ts
 
--- the edge has been followed, or waits
+-- the constraint has been applied, or is registered with its premise
 abbrev pub IsKept : List Blame → Falls → BTreeMap Name (Vec Then Global) Global → Edge → Type 0
 IsKept items s w e =
     (list_any (left s) (meaning items e.then) ≡ false) ⊎ ((m : Mark) × (e.from ≡ Some m)
     × ((test : Then → Bool) → test e.then ≡ true → list_any test (thens w (name_of m)) ≡ true))
 
--- what waits for a name waits rightly: the name stands, or is still to be followed, or has been
+-- the premise is assumed, or is on the worklist, or its registered conclusions have been ruled out
 abbrev pub IsOpen : List Blame → Falls → BTreeMap Name (Vec Then Global) Global → Name → Type 0
 IsOpen items s w n =
     (contains name_cmp s.standing n ≡ true) ⊎ ((is_fallen s.fallen.items n ≡ true) ⊎ (any_left (left s) items (thens w n) ≡ false))
 
--- what waits falls with what it waits for
+-- the conclusions registered with a premise don't hold unless it does
 abbrev pub IsFair : List Blame → (Blame → Bool) → BTreeMap Name (Vec Then Global) Global → Type 0
 IsFair items held w = (m : Mark) → held (blame_of m) ≡ false → any_left held items (thens w (name_of m)) ≡ false

@@ -1,5 +1,4 @@
--- Nobody has to believe this: it mirrors code, and only contracts of private functions speak of it.
--- What falls with what by a statement with this around it.
+-- Mirrors the code, for contracts of private functions: the constraints of a statement in its context.
 use Rattle.std.specs.Prelude.{ℕ, Bool, if◌then◌else◌, List, [], ◌∷◌, Option, None}
 use Rattle.ti_lang.specs.Program.Expressions.{NumberedExp}
 use Rattle.ti_lang.specs.Program.Statements.{NumberedStm, MaybeNumbered, NumberedStms}
@@ -20,7 +19,7 @@ variables_at a = (contents_of a.scope.now).variables
 abbrev pub own_around : Around → ℕ → List Then → NumberedStm → List Edge
 own_around a i jump s = own_edges (program_at a.site) (method_at a.site) a.whole (inside_of a.inside.now) i jump s
 
--- with these variables in scope, and what those of foreach loops ask for
+-- with these variables in scope, and what makes parameters and foreach variables single
 abbrev pub edges_with : Site → Then → List ScopeVariable → List (ℕ × List (Option Mark)) → ℕ → List Then → NumberedStm → List Edge
 edges_with s whole ws inside i jump x = edges (program_at s) (method_at s) whole ws inside i jump x
 
@@ -33,7 +32,7 @@ maybe_around a i jump s = edges_of_maybe (program_at a.site) (method_at a.site) 
 abbrev pub all_around : Around → ℕ → List Then → NumberedStms → List Edge
 all_around a i jump s = edges_all (program_at a.site) (method_at a.site) a.whole (variables_at a) (inside_of a.inside.now) i jump s
 
--- those of the body of a foreach
+-- of the body of a foreach
 abbrev pub body_around : Around → ℕ → List Then → ℕ → NumberedExp → NumberedStm → List Edge
 body_around a i jump variable domain body =
     edges (program_at a.site) (method_at a.site) a.whole (variables_foreach (program_at a.site) (method_at a.site) a.whole

@@ -1,5 +1,5 @@
--- Nobody has to believe this: it mirrors code, and only contracts of private functions speak of it.
--- What an expression asks to be marked so that it's single; `None` where it's plain under any marking.
+-- Mirrors the code, for contracts of private functions: which annotations an expression requires to be single. `None` among them says
+-- that it can't be single under any marking.
 use Rattle.std.specs.Prelude.{ℕ, Bool, not, if◌then◌else◌, List, [], ◌∷◌, ◌++◌, Option, Some, None, option_map}
 use Rattle.ti_base.specs.declared.place.Place.{Place}
 use Rattle.ti_lang.specs.Program.Types.{Declaration, Typed, Foreach}
@@ -27,11 +27,11 @@ result_mark at = record { place = at; kind = kind.Result }
 abbrev pub method_mark : Place → Mark
 method_mark at = record { place = at; kind = kind.Method }
 
--- plain in any case, where the test holds
+-- the requirement that no marking satisfies, if the test holds
 abbrev pub plain_if : Bool → List (Option Mark)
 plain_if b = if b then None ∷ [] else []
 
--- where variables are declared, and what those of foreach loops ask for
+-- in a method of a program, with what makes its foreach variables single
 module _ (p : NumberedProgram) (m : NumberedMethod) (inside : ℕ → List (Option Mark)) where
   abbrev pub variable_asks : ℕ → Declaration → List (Option Mark)
   variable_asks number (Typed is_single type) = option_map variable_mark (variable_place m number) ∷ []
@@ -65,12 +65,12 @@ module _ (p : NumberedProgram) (m : NumberedMethod) (inside : ℕ → List (Opti
     asks_ranges x.NoRange = []
     asks_ranges (x.MoreRange r rest) = asks_range r ++ asks_ranges rest
 
-  -- a result at the name of its method
+  -- the annotation of a result, at the name of its method
   abbrev pub result_asks : Place → NumberedResult → List (Option Mark)
   result_asks at c.Void = None ∷ []
   result_asks at (c.Typed t) = Some (result_mark at) ∷ []
 
-  -- a whole right side: what is called, or else the expression itself
+  -- of a whole right side: the result of what it calls, or else the expression itself
   abbrev pub called_asks : Option NumberedMethod → NumberedExp → List (Option Mark)
   called_asks None e = asks e
   called_asks (Some y) e = result_asks y.place y.result

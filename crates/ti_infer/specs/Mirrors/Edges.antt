@@ -1,5 +1,5 @@
--- Nobody has to believe this: it mirrors code, and only contracts of private functions speak of it.
--- What falls with what in a method. The reasons of all methods stand in one list, those of a statement from a place in it on.
+-- Mirrors the code, for contracts of private functions: the constraints of a method. The reasons of all methods are in one list; those of
+-- a statement begin at an index i of it.
 use Rattle.std.specs.Prelude.{ℕ, ◌+◌, ◌==◌, Bool, false, not, ◌||◌, if◌then◌else◌, List, [], ◌∷◌, ◌++◌, length, map, flat_map, Option, Some, None, is_some, option_and_then}
 use Rattle.std.specs.List.{list_any}
 use Rattle.std.specs.Option.{option_map_or}
@@ -25,9 +25,9 @@ use Rattle.ti_blame.specs.Marks.{is_mark}
 use Rattle.ti_infer.specs.Blame.{target_reasons, reasons, reasons_of_maybe, result_reasons, return_reasons}
 use Rattle.ti_infer.specs.Mirrors.Asks.{variable_mark, method_mark, asks, whole_asks, initial_asks}
 
--- ---- what foreach variables ask for
+-- ---- what makes foreach variables single
 
--- by their numbers; a variable that isn't there is plain
+-- requirements by number; a variable that isn't listed can't be single
 abbrev pub inside_at : List (ℕ × List (Option Mark)) → ℕ → List (Option Mark)
 inside_at [] number = None ∷ []
 inside_at (v ∷ vs) number = if v.0 == number then v.1 else inside_at vs number
@@ -36,7 +36,7 @@ abbrev pub same_ask : Option Mark → Option Mark → Bool
 same_ask None o = not (is_some o)
 same_ask (Some m) o = option_map_or (is_mark m.kind m.place) o false
 
--- each only once
+-- without duplicates
 abbrev pub with_new : List (Option Mark) → List (Option Mark) → List (Option Mark)
 with_new old [] = old
 with_new old (a ∷ more) = with_new (if list_any (same_ask a) old then old else old ++ a ∷ []) more
@@ -49,12 +49,12 @@ abbrev pub first_inside : NumberedParams → List (ℕ × List (Option Mark))
 first_inside Words = []
 first_inside (Params ws) = params_inside 0 ws
 
--- ---- edges
+-- ---- constraints
 
 abbrev pub one_each : List (Option Mark) → Then → List Edge
 one_each found what = map (λ (a : Option Mark). record { from = a; then = what }) found
 
--- from each to each
+-- from each premise to each conclusion
 abbrev pub each : List (Option Mark) → List Then → List Edge
 each found whats = flat_map (one_each found) whats
 
@@ -65,13 +65,13 @@ abbrev pub then_if : Bool → Then → List Then
 then_if b what = if b then what ∷ [] else []
 
 module _ (p : NumberedProgram) (m : NumberedMethod) (whole : Then) where
-  -- what falls with the condition of a loop, and with a jump out of it
+  -- what is ruled out unless the condition of a loop is single, and by a jump out of it
   abbrev pub loop_targets : ℕ → MaybeNumbered → NumberedStm → List Then
   loop_targets i update body =
       Between i (i + length (reasons_of_maybe p m update ++ reasons p m body))
       ∷ then_if ((doings_of_maybe p (this_of m) update).returns || (doings p (this_of m) body).returns) whole
 
-  -- what falls with the condition of an `if`
+  -- what is ruled out unless the condition of an `if` is single
   abbrev pub effect_targets : ℕ → List Then → NumberedStm → List Then
   effect_targets i jump s =
       Between i (i + length (reasons p m s)) ∷ (then_if (doings p (this_of m) s).returns whole
@@ -108,7 +108,7 @@ module _ (p : NumberedProgram) (m : NumberedMethod) (whole : Then) where
     condition_edges None whats = []
     condition_edges (Some e) whats = each (asks p m (inside_at inside) e) whats
 
-    -- of a statement apart from those in it
+    -- of a statement, without those in it
     abbrev pub own_edges : ℕ → List Then → NumberedStm → List Edge
     own_edges i jump (st.Declare at type variable value) =
         initial_edges value ++ one_each (initial_asks p m (inside_at inside) value) (One (OfVariable at))
@@ -127,7 +127,7 @@ module _ (p : NumberedProgram) (m : NumberedMethod) (whole : Then) where
     own_edges i jump (st.Return at value) = condition_edges value (ones (result_reasons p m m.result))
     own_edges i jump s = []
 
-  -- what is inside the body of a foreach: its own variable too, where its domain is one
+  -- what makes variables single in the body of a foreach, including its own if it iterates over a domain
   abbrev pub inside_foreach : List ScopeVariable → List (ℕ × List (Option Mark)) → ℕ → NumberedExp → List (ℕ × List (Option Mark))
   inside_foreach ws inside variable domain =
       inside ++ (if is_some (option_and_then domain_dim (operand_type p (record { this_class = this_of m; variables = ws }) domain))
@@ -138,7 +138,7 @@ module _ (p : NumberedProgram) (m : NumberedMethod) (whole : Then) where
       with_point ws variable false (option_and_then domain_dim (operand_type p (record { this_class = this_of m; variables = ws }) domain))
 
   abbrev mutual
-    -- of a statement and those in it, whose reasons stand from a place on
+    -- of a statement and those in it, whose reasons begin at index i
     pub edges : List ScopeVariable → List (ℕ × List (Option Mark)) → ℕ → List Then → NumberedStm → List Edge
     edges ws inside i jump (st.Block body) = edges_all ws inside i jump body
     edges ws inside i jump (st.If at c a) = own_edges inside i jump (st.If at c a) ++ edges ws inside i jump a
@@ -167,11 +167,11 @@ module _ (p : NumberedProgram) (m : NumberedMethod) (whole : Then) where
 
 -- ---- methods
 
--- where a method isn't single
+-- the annotation of a method as a premise; none if it is single already
 abbrev pub own_asks : NumberedMethod → List (Option Mark)
 own_asks m = if m.is_single then [] else Some (method_mark m.place) ∷ []
 
--- the reasons of a method, which stand from a place on
+-- the reasons of a method, which begin at index i
 abbrev pub whole_of : NumberedProgram → NumberedMethod → ℕ → Then
 whole_of p m i = Between i (i + length (return_reasons p m))
 

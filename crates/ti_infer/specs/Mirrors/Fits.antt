@@ -1,5 +1,5 @@
--- Nobody has to believe this: it mirrors code, and only contracts of private functions speak of it.
--- Marks that can't stand where they do fall, and those of parameters fall with that of their method.
+-- Mirrors the code, for contracts of private functions: constraints that rule out annotations where they aren't allowed, and those of
+-- parameters whose method isn't annotated.
 use Rattle.std.specs.Prelude.{Bool, true, false, not, ◌&&◌, if◌then◌else◌, List, [], ◌∷◌, ◌++◌, flat_map, None}
 use Rattle.ti_base.specs.declared.place.Place.{Place}
 use Rattle.ti_lang.specs.Members.{is_single}
@@ -22,11 +22,11 @@ abbrev pub is_none : List Refusal → Bool
 is_none [] = true
 is_none (r ∷ rs) = false
 
--- it falls in any case, where the test fails
+-- a constraint that rules it out unconditionally, unless the test holds
 abbrev pub falls_unless : Bool → Blame → List Edge
 falls_unless b x = if b then [] else record { from = None; then = One x } ∷ []
 
--- the word can stand at the type
+-- the declared type would still be allowed with `single` appended
 abbrev pub takes_mark : Place → NumberedType → Bool
 takes_mark at t = is_none (type_word_refusals true (marked_type true at t))
 
@@ -49,7 +49,7 @@ abbrev mutual
   declared_edges_all st.Nil = []
   declared_edges_all (st.Cons s rest) = declared_edges s ++ declared_edges_all rest
 
--- the word can stand at the method: it is static, and the word isn't there
+-- the method can be annotated: it is static, and doesn't have the modifier `single` yet
 abbrev pub method_takes_mark : NumberedMethod → Bool
 method_takes_mark m = is_static_method m && not (is_single m.modifiers)
 

@@ -1,5 +1,4 @@
--- Nobody has to believe this: it mirrors code, and only contracts of private functions speak of it.
--- What may be there as a list.
+-- Mirrors the code, for contracts of private functions: an option as a list.
 use Rattle.std.specs.Prelude.{List, [], ◌∷◌, Option, Some, None}
 
 abbrev pub listed : {A : Type 0} → Option A → List A

@@ -1,5 +1,4 @@
--- Nobody has to believe this: it mirrors code, and only contracts of private functions speak of it.
--- The variables that the statements of a method declare, in the order of the text.
+-- Mirrors the code, for contracts of private functions: the local variables that the statements of a method declare, in source order.
 use Rattle.std.specs.Prelude.{ℕ, List, [], ◌∷◌, ◌++◌, flat_map, map, Option, None}
 use Rattle.std.specs.Option.{option_or}
 use Rattle.ti_base.specs.declared.place.Place.{Place}
@@ -19,7 +18,7 @@ abbrev pub local_of : ℕ → Place → NumberedType → Local
 local_of number at type = record { number = number; place = at; takes = takes_mark at type }
 
 abbrev mutual
-  -- those that a statement declares; that of a foreach is none
+  -- those that a statement declares; the variable of a foreach isn't one
   pub locals_in : NumberedStm → List Local
   locals_in (st.Declare at type variable value) = local_of variable at type ∷ []
   locals_in (st.Block body) = locals_in_all body
@@ -38,9 +37,9 @@ abbrev mutual
   locals_in_all st.Nil = []
   locals_in_all (st.Cons s rest) = locals_in s ++ locals_in_all rest
 
--- ---- what is told of them
+-- ---- what is read from them
 
--- the place of the first of a number
+-- the place of the first one with this number
 abbrev pub place_among : List Local → ℕ → Option Place
 place_among [] n = None
 place_among (l ∷ ls) n = option_or (place_if l.number l.place n) (place_among ls n)
@@ -51,7 +50,7 @@ local_names ls = map (λ (l : Local). variable_name l.place) ls
 abbrev pub local_edges : List Local → List Edge
 local_edges ls = flat_map (λ (l : Local). falls_unless l.takes (OfVariable l.place)) ls
 
--- the parameters of a method, which are none where it takes its words
+-- the declared parameters of a method; none for the form `String[] args`
 abbrev pub params_of : NumberedParams → List NumberedParam
 params_of Words = []
 params_of (Params ws) = ws

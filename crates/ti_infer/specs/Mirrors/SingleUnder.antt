@@ -1,5 +1,4 @@
--- Nobody has to believe this: it mirrors code, and only contracts of private functions speak of it.
--- Single expressions of a program whose variables are single as a test says.
+-- Mirrors the code, for contracts of private functions: which expressions are single if a test decides which variables are.
 use Rattle.std.specs.Prelude.{ℕ, Bool, true, false, not, ◌&&◌, Option}
 use Rattle.ti_lang.specs.Program.Types.{Declaration, Typed, Foreach}
 use Rattle.ti_lang.specs.Program.Expressions.{NumberedExp, NumberedExps, NumberedRange, NumberedRanges}
@@ -12,7 +11,7 @@ use Rattle.ti_lang.specs.Typing.Singleness.{tells_of_domain}
 use Rattle.ti_blame.specs.Marks.{Marks}
 use Rattle.ti_infer.specs.Marks.{marks_variable}
 
--- a declared variable is single where it is marked, one of a foreach as its scope says
+-- a declared variable is single if it is annotated, one of a foreach as its scope states
 abbrev pub variable_under : Marks → NumberedMethod → (ℕ → Bool) → ℕ → Declaration → Bool
 variable_under marks m singles number (Typed is_single type) = marks_variable marks m number
 variable_under marks m singles number Foreach = singles number

@@ -1,5 +1,4 @@
--- Nobody has to believe this: it mirrors code, and only contracts of private functions speak of it.
--- What the code reads at a place of a program.
+-- Mirrors the code, for contracts of private functions: what the code reads in the context of a statement.
 use Rattle.std.specs.Prelude.{ℕ, not, if◌then◌else◌, List, [], ◌++◌, Option, map}
 use Rattle.ti_base.specs.declared.place.Place.{Place}
 use Rattle.ti_blame.specs.declared.blame.Blame.TheVariants.{OfCollective}

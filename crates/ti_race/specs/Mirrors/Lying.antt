@@ -1,5 +1,4 @@
--- Nobody has to believe what stands here: it mirrors the code, and only contracts of private functions speak of it.
--- How a grid that was told lies in its block.
+-- Mirrors the code, for contracts of private functions: how grids are stored in their blocks.
 use Rattle.std.specs.Prelude.{◌≡◌, ◌&&◌, true, false, None, Some, Option}
 use Rattle.ti_base.specs.declared.point.Point.{Point}
 use Rattle.ti_base.specs.declared.point.Rect.{Rect}
@@ -11,20 +10,20 @@ use Rattle.ti_grid.specs.Views.{cell_number, place_in, IsSeen}
 use Rattle.ti_lang.specs.Meaning.Spots.{Block, no_fault}
 use Rattle.ti_race.specs.declared.lying.Lying.{Lying}
 
--- this is the grid that was told: its block was made by the same entry and has this domain, and each of its points has the
--- number of its point in the block
+-- the stored grid is that of the specification: the same entry created its block, which has the domain `whole`, and each point of the
+-- grid has the cell number of its point in the block
 pub record Keeps (whole : Rect) (l : Lying) (b : Block) : Type 0 where
   pub number : l.number ≡ b.number
   pub domain : l.view.dom ≡ b.grid.domain
   pub cells : (p : Point) → is_in b.grid.domain p ≡ true → cell_number l.view p ≡ place_in (points_of whole) (b.grid.place p)
 
--- the same, of a view that is told and of one that isn't
+-- the stored view is that of the specification, or both are unknown
 abbrev pub KeepsView : Rect → Option Lying → Option Block → Type 0
 KeepsView whole None None = Unit {0}
 KeepsView whole (Some l) (Some b) = Keeps whole l b
 KeepsView whole l b = ⊥
 
--- a view of a view, exactly where it suits the view and has no fault
+-- the view is made if and only if the dimensions match and it is no fault, and is then the right one
 abbrev pub SeenIf : ViewHow → Layout → Option Layout → Type 0
 SeenIf how old None = (suits how old.dom && no_fault (view_fault how old.dom)) ≡ false
 SeenIf how old (Some new) = ((suits how old.dom && no_fault (view_fault how old.dom)) ≡ true) × IsSeen how old new × IsRect old.dom

@@ -1,5 +1,4 @@
--- Nobody has to believe what stands here: it mirrors the code, and only contracts of private functions speak of it.
--- Uses of spots as they are kept in a table, and which of them stand in a race.
+-- Mirrors the code, for contracts of private functions: the table of accesses, and which of them race.
 use Rattle.std.specs.Prelude.{◌≡◌, ℕ, ◌==◌, Bool, true, false, not, ◌&&◌, ◌||◌, if◌then◌else◌, List, filter, Option, Some, None}
 use Rattle.std.specs.List.{list_any}
 use Rattle.std.specs.HashMap.{HashMap, get}
@@ -10,27 +9,27 @@ use Rattle.ti_race.specs.declared.table.Procs.{Procs}
 use Rattle.ti_race.specs.declared.table.Procs.TheVariants.{One, Several}
 use Rattle.ti_race.specs.declared.table.Seen.{Seen}
 
--- two spots are the same
+-- two memory locations are equal
 abbrev pub same_spot : Spot → Spot → Bool
 same_spot = (spot_eq.ghosts).eq
 
--- two uses of one spot in one phase by two processes, at least one of them a write
+-- two accesses to one location in one phase by two processes, at least one of them a write
 abbrev pub clash : Use → Use → Bool
 clash a b = not (a.proc == b.proc) && a.phase == b.phase && same_spot a.spot b.spot && (a.writes || b.writes)
 
--- those that stand in a race
+-- those that race with one of the list
 abbrev pub racing_in : List Use → List Use
 racing_in uses = filter (λ u. list_any (clash u) uses) uses
 
--- ---- what is kept of the uses of a spot in a phase
+-- ---- the record of a location in a phase
 
--- some process other than this one is among these
+-- the set has a member other than this process
 abbrev pub others : Option Procs → ℕ → Bool
 others None i = false
 others (Some (One j)) i = not (j == i)
 others (Some Several) i = true
 
--- a spot in a phase
+-- a memory location in a phase
 abbrev pub Key : Type 0
 Key = Spot × ℕ
 
@@ -48,20 +47,20 @@ abbrev pub writers_in : Option Seen → Option Procs
 writers_in None = None
 writers_in (Some s) = s.writers
 
--- some use at the key is of another process
+-- some access at the key is by another process
 abbrev pub used_by_others : List Use → Key → ℕ → Bool
 used_by_others uses key i = list_any (λ (u : Use). same_key (key_of u) key && not (u.proc == i)) uses
 
--- some write at the key is of another process
+-- some write at the key is by another process
 abbrev pub written_by_others : List Use → Key → ℕ → Bool
 written_by_others uses key i = list_any (λ (u : Use). same_key (key_of u) key && (u.writes && not (u.proc == i))) uses
 
--- the table tells of these uses
+-- the table is that of these accesses
 abbrev pub Tells : {S : Type 0} → HashMap Key Seen S → List Use → Type 0
 Tells table uses = (key : Key) (i : ℕ) → (others (users_in (get same_key table key)) i ≡ used_by_others uses key i)
     × (others (writers_in (get same_key table key)) i ≡ written_by_others uses key i)
 
--- what the table says of a use
+-- the access races according to the table
 abbrev pub racing_by : {S : Type 0} → HashMap Key Seen S → Use → Bool
 racing_by table u = if u.writes then others (users_in (get same_key table (key_of u))) u.proc else others
     (writers_in (get same_key table (key_of u))) u.proc

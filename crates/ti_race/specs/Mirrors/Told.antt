@@ -1,5 +1,5 @@
--- Nobody has to believe what stands here: it mirrors the code, and only contracts of private functions speak of it.
--- What is kept of a history, and how it stands for the things and uses that the history tells.
+-- Mirrors the code, for contracts of private functions: the index of a history, and how its objects and accesses represent those of the
+-- specification.
 use Rattle.std.specs.Prelude.{◌≡◌, ℕ, ◌==◌, if◌then◌else◌, List, [], ◌∷◌, ◌++◌, All, reverse, length, slice_get, codes, decimal, Option, None, Some}
 use Rattle.std.specs.HashMap.{get}
 use Rattle.std.specs.List.{flat_map}
@@ -35,7 +35,7 @@ use Rattle.ti_race.specs.contracts.spots.NamePartialEq.TheImpl as name_eq
 use Rattle.ti_race.specs.Mirrors.Lying.{Keeps}
 use Rattle.ti_race.specs.Mirrors.Table.{racing_in}
 
--- names and points as parts of keys
+-- identities and points as keys
 abbrev pub name_key : Id → Name
 name_key id = record { maker = id.maker; serial = id.serial; owner = id.owner; region = id.region }
 
@@ -44,45 +44,45 @@ point_key p = record { dim = p.dim; x1 = p.x1; x2 = p.x2; x3 = p.x3 }
 
 -- ---- blocks
 
--- the domain of the block that an action makes
+-- the domain of the block that an operation creates
 abbrev pub block_made : Action → Option Rect
 block_made (act.NewGrid zero domain region) = Some domain
 block_made a = None
 
--- the domain of the block that the entry of this number made
+-- the domain of the block that the entry with this number created
 abbrev pub whole_at : ℕ → History → Option Rect
 whole_at n [] = None
 whole_at n (e ∷ earlier) = if n == length earlier then block_made e.act else whole_at n earlier
 
--- this is how the grid lies that was told; none of one that wasn't
+-- this is how the grid is stored, or both are unknown
 abbrev pub Lies : History → Option Lying → Option Block → Type 0
 Lies h None None = Unit {0}
 Lies h (Some l) (Some b) = (whole : Rect) × (whole_at b.number h ≡ Some whole) × Keeps whole l b
 Lies h l b = ⊥
 
--- the grid of a block that an entry makes
+-- the grid of a block that an entry creates
 abbrev pub block_told : Id → ℕ → Zero → Rect → Option Block
 block_told id number zero domain = if is_block domain then Some (record { number = number; grid = whole_grid id zero domain }) else None
 
--- and of a view of one that was told
+-- and of a view of a known grid
 abbrev pub view_told : ViewHow → Option Block → Option Block
 view_told how b = if is_view how then viewed_told how b else None
 
--- ---- answers
+-- ---- results
 
--- the object that an answer names
+-- the object that a result refers to
 abbrev pub object_in : Answer → Option Id
 object_in (Val (v.Obj made)) = made
 object_in r = None
 
--- the grid that an answer names
+-- the grid that a result refers to
 abbrev pub grid_in : Answer → Option Id
 grid_in (Val (v.Grid made)) = made
 grid_in r = None
 
--- ---- what is kept
+-- ---- the index
 
--- the table of grids has how a grid lies that was told
+-- how a grid is stored according to a lookup; unknown if it isn't in the table
 abbrev pub lying_in : Option (Option Lying) → Option Lying
 lying_in None = None
 lying_in (Some l) = l
@@ -96,30 +96,30 @@ phase_in (Some n) = n
 abbrev pub TellsPhases : SoFar → History → Type 0
 TellsPhases t h = (i : ℕ) → phase_in (get ◌==◌ t.phases i) ≡ departures i h
 
--- which entry made the object of each name last
+-- which entry created the object of each identity last
 abbrev pub TellsObjects : SoFar → History → Type 0
 TellsObjects t h = (id : Id) → get (name_eq.ghosts).eq t.objects (name_key id) ≡ object_told id h
 
--- how the grid lies that was made last of each name
+-- how the grid is stored that was created last with each identity
 abbrev pub TellsGrids : SoFar → History → Type 0
 TellsGrids t h = (id : Id) → Lies h (lying_in (get (name_eq.ghosts).eq t.grids (name_key id))) (grid_told id h)
 
--- this is kept of a history
+-- the index is that of the history
 pub record Tells (t : SoFar) (h : History) : Type 0 where
   pub count : t.count ≡ length h
   pub phases : TellsPhases t h
   pub objects : TellsObjects t h
   pub grids : TellsGrids t h
 
--- ---- uses
+-- ---- accesses
 
--- the same thing
+-- the key represents this object
 abbrev pub IsThing : Thing → told.Thing → Type 0
 IsThing (thing.Made n) (told.Made m) = n ≡ m
 IsThing (thing.Untold name) (told.Untold id) = name ≡ name_key id
 IsThing t u = ⊥
 
--- the same spot of things that the history tells: an element of a block is known by the number of its cell
+-- the key represents this memory location: an element of a block by the number of its cell
 abbrev pub IsSpot : History → Spot → told.Spot → Type 0
 IsSpot h (spot.FieldOf t f) (told.FieldOf u g) = IsThing t u × (f ≡ g)
 IsSpot h (spot.CellOf n i) (told.ElementOf (told.Made m) p) =
@@ -127,13 +127,13 @@ IsSpot h (spot.CellOf n i) (told.ElementOf (told.Made m) p) =
 IsSpot h (spot.PointOf name at) (told.ElementOf (told.Untold id) p) = (name ≡ name_key id) × (at ≡ point_key p)
 IsSpot h s t = ⊥
 
--- the same, where there is one
+-- the key represents this memory location, or there is neither
 abbrev pub IsSpotIf : History → Option Spot → Option told.Spot → Type 0
 IsSpotIf h None None = Unit {0}
 IsSpotIf h (Some s) (Some t) = IsSpot h s t
 IsSpotIf h s t = ⊥
 
--- the same use
+-- the stored access is that of the specification
 pub record IsUse (h : History) (u : Use) (a : told.Use) : Type 0 where
   pub number : u.number ≡ a.number
   pub proc : u.proc ≡ a.proc
@@ -141,44 +141,44 @@ pub record IsUse (h : History) (u : Use) (a : told.Use) : Type 0 where
   pub spot : IsSpot h u.spot a.spot
   pub writes : u.writes ≡ a.writes
 
--- the same, where there is one
+-- the stored access is that of the specification, or there is neither
 abbrev pub IsUseIf : History → Option Use → Option told.Use → Type 0
 IsUseIf h None None = Unit {0}
 IsUseIf h (Some u) (Some a) = IsUse h u a
 IsUseIf h u a = ⊥
 
--- the same uses in the same order
+-- the stored accesses are those of the specification, in the same order
 abbrev pub AreUses : History → List Use → List told.Use → Type 0
 AreUses h [] [] = Unit {0}
 AreUses h (u ∷ us) (a ∷ rest) = IsUse h u a × AreUses h us rest
 AreUses h us rest = ⊥
 
--- these are the uses of a history in the order of its entries
+-- these are the accesses of a history in the order of its entries
 abbrev pub HasUses : History → List Use → Type 0
 HasUses h us = AreUses h (reverse us) (told.uses h)
 
--- ---- a list of entries
+-- ---- lists of entries
 
--- the list of this, where there is one
+-- an option as a list
 abbrev pub one_or_none : {A : Type 0} → Option A → List A
 one_or_none None = []
 one_or_none (Some x) = x ∷ []
 
--- the process and the place of the use are those of the entry of its number
+-- the process and the source location of the access are those of the entry with its number
 abbrev pub IsListed : List Entry → Use → Type 0
 IsListed es u = (e : Entry) × (slice_get es u.number ≡ Some e) × (u.proc ≡ e.proc) × (u.place ≡ e.place)
 
--- this is kept of a list of entries
+-- these are the accesses of a list of entries, with its index
 pub record Gathers (kept : Uses) (es : List Entry) : Type 0 where
   pub told : Tells kept.told (history_of es)
   pub uses : HasUses (history_of es) kept.found.items
   pub listed : All (IsListed es) kept.found.items
 
--- the line of the entry of a use
+-- the line of the entry of an access
 abbrev pub use_line : Use → List ℕ
 use_line u =
     decimal u.number ++ codes " p" ++ decimal u.proc ++ codes " " ++ decimal u.place.line ++ codes ":" ++ decimal u.place.col ++ 10 ∷ []
 
--- the report on uses
+-- the report of a list of accesses
 abbrev pub report_of : List Use → List ℕ
 report_of us = codes "races " ++ decimal (length (racing_in us)) ++ 10 ∷ flat_map use_line (racing_in us)

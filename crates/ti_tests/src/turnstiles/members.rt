@@ -18,7 +18,7 @@ pub struct Member {
     ghost same: { number_of pass ≡ number },
 }
 
-/// A member for each pass, that of the last one first.
+/// A member for each pass; that of the last pass comes first.
 pub fn members_of(
     alloc: Global,
     turnstile: &Turnstile<Pairs>,
@@ -39,7 +39,7 @@ pub fn members_of(
     Ok(members)
 }
 
-/// Adds an item.
+/// Enters the turnstile, appends an item, and leaves.
 fn add_one<R: Wait>(rt: &R, turnstile: &Turnstile<Pairs>, member: Member, item: u32) -> Member
     requires { turnstile_of member.pass ≡ identity_of turnstile.now }
     ensures { turnstile_of result.pass ≡ identity_of turnstile.now }
@@ -51,7 +51,7 @@ fn add_one<R: Wait>(rt: &R, turnstile: &Turnstile<Pairs>, member: Member, item: 
     Member { number, pass }
 }
 
-/// The member at this place adds an item.
+/// The member at this index appends an item.
 pub fn add_at<R: Wait>(
     rt: &R,
     turnstile: &Turnstile<Pairs>,
@@ -72,7 +72,7 @@ pub fn add_at<R: Wait>(
     }
 }
 
-/// Adds the numbers below `count`, in order.
+/// Appends the numbers below `count`, in order.
 fn add_all<R: Wait>(rt: &R, turnstile: &Turnstile<Pairs>, mut member: Member, count: u32) -> Member
     requires { turnstile_of member.pass ≡ identity_of turnstile.now }
     ensures { turnstile_of result.pass ≡ identity_of turnstile.now }
@@ -83,7 +83,7 @@ fn add_all<R: Wait>(rt: &R, turnstile: &Turnstile<Pairs>, mut member: Member, co
     member
 }
 
-/// Each member adds the numbers below `count`, from a thread of its own.
+/// Each member appends the numbers below `count`, from a thread of its own.
 pub fn all_add<R: Threads + Wait + Sync>(
     rt: &R,
     turnstile: &Turnstile<Pairs>,
@@ -102,7 +102,7 @@ pub fn all_add<R: Threads + Wait + Sync>(
     Ok(members)
 }
 
-/// The list, once all members are back.
+/// Closes the turnstile with the passes of all members, and returns the list.
 pub fn closed(
     alloc: Global,
     turnstile: Turnstile<Pairs>,

@@ -34,7 +34,7 @@ impl Pairs {
         }
     }
 
-    /// Adds a pair, where there is memory.
+    /// Appends a pair; does nothing if memory is out.
     pub fn add(&mut self, number: u32, item: u32)
         ensures { GrownBy number self.old.items.items self.new.items.items }
     {

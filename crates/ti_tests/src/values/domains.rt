@@ -1,4 +1,4 @@
-// Calls on domains.
+// Functions on domains.
 
 ghost use Rattle.std.specs.Prelude.{◌≡◌};
 
@@ -11,7 +11,7 @@ use ti_domain::{
     dom_union,
 };
 
-/// A domain of one coordinate.
+/// A one-dimensional domain.
 #[derive(Drop)]
 struct Flat {
     domain: Dom,
@@ -24,13 +24,13 @@ fn flat_of(alloc: Global, span: Span) -> Result<Flat, Fail> {
     Ok(Flat { domain })
 }
 
-/// The points of either.
+/// The union of two domains.
 fn united(alloc: Global, a: &Flat, b: &Flat) -> Result<Flat, DomErr> {
     let domain = dom_union(alloc, &a.domain, &b.domain)?;
     Ok(Flat { domain })
 }
 
-/// The points of the first span that are not on the second.
+/// The points of the first span that aren't in the second.
 fn flat_minus(alloc: Global, a: Span, b: Span) -> Result<Flat, Fail> {
     let left = flat_of(alloc, a)?;
     let right = flat_of(alloc, b)?;
@@ -38,21 +38,21 @@ fn flat_minus(alloc: Global, a: Span, b: Span) -> Result<Flat, Fail> {
     Ok(Flat { domain })
 }
 
-/// A domain of two coordinates.
+/// A two-dimensional domain.
 #[derive(Drop)]
 struct Plane {
     domain: Dom,
     ghost plane: { domain.dim ≡ 2 },
 }
 
-/// The points whose two coordinates are on the span.
+/// The points whose two coordinates are both in the span.
 fn square_of(alloc: Global, span: Span) -> Result<Plane, Fail> {
     let r = rect_of(2, [span, span, ZERO])?;
     let domain = dom_of(alloc, &r)?;
     Ok(Plane { domain })
 }
 
-/// The points of the first square that are not in the second.
+/// The points of the first square that aren't in the second.
 fn square_minus(alloc: Global, a: Span, b: Span) -> Result<Plane, Fail> {
     let left = square_of(alloc, a)?;
     let right = square_of(alloc, b)?;
@@ -60,7 +60,7 @@ fn square_minus(alloc: Global, a: Span, b: Span) -> Result<Plane, Fail> {
     Ok(Plane { domain })
 }
 
-/// How many points the domain of the span has.
+/// The number of points of the domain of the span.
 fn flat_size(alloc: Global, span: Span) -> Result<i32, Fail> {
     Ok(dom_size(&flat_of(alloc, span)?.domain))
 }
@@ -77,7 +77,7 @@ fn a_difference_of_a_million_points(rt: HostRuntime) -> Result<(), Fail> {
     Ok(())
 }
 
-/// How many points the domain of the square has.
+/// The number of points of the domain of the square.
 fn square_size(alloc: Global, span: Span) -> Result<i32, Fail> {
     Ok(dom_size(&square_of(alloc, span)?.domain))
 }
@@ -93,8 +93,8 @@ fn a_difference_of_a_million_points_in_two_coordinates(rt: HostRuntime) -> Resul
     Ok(())
 }
 
-/// The second coordinates of the points, in the order of the walk, as digits of a number at base 3; none
-/// where there are more than so many.
+/// The second coordinates of the points, in the order of iteration, as digits of a number in base 3; `None` if there are `most` points or
+/// more.
 fn walked(plane: &Plane, most: u32) -> Option<i32> {
     let mut sum = 0i32;
     let mut at = dom_next_after(&plane.domain, None);
@@ -118,7 +118,7 @@ fn a_ring_of_twelve_points(rt: HostRuntime) -> Result<(), Fail> {
     Ok(())
 }
 
-/// Whether the walk has these numbers, and no other.
+/// Whether the iteration yields exactly these numbers.
 fn has_walk(flat: &Flat, numbers: &[i32]) -> bool {
     let mut at = dom_next_after(&flat.domain, None);
     for want in numbers {
@@ -133,7 +133,7 @@ fn has_walk(flat: &Flat, numbers: &[i32]) -> bool {
     at.is_none()
 }
 
-/// Whether a copy is the same.
+/// Whether a copy of a domain equals it.
 fn copy_is_same(alloc: Global, flat: &Flat) -> Result<bool, Fail> {
     let copy = dom_copy(alloc, &flat.domain)?;
     Ok(dom_same(&copy, &flat.domain))
@@ -149,7 +149,7 @@ fn a_difference_by_residues(rt: HostRuntime) -> Result<(), Fail> {
     Ok(())
 }
 
-/// Whether the domains of the two spans are the same.
+/// Whether the domains of the two spans are equal.
 fn are_same(alloc: Global, a: Span, b: Span) -> Result<bool, Fail> {
     let left = flat_of(alloc, a)?;
     let right = flat_of(alloc, b)?;
@@ -177,20 +177,20 @@ fn the_most_points(rt: HostRuntime) -> Result<(), Fail> {
     Ok(())
 }
 
-/// How many points are on either of the spans.
+/// The number of points in either of the spans.
 fn union_size(alloc: Global, a: Span, b: Span) -> Result<Result<i32, DomErr>, Fail> {
     let left = flat_of(alloc, a)?;
     let right = flat_of(alloc, b)?;
     Ok(united(alloc, &left, &right).map(|union| dom_size(&union.domain)))
 }
 
-/// The domain with the number too.
+/// The domain with this number added.
 fn with_number(alloc: Global, flat: &Flat, x: i32) -> Result<Flat, Fail> {
     let point = flat_of(alloc, Span(x, x, 1))?;
     Ok(united(alloc, flat, &point)?)
 }
 
-/// A thousand single points, each 389 behind the last modulo 1009, make one domain.
+/// A thousand single points, each 389 after the previous one modulo 1009, yield one domain.
 #[test]
 fn a_union_of_a_thousand_points(rt: HostRuntime) -> Result<(), Fail> {
     let mut all = flat_of(rt.alloc(), Span(1, 0, 1))?;
@@ -203,7 +203,7 @@ fn a_union_of_a_thousand_points(rt: HostRuntime) -> Result<(), Fail> {
     Ok(())
 }
 
-/// How many points the variable holds, where it holds a domain.
+/// The number of points that a variable's value has, if it is a domain.
 fn held_size(held: &Held) -> i32 {
     match held {
         Held::Plain(_) => 0,

@@ -1,4 +1,4 @@
-// Views of views, against plain lists of points.
+// Views of views, compared with lists of points.
 
 ghost use Rattle.ti_base.specs.Rects.{IsRect};
 
@@ -8,7 +8,7 @@ use ti_base::{FaultKind, Id, Rect};
 use ti_grid::{View, index_of, view_of, view_restrict, view_slice, view_translate};
 use ti_rect::rect_size;
 
-/// A view of what came before.
+/// A view of the result of the steps before.
 #[derive(Clone, Copy)]
 enum Step {
     Restrict(Span, Span, Span),
@@ -16,8 +16,8 @@ enum Step {
     Slice(i32, i32),
 }
 
-/// Views of a block one after another, and the points of the last one, each with the number of its cell; or the
-/// fault of the last step.
+/// Views of a block, each of the one before, and the points of the last one, each with the number of its cell; or the fault of the last
+/// step.
 struct Case {
     dim: u8,
     block: [Span; 3],
@@ -145,7 +145,7 @@ const CASES: [Case; 14] = [
     },
 ];
 
-/// The name of the block.
+/// The identity of the block.
 const BLOCK: Id = Id {
     maker: 1,
     serial: 2,
@@ -209,7 +209,7 @@ fn number_at(v: &View, x1: i32, x2: i32, x3: i32) -> Option<u64> {
     index_of(v, &point(dim, x1, x2, x3))
 }
 
-/// How many points of a small box the view has.
+/// The number of points of a small box that the view has.
 fn count(v: &View) -> u32 {
     let mut points = 0u32;
     let dim = v.domain().dim;

@@ -1,4 +1,4 @@
-// The operators on whole numbers at both widths.
+// The operators on integers of 32 and 64 bits.
 
 use std::test::Fail;
 use ti_base::{
@@ -48,9 +48,9 @@ struct Row {
     sums: [i64; 7],
     differences: [i64; 7],
     products: [i64; 7],
-    /// By the operands behind 0.
+    /// By the operands after 0.
     quotients: [i64; 6],
-    /// By the operands behind 0.
+    /// By the operands after 0.
     remainders: [i64; 6],
 }
 
@@ -62,7 +62,7 @@ struct Shifts {
     unsigned: [i64; 8],
 }
 
-/// What the operators of a width give.
+/// The expected results of all operators at one width.
 struct Table {
     width: Width,
     /// The right operands of each row.
@@ -74,14 +74,14 @@ struct Table {
 /// The counts of each row of shifts.
 const COUNTS: [i64; 8] = [-1, 0, 1, 31, 32, 33, 63, 64];
 
-/// The right operands, the ends of the width and their neighbours among them.
+/// The right operands, including the bounds of the width and their neighbours.
 macro_rules! operands {
     ($max:expr, $min:expr) => {
         [0, 1, -1, $max, $max - 1, $min, $min + 1]
     };
 }
 
-/// The rows of a width with these ends. In their terms they are the same at both widths.
+/// The rows of a width with these bounds. Expressed by them, they are equal at both widths.
 macro_rules! rows {
     ($max:expr, $min:expr) => {
         [
@@ -337,7 +337,7 @@ fn long_result(operator: Operator, a: i64, b: i64) -> Result<i64, DivZero> {
     }
 }
 
-/// The result at the width.
+/// The result at the given width.
 fn result(width: Width, operator: Operator, a: i64, b: i64) -> Result<i64, DivZero> {
     match width {
         Width::Int => Ok(to_long(int_result(operator, to_int(a), to_int(b))?)),
@@ -345,7 +345,7 @@ fn result(width: Width, operator: Operator, a: i64, b: i64) -> Result<i64, DivZe
     }
 }
 
-/// Whether the operator gives with each operand the number that is wanted.
+/// Whether the operator has the expected result with each of the operands.
 fn agrees(width: Width, operator: Operator, a: i64, operands: &[i64], wanted: &[i64]) -> bool {
     for (b, want) in operands.iter().zip(wanted) {
         if result(width, operator, a, *b) != Ok(*want) {
@@ -355,14 +355,14 @@ fn agrees(width: Width, operator: Operator, a: i64, operands: &[i64], wanted: &[
     operands.len() == wanted.len()
 }
 
-/// Whether a divisor of 0 is the error.
+/// Whether division and remainder by 0 are errors.
 fn refuses_zero(width: Width, a: i64) -> bool {
     result(width, Operator::Div, a, 0) == Err(DivZero)
         && result(width, Operator::Rem, a, 0) == Err(DivZero)
 }
 
-/// Whether sums, differences and products, and by the operands behind 0 quotients and remainders, are the
-/// row's, in this order.
+/// Whether sums, differences, products, quotients and remainders are as expected, in this order, and division by 0 fails. Quotients and
+/// remainders are by the operands after 0.
 fn row_agrees(table: &Table, row: &Row) -> [bool; 6] {
     let Table {
         width,
@@ -380,7 +380,7 @@ fn row_agrees(table: &Table, row: &Row) -> [bool; 6] {
     ]
 }
 
-/// Whether the shifts to the left, to the right, and with zeros coming in are the row's, in this order.
+/// Whether left shifts, arithmetic right shifts and logical right shifts are as expected, in this order.
 fn shifts_agree(width: Width, row: &Shifts) -> [bool; 3] {
     [
         agrees(width, Operator::Shl, row.a, &COUNTS, &row.left),

@@ -1,4 +1,4 @@
-// Calls on points.
+// Functions on points.
 
 ghost use Rattle.std.specs.Prelude.{◌≡◌};
 
@@ -6,13 +6,13 @@ use super::spans::point;
 use std::test::Fail;
 use ti_base::{Point, pt_add, pt_le, pt_lex_lt, pt_lt, pt_sub};
 
-/// Two points, and what they give.
+/// Two points, and the expected results of functions on them.
 struct Pair {
     a: [i32; 3],
     b: [i32; 3],
     sum: [i32; 3],
     difference: [i32; 3],
-    /// Whether the first is less, at most as much, and before the second.
+    /// Whether the first is less in all coordinates, less or equal in all, and lexicographically before the second.
     orders: (bool, bool, bool),
 }
 
@@ -54,7 +54,7 @@ const PAIRS: [Pair; 5] = [
     },
 ];
 
-/// The sum and the difference, by their coordinates.
+/// The coordinates of the sum and of the difference.
 fn sums(a: &Point, b: &Point) -> ([i32; 3], [i32; 3])
     requires { b.now.dim ≡ a.now.dim }
 {
@@ -66,7 +66,7 @@ fn sums(a: &Point, b: &Point) -> ([i32; 3], [i32; 3])
     )
 }
 
-/// Whether the first is less, at most as much, and before the second.
+/// Whether the first is less in all coordinates, less or equal in all, and lexicographically before the second.
 fn orders(a: &Point, b: &Point) -> (bool, bool, bool)
     requires { b.now.dim ≡ a.now.dim }
 {

@@ -1,4 +1,4 @@
-// Small rectangles from a seed, compared with plain arithmetic on each point of a box.
+// Pseudo-random small rectangles, compared with a membership test of each point of a box.
 
 ghost use Rattle.std.specs.Prelude.{◌≡◌, IfOk};
 ghost use Rattle.ti_base.specs.Points.{IsDim};
@@ -22,30 +22,30 @@ struct Spans {
     b: [Span; 3],
 }
 
-/// Whether the number is on the span.
+/// Whether the number is in the span.
 fn is_on(span: Span, x: i32) -> bool {
     span.0 <= x && x <= span.1 && x.wrapping_sub(span.0).checked_rem(span.2) == Some(0)
 }
 
-/// Whether the point is on the first spans, as many as the dimension says.
+/// Whether each coordinate that the dimension uses is in its span.
 fn is_within(dim: u8, spans: [Span; 3], p: Point) -> bool {
     is_on(spans[0], p.x1)
         && (dim < 2 || is_on(spans[1], p.x2))
         && (dim < 3 || is_on(spans[2], p.x3))
 }
 
-/// The next number of a seed.
+/// The next pseudo-random number.
 fn turned(state: u32) -> u32 {
     state.wrapping_mul(1664525).wrapping_add(1013904223)
 }
 
-/// A number from `least` on, of so many, from a seed.
+/// One of `count` numbers, from `least` on, by a pseudo-random number.
 fn small(state: u32, count: u32, least: i32) -> i32 {
     let part = (state / 65536).checked_rem(count).unwrap_or(0);
     part.cast_signed().wrapping_add(least)
 }
 
-/// A small span from a seed, and the seed behind it.
+/// A small span from a seed, and the next seed.
 fn span_of(seed: u32) -> (Span, u32) {
     let low = turned(seed);
     let high = turned(low);
@@ -54,7 +54,7 @@ fn span_of(seed: u32) -> (Span, u32) {
     (span, step)
 }
 
-/// Three small spans from a seed, and the seed behind them.
+/// Three small spans from a seed, and the next seed.
 fn spans_of(seed: u32) -> ([Span; 3], u32) {
     let (first, seed) = span_of(seed);
     let (second, seed) = span_of(seed);
@@ -62,7 +62,7 @@ fn spans_of(seed: u32) -> ([Span; 3], u32) {
     ([first, second, third], seed)
 }
 
-/// Two rectangles from a seed, and the seed behind them.
+/// Two rectangles from a seed, and the next seed.
 fn pair_of(dim: u8, seed: u32) -> (Spans, u32)
     ensures { result.0.dim ≡ dim }
 {
@@ -71,7 +71,7 @@ fn pair_of(dim: u8, seed: u32) -> (Spans, u32)
     (Spans { dim, a, b }, end)
 }
 
-/// How many points the box has in which small rectangles lie.
+/// The number of points of the box that contains all small rectangles.
 fn box_size(dim: u8) -> u32 {
     match dim {
         1 => 16,
@@ -103,7 +103,7 @@ fn places(spans: Spans, p: Point) -> (bool, bool) {
     )
 }
 
-/// The first point of the box from number `from` on that is within one of the two.
+/// The first point of the box, from number `from` on, that is in one of the two.
 fn first_within(spans: Spans, from: u32) -> Option<Point> {
     for n in from..box_size(spans.dim) {
         let p = box_point(spans.dim, n);
@@ -115,7 +115,7 @@ fn first_within(spans: Spans, from: u32) -> Option<Point> {
     None
 }
 
-/// What two domains give.
+/// The results of the set operations on two domains.
 #[derive(Drop)]
 struct Results {
     dim: u8,
@@ -127,7 +127,7 @@ struct Results {
     ghost meet_dim: { meet.dim ≡ dim },
 }
 
-/// The union, the difference and the meet of the two.
+/// The union, the difference and the intersection of the two.
 fn results_of(alloc: Global, both: &Both) -> Result<Results, Fail>
     ensures { IfOk result (λ results. results.dim ≡ both.now.dim) }
 {
@@ -142,7 +142,7 @@ fn results_of(alloc: Global, both: &Both) -> Result<Results, Fail>
     })
 }
 
-/// Whether the rectangles and their meet have the point where the places say so.
+/// Whether the rectangles and their intersection contain the point as `places` says.
 fn rectangles_agree(r: &Rect, s: &Rect, p: Point, places: (bool, bool)) -> bool
     requires first { IsRect r.now }
     requires second { IsRect s.now }
@@ -155,7 +155,7 @@ fn rectangles_agree(r: &Rect, s: &Rect, p: Point, places: (bool, bool)) -> bool
     (in_first, in_second) == places && in_both == (places.0 && places.1)
 }
 
-/// Whether the domains have the point where the places say so.
+/// Whether the domains contain the point as `places` says.
 fn domains_agree(results: &Results, p: Point, places: (bool, bool)) -> bool
     requires { p.dim ≡ results.now.dim }
 {
@@ -166,7 +166,7 @@ fn domains_agree(results: &Results, p: Point, places: (bool, bool)) -> bool
     in_union == (left || right) && in_minus == (left && !right) && in_meet == (left && right)
 }
 
-/// Whether the walk goes on from the point as plain arithmetic has it, where the point is a member.
+/// Whether the iteration continues from the point as expected, if the point is in the union.
 fn walk_agrees(results: &Results, spans: Spans, n: u32, p: Point, places: (bool, bool)) -> bool
     requires { p.dim ≡ results.now.dim }
 {
@@ -174,7 +174,7 @@ fn walk_agrees(results: &Results, spans: Spans, n: u32, p: Point, places: (bool,
     !is_member || dom_next_after(&results.union, Some(&p)) == first_within(spans, n.wrapping_add(1))
 }
 
-/// The first point of the box at which the domains disagree with plain arithmetic, or the walk does.
+/// The first point of the box at which the domains or their iteration aren't as expected.
 fn domain_mismatch(results: &Results, spans: Spans) -> Option<Point> {
     for n in 0..box_size(spans.dim) {
         let p = box_point(results.dim, n);
@@ -186,7 +186,7 @@ fn domain_mismatch(results: &Results, spans: Spans) -> Option<Point> {
     None
 }
 
-/// The first point of the box at which the rectangles disagree with plain arithmetic.
+/// The first point of the box at which the rectangles aren't as expected.
 fn rectangle_mismatch(r: &Rect, s: &Rect, spans: Spans) -> Option<Point>
     requires first { IsRect r.now }
     requires second { IsRect s.now }
@@ -201,7 +201,7 @@ fn rectangle_mismatch(r: &Rect, s: &Rect, spans: Spans) -> Option<Point>
     None
 }
 
-/// How many points of the box are in either, in the first alone, and in both.
+/// The numbers of points of the box in either, in the first only, and in both.
 fn counts(spans: Spans) -> [i32; 3] {
     let mut counts = [0i32; 3];
     for n in 0..box_size(spans.dim) {
@@ -216,7 +216,7 @@ fn counts(spans: Spans) -> [i32; 3] {
     counts
 }
 
-/// How many points the domains have.
+/// The numbers of points of the domains.
 fn sizes(results: &Results) -> [i32; 3] {
     [
         dom_size(&results.union),
@@ -225,13 +225,13 @@ fn sizes(results: &Results) -> [i32; 3] {
     ]
 }
 
-/// Whether the domain is kept as the rectangle alone, or as none where it has no points.
+/// Whether the domain is represented by the rectangle only, or by none if it is empty.
 fn is_alone(domain: &Dom, r: &Rect) -> bool {
     let pieces = dom_pieces(domain);
     pieces.len() == usize::from(dom_size(domain) > 0) && pieces.iter().all(|piece| *piece == *r)
 }
 
-/// Whether the union is the same the other way round, and the two are the same where the rectangles are.
+/// Whether the union commutes, and the two are equal exactly if the rectangles are.
 fn equality_agrees(alloc: Global, both: &Both, union: &Dom, is_same: bool) -> Result<bool, Fail>
     requires { union.now.dim ≡ both.now.dim }
 {
@@ -239,7 +239,7 @@ fn equality_agrees(alloc: Global, both: &Both, union: &Dom, is_same: bool) -> Re
     Ok(dom_same(union, &other) && dom_same(&both.left, &both.right) == is_same)
 }
 
-/// Whether sizes, pieces and equality of the domains are as plain counting has them.
+/// Whether sizes, pieces and equality of the domains agree with counting.
 fn counts_agree(
     alloc: Global,
     both: &Both,
@@ -257,13 +257,12 @@ fn counts_agree(
     )
 }
 
-/// Whether the domains of the rectangles are kept as they are alone.
+/// Whether each domain of a rectangle is represented by it only.
 fn are_alone(both: &Both, r: &Rect, s: &Rect) -> bool {
     is_alone(&both.left, r) && is_alone(&both.right, s)
 }
 
-/// The first point of the box at which the calls disagree with plain arithmetic, and whether what they count
-/// agrees with it.
+/// The first points of the box at which rectangles and domains aren't as expected, and whether what they count agrees with counting.
 fn compared(alloc: Global, spans: Spans) -> Result<(Option<Point>, Option<Point>, bool), Fail>
     requires { IsDim spans.dim }
 {
@@ -279,7 +278,7 @@ fn compared(alloc: Global, spans: Spans) -> Result<(Option<Point>, Option<Point>
     ))
 }
 
-/// Small rectangles in a number of coordinates, from a seed.
+/// A series of pairs of small rectangles with this number of dimensions, from a seed.
 struct Random {
     seed: u32,
     dim: u8,

@@ -1,4 +1,4 @@
-// Calls on rectangles.
+// Functions on rectangles.
 
 ghost use Rattle.ti_base.specs.Points.{IsDim};
 
@@ -9,13 +9,13 @@ use ti_rect::{
     BadStride, rect_max, rect_meet, rect_min, rect_next_after, rect_size, rect_translate,
 };
 
-/// A range, and what the calls on rectangles of one coordinate say of it.
+/// A range, and the expected results of functions on one-dimensional rectangles.
 struct Line {
     span: Span,
     size: Option<i32>,
     least: Option<i32>,
     greatest: Option<i32>,
-    /// The range as it is kept.
+    /// The range in canonical form.
     kept: (i32, i32, u32),
 }
 
@@ -95,14 +95,14 @@ fn each_line(rt: HostRuntime) -> Result<(), Fail> {
     Ok(())
 }
 
-/// Whether the rectangle is refused.
+/// Whether the rectangle is rejected.
 fn is_refused(dim: u8, spans: [Span; 3]) -> bool
     requires { IsDim dim }
 {
     rect_of(dim, spans).is_err()
 }
 
-/// A step of 0 or below is refused, in each coordinate that is used.
+/// A stride of 0 or below is rejected, in each dimension that is used.
 #[test]
 fn bad_strides(rt: HostRuntime) -> Result<(), Fail> {
     let good = Span(0, 1, 1);
@@ -117,7 +117,7 @@ fn bad_strides(rt: HostRuntime) -> Result<(), Fail> {
     Ok(())
 }
 
-/// Two ranges and the range of the numbers on both.
+/// Two ranges, and the range of the numbers in both.
 struct Common {
     a: Span,
     b: Span,
@@ -172,7 +172,7 @@ fn meets_of_lines(rt: HostRuntime) -> Result<(), Fail> {
     Ok(())
 }
 
-/// The meet of two rectangles of two coordinates.
+/// The intersection of two two-dimensional rectangles.
 fn plane_meet(a: [Span; 3], b: [Span; 3]) -> Result<Rect, BadStride> {
     let r = rect_of(2, a)?;
     let s = rect_of(2, b)?;
@@ -191,7 +191,7 @@ fn a_meet_in_two_coordinates(rt: HostRuntime) -> Result<(), Fail> {
     Ok(())
 }
 
-/// How many points there are; none where they are too many.
+/// The number of points; `None` if there are too many.
 fn size_of(dim: u8, spans: [Span; 3]) -> Result<Option<i32>, BadStride>
     requires { IsDim dim }
 {
@@ -210,7 +210,7 @@ fn sizes_of_great_rectangles(rt: HostRuntime) -> Result<(), Fail> {
     Ok(())
 }
 
-/// A range, by how much it is moved, and its ends then.
+/// A range, by how much it is translated, and its bounds afterwards.
 struct Moved {
     span: Span,
     by: i32,

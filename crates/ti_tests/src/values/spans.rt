@@ -1,4 +1,4 @@
-// Rectangles and domains from the bounds and steps of their coordinates.
+// Rectangles and domains from the bounds and strides of their dimensions.
 
 ghost use Rattle.std.specs.Prelude.{◌≡◌, IfOk};
 ghost use Rattle.ti_base.specs.Points.{IsDim, IsPoint};
@@ -10,14 +10,14 @@ use ti_base::{Point, Rect};
 use ti_domain::{Dom, dom_of};
 use ti_rect::{BadStride, rect_make};
 
-/// The bounds of one coordinate, and its step.
+/// The lower bound, upper bound and stride of one dimension.
 #[derive(Clone, Copy)]
 pub struct Span(pub i32, pub i32, pub i32);
 
-/// 0 alone, for coordinates that are not used.
+/// The span of 0 only, for dimensions that aren't used.
 pub const ZERO: Span = Span(0, 0, 0);
 
-/// The point of the first coordinates, as many as the dimension says.
+/// The point with as many of these coordinates as the dimension says.
 pub fn point(dim: u8, x1: i32, x2: i32, x3: i32) -> Point
     requires { IsDim dim }
     ensures form { IsPoint result }
@@ -37,7 +37,7 @@ pub fn point(dim: u8, x1: i32, x2: i32, x3: i32) -> Point
     Point { dim, x1, x2, x3 }
 }
 
-/// The rectangle of the first spans, as many as the dimension says.
+/// The rectangle of as many of these spans as the dimension says.
 pub fn rect_of(dim: u8, spans: [Span; 3]) -> Result<Rect, BadStride>
     requires { IsDim dim }
     ensures form { IfOk result IsRect }
@@ -50,7 +50,7 @@ pub fn rect_of(dim: u8, spans: [Span; 3]) -> Result<Rect, BadStride>
     rect_make(&lo, &hi, &step)
 }
 
-/// The rectangle of one coordinate.
+/// The one-dimensional rectangle of a span.
 pub fn line(span: Span) -> Result<Rect, BadStride>
     ensures form { IfOk result IsRect }
     ensures dim { IfOk result (λ r. r.dim ≡ 1) }
@@ -58,7 +58,7 @@ pub fn line(span: Span) -> Result<Rect, BadStride>
     rect_of(1, [span, ZERO, ZERO])
 }
 
-/// Two domains of the same dimension.
+/// Two domains with the same number of dimensions.
 #[derive(Drop)]
 pub struct Both {
     pub dim: u8,

@@ -1,11 +1,11 @@
--- What the code holds, as the bytes of its texts.
+-- Mirrors the code, for contracts of private functions: its strings as lists of bytes.
 use Rattle.std.specs.Prelude.{option_map}
 use Rattle.ti_words.specs.Job.{Values}
 use Rattle.ti_words.specs.declared.arguments.Given.{Given}
 use Rattle.ti_words.specs.declared.job.Job.{Job}
 use Rattle.ti_words.specs.declared.words.Asked.{Asked}
 
--- what was given to each argument, as the bytes of its value
+-- the values of options as lists of bytes
 abbrev pub values_seen : Given → Values
 values_seen g = record {
   mode = option_map (λ s. s.now) g.mode;
@@ -20,7 +20,7 @@ values_seen g = record {
   file = option_map (λ s. s.now) g.file;
 }
 
--- what is asked for, with the bytes of the file's name
+-- the job with its file names as lists of bytes
 abbrev pub job_asked : Asked → Job
 job_asked a = record {
   mode = a.mode;
