@@ -1,6 +1,5 @@
 -- Processes that run on workers: what a pass says of the store's entries, and what an attempt does to a process.
-use Rattle.std.proofs.Common.{◌≡◌, ℕ, ◌<◌, ◌==◌, Bool, true, false, cond, ◌||◌, map, filter, Result, Ok, Err, IfOk, IfErr, List, [], ◌∷◌, ◌++◌, refl, sym, ap, ◌∙◌, subst, append-nil}
-use Rattle.std.specs.List.{list_any}
+use Rattle.std.proofs.Common.{◌≡◌, ℕ, ◌<◌, ◌==◌, Bool, true, false, cond, ◌||◌, Result, Ok, Err, IfOk, IfErr, List, [], ◌∷◌, ◌++◌, refl, sym, ap, ◌∙◌, subst, append-nil}
 use Rattle.std.proofs.lemmas.List.{map-append}
 use Rattle.ti_base.specs.declared.place.Place.{Place}
 use Rattle.ti_base.specs.declared.action.Action.{Action}
@@ -8,7 +7,7 @@ use Rattle.ti_base.specs.declared.entry.Answer.{Answer}
 use Rattle.ti_base.specs.declared.entry.Entry.{Entry}
 use Rattle.ti_base.specs.declared.entry.Next.{Next}
 use Rattle.ti_lang.specs.Meaning.Processes.{Setting}
-use Rattle.ti_lang.specs.Meaning.Histories.{is_end, is_answered, entries_of, has_end, has_fault}
+use Rattle.ti_lang.specs.Meaning.Histories.{entries_of, has_end, has_fault}
 use Rattle.ti_lang.specs.Meaning.Runs.{IsRun}
 use Rattle.ti_turnstile.specs.Passes.{items_of, GrownBy, IsLegal}
 use Rattle.ti_store.specs.declared.act_err.ActErr.{ActErr}

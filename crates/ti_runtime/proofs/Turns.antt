@@ -1,5 +1,5 @@
 -- What one step does to the scheduler.
-use Rattle.std.proofs.Common.{◌≡◌, ℕ, ◌+◌, ◌-◌, ◌*◌, ◌<◌, ◌≤◌, max, nat_lt, ◌==◌, Bool, true, false, ◌||◌, map, filter, inl, inr, Ok, List, [], length, get_or, slice_set, refl, sym, ap, ◌∙◌, subst, arith, eqb-true, ltb-true, length-set, get_or-set_same, get_or-set_other}
+use Rattle.std.proofs.Common.{◌≡◌, ℕ, ◌+◌, ◌-◌, ◌*◌, ◌<◌, ◌≤◌, max, nat_lt, ◌==◌, Bool, true, false, ◌||◌, map, filter, inl, inr, Ok, List, length, get_or, slice_set, refl, sym, ap, ◌∙◌, subst, arith, eqb-true, ltb-true, length-set, get_or-set_same, get_or-set_other}
 use Rattle.std.specs.List.{list_any}
 use Rattle.std.proofs.lemmas.Bool.{eqb-false, ltb-false}
 use Rattle.std.proofs.lemmas.List.Sums.{sum_by-set}

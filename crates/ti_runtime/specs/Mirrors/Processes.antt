@@ -10,7 +10,7 @@ use Rattle.ti_base.specs.declared.entry.Next.{Next}
 use Rattle.ti_base.specs.declared.entry.Next.TheVariants as next
 use Rattle.ti_lang.specs.Meaning.Processes.{Setting, Process}
 use Rattle.ti_lang.specs.Meaning.NextStep.{IsNext}
-use Rattle.ti_lang.specs.Meaning.Histories.{is_end, is_fault, is_arrival, has_end, has_fault}
+use Rattle.ti_lang.specs.Meaning.Histories.{is_fault, is_arrival, has_end, has_fault}
 use Rattle.ti_lang.specs.Meaning.Runs.{World, CanTake, IsRun, IsSolo, AllEnded}
 use Rattle.ti_align.specs.Alignment.{IsAlignedRun, OfEveryRun}
 use Rattle.ti_align.specs.Answering.{AnswersFit}

@@ -1,4 +1,4 @@
-use Rattle.std.proofs.Common.{◌∙◌, ap, sym, true, false, refl, subst}
+use Rattle.std.proofs.Common.{◌∙◌, ap, sym, false, refl, subst}
 use Rattle.ti_machine.specs.Standing.{is_act}
 use Rattle.ti_store.specs.Stores.{StoreState, setting_of}
 use Rattle.ti_runtime.specs.declared.pending.PendingProc.{PendingProc}
