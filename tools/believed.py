@@ -16,6 +16,7 @@ An item is read as `rt fmt` lays it out: it ends at the first line that begins w
 import os
 import re
 import sys
+import textwrap
 from collections import namedtuple
 from functools import lru_cache
 
@@ -317,6 +318,12 @@ def first_sentence(module):
     return (sentence[:1].upper() + sentence[1:]).replace('|', '\\|')
 
 
+def wrapped(text):
+    """The paragraphs of a text, in lines of at most 100 columns."""
+    fill = lambda words: textwrap.fill(words, 100, break_long_words=False, break_on_hyphens=False)
+    return '\n\n'.join(fill(' '.join(it.split())) for it in text.split('\n\n'))
+
+
 def listed(names):
     return ', '.join(f'`{name}`' for name in names)
 
@@ -355,9 +362,10 @@ def page():
     needed = Reach(without={module for module in reached.modules if module[0] in ('ti_lower', 'ti_lower_expr')})
     lowering = set(reached.modules) - set(needed.modules)
     everything = sum(file != 'Lib.antt' for crate in crates() for file in files_below(crate, 'specs', '.antt'))
-    text = HEAD.format(modules=len(reached.modules), all=everything, lowering=len(lowering))
+    title, _, prose = HEAD.format(modules=len(reached.modules), all=everything, lowering=len(lowering)).strip().partition('\n\n')
+    text = f'{title}\n\n{wrapped(prose)}\n'
     for crate in crates():
-        parts = list(lines_on_items(crate, reached))
+        parts = [wrapped(line) for line in lines_on_items(crate, reached)]
         modules = [module for module in reached.modules if module[0] == crate]
         if modules:
             parts.append(table(modules, lowering))
