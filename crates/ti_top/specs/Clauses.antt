@@ -64,7 +64,8 @@ abbrev pub HasText : Job → Call → Type 0
 HasText job c = IsWholeIn job.mode job c
 
 -- Reading, in the modes that name a file: the text is a prefix of the file, and with status 0, 1, 2 or 7 the whole file. With status 4 the
--- file, or in mode verify the trace, can't be read; and conversely, if one is missing or a read failed.
+-- file, or in mode verify the trace, can't be read. Conversely, if the file is missing, or the trace of a text without a refusal, or a read
+-- failed, the status is 4, unless memory ran out or a write failed.
 pub record ReadsText (job : Job) (c : Call) : Type 0 where
   pub front : (bytes : List ℕ) → Holds c.source job.file bytes → IsFront c.text bytes
   pub bound : length c.text ≤ most_read
