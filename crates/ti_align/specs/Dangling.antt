@@ -9,11 +9,11 @@ use Rattle.ti_base.specs.declared.action.Deposit.TheVariants as deposit
 use Rattle.ti_base.specs.declared.entry.Entry.{Entry}
 use Rattle.ti_base.specs.declared.entry.Next.TheVariants as next
 use Rattle.ti_base.specs.Cells.{named_by}
-use Rattle.ti_lang.specs.Meaning.Processes.{Setting, Process}
+use Rattle.ti_lang.specs.Meaning.Processes.{RunConfig, Process}
 use Rattle.ti_lang.specs.Meaning.NextStep.{IsNext}
 use Rattle.ti_lang.specs.Meaning.Histories.{History, history_of}
 use Rattle.ti_lang.specs.Meaning.RegionsOf.{is_gone}
-use Rattle.ti_lang.specs.Meaning.Runs.{World}
+use Rattle.ti_lang.specs.Meaning.Runs.{ProcAfter}
 
 -- ---- the objects and grids that an action names
 
@@ -57,7 +57,7 @@ pub record NamesLiving (h : History) (a : Action) : Type 0 where
 
 -- Whatever a process of the run does next, all that the action names is in no deleted region; and 0, which means no region, isn't
 -- deleted.
-pub record NothingDangles (s : Setting) (es : List Entry) : Type 0 where
-  pub actions : (i : ℕ) (p : Process) (at : Place) (a : Action) → i < s.procs → World s es i p → IsNext p (next.Act at a)
+pub record NothingDangles (s : RunConfig) (es : List Entry) : Type 0 where
+  pub actions : (i : ℕ) (p : Process) (at : Place) (a : Action) → i < s.procs → ProcAfter s es i p → IsNext p (next.Act at a)
       → NamesLiving (history_of es) a
   pub nowhere : is_gone 0 (history_of es) ≡ false

@@ -13,9 +13,9 @@ use Rattle.ti_base.specs.declared.entry.Entry.{Entry}
 use Rattle.ti_base.specs.declared.entry.Next.TheVariants as next
 use Rattle.ti_base.specs.Points.{IsPoint}
 use Rattle.ti_base.specs.Rects.{IsRect}
-use Rattle.ti_lang.specs.Meaning.Processes.{Setting, Process}
+use Rattle.ti_lang.specs.Meaning.Processes.{RunConfig, Process}
 use Rattle.ti_lang.specs.Meaning.NextStep.{IsNext}
-use Rattle.ti_lang.specs.Meaning.Runs.{World}
+use Rattle.ti_lang.specs.Meaning.Runs.{ProcAfter}
 
 -- a point or a rectangular domain is canonical; other values always are
 abbrev pub IsFormed : Value → Type 0
@@ -45,6 +45,6 @@ IsFormedAction (act.Arrive kind arg given) = IsFormedDeposit given
 IsFormedAction a = Unit {0}
 
 -- the next actions of all processes are canonical
-abbrev pub ActionsFormed : Setting → List Entry → Type 0
+abbrev pub ActionsFormed : RunConfig → List Entry → Type 0
 ActionsFormed s es =
-    (i : ℕ) (p : Process) (at : Place) (a : Action) → i < s.procs → World s es i p → IsNext p (next.Act at a) → IsFormedAction a
+    (i : ℕ) (p : Process) (at : Place) (a : Action) → i < s.procs → ProcAfter s es i p → IsNext p (next.Act at a) → IsFormedAction a

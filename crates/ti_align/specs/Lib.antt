@@ -3,8 +3,8 @@ pub mod Alignment
 pub mod Slice
 pub mod Stopping
 pub mod Owners
-pub mod Things
-pub mod There
+pub mod HeapTyping
+pub mod Existing
 pub mod Heap
 pub mod Given
 pub mod Typed

@@ -7,10 +7,10 @@ use Rattle.ti_lang.specs.Program.Expressions.{NumberedExp, NumberedExps, Numbere
 use Rattle.ti_lang.specs.Program.Expressions as e
 use Rattle.ti_lang.specs.Program.Statements.{NumberedDims, NumberedInit, NumberedPrint, NumberedStm}
 use Rattle.ti_lang.specs.Program.Statements as s
-use Rattle.ti_lang.specs.Meaning.Processes.{Setting, Process, Frame, Variable, Work, Do, Before, Receive, While, Receiver, Assigned, Updated}
+use Rattle.ti_lang.specs.Meaning.Processes.{RunConfig, Process, Frame, Variable, ContItem, Do, Before, Receive, While, Receiver, Assigned, Updated}
 use Rattle.ti_lang.specs.Meaning.Scoping.{same_variable}
 use Rattle.ti_lang.specs.Meaning.NextStep.{Reaches}
-use Rattle.ti_lang.specs.Meaning.Runs.{World}
+use Rattle.ti_lang.specs.Meaning.Runs.{ProcAfter}
 
 -- ---- names
 
@@ -99,7 +99,7 @@ StmUses names (s.Foreach at variable domain body) = ExpScoped names domain
 StmUses names x = Unit {0}
 
 -- the variables that a piece of work uses are in scope
-abbrev pub WorkUses : Names → Work → Type 0
+abbrev pub WorkUses : Names → ContItem → Type 0
 WorkUses names (Do x) = StmUses names x
 WorkUses names (Before (While at c update body)) = OptionScoped names c
 WorkUses names (Receive receiver h) = ReceiverScoped names receiver
@@ -108,19 +108,19 @@ WorkUses names w = Unit {0}
 -- ---- runs
 
 -- the variable is one of these
-abbrev pub found : VariableUse → List Variable → Bool
-found v vs = list_any (λ (w : Variable). same_variable v w.named) vs
+abbrev pub is_among : VariableUse → List Variable → Bool
+is_among v vs = list_any (λ (w : Variable). same_variable v w.named) vs
 
 -- the variables that the first piece of a frame's work uses are among the frame's variables
-abbrev pub FirstUses : List Variable → List Work → Type 0
+abbrev pub FirstUses : List Variable → List ContItem → Type 0
 FirstUses vs [] = Unit {0}
-FirstUses vs (w ∷ left) = WorkUses (λ v. found v vs) w
+FirstUses vs (w ∷ left) = WorkUses (λ v. is_among v vs) w
 
 abbrev pub FramesUse : List Frame → Type 0
 FramesUse [] = Unit {0}
 FramesUse (f ∷ fs) = FirstUses f.variables f.left
 
 -- whatever work a process of the run does next, the variables that it uses are in scope in its frame
-abbrev pub VariablesInScope : Setting → List Entry → Type 0
+abbrev pub VariablesInScope : RunConfig → List Entry → Type 0
 VariablesInScope n es =
-    (i : ℕ) (p q : Process) → i < n.procs → World n es i p → Reaches p q → q.wait ≡ None → FramesUse q.frames
+    (i : ℕ) (p q : Process) → i < n.procs → ProcAfter n es i p → Reaches p q → q.wait ≡ None → FramesUse q.frames

@@ -19,16 +19,16 @@ use Rattle.ti_lang.specs.Program.Expressions.{NumberedExp, NumberedExps}
 use Rattle.ti_lang.specs.Program.Expressions as e
 use Rattle.ti_lang.specs.Program.Statements.{NumberedInit, NumberedStm, NoStm}
 use Rattle.ti_lang.specs.Program.Statements as s
-use Rattle.ti_lang.specs.Program.Classes.{NumberedMethod, NumberedProgram}
+use Rattle.ti_lang.specs.Program.Classes.{NumberedMethod, ProgramView}
 use Rattle.ti_lang.specs.Program.Scope.{this_of}
 use Rattle.ti_lang.specs.Typing.BuiltIn.{BuiltIn, Exchange, Delete}
 use Rattle.ti_lang.specs.Typing.Called.{member_called}
 use Rattle.ti_lang.specs.Typing.Singleness.{has_single_result}
 use Rattle.ti_lang.specs.Typing.Effects.{doings, return_acts, has_global_effects}
-use Rattle.ti_lang.specs.Meaning.Asking.{ToBeDone, ValueOf, Request, Asking, ◌>>=◌, gives}
+use Rattle.ti_lang.specs.Meaning.Comp.{ToBeDone, ValueOf, Request, Comp, ◌>>=◌, gives}
 use Rattle.ti_lang.specs.Meaning.Answers.{FitsWanted}
 use Rattle.ti_lang.specs.Meaning.Conversions.{converted}
-use Rattle.ti_lang.specs.Meaning.Processes.{Setting, Variable, Receiver, Nowhere, Declared, Assigned, Updated, Loop, While, Foreach, Work, Do, End, Before, Behind, Receive, CopyAll, TakeAll, Frame, Wait, Process, begin}
+use Rattle.ti_lang.specs.Meaning.Processes.{RunConfig, Variable, Receiver, Nowhere, Declared, Assigned, Updated, Loop, While, Foreach, ContItem, Do, End, Before, Behind, Receive, CopyAll, TakeAll, Frame, Wait, Process, begin}
 use Rattle.ti_lang.specs.Meaning.Scoping.{Env, env_of, with_new, declared_type, type_here}
 use Rattle.ti_lang.specs.Meaning.Evaluation.{eval}
 use Rattle.ti_lang.specs.Meaning.Calls.{Call, called, parameters_of}
@@ -36,11 +36,11 @@ use Rattle.ti_lang.specs.Meaning.Collectives.{root_among, makes_region, deletes}
 use Rattle.ti_lang.specs.Meaning.Moves as move
 use Rattle.ti_lang.specs.Meaning.Moves.{goes_on, receives}
 use Rattle.ti_lang.specs.Meaning.Statements.{one_more, declared_as, returns, statement}
-use Rattle.ti_lang.specs.Meaning.Performing.{performed}
-use Rattle.ti_lang.specs.Meaning.Steps.{Step, To, At, Ends, Faults, valued, going, moves, end_of, departs}
+use Rattle.ti_lang.specs.Meaning.Performing.{exec_item}
+use Rattle.ti_lang.specs.Meaning.Steps.{Step, To, At, Ends, Faults, step_of_result, with_continuation, moves, end_of, departs}
 use Rattle.ti_lang.specs.Meaning.Histories.{is_departure, entries_of, has_end}
 use Rattle.ti_lang.specs.Meaning.RoundsOf as rounds
-use Rattle.ti_rules.specs.Standing.{loop_acts}
+use Rattle.ti_rules.specs.StmtInContext.{loop_acts}
 use Rattle.ti_align.specs.declared.slices.SliceStep.{SliceStep}
 use Rattle.ti_align.specs.declared.slices.SliceStep.TheVariants as answer
 use Rattle.ti_align.specs.SinglePart.{is_single_declared}
@@ -62,18 +62,18 @@ is_single_receiver (Updated at op target) = is_single_named target
 -- ---- work with effects
 
 -- whether a loop has global effects
-abbrev pub loop_effects : NumberedProgram → NumberedMethod → Loop → Bool
+abbrev pub loop_effects : ProgramView → NumberedMethod → Loop → Bool
 loop_effects p m (While at c update body) = loop_acts p m update body
 loop_effects p m (Foreach at variable domain points body) = loop_acts p m NoStm body
 
 -- whether a jump to the innermost enclosing loop has a global effect, if there is one
-abbrev pub jump_at : NumberedProgram → NumberedMethod → List Work → Option Bool
+abbrev pub jump_at : ProgramView → NumberedMethod → List ContItem → Option Bool
 jump_at p m [] = None
 jump_at p m (Behind loop ∷ left) = Some (loop_effects p m loop)
 jump_at p m (w ∷ left) = jump_at p m left
 
 -- whether a piece of work followed by this work has global effects; the storing of a computed value has one if its receiver is single
-abbrev pub work_acts : NumberedProgram → NumberedMethod → List Work → Work → Bool
+abbrev pub work_acts : ProgramView → NumberedMethod → List ContItem → ContItem → Bool
 work_acts p m left (Do x) = has_global_effects (return_acts p m) (unwrap_or (jump_at p m left) false) (doings p (this_of m) x)
 work_acts p m left (End x) = has_global_effects (return_acts p m) (unwrap_or (jump_at p m left) false) (doings p (this_of m) x)
 work_acts p m left (Before loop) = loop_effects p m loop
@@ -85,7 +85,7 @@ work_acts p m left (TakeAll at grid procs) = false
 -- ---- evaluation of work with global effects, from single values only
 
 -- the single parameters, bound to the values of their arguments
-abbrev pub single_bound : Env → List VariableUse → NumberedExps → List Variable → Asking (List Variable)
+abbrev pub single_bound : Env → List VariableUse → NumberedExps → List Variable → Comp (List Variable)
 single_bound env (p ∷ ps) (e.MoreExp x xs) found =
     if is_single_declared p.declared
     then (eval env x >>= λ h. converted (e.place_of_numbered x) (declared_type p.declared) h >>= λ k. single_bound env ps xs
@@ -94,56 +94,56 @@ single_bound env (p ∷ ps) (e.MoreExp x xs) found =
 single_bound env ps xs found = gives found
 
 -- a call, without its receiving object and its plain arguments
-abbrev pub single_calling : Env → Receiver → Call → Asking move.Move
+abbrev pub single_calling : Env → Receiver → Call → Comp move.Move
 single_calling env receiver c = do
   parameters ← single_bound env (parameters_of c.method.params) c.args []
   gives (move.Calls c.place c.method None parameters receiver)
 
 -- an arrival without a contribution
-abbrev pub arriving : Wait → Asking move.Move
-arriving wait = gives (move.Meets wait deposit.Nothing [])
+abbrev pub empty_arrival : Wait → Comp move.Move
+empty_arrival wait = gives (move.Meets wait deposit.Nothing [])
 
 -- a broadcast, without its value
-abbrev pub single_broadcast : Env → Receiver → Place → NumberedExp → NumberedExp → Asking move.Move
+abbrev pub single_broadcast : Env → Receiver → Place → NumberedExp → NumberedExp → Comp move.Move
 single_broadcast env receiver at x p = do
   h ← eval env p
   root ← root_among env.procs at h
-  arriving (record { place = at; kind = coll.Broadcast; arg = Some root; wanted = ValueOf (type_here env x); receiver = receiver })
+  empty_arrival (record { place = at; kind = coll.Broadcast; arg = Some root; wanted = ValueOf (type_here env x); receiver = receiver })
 
 -- a value is stored if the receiver is single; a call is made
-abbrev pub single_value : Env → Receiver → NumberedExp → Option Call → Asking move.Move
+abbrev pub single_value : Env → Receiver → NumberedExp → Option Call → Comp move.Move
 single_value env receiver x None = if is_single_receiver receiver then receives env receiver (eval env x) else goes_on env
 single_value env receiver x (Some c) = single_calling env receiver c
 
 -- an initializer or right-hand side
-abbrev pub single_initial : Env → Receiver → NumberedInit → Asking move.Move
+abbrev pub single_initial : Env → Receiver → NumberedInit → Comp move.Move
 single_initial env receiver (s.Value x) = single_value env receiver x (called env x)
 single_initial env receiver (s.NewRegion at) = makes_region receiver at
 single_initial env receiver (s.Broadcast at x root) = single_broadcast env receiver at x root
 single_initial env receiver value = goes_on env
 
 -- the wait for an exchange
-abbrev pub exchanging : Place → Wait
-exchanging at = record { place = at; kind = coll.Exchange; arg = None; wanted = ToBeDone; receiver = Nowhere }
+abbrev pub exchange_wait : Place → Wait
+exchange_wait at = record { place = at; kind = coll.Exchange; arg = None; wanted = ToBeDone; receiver = Nowhere }
 
 -- a member form as an expression statement
-abbrev pub single_member : Env → Place → NumberedExp → Option BuiltIn → Asking move.Move
-single_member env at x (Some Exchange) = arriving (exchanging at)
+abbrev pub single_member : Env → Place → NumberedExp → Option BuiltIn → Comp move.Move
+single_member env at x (Some Exchange) = empty_arrival (exchange_wait at)
 single_member env at x (Some Delete) = deletes env at x
 single_member env at x other = goes_on env
 
 -- an expression statement
-abbrev pub single_alone : Env → NumberedExp → Option Call → Asking move.Move
+abbrev pub single_alone : Env → NumberedExp → Option Call → Comp move.Move
 single_alone env x (Some c) = single_calling env Nowhere c
 single_alone env (e.Member at x name args) None = single_member env at x (member_called env.program (this_of env.method) x name)
 single_alone env x None = goes_on env
 
 -- a `return`, with its value only if the method's result is single
-abbrev pub single_return : Env → Place → Option NumberedExp → Asking move.Move
+abbrev pub single_return : Env → Place → Option NumberedExp → Comp move.Move
 single_return env at value = if has_single_result env.method then returns env at value else gives (move.Returns None)
 
 -- a statement with global effects
-abbrev pub single_statement : Env → NumberedStm → Asking move.Move
+abbrev pub single_statement : Env → NumberedStm → Comp move.Move
 single_statement env (s.Declare at type variable value) = single_initial env (Declared at (declared_as type variable)) value
 single_statement env (s.Assign at target value) = single_initial env (Assigned at target) value
 single_statement env (s.Update at op target x) = single_initial env (Updated at op target) (s.Value x)
@@ -153,19 +153,19 @@ single_statement env (s.Return at value) = single_return env at value
 single_statement env x = statement env x
 
 -- a piece of work with global effects
-abbrev pub single_performed : Env → Work → Asking move.Move
+abbrev pub single_performed : Env → ContItem → Comp move.Move
 single_performed env (Do x) = single_statement env x
-single_performed env w = performed env w
+single_performed env w = exec_item env w
 
 -- ---- the steps of the slice
 
 -- The slice executes a frame as a process does, except that work without global effects is skipped. Single expressions request nothing.
-abbrev pub slice_works : Process → Frame → List Frame → List Work → Step
+abbrev pub slice_works : Process → Frame → List Frame → List ContItem → Step
 slice_works p f fs [] = moves p f fs [] (move.Returns None)
 slice_works p f fs (w ∷ left) =
     if work_acts p.setting.program f.method left w
-    then valued p (single_performed (env_of p f left) w []) (moves p f fs left)
-    else To (going p f fs f.variables left)
+    then step_of_result p (single_performed (env_of p f left) w []) (moves p f fs left)
+    else To (with_continuation p f fs f.variables left)
 
 -- its step if it isn't waiting
 abbrev pub slice_runs : Process → List Frame → Step
@@ -190,9 +190,9 @@ deletes_one gone (act.Arrive kind arg given) = list_any (λ r. rounds.deletes r 
 deletes_one gone a = false
 
 -- a step, if these regions are deleted: to arrive at a delete of one of them is a fault
-abbrev pub judged : List ℕ → Step → Step
-judged gone (At request go) = if deletes_one gone request.action then Faults RegionGone request.place else At request go
-judged gone step = step
+abbrev pub fault_if_deleted : List ℕ → Step → Step
+fault_if_deleted gone (At request go) = if deletes_one gone request.action then Faults RegionGone request.place else At request go
+fault_if_deleted gone step = step
 
 -- the region that a collective deletes, if it deletes one
 abbrev pub deleted_at : CollKind → Option ℕ → List ℕ
@@ -213,43 +213,43 @@ at_fault kind place = answer.Faults kind place
 
 -- The answer x of the slice from a state p on, if the regions `gone` are deleted, k departures have got their outcomes, and these
 -- outcomes are left.
-pub data Comes : Process → List ℕ → ℕ → List Answer → SliceStep → Type 0 where
+pub data SliceComes : Process → List ℕ → ℕ → List Answer → SliceStep → Type 0 where
   -- it makes a step that requests nothing
-  silent : {p q : Process} {gone : List ℕ} {k : ℕ} {outcomes : List Answer} {x : SliceStep} → judged gone (slice_step p) ≡ To q
-      → Comes q gone k outcomes x → Comes p gone k outcomes x
+  silent : {p q : Process} {gone : List ℕ} {k : ℕ} {outcomes : List Answer} {x : SliceStep} → fault_if_deleted gone (slice_step p) ≡ To q
+      → SliceComes q gone k outcomes x → SliceComes p gone k outcomes x
   -- it arrives at a collective, and no outcome is left
   stands : {p : Process} {gone : List ℕ} {k : ℕ} {request : Request} {go : Answer
       → Process} {kind : CollKind} {arg : Option ℕ} {given : Deposit} →
-      judged gone (slice_step p) ≡ At request go → request.action ≡ act.Arrive kind arg given
-      → Comes p gone k [] (answer.At kind request.place arg)
+      fault_if_deleted gone (slice_step p) ≡ At request go → request.action ≡ act.Arrive kind arg given
+      → SliceComes p gone k [] (answer.At kind request.place arg)
   -- it arrives at a collective, and continues to its departure
   arrives : {p : Process} {gone : List ℕ} {k : ℕ} {request : Request} {go : Answer
       → Process} {kind : CollKind} {arg : Option ℕ} {given : Deposit} {r : Answer} {rest : List Answer} {x : SliceStep} →
-      judged gone (slice_step p) ≡ At request go → request.action ≡ act.Arrive kind arg given → Comes (go Done) gone k (r ∷ rest) x
-      → Comes p gone k (r ∷ rest) x
+      fault_if_deleted gone (slice_step p) ≡ At request go → request.action ≡ act.Arrive kind arg given → SliceComes (go Done) gone k (r ∷ rest) x
+      → SliceComes p gone k (r ∷ rest) x
   -- it departs with an outcome that fits
   leaves : {p : Process} {gone : List ℕ} {k : ℕ} {request : Request} {go : Answer
       → Process} {r : Answer} {rest : List Answer} {x : SliceStep} →
-      judged gone (slice_step p) ≡ At request go → request.action ≡ act.Depart → FitsWanted request.wanted r
-      → Comes (go r) (deleted_by p.wait ++ gone) (k + 1) rest x
-      → Comes p gone k (r ∷ rest) x
+      fault_if_deleted gone (slice_step p) ≡ At request go → request.action ≡ act.Depart → FitsWanted request.wanted r
+      → SliceComes (go r) (deleted_by p.wait ++ gone) (k + 1) rest x
+      → SliceComes p gone k (r ∷ rest) x
   -- the outcome doesn't fit its departure
   unfit : {p : Process} {gone : List ℕ} {k : ℕ} {request : Request} {go : Answer → Process} {r : Answer} {rest : List Answer} →
-      judged gone (slice_step p) ≡ At request go → request.action ≡ act.Depart → (FitsWanted request.wanted r → ⊥)
-      → Comes p gone k (r ∷ rest) (answer.Unfit k)
+      fault_if_deleted gone (slice_step p) ≡ At request go → request.action ≡ act.Depart → (FitsWanted request.wanted r → ⊥)
+      → SliceComes p gone k (r ∷ rest) (answer.Unfit k)
   -- it ends or faults, and no outcome is left
-  ends : {p : Process} {gone : List ℕ} {k : ℕ} {place : Place} → judged gone (slice_step p) ≡ Ends place → Comes p gone k [] answer.Ended
-  faults : {p : Process} {gone : List ℕ} {k : ℕ} {kind : FaultKind} {place : Place} → judged gone (slice_step p) ≡ Faults kind place
-      → Comes p gone k [] (at_fault kind place)
+  ends : {p : Process} {gone : List ℕ} {k : ℕ} {place : Place} → fault_if_deleted gone (slice_step p) ≡ Ends place → SliceComes p gone k [] answer.Ended
+  faults : {p : Process} {gone : List ℕ} {k : ℕ} {kind : FaultKind} {place : Place} → fault_if_deleted gone (slice_step p) ≡ Faults kind place
+      → SliceComes p gone k [] (at_fault kind place)
   -- it ends or faults, though outcomes are left
-  ended : {p : Process} {gone : List ℕ} {k : ℕ} {place : Place} {r : Answer} {rest : List Answer} → judged gone (slice_step p) ≡ Ends place
-      → Comes p gone k (r ∷ rest) (answer.Unfit k)
+  ended : {p : Process} {gone : List ℕ} {k : ℕ} {place : Place} {r : Answer} {rest : List Answer} → fault_if_deleted gone (slice_step p) ≡ Ends place
+      → SliceComes p gone k (r ∷ rest) (answer.Unfit k)
   faulted : {p : Process} {gone : List ℕ} {k : ℕ} {kind : FaultKind} {place : Place} {r : Answer} {rest : List Answer} →
-      judged gone (slice_step p) ≡ Faults kind place → Comes p gone k (r ∷ rest) (answer.Unfit k)
+      fault_if_deleted gone (slice_step p) ≡ Faults kind place → SliceComes p gone k (r ∷ rest) (answer.Unfit k)
 
 -- the answer of a program's slice after these outcomes of its departures
-abbrev pub SliceAnswers : Setting → List Answer → SliceStep → Type 0
-SliceAnswers n outcomes x = Comes (begin n 0) [] 0 outcomes x
+abbrev pub SliceAnswers : RunConfig → List Answer → SliceStep → Type 0
+SliceAnswers n outcomes x = SliceComes (begin n 0) [] 0 outcomes x
 
 -- ---- runs
 
@@ -263,7 +263,7 @@ abbrev pub answers_at_departures : ℕ → List Entry → List Answer
 answers_at_departures i es = map (λ (e : Entry). e.answer) (filter (λ (e : Entry). is_departure e.act) (entries_of i es))
 
 -- what the slice determines of a run
-pub record SliceTells (s : Setting) (es : List Entry) : Type 0 where
+pub record SliceTells (s : RunConfig) (es : List Entry) : Type 0 where
   -- the outcomes of a process's departures fit
   pub fits : (i : ℕ) (x : SliceStep) → SliceAnswers s (answers_at_departures i es) x → AllFit x
   -- the arrival of a process after n departures is the one at which the slice arrives after their outcomes

@@ -12,26 +12,26 @@ use Rattle.ti_base.specs.declared.action.Action.TheVariants as act
 use Rattle.ti_base.specs.declared.action.CollKind.TheVariants as coll
 use Rattle.ti_base.specs.declared.entry.Entry.{Entry}
 use Rattle.ti_base.specs.declared.entry.Next.TheVariants as next
-use Rattle.ti_lang.specs.Meaning.Processes.{Setting, Variable, Frame, Process}
+use Rattle.ti_lang.specs.Meaning.Processes.{RunConfig, Variable, Frame, Process}
 use Rattle.ti_lang.specs.Meaning.NextStep.{IsNext}
 use Rattle.ti_lang.specs.Meaning.Histories.{History, history_of, is_departure, arrivals, departures}
 use Rattle.ti_lang.specs.Meaning.HeapAnswers.{Impossible, heap_answer}
-use Rattle.ti_lang.specs.Meaning.Runs.{World, IsReady}
+use Rattle.ti_lang.specs.Meaning.Runs.{ProcAfter, IsReady}
 
 -- an arrival at the delete of a region
-abbrev pub is_delete : Action → Bool
-is_delete (act.Arrive coll.DeleteRegion arg given) = true
-is_delete a = false
+abbrev pub is_delete_arrival : Action → Bool
+is_delete_arrival (act.Arrive coll.DeleteRegion arg given) = true
+is_delete_arrival a = false
 
 -- a process has left each collective that it reached, except the one that it leaves next, if it leaves one next
-abbrev pub RoundsBalance : Setting → List Entry → Type 0
-RoundsBalance s es = (i : ℕ) (p : Process) (at : Place) (a : Action) → World s es i p → IsNext p (next.Act at a) → arrivals i es
+abbrev pub RoundsBalance : RunConfig → List Entry → Type 0
+RoundsBalance s es = (i : ℕ) (p : Process) (at : Place) (a : Action) → ProcAfter s es i p → IsNext p (next.Act at a) → arrivals i es
     ≡ departures i es + (if is_departure a then 1 else 0)
 
 -- each action for which its process needn't wait yields an answer or a fault
-abbrev pub NoneImpossible : Setting → List Entry → Type 0
+abbrev pub NoneImpossible : RunConfig → List Entry → Type 0
 NoneImpossible s es =
-    (i : ℕ) (p : Process) (at : Place) (a : Action) → i < s.procs → World s es i p → IsNext p (next.Act at a)
+    (i : ℕ) (p : Process) (at : Place) (a : Action) → i < s.procs → ProcAfter s es i p → IsNext p (next.Act at a)
     → IsReady s es i (next.Act at a)
     → heap_answer s.program (history_of es) i a ≡ Impossible → ⊥
 
@@ -49,8 +49,8 @@ AllHoldMade h [] = Unit {0}
 AllHoldMade h (f ∷ fs) = HoldMade h f.variables × AllHoldMade h fs
 
 -- each region that a variable holds, and each that a process is about to delete, was made
-pub record RegionsMade (s : Setting) (es : List Entry) : Type 0 where
-  pub held : (i : ℕ) (p : Process) → i < s.procs → World s es i p → AllHoldMade (history_of es) p.frames
-  pub deleted : (i : ℕ) (p : Process) (at : Place) (arg : Option ℕ) (given : Deposit) → i < s.procs → World s es i p
+pub record RegionsMade (s : RunConfig) (es : List Entry) : Type 0 where
+  pub held : (i : ℕ) (p : Process) → i < s.procs → ProcAfter s es i p → AllHoldMade (history_of es) p.frames
+  pub deleted : (i : ℕ) (p : Process) (at : Place) (arg : Option ℕ) (given : Deposit) → i < s.procs → ProcAfter s es i p
       → IsNext p (next.Act at (act.Arrive coll.DeleteRegion arg given))
       → (r : ℕ) × (arg ≡ Some r) × (is_made r (history_of es) ≡ true)

@@ -3,7 +3,7 @@
 ghost use Rattle.std.specs.Prelude.{◌≡◌, ℕ, List};
 ghost use Rattle.ti_base.specs.declared.entry.Answer.{Answer};
 ghost use Rattle.ti_lang.specs.Program.Views.{program_of};
-ghost use Rattle.ti_lang.specs.Meaning.Processes.{Setting};
+ghost use Rattle.ti_lang.specs.Meaning.Processes.{RunConfig};
 ghost use Rattle.ti_align.specs.Alignment.{OfEveryRun};
 ghost use Rattle.ti_align.specs.declared.slices.SliceStep.{SliceStep as Step};
 ghost use Rattle.ti_align.specs.Slice.{SliceAnswers, SliceTells};
@@ -30,13 +30,13 @@ pub enum SliceStep {
 /// In every run of a checked program, the slice accepts all outcomes that a process received at its departures. Each arrival of a process
 /// is the one at which the slice arrives after the outcomes of the departures before it, and if a process has ended, the slice has ended
 /// after the outcomes of all that process's departures.
-pub fn slice_tells(c: &Checked)
-    ensures { OfEveryRun SliceTells (program_of c.now.program.parts) }
+pub fn slice_tells(checked: &Checked)
+    ensures { OfEveryRun SliceTells (program_of checked.now.program.parts) }
 {}
 
 /// The slice of a checked program has exactly one answer (a `SliceStep`) for each list of outcomes.
-pub fn one_slice_answer(c: &Checked)
+pub fn one_slice_answer(checked: &Checked)
     ensures some { (procs fuel : ℕ) (outcomes : List Answer) → (x : Step)
-        × SliceAnswers (record { program = program_of c.now.program.parts; procs = procs; fuel = fuel }) outcomes x }
-    ensures one { (n : Setting) (outcomes : List Answer) (x y : Step) → SliceAnswers n outcomes x → SliceAnswers n outcomes y → x ≡ y }
+        × SliceAnswers (record { program = program_of checked.now.program.parts; procs = procs; fuel = fuel }) outcomes x }
+    ensures one { (n : RunConfig) (outcomes : List Answer) (x y : Step) → SliceAnswers n outcomes x → SliceAnswers n outcomes y → x ≡ y }
 {}

@@ -11,10 +11,10 @@ use Rattle.ti_base.specs.declared.action.ViewHow.{ViewHow}
 use Rattle.ti_base.specs.declared.action.ViewHow.TheVariants.{Restrict, Translate, Slice}
 use Rattle.ti_base.specs.declared.fault.FaultKind.{FaultKind}
 use Rattle.ti_base.specs.declared.fault.FaultKind.TheVariants.{Bounds, Range}
-use Rattle.ti_base.specs.Points.{moved, moved_back}
+use Rattle.ti_base.specs.Points.{translate_point, moved_back}
 use Rattle.ti_base.specs.PointSets.{same_number, same_point}
 use Rattle.ti_base.specs.Ranges as range
-use Rattle.ti_base.specs.Rects.{first_range, second_range, third_range, is_empty, empty_rect, meet, translated, without}
+use Rattle.ti_base.specs.Rects.{first_range, second_range, third_range, is_empty, empty_rect, meet, translate_rect, without}
 
 -- ---- cells
 
@@ -82,7 +82,7 @@ with_coordinate k j p =
 -- the domain of a view
 abbrev pub view_domain : ViewHow → Rect → Rect
 view_domain (Restrict r) domain = meet domain r
-view_domain (Translate by) domain = translated domain by
+view_domain (Translate by) domain = translate_rect domain by
 view_domain (Slice k j) domain = without (range.natural k) domain
 
 -- the point of the viewed grid that corresponds to a point of the view
@@ -112,7 +112,7 @@ are_coordinates p = is_coordinate p.x1 && is_coordinate p.x2 && is_coordinate p.
 
 -- whether a point of the domain, shifted, doesn't fit in 32 bits; it suffices to test the least and the greatest one
 abbrev pub leaves : Rect → Point → Bool
-leaves domain by = not (is_empty domain) && not (are_coordinates (moved domain.lo by) && are_coordinates (moved domain.hi by))
+leaves domain by = not (is_empty domain) && not (are_coordinates (translate_point domain.lo by) && are_coordinates (translate_point domain.hi by))
 
 -- whether some point of the domain has j as its coordinate k
 abbrev pub has_coordinate : Rect → ℤ → ℤ → Bool

@@ -42,8 +42,8 @@ abbrev pub pt_difference : Point → Point → Point
 pt_difference p q = record { dim = p.dim; x1 = difference w32 p.x1 q.x1; x2 = difference w32 p.x2 q.x2; x3 = difference w32 p.x3 q.x3 }
 
 -- p shifted by q, without wrapping
-abbrev pub moved : Point → Point → Point
-moved p q = record { dim = p.dim; x1 = p.x1 +ℤ q.x1; x2 = p.x2 +ℤ q.x2; x3 = p.x3 +ℤ q.x3 }
+abbrev pub translate_point : Point → Point → Point
+translate_point p q = record { dim = p.dim; x1 = p.x1 +ℤ q.x1; x2 = p.x2 +ℤ q.x2; x3 = p.x3 +ℤ q.x3 }
 
 -- p shifted by the negative of q, without wrapping
 abbrev pub moved_back : Point → Point → Point

@@ -49,8 +49,8 @@ abbrev pub no_range : Range
 no_range = record { low = pos 1; high = pos 0; step = 1 }
 
 -- the range of a coordinate that isn't used: just 0
-abbrev pub unused : Range
-unused = record { low = pos 0; high = pos 0; step = 1 }
+abbrev pub unused_range : Range
+unused_range = record { low = pos 0; high = pos 0; step = 1 }
 
 abbrev pub last_of : ℤ → List ℤ → ℤ
 last_of x [] = x
@@ -70,12 +70,12 @@ abbrev pub tidy : Range → Range
 tidy r = range_of (numbers_on r)
 
 -- the intersection of two ranges
-abbrev pub both : Range → Range → Range
-both r s = range_of (filter (is_on s) (numbers_on r))
+abbrev pub meet_ranges : Range → Range → Range
+meet_ranges r s = range_of (filter (is_on s) (numbers_on r))
 
 -- the range shifted by x
-abbrev pub shifted : ℤ → Range → Range
-shifted x r = record r { low = r.low +ℤ x; high = r.high +ℤ x }
+abbrev pub shift_range : ℤ → Range → Range
+shift_range x r = record r { low = r.low +ℤ x; high = r.high +ℤ x }
 
 -- a range that is canonical or empty
 abbrev pub IsTidy : Range → Type 0

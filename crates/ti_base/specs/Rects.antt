@@ -2,8 +2,8 @@
 use Rattle.std.specs.Prelude.{◌≡◌, ℕ, ◌-◌, ◌*◌, ◌≤◌, ◌<ℤ◌, ◌⊎◌, Bool, ◌&&◌, ◌||◌, ◌==◌, nat_le, if◌then◌else◌, pos, List, [], ◌∷◌, map, flat_map, length, slice_index}
 use Rattle.ti_base.specs.declared.point.Point.{Point}
 use Rattle.ti_base.specs.declared.point.Rect.{Rect}
-use Rattle.ti_base.specs.Points.{IsDim, IsPoint, HasCoordinates, moved}
-use Rattle.ti_base.specs.Ranges.{Range, natural, IsOn, is_on, count_on, numbers_on, IsRange, is_empty_range, unused, tidy, both, shifted}
+use Rattle.ti_base.specs.Points.{IsDim, IsPoint, HasCoordinates, translate_point}
+use Rattle.ti_base.specs.Ranges.{Range, natural, IsOn, is_on, count_on, numbers_on, IsRange, is_empty_range, unused_range, tidy, meet_ranges, shift_range}
 
 -- ---- the ranges of the three coordinates
 
@@ -98,35 +98,35 @@ IsSpanned lo hi step p =
 
 -- some point of the rectangle, shifted, doesn't fit in 32 bits
 abbrev pub LeavesRange : Rect → Point → Type 0
-LeavesRange r by = (p : Point) × IsIn r p × (HasCoordinates (moved p by) → ⊥)
+LeavesRange r by = (p : Point) × IsIn r p × (HasCoordinates (translate_point p by) → ⊥)
 
 -- ---- operations on rectangles
 
 -- the canonical range of coordinate k, or the one for unused coordinates
-abbrev pub used : ℕ → ℕ → Range → Range
-used dim k r = if nat_le k dim then tidy r else unused
+abbrev pub used_range : ℕ → ℕ → Range → Range
+used_range dim k r = if nat_le k dim then tidy r else unused_range
 
 -- the rectangle from lo to hi, by steps in each coordinate
-abbrev pub made : Point → Point → Point → Rect
-made lo hi step =
+abbrev pub spanned_rect : Point → Point → Point → Rect
+spanned_rect lo hi step =
     of_ranges lo.dim
     (tidy (record { low = lo.x1; high = hi.x1; step = natural step.x1 }))
-    (used lo.dim 2 (record { low = lo.x2; high = hi.x2; step = natural step.x2 }))
-    (used lo.dim 3 (record { low = lo.x3; high = hi.x3; step = natural step.x3 }))
+    (used_range lo.dim 2 (record { low = lo.x2; high = hi.x2; step = natural step.x2 }))
+    (used_range lo.dim 3 (record { low = lo.x3; high = hi.x3; step = natural step.x3 }))
 
 -- the intersection
 abbrev pub meet : Rect → Rect → Rect
 meet r s =
-    of_ranges r.dim (both (first_range r) (first_range s)) (both (second_range r) (second_range s)) (both (third_range r) (third_range s))
+    of_ranges r.dim (meet_ranges (first_range r) (first_range s)) (meet_ranges (second_range r) (second_range s)) (meet_ranges (third_range r) (third_range s))
 
 -- the rectangle shifted by p
-abbrev pub translated : Rect → Point → Rect
-translated r p =
-    if is_empty r then r else of_ranges r.dim (shifted p.x1 (first_range r)) (shifted p.x2 (second_range r)) (shifted p.x3 (third_range r))
+abbrev pub translate_rect : Rect → Point → Rect
+translate_rect r p =
+    if is_empty r then r else of_ranges r.dim (shift_range p.x1 (first_range r)) (shift_range p.x2 (second_range r)) (shift_range p.x3 (third_range r))
 
 -- the rectangle without coordinate k, counted from 1
 abbrev pub without : ℕ → Rect → Rect
 without k r =
-    if k == 1 then of_ranges (r.dim - 1) (second_range r) (third_range r) unused
-    else if k == 2 then of_ranges (r.dim - 1) (first_range r) (third_range r) unused
-    else of_ranges (r.dim - 1) (first_range r) (second_range r) unused
+    if k == 1 then of_ranges (r.dim - 1) (second_range r) (third_range r) unused_range
+    else if k == 2 then of_ranges (r.dim - 1) (first_range r) (third_range r) unused_range
+    else of_ranges (r.dim - 1) (first_range r) (second_range r) unused_range

@@ -5,67 +5,67 @@ ghost use Rattle.ti_base.specs.WholeNumbers as whole;
 
 use crate::whole::DivZero;
 
-/// `a + b` on ints, wrapping.
-pub fn int_add(a: i32, b: i32) -> i32
-    ensures { result ≡ whole.sum w32 a b }
+/// `left + right` on ints, wrapping.
+pub fn int_add(left: i32, right: i32) -> i32
+    ensures { result ≡ whole.sum w32 left right }
 {
-    a.wrapping_add(b)
+    left.wrapping_add(right)
 }
 
-/// `a - b` on ints, wrapping.
-pub fn int_sub(a: i32, b: i32) -> i32
-    ensures { result ≡ whole.difference w32 a b }
+/// `left - right` on ints, wrapping.
+pub fn int_sub(left: i32, right: i32) -> i32
+    ensures { result ≡ whole.difference w32 left right }
 {
-    a.wrapping_sub(b)
+    left.wrapping_sub(right)
 }
 
-/// `a * b` on ints, wrapping.
-pub fn int_mul(a: i32, b: i32) -> i32
-    ensures { result ≡ whole.product w32 a b }
+/// `left * right` on ints, wrapping.
+pub fn int_mul(left: i32, right: i32) -> i32
+    ensures { result ≡ whole.product w32 left right }
 {
-    a.wrapping_mul(b)
+    left.wrapping_mul(right)
 }
 
-/// `a / b` on ints, rounded toward 0; the least int divided by -1 is the least int. Error: `b` is 0.
-pub fn int_div(a: i32, b: i32) -> Result<i32, DivZero>
-    ensures zero { IsErr result ↔ (b ≡ pos 0) }
-    ensures value { IfOk result (λ q. q ≡ whole.wrap w32 (whole.quotient a b)) }
+/// `left / right` on ints, rounded toward 0; the least int divided by -1 is the least int. Error: `right` is 0.
+pub fn int_div(left: i32, right: i32) -> Result<i32, DivZero>
+    ensures zero { IsErr result ↔ (right ≡ pos 0) }
+    ensures value { IfOk result (λ q. q ≡ whole.wrap w32 (whole.quotient left right)) }
 {
-    if b == 0 {
+    if right == 0 {
         return Err(DivZero);
     }
-    Ok(a.wrapping_div(b))
+    Ok(left.wrapping_div(right))
 }
 
-/// `a % b` on ints: 0 or of the sign of `a`. Error: `b` is 0.
-pub fn int_rem(a: i32, b: i32) -> Result<i32, DivZero>
-    ensures zero { IsErr result ↔ (b ≡ pos 0) }
-    ensures value { IfOk result (λ r. r ≡ whole.remainder a b) }
+/// `left % right` on ints: 0 or of the sign of `left`. Error: `right` is 0.
+pub fn int_rem(left: i32, right: i32) -> Result<i32, DivZero>
+    ensures zero { IsErr result ↔ (right ≡ pos 0) }
+    ensures value { IfOk result (λ r. r ≡ whole.remainder left right) }
 {
-    if b == 0 {
+    if right == 0 {
         return Err(DivZero);
     }
-    Ok(a.wrapping_rem(b))
+    Ok(left.wrapping_rem(right))
 }
 
-/// `a << b` on ints, by the low 5 bits of `b`.
-pub fn int_shl(a: i32, b: i32) -> i32
-    ensures { result ≡ whole.shift_left w32 a b }
+/// `left << right` on ints, by the low 5 bits of `right`.
+pub fn int_shl(left: i32, right: i32) -> i32
+    ensures { result ≡ whole.shift_left w32 left right }
 {
-    a.wrapping_shl(b.cast_unsigned())
+    left.wrapping_shl(right.cast_unsigned())
 }
 
-/// `a >> b` on ints, by the low 5 bits of `b`; an arithmetic shift.
-pub fn int_shr(a: i32, b: i32) -> i32
-    ensures { result ≡ whole.shift_right w32 a b }
+/// `left >> right` on ints, by the low 5 bits of `right`; an arithmetic shift.
+pub fn int_shr(left: i32, right: i32) -> i32
+    ensures { result ≡ whole.shift_right w32 left right }
 {
-    a.wrapping_shr(b.cast_unsigned())
+    left.wrapping_shr(right.cast_unsigned())
 }
 
-/// `a >>> b` on ints, by the low 5 bits of `b`; a logical shift.
-pub fn int_ushr(a: i32, b: i32) -> i32
-    ensures { result ≡ whole.shift_right_unsigned w32 a b }
+/// `left >>> right` on ints, by the low 5 bits of `right`; a logical shift.
+pub fn int_ushr(left: i32, right: i32) -> i32
+    ensures { result ≡ whole.shift_right_unsigned w32 left right }
 {
-    let bits = a.cast_unsigned();
-    bits.wrapping_shr(b.cast_unsigned()).cast_signed()
+    let bits = left.cast_unsigned();
+    bits.wrapping_shr(right.cast_unsigned()).cast_signed()
 }

@@ -2,5 +2,5 @@ mod Order
 mod Stepping
 mod Opened
 mod Popped
-mod Settling
+mod Solving
 pub mod Lemmas

@@ -1,5 +1,5 @@
-pub mod Names
+pub mod Keys
 pub mod Marks
-pub mod Falling
-pub mod Settling
+pub mod Implications
+pub mod Solutions
 pub mod Mirrors

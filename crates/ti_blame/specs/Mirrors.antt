@@ -1,3 +1,3 @@
 -- Definitions that mirror the code. Only contracts of private functions cite them; what callers rely on doesn't depend on them.
-pub mod Falls
+pub mod Propagation
 pub mod Starts

@@ -1,6 +1,6 @@
 // Which ranges of the list of reasons have been ruled out already, so that constraints that conclude the same range process it once.
 ghost use Rattle.std.specs.Prelude.{◌≡◌, true, ℕ, ◌<◌, ◌≤◌, IsTrue, length, get_or, slice_index, IfOk};
-ghost use Rattle.ti_blame.specs.Mirrors.Falls.{MoreDone};
+ghost use Rattle.ti_blame.specs.Mirrors.Propagation.{MoreDone};
 
 use std::alloc::Global;
 use ti_base::Memory;
@@ -22,12 +22,12 @@ pub fn now_done(done: &mut Vec<usize>, from: usize, to: usize)
     }
 }
 
-/// A table for `n` reasons of which none has been ruled out. Errors only if it runs out of memory.
-pub fn none_done(alloc: Global, n: usize) -> Result<Vec<usize>, Memory>
+/// A table for `count` reasons of which none has been ruled out. Errors only if it runs out of memory.
+pub fn none_done(alloc: Global, count: usize) -> Result<Vec<usize>, Memory>
     ensures { IfOk result (λ v. (i : ℕ) → slice_index v.items i ≡ 0) }
 {
     let mut done = Vec::new(alloc);
-    for _ in 0..n {
+    for _ in 0..count {
         done.push(0)?;
     }
     Ok(done)

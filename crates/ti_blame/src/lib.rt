@@ -2,16 +2,16 @@
 //! annotation is in the set, these are ruled out". It knows nothing of programs.
 #![tactic(auto)]
 
-mod blame;
 mod done;
-mod edge;
-mod fall;
-mod follow;
+mod implication;
 mod mark;
-mod outcome;
+mod propagation;
+mod reason;
+mod solution;
 mod waiting;
+mod worklist;
 
-pub use blame::Blame;
-pub use edge::{Edge, Then};
+pub use implication::{Conclusion, Implication};
 pub use mark::{Mark, MarkKind};
-pub use outcome::{Settled, settle};
+pub use reason::Reason;
+pub use solution::{Solution, solve};

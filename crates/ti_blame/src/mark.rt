@@ -1,8 +1,8 @@
 // Annotations, and their order.
 ghost use Rattle.std.specs.Prelude.{◌≡◌, Some};
-ghost use Rattle.ti_blame.specs.Names.{rank, kind_of, mark_at, name_of, named};
+ghost use Rattle.ti_blame.specs.Keys.{rank, kind_of, mark_at, key_of, mark_of};
 
-use crate::blame::Blame;
+use crate::reason::Reason;
 use ti_base::Place;
 
 /// What is annotated.
@@ -47,22 +47,22 @@ impl MarkKind {
 
 /// An annotation as a key, ordered by line, column and kind.
 #[derive(Clone, Copy, Debug, PartialEq, Eq, PartialOrd, Ord)]
-pub struct Name {
+pub struct MarkKey {
     pub line: u32,
     pub col: u32,
     /// The rank of the kind.
     pub rank: u8,
 }
 
-impl Name {
+impl MarkKey {
     /// The key of an annotation.
-    pub fn of(m: Mark) -> Name
-        ensures { result ≡ name_of m }
+    pub fn of(mark: Mark) -> MarkKey
+        ensures { result ≡ key_of mark }
     {
-        Name {
-            line: m.place.line,
-            col: m.place.col,
-            rank: m.kind.rank(),
+        MarkKey {
+            line: mark.place.line,
+            col: mark.place.col,
+            rank: mark.kind.rank(),
         }
     }
 
@@ -79,14 +79,14 @@ impl Name {
 }
 
 /// The annotation that a reason is; `None` for collectives and unconditional reasons.
-pub fn mark_of(b: Blame) -> Option<Mark>
-    ensures { result ≡ named b }
+pub fn mark_of(reason: Reason) -> Option<Mark>
+    ensures { result ≡ mark_of reason }
 {
-    let (place, kind) = match b {
-        Blame::OfMethod(at) => (at, MarkKind::Method),
-        Blame::OfResult(at) => (at, MarkKind::Result),
-        Blame::OfVariable(at) => (at, MarkKind::Variable),
-        Blame::OfCollective(_) | Blame::Always => return None,
+    let (place, kind) = match reason {
+        Reason::OfMethod(at) => (at, MarkKind::Method),
+        Reason::OfResult(at) => (at, MarkKind::Result),
+        Reason::OfVariable(at) => (at, MarkKind::Variable),
+        Reason::OfCollective(_) | Reason::Always => return None,
     };
     Some(Mark { place, kind })
 }

@@ -8,22 +8,22 @@ use Rattle.ti_syntax.specs.declared.tree.classes.ModifierWord.TheVariants as wor
 use Rattle.ti_rules.specs.declared.rule.Rule.TheVariants.{Y7}
 use Rattle.ti_rules.specs.declared.refusal.Refusal.{Refusal}
 use Rattle.ti_rules.specs.Refusals.{refused_if}
-use Rattle.ti_rules.specs.Mirrors.First.{sooner, first_of}
+use Rattle.ti_rules.specs.Mirrors.First.{earlier_of, earliest}
 use Rattle.ti_rules.specs.Broken.Words.{same_word, repeated_modifiers}
 use Rattle.ti_rules.proofs.Lemmas.{first_append, sooner_assoc, sooner_none}
 use Rattle.ti_types.proofs.Lemmas.{none_sooner, drop_next}
-use Rattle.ti_check.specs.declared.modifiers.Met.{Met}
-use Rattle.ti_check.specs.Mirrors.Modifiers.{met_again, has_met, meeting, nothing_met}
+use Rattle.ti_check.specs.declared.modifiers.ModifierSet.{ModifierSet}
+use Rattle.ti_check.specs.Mirrors.Modifiers.{repeated_after, contains_modifier, add_modifier, no_modifiers}
 
-again_behind : (before rest : List Modifier) → repeated_modifiers before rest ≡ met_again (λ w. list_any (λ (other : Modifier). same_word w other.word) before) rest
+again_behind : (before rest : List Modifier) → repeated_modifiers before rest ≡ repeated_after (λ w. list_any (λ (other : Modifier). same_word w other.word) before) rest
 again_behind before [] = refl
 again_behind before (m ∷ rest) = ap (λ l. refused_if (list_any (λ (other : Modifier). same_word m.word other.word) before) Y7 m.place ++ l) (again_behind (m ∷ before) rest)
 
 -- before the first, no word was met
-pub again_is : (words : List Modifier) → repeated_modifiers [] words ≡ met_again nothing_met words
+pub again_is : (words : List Modifier) → repeated_modifiers [] words ≡ repeated_after no_modifiers words
 again_is words = again_behind [] words
 
-met_one : (met : Met) (v w : ModifierWord) → has_met (meeting met v) w ≡ same_word w v || has_met met w
+met_one : (met : ModifierSet) (v w : ModifierWord) → contains_modifier (add_modifier met v) w ≡ same_word w v || contains_modifier met w
 met_one met word.Public word.Public = refl
 met_one met word.Public word.Private = refl
 met_one met word.Public word.Protected = refl
@@ -61,13 +61,13 @@ met_one met word.Single word.Static = refl
 met_one met word.Single word.Final = refl
 met_one met word.Single word.Single = refl
 
-met_more : (met : Met) (v : ModifierWord) → has_met (meeting met v) ≡ (λ w. same_word w v || has_met met w)
+met_more : (met : ModifierSet) (v : ModifierWord) → contains_modifier (add_modifier met v) ≡ (λ w. same_word w v || contains_modifier met w)
 met_more met v = λ j w. met_one met v w j
 
-abbrev none_met : Met
+abbrev none_met : ModifierSet
 none_met = record { with_public = false; with_private = false; with_protected = false; with_static = false; with_final = false; with_single = false }
 
-has_none : (w : ModifierWord) → has_met none_met w ≡ false
+has_none : (w : ModifierWord) → contains_modifier none_met w ≡ false
 has_none word.Public = refl
 has_none word.Private = refl
 has_none word.Protected = refl
@@ -75,27 +75,27 @@ has_none word.Static = refl
 has_none word.Final = refl
 has_none word.Single = refl
 
-pub met_init : (words : List Modifier) (met : Met) → met ≡ none_met → first_of (met_again nothing_met words) ≡ sooner None (first_of (met_again (has_met met) words))
+pub met_init : (words : List Modifier) (met : ModifierSet) → met ≡ none_met → earliest (repeated_after no_modifiers words) ≡ earlier_of None (earliest (repeated_after (contains_modifier met) words))
 met_init words met is =
-    let none : nothing_met ≡ has_met none_met = λ j w. sym (has_none w) j in
-    none_sooner (first_of (met_again nothing_met words)) ∙ ap (λ f. sooner None (first_of (met_again f words))) (none ∙ sym (ap has_met is))
+    let none : no_modifiers ≡ contains_modifier none_met = λ j w. sym (has_none w) j in
+    none_sooner (earliest (repeated_after no_modifiers words)) ∙ ap (λ f. earlier_of None (earliest (repeated_after f words))) (none ∙ sym (ap contains_modifier is))
 
-pub met_step : (met next_met : Met) (words : List Modifier) (i : ℕ) (d : Modifier) (b : Bool) (found next : Option Refusal) → i < length words → b ≡ has_met met (get_or words i d).word
-    → next ≡ sooner found (first_of (refused_if b Y7 (get_or words i d).place)) → next_met ≡ meeting met (get_or words i d).word
-    → sooner found (first_of (met_again (has_met met) (drop i words))) ≡ sooner next (first_of (met_again (has_met next_met) (drop (i + 1) words)))
+pub met_step : (met next_met : ModifierSet) (words : List Modifier) (i : ℕ) (d : Modifier) (b : Bool) (found next : Option Refusal) → i < length words → b ≡ contains_modifier met (get_or words i d).word
+    → next ≡ earlier_of found (earliest (refused_if b Y7 (get_or words i d).place)) → next_met ≡ add_modifier met (get_or words i d).word
+    → earlier_of found (earliest (repeated_after (contains_modifier met) (drop i words))) ≡ earlier_of next (earliest (repeated_after (contains_modifier next_met) (drop (i + 1) words)))
 met_step met next_met words i d b found next lt is_met_word is is_met =
     let m = get_or words i d in
-    let own = refused_if (has_met met m.word) Y7 m.place in
-    let rest = met_again (λ w. same_word w m.word || has_met met w) (drop (i + 1) words) in
-    ap (λ l. sooner found (first_of (met_again (has_met met) l))) (drop_next words i d lt)
-    ∙ ap (sooner found) (first_append own rest)
-    ∙ sym (sooner_assoc found (first_of own) (first_of rest))
-    ∙ sym (ap (λ a. sooner a (first_of rest)) (is ∙ ap (λ z. sooner found (first_of (refused_if z Y7 m.place))) is_met_word))
-    ∙ sym (ap (λ f. sooner next (first_of (met_again f (drop (i + 1) words)))) (ap has_met is_met ∙ met_more met m.word))
+    let own = refused_if (contains_modifier met m.word) Y7 m.place in
+    let rest = repeated_after (λ w. same_word w m.word || contains_modifier met w) (drop (i + 1) words) in
+    ap (λ l. earlier_of found (earliest (repeated_after (contains_modifier met) l))) (drop_next words i d lt)
+    ∙ ap (earlier_of found) (first_append own rest)
+    ∙ sym (sooner_assoc found (earliest own) (earliest rest))
+    ∙ sym (ap (λ a. earlier_of a (earliest rest)) (is ∙ ap (λ z. earlier_of found (earliest (refused_if z Y7 m.place))) is_met_word))
+    ∙ sym (ap (λ f. earlier_of next (earliest (repeated_after f (drop (i + 1) words)))) (ap contains_modifier is_met ∙ met_more met m.word))
 
-sooner_nil : (a : Option Refusal) → sooner a (first_of []) ≡ a
-unfolding first_of
+sooner_nil : (a : Option Refusal) → earlier_of a (earliest []) ≡ a
+unfolding earliest
 sooner_nil a = sooner_none a
 
-pub met_end : (met : Met) (words : List Modifier) (i : ℕ) (found : Option Refusal) → length words ≤ i → sooner found (first_of (met_again (has_met met) (drop i words))) ≡ found
-met_end met words i found le = ap (λ l. sooner found (first_of (met_again (has_met met) l))) (drop_all i words le) ∙ sooner_nil found
+pub met_end : (met : ModifierSet) (words : List Modifier) (i : ℕ) (found : Option Refusal) → length words ≤ i → earlier_of found (earliest (repeated_after (contains_modifier met) (drop i words))) ≡ found
+met_end met words i found le = ap (λ l. earlier_of found (earliest (repeated_after (contains_modifier met) l))) (drop_all i words le) ∙ sooner_nil found

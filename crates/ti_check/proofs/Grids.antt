@@ -2,20 +2,20 @@
 use Rattle.std.proofs.Common.{◌≡◌, ℕ, ◌==◌, Bool, true, false, ◌&&◌, if◌then◌else◌, List, [], ◌∷◌, map, Option, Some, None, is_some, option_map, option_and_then, refl, sym, ap, ◌∙◌}
 use Rattle.ti_base.specs.declared.place.Place.{Place}
 use Rattle.ti_lang.specs.Program.Types.{ValueType, Pt, Rc, Dm, Class, Grid}
-use Rattle.ti_lang.specs.Typing.Alike.{one_dim}
+use Rattle.ti_lang.specs.Typing.Alike.{erase_dims}
 use Rattle.ti_lang.specs.Typing.Kinds.{where_true}
-use Rattle.ti_lang.specs.Typing.Expressions.{both, all_ints, all_points, range_of_points, rect_literal}
+use Rattle.ti_lang.specs.Typing.Expressions.{and_then_both, all_ints, all_points, range_of_points, rect_literal}
 use Rattle.ti_rules.specs.InitialTypes.{is_region, Spread, Over, Ranged, grid_over, new_grid_type}
-use Rattle.ti_rules.specs.Broken.Refused.{both_judged, mistaken}
+use Rattle.ti_rules.specs.Broken.Refused.{both_judged, operand_refusal}
 use Rattle.ti_rules.specs.Broken.RightSides.{one_dim_spread}
-use Rattle.ti_types.specs.Judging.{LiteralTypes}
-use Rattle.ti_check.specs.Mirrors.RightSides.{is_rect, told_spread, told_grid, told_near}
+use Rattle.ti_types.specs.Results.{LiteralTypes}
+use Rattle.ti_check.specs.Mirrors.RightSides.{is_rect_type, extent_summary, summary_grid_type, summary_fits_other_dims}
 
-told_type : (element r : ValueType) (d : Spread) → told_grid element r (told_spread d) ≡ new_grid_type element r d
+told_type : (element r : ValueType) (d : Spread) → summary_grid_type element r (extent_summary d) ≡ new_grid_type element r d
 told_type element r (Over t) = refl
 told_type element r (Ranged n ts) = refl
 
-over_near : (element t : ValueType) → is_some (grid_over element (one_dim t)) ≡ is_rect t
+over_near : (element t : ValueType) → is_some (grid_over element (erase_dims t)) ≡ is_rect_type t
 over_near element (Rc n) = refl
 over_near element (Pt n) = refl
 over_near element (Dm n) = refl
@@ -47,21 +47,21 @@ in_region : (b : Bool) (element : ValueType) (o : Option ValueType) (c : Bool) �
 in_region true element o c is = is
 in_region false element o c is = refl
 
-near_told : (element r : ValueType) (d : Spread) → is_some (new_grid_type element r (one_dim_spread d)) ≡ told_near r (told_spread d)
-near_told element r (Over t) = in_region (is_region r) element (Some (one_dim t)) (is_rect t) (over_near element t)
-near_told element r (Ranged n ts) = in_region (is_region r) element (rect_literal n (map one_dim ts)) (is_some (rect_literal n (map one_dim ts))) (literal_near element n (map one_dim ts))
+near_told : (element r : ValueType) (d : Spread) → is_some (new_grid_type element r (one_dim_spread d)) ≡ summary_fits_other_dims r (extent_summary d)
+near_told element r (Over t) = in_region (is_region r) element (Some (erase_dims t)) (is_rect_type t) (over_near element t)
+near_told element r (Ranged n ts) = in_region (is_region r) element (rect_literal n (map erase_dims ts)) (is_some (rect_literal n (map erase_dims ts))) (literal_near element n (map erase_dims ts))
 
 -- the type
-pub grid_told : (element : ValueType) (o : Option ValueType) (q : Option Spread) → both o (option_map told_spread q) (told_grid element) ≡ both o q (new_grid_type element)
+pub grid_told : (element : ValueType) (o : Option ValueType) (q : Option Spread) → and_then_both o (option_map extent_summary q) (summary_grid_type element) ≡ and_then_both o q (new_grid_type element)
 grid_told element None q = refl
 grid_told element (Some r) None = refl
 grid_told element (Some r) (Some d) = told_type element r d
 
 -- what is wrong with it
 pub grid_refused : (at : Place) (element : ValueType) (o : Option ValueType) (q : Option Spread)
-    → both_judged o (option_map told_spread q) (λ r (l : LiteralTypes). mistaken at (is_some (told_grid element r l)) (told_near r l))
-    ≡ both_judged o q (λ r d. mistaken at (is_some (new_grid_type element r d)) (is_some (new_grid_type element r (one_dim_spread d))))
+    → both_judged o (option_map extent_summary q) (λ r (l : LiteralTypes). operand_refusal at (is_some (summary_grid_type element r l)) (summary_fits_other_dims r l))
+    ≡ both_judged o q (λ r d. operand_refusal at (is_some (new_grid_type element r d)) (is_some (new_grid_type element r (one_dim_spread d))))
 grid_refused at element None q = refl
 grid_refused at element (Some r) None = refl
-grid_refused at element (Some r) (Some d) = ap (λ z. mistaken at (is_some z) (told_near r (told_spread d))) (told_type element r d)
-    ∙ ap (λ z. mistaken at (is_some (new_grid_type element r d)) z) (sym (near_told element r d))
+grid_refused at element (Some r) (Some d) = ap (λ z. operand_refusal at (is_some z) (summary_fits_other_dims r (extent_summary d))) (told_type element r d)
+    ∙ ap (λ z. operand_refusal at (is_some (new_grid_type element r d)) z) (sym (near_told element r d))

@@ -3,6 +3,6 @@ pub mod Copies
 pub mod Ends
 pub mod Grids
 pub mod Heads
-pub mod Walked
+pub mod StmtReport
 pub mod Where
 pub mod Written

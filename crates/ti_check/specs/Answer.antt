@@ -1,7 +1,7 @@
 -- What `check` and `check_types` return, as their public contracts state it.
 use Rattle.std.specs.Prelude.{◌≡◌, [], Contains, Result, Ok, Err}
 use Rattle.ti_lang.specs.declared.program.numbered.Program.{Program}
-use Rattle.ti_lang.specs.Program.Classes.{NumberedProgram}
+use Rattle.ti_lang.specs.Program.Classes.{ProgramView}
 use Rattle.ti_lang.specs.Program.Views.{program_of}
 use Rattle.ti_rules.specs.declared.checked.Checked.{Checked}
 use Rattle.ti_rules.specs.Refusals.{IsFirstRefusal}
@@ -17,7 +17,7 @@ GivesChecked p (Err (Refused refusal)) = IsProgramRefusal (program_of p.parts) r
 GivesChecked p (Err Memory) = Unit {0}
 
 -- success if no rule of types and qualifiers is broken, else the first broken one; out of memory is always possible
-abbrev pub GivesTyped : {T : Type 0} → NumberedProgram → Result T CheckErr → Type 0
+abbrev pub GivesTyped : {T : Type 0} → ProgramView → Result T CheckErr → Type 0
 GivesTyped p (Ok nothing) = type_refusals p ≡ []
 GivesTyped p (Err (Refused refusal)) = IsFirstRefusal (Contains (type_refusals p)) refusal
 GivesTyped p (Err Memory) = Unit {0}

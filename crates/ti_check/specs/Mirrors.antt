@@ -1,7 +1,7 @@
 -- For proofs only: a functional model of the code. Only contracts of private functions depend on it.
-pub mod Found
-pub mod Sites
-pub mod Walked
+pub mod Refusals
+pub mod Contexts
+pub mod StmtReport
 pub mod RightSides
 pub mod Targets
 pub mod Modifiers

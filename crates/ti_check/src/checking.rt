@@ -3,77 +3,77 @@ ghost use Rattle.std.specs.Prelude.{◌≡◌, ◌<◌, ◌≤◌, ◌^◌, map,
 ghost use Rattle.ti_lang.specs.Program.Views.{program_of, numbered_method_of};
 ghost use Rattle.ti_rules.specs.TypeRules.{method_refusals, type_refusals};
 ghost use Rattle.ti_rules.specs.SingleRules.{method_single_refusals, single_refusals};
-ghost use Rattle.ti_rules.specs.Mirrors.First.{first_of};
+ghost use Rattle.ti_rules.specs.Mirrors.First.{earliest};
 ghost use Rattle.ti_rules.specs.Mirrors.ProgramRefusal.{program_refusal};
 ghost use Rattle.ti_check.specs.Answer.{GivesChecked, GivesTyped};
-ghost use Rattle.ti_check.specs.Mirrors.Found.{IsFirst};
+ghost use Rattle.ti_check.specs.Mirrors.Refusals.{AreFirstRefusals};
 
 use crate::declarations::classes;
 use crate::error::CheckErr;
-use crate::found::Found;
 use crate::methods::method;
+use crate::reports::Refusals;
 use std::alloc::Global;
 use ti_base::Memory;
 use ti_lang::program::{Method, Program};
-use ti_rules::{Checked, Refusal, first_counts, sooner};
+use ti_rules::{Checked, Refusal, earlier_of, first_counts};
 
 // The index as 32 bits; Memory if and only if it doesn't fit.
-fn numbered(i: usize) -> Result<u32, Memory>
-    ensures value { IfOk result (λ n. n ≡ i) }
-    ensures large { IfErr result (λ _. 2 ^ 32 ≤ i) }
+fn index_to_u32(index: usize) -> Result<u32, Memory>
+    ensures value { IfOk result (λ n. n ≡ index) }
+    ensures large { IfErr result (λ _. 2 ^ 32 ≤ index) }
 {
-    match u32::try_from(i) {
+    match u32::try_from(index) {
         Ok(number) => Ok(number),
         Err(_) => Err(Memory),
     }
 }
 
-fn method_of(methods: &[Method], i: usize) -> &Method
-    requires { i < length methods.now }
-    ensures { slice_get (map numbered_method_of methods.now) i ≡ Some (numbered_method_of result.now) }
+fn method_of(methods: &[Method], index: usize) -> &Method
+    requires { index < length methods.now }
+    ensures { slice_get (map numbered_method_of methods.now) index ≡ Some (numbered_method_of result.now) }
 {
-    &methods[i]
+    &methods[index]
 }
 
 // The method with this number.
-fn method_at(p: &Program, i: usize) -> &Method
-    requires { i < length p.now.parts.methods.items }
-    ensures { slice_get (program_of p.now.parts).methods i ≡ Some (numbered_method_of result.now) }
+fn method_at(program: &Program, index: usize) -> &Method
+    requires { index < length program.now.parts.methods.items }
+    ensures { slice_get (program_of program.now.parts).methods index ≡ Some (numbered_method_of result.now) }
 {
-    method_of(&p.parts.methods, i)
+    method_of(&program.parts.methods, index)
 }
 
-fn methods(alloc: Global, p: &Program) -> Result<Found, Memory>
-    ensures { IfOk result (λ f. IsFirst (flat_map (method_refusals (program_of p.now.parts)) (program_of p.now.parts).methods)
-        (flat_map (method_single_refusals (program_of p.now.parts)) (program_of p.now.parts).methods) f) }
+fn methods(alloc: Global, program: &Program) -> Result<Refusals, Memory>
+    ensures { IfOk result (λ f. AreFirstRefusals (flat_map (method_refusals (program_of program.now.parts)) (program_of program.now.parts).methods)
+        (flat_map (method_single_refusals (program_of program.now.parts)) (program_of program.now.parts).methods) f) }
 {
-    let mut found = Found::nothing();
-    for i in 0..p.parts.methods.len() {
-        let number = numbered(i)?;
-        let m = method_at(p, i);
-        let next = method(alloc, p, number, m)?;
+    let mut found = Refusals::nothing();
+    for i in 0..program.parts.methods.len() {
+        let number = index_to_u32(i)?;
+        let m = method_at(program, i);
+        let next = method(alloc, program, number, m)?;
         found = found.and(next);
     }
     Ok(found)
 }
 
 // The first broken rule of types and qualifiers in the program, and the first one of single values.
-fn broken(alloc: Global, p: &Program) -> Result<Found, Memory>
-    ensures types { IfOk result (λ f. f.types ≡ first_of (type_refusals (program_of p.now.parts))) }
-    ensures single { IfOk result (λ f. f.single ≡ first_of (single_refusals (program_of p.now.parts))) }
+fn first_refusals(alloc: Global, program: &Program) -> Result<Refusals, Memory>
+    ensures types { IfOk result (λ f. f.types ≡ earliest (type_refusals (program_of program.now.parts))) }
+    ensures single { IfOk result (λ f. f.single ≡ earliest (single_refusals (program_of program.now.parts))) }
 {
-    let found = methods(alloc, p)?;
-    Ok(Found {
-        types: sooner(classes(&p.parts.classes), found.types),
+    let found = methods(alloc, program)?;
+    Ok(Refusals {
+        types: earlier_of(classes(&program.parts.classes), found.types),
         single: found.single,
     })
 }
 
 // The program's first error. Errors of types and qualifiers take precedence over those of single values.
-fn refusal(alloc: Global, p: &Program) -> Result<Option<Refusal>, Memory>
-    ensures { IfOk result (λ r. r ≡ program_refusal (program_of p.now.parts)) }
+fn refusal(alloc: Global, program: &Program) -> Result<Option<Refusal>, Memory>
+    ensures { IfOk result (λ r. r ≡ program_refusal (program_of program.now.parts)) }
 {
-    let found = broken(alloc, p)?;
+    let found = first_refusals(alloc, program)?;
     match found.types {
         Some(refusal) => Ok(Some(refusal)),
         None => Ok(found.single),
@@ -87,23 +87,23 @@ fn refusal(alloc: Global, p: &Program) -> Result<Option<Refusal>, Memory>
 /// walked twice: first for its effect summary, which says whether a `return` counts as a global effect, then to check each statement
 /// and pass its summary up to the enclosing statements. Within a statement an expression may be typed more than once: the receiver of
 /// a target as `a[i]` up to three times.
-pub fn check(alloc: Global, p: Program) -> Result<Checked, CheckErr>
-    ensures { GivesChecked p result }
+pub fn check(alloc: Global, program: Program) -> Result<Checked, CheckErr>
+    ensures { GivesChecked program result }
 {
-    let found = refusal(alloc, &p)?;
+    let found = refusal(alloc, &program)?;
     match found {
         Some(refusal) => Err(CheckErr::Refused(refusal)),
-        None => Ok(Checked::of(p)),
+        None => Ok(Checked::of(program)),
     }
 }
 
 /// Checks a program only against the rules of types and qualifiers, not those of single values. Error: the first broken rule by
 /// position, and at one position by the order in which the rules are listed; or Memory.
-pub fn check_types(alloc: Global, p: &Program) -> Result<(), CheckErr>
-    ensures { GivesTyped (program_of p.now.parts) result }
+pub fn check_types(alloc: Global, program: &Program) -> Result<(), CheckErr>
+    ensures { GivesTyped (program_of program.now.parts) result }
 {
     first_counts();
-    let found = broken(alloc, p)?;
+    let found = first_refusals(alloc, program)?;
     match found.types {
         Some(refusal) => Err(CheckErr::Refused(refusal)),
         None => Ok(()),

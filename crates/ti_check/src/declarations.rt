@@ -2,61 +2,64 @@
 ghost use Rattle.std.specs.Prelude.{◌≡◌, map, flat_map, true, false};
 ghost use Rattle.ti_lang.specs.Program.Classes.{NumberedParam};
 ghost use Rattle.ti_lang.specs.Program.Views.{type_use_of, numbered_field_of, numbered_class_of, numbered_param_of, numbered_params_of, numbered_result_of, numbered_method_of};
-ghost use Rattle.ti_rules.specs.Mirrors.First.{first_of};
+ghost use Rattle.ti_rules.specs.Mirrors.First.{earliest};
 ghost use Rattle.ti_rules.specs.Broken.Words.{type_word_refusals};
 ghost use Rattle.ti_rules.specs.TypeRules.{field_refusals, class_refusals, result_refusals, params_refusals, head_refusals};
 
 use crate::modifiers::{field_modifiers, method_modifiers, repeated_modifiers};
 use ti_lang::program::{Class, Field, Method, Param, Params, ResultType, has_static};
-use ti_rules::{Refusal, sooner};
+use ti_rules::{Refusal, earlier_of};
 use ti_types::type_words;
 
 // ---- classes
 
 #[tactic(auto, using(ti_rules::proofs::Lemmas::firsts))]
-fn field(f: &Field) -> Option<Refusal>
-    ensures { result ≡ first_of (field_refusals (numbered_field_of f.now)) }
+fn field(declaration: &Field) -> Option<Refusal>
+    ensures { result ≡ earliest (field_refusals (numbered_field_of declaration.now)) }
 {
-    let words = sooner(
-        repeated_modifiers(&f.modifiers),
-        field_modifiers(&f.modifiers),
+    let words = earlier_of(
+        repeated_modifiers(&declaration.modifiers),
+        field_modifiers(&declaration.modifiers),
     );
-    sooner(words, type_words(false, &f.ty))
+    earlier_of(words, type_words(false, &declaration.ty))
 }
 
 fn fields(fields: &[Field]) -> Option<Refusal>
-    ensures { result ≡ first_of (flat_map field_refusals (map numbered_field_of fields.now)) }
+    ensures { result ≡ earliest (flat_map field_refusals (map numbered_field_of fields.now)) }
 {
     let mut found = None;
     for f in fields {
-        found = sooner(found, field(f));
+        found = earlier_of(found, field(f));
     }
     found
 }
 
 #[tactic(auto, using(ti_rules::proofs::Lemmas::firsts))]
-fn class(c: &Class) -> Option<Refusal>
-    ensures { result ≡ first_of (class_refusals (numbered_class_of c.now)) }
+fn class(declaration: &Class) -> Option<Refusal>
+    ensures { result ≡ earliest (class_refusals (numbered_class_of declaration.now)) }
 {
-    sooner(repeated_modifiers(&c.modifiers), fields(&c.fields))
+    earlier_of(
+        repeated_modifiers(&declaration.modifiers),
+        fields(&declaration.fields),
+    )
 }
 
 /// The first error in the modifiers and qualifiers of classes and their fields.
 pub fn classes(classes: &[Class]) -> Option<Refusal>
-    ensures { result ≡ first_of (flat_map class_refusals (map numbered_class_of classes.now)) }
+    ensures { result ≡ earliest (flat_map class_refusals (map numbered_class_of classes.now)) }
 {
     let mut found = None;
     for c in classes {
-        found = sooner(found, class(c));
+        found = earlier_of(found, class(c));
     }
     found
 }
 
 // ---- methods
 
-#[tactic(auto, unfolding(ti_rules::specs::Mirrors::First::first_of))]
+#[tactic(auto, unfolding(ti_rules::specs::Mirrors::First::earliest))]
 fn result_words(result_type: &ResultType) -> Option<Refusal>
-    ensures { result ≡ first_of (result_refusals (numbered_result_of result_type.now)) }
+    ensures { result ≡ earliest (result_refusals (numbered_result_of result_type.now)) }
 {
     match result_type {
         ResultType::Void => None,
@@ -65,41 +68,41 @@ fn result_words(result_type: &ResultType) -> Option<Refusal>
 }
 
 fn param_words(may_be_single: bool, param: &Param) -> Option<Refusal>
-    ensures { result ≡ first_of (type_word_refusals may_be_single (numbered_param_of param.now).ty) }
+    ensures { result ≡ earliest (type_word_refusals may_be_single (numbered_param_of param.now).ty) }
 {
     type_words(may_be_single, &param.ty)
 }
 
 fn all_param_words(may_be_single: bool, params: &[Param]) -> Option<Refusal>
-    ensures { result ≡ first_of (flat_map (λ (x : NumberedParam). type_word_refusals may_be_single x.ty)
+    ensures { result ≡ earliest (flat_map (λ (x : NumberedParam). type_word_refusals may_be_single x.ty)
         (map numbered_param_of params.now)) }
 {
     let mut found = None;
     for param in params {
-        found = sooner(found, param_words(may_be_single, param));
+        found = earlier_of(found, param_words(may_be_single, param));
     }
     found
 }
 
-#[tactic(auto, unfolding(ti_rules::specs::Mirrors::First::first_of))]
+#[tactic(auto, unfolding(ti_rules::specs::Mirrors::First::earliest))]
 fn params_words(may_be_single: bool, params: &Params) -> Option<Refusal>
-    ensures { result ≡ first_of (params_refusals may_be_single (numbered_params_of params.now)) }
+    ensures { result ≡ earliest (params_refusals may_be_single (numbered_params_of params.now)) }
 {
     match params {
-        Params::Words => None,
+        Params::MainArgs => None,
         Params::Typed(params) => all_param_words(may_be_single, params),
     }
 }
 
 /// The first error in a method's modifiers and in the qualifiers of its result and parameters.
 #[tactic(auto, using(ti_rules::proofs::Lemmas::firsts))]
-pub fn head(m: &Method) -> Option<Refusal>
-    ensures { result ≡ first_of (head_refusals (numbered_method_of m.now)) }
+pub fn head(method: &Method) -> Option<Refusal>
+    ensures { result ≡ earliest (head_refusals (numbered_method_of method.now)) }
 {
-    let modifiers = sooner(
-        repeated_modifiers(&m.modifiers),
-        method_modifiers(has_static(&m.modifiers), &m.modifiers),
+    let modifiers = earlier_of(
+        repeated_modifiers(&method.modifiers),
+        method_modifiers(has_static(&method.modifiers), &method.modifiers),
     );
-    let words = sooner(modifiers, result_words(&m.result));
-    sooner(words, params_words(m.single, &m.params))
+    let words = earlier_of(modifiers, result_words(&method.result));
+    earlier_of(words, params_words(method.single, &method.params))
 }

@@ -2,14 +2,14 @@
 #![tactic(auto)]
 
 mod checking;
-mod copied;
+mod context;
 mod declarations;
 mod error;
-mod found;
 mod methods;
 mod modifiers;
+mod reports;
 mod right_sides;
-mod site;
+mod scope_pool;
 mod statements;
 mod targets;
 mod values;

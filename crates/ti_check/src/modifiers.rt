@@ -1,16 +1,16 @@
 // Modifiers that aren't allowed where they are.
 ghost use Rattle.std.specs.Prelude.{◌≡◌, false, [], flat_map};
 ghost use Rattle.ti_lang.specs.Members.{is_single_word, is_static_word};
-ghost use Rattle.ti_rules.specs.Mirrors.First.{first_of};
+ghost use Rattle.ti_rules.specs.Mirrors.First.{earliest};
 ghost use Rattle.ti_rules.specs.Broken.Words.{repeated_modifiers, field_modifier_refusals, method_modifier_refusals};
-ghost use Rattle.ti_check.specs.Mirrors.Modifiers.{met_again, has_met, meeting, nothing_met};
+ghost use Rattle.ti_check.specs.Mirrors.Modifiers.{repeated_after, contains_modifier, add_modifier, no_modifiers};
 
-use ti_rules::{Refusal, Rule, refused_if, sooner};
+use ti_rules::{Refusal, Rule, earlier_of, refused_if};
 use ti_syntax::tree::{Modifier, ModifierWord};
 
 /// The set of modifiers seen so far.
 #[derive(Clone, Copy)]
-pub struct Met {
+pub struct ModifierSet {
     pub with_public: bool,
     pub with_private: bool,
     pub with_protected: bool,
@@ -19,8 +19,8 @@ pub struct Met {
     pub with_single: bool,
 }
 
-impl Met {
-    fn none() -> Met
+impl ModifierSet {
+    fn none() -> ModifierSet
         ensures { result ≡ record {
           with_public = false;
           with_private = false;
@@ -30,7 +30,7 @@ impl Met {
           with_single = false;
         } }
     {
-        Met {
+        ModifierSet {
             with_public: false,
             with_private: false,
             with_protected: false,
@@ -41,7 +41,7 @@ impl Met {
     }
 
     fn has(self, word: ModifierWord) -> bool
-        ensures { result ≡ has_met self word }
+        ensures { result ≡ contains_modifier self word }
     {
         match word {
             ModifierWord::Public => self.with_public,
@@ -53,8 +53,8 @@ impl Met {
         }
     }
 
-    fn with(self, word: ModifierWord) -> Met
-        ensures { result ≡ meeting self word }
+    fn with(self, word: ModifierWord) -> ModifierSet
+        ensures { result ≡ add_modifier self word }
     {
         let mut met = self;
         match word {
@@ -69,13 +69,13 @@ impl Met {
     }
 }
 
-fn again(words: &[Modifier]) -> Option<Refusal>
-    ensures { result ≡ first_of (met_again nothing_met words.now) }
+fn repetition_by_set(words: &[Modifier]) -> Option<Refusal>
+    ensures { result ≡ earliest (repeated_after no_modifiers words.now) }
 {
     let mut found = None;
-    let mut met = Met::none();
+    let mut met = ModifierSet::none();
     for m in words {
-        found = sooner(found, refused_if(met.has(m.word), Rule::Y7, m.place));
+        found = earlier_of(found, refused_if(met.has(m.word), Rule::Y7, m.place));
         met = met.with(m.word);
     }
     found
@@ -83,9 +83,9 @@ fn again(words: &[Modifier]) -> Option<Refusal>
 
 /// Y7 at the first repeated modifier.
 pub fn repeated_modifiers(words: &[Modifier]) -> Option<Refusal>
-    ensures { result ≡ first_of (repeated_modifiers [] words.now) }
+    ensures { result ≡ earliest (repeated_modifiers [] words.now) }
 {
-    again(words)
+    repetition_by_set(words)
 }
 
 fn is_single(word: ModifierWord) -> bool
@@ -100,36 +100,44 @@ fn is_static(word: ModifierWord) -> bool
     matches!(word, ModifierWord::Static)
 }
 
-fn field_modifier(m: Modifier) -> Option<Refusal>
-    ensures { result ≡ first_of (field_modifier_refusals m) }
+fn field_modifier(modifier: Modifier) -> Option<Refusal>
+    ensures { result ≡ earliest (field_modifier_refusals modifier) }
 {
-    refused_if(is_single(m.word) || is_static(m.word), Rule::Y7, m.place)
+    refused_if(
+        is_single(modifier.word) || is_static(modifier.word),
+        Rule::Y7,
+        modifier.place,
+    )
 }
 
 /// The first modifier that a field can't have: `single` or `static`.
 pub fn field_modifiers(words: &[Modifier]) -> Option<Refusal>
-    ensures { result ≡ first_of (flat_map field_modifier_refusals words.now) }
+    ensures { result ≡ earliest (flat_map field_modifier_refusals words.now) }
 {
     let mut found = None;
     for m in words {
-        found = sooner(found, field_modifier(*m));
+        found = earlier_of(found, field_modifier(*m));
     }
     found
 }
 
-fn method_modifier(is_static: bool, m: Modifier) -> Option<Refusal>
-    ensures { result ≡ first_of (method_modifier_refusals is_static m) }
+fn method_modifier(is_static: bool, modifier: Modifier) -> Option<Refusal>
+    ensures { result ≡ earliest (method_modifier_refusals is_static modifier) }
 {
-    refused_if(is_single(m.word) && !is_static, Rule::Y7, m.place)
+    refused_if(
+        is_single(modifier.word) && !is_static,
+        Rule::Y7,
+        modifier.place,
+    )
 }
 
 /// The first modifier that a method can't have: `single`, if the method isn't static.
 pub fn method_modifiers(is_static: bool, words: &[Modifier]) -> Option<Refusal>
-    ensures { result ≡ first_of (flat_map (method_modifier_refusals is_static) words.now) }
+    ensures { result ≡ earliest (flat_map (method_modifier_refusals is_static) words.now) }
 {
     let mut found = None;
     for m in words {
-        found = sooner(found, method_modifier(is_static, *m));
+        found = earlier_of(found, method_modifier(is_static, *m));
     }
     found
 }

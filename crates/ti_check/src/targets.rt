@@ -4,17 +4,17 @@ ghost use Rattle.std.specs.Option.{option_map, option_map_or, option_and_then};
 ghost use Rattle.ti_lang.specs.Program.Views.{program_of, expression_of};
 ghost use Rattle.ti_lang.specs.Typing.Declared.{field_type};
 ghost use Rattle.ti_lang.specs.Typing.Kinds.{is_point};
-ghost use Rattle.ti_lang.specs.Typing.Seen.{seen};
+ghost use Rattle.ti_lang.specs.Typing.TyRef.{ty_view};
 ghost use Rattle.ti_rules.specs.Broken.Targets.{is_foreach_variable, is_coordinate, maybe_local, hidden_field, hidden_element, is_hidden_local};
-ghost use Rattle.ti_check.specs.Mirrors.Sites.{program_at, scope_at};
-ghost use Rattle.ti_check.specs.Mirrors.Targets.{written};
+ghost use Rattle.ti_check.specs.Mirrors.Contexts.{program_at, scope_at};
+ghost use Rattle.ti_check.specs.Mirrors.Targets.{write_refusal};
 
-use crate::site::Site;
+use crate::context::CheckContext;
 use ti_base::Place;
-use ti_lang::program::{Declared, Expr, Parts};
-use ti_lang::typing::{Seen, field_type, named_field_type};
-use ti_rules::{Refusal, Rule, refused_if, sooner};
-use ti_single::boxed_expression;
+use ti_lang::program::{Declared, Expr, ProgramData};
+use ti_lang::typing::{TyRef, field_type, named_field_type};
+use ti_rules::{Refusal, Rule, earlier_of, refused_if};
+use ti_single::deref_expr;
 
 /// Whether the target is a foreach variable.
 #[tactic(auto, using(ti_lang::proofs::Lemmas::program_bridges))]
@@ -30,23 +30,23 @@ fn is_foreach_variable(target: &Expr) -> bool
     }
 }
 
-fn is_point(t: Option<Seen>) -> bool
-    ensures { result ≡ option_map_or is_point (option_map seen t.entry) false }
+fn is_point(ty: Option<TyRef>) -> bool
+    ensures { result ≡ option_map_or is_point (option_map ty_view ty.entry) false }
 {
-    matches!(t, Some(Seen::Pt(_)))
+    matches!(ty, Some(TyRef::Pt(_)))
 }
 
-fn is_local(t: Option<Seen>) -> bool
-    ensures { result ≡ maybe_local (option_map seen t.entry) }
+fn is_local(ty: Option<TyRef>) -> bool
+    ensures { result ≡ maybe_local (option_map ty_view ty.entry) }
 {
-    match t {
-        Some(t) => t.is_local(),
+    match ty {
+        Some(ty) => ty.is_local(),
         None => false,
     }
 }
 
 // Whether a field of `this` has a local type; `this` is a global reference.
-fn is_own_local(program: &Parts, this: Option<u32>, field: u32) -> bool
+fn is_own_local(program: &ProgramData, this: Option<u32>, field: u32) -> bool
     ensures { result ≡ maybe_local (option_and_then (λ c. field_type (program_of program.now) c field) this) }
 {
     match this {
@@ -56,11 +56,11 @@ fn is_own_local(program: &Parts, this: Option<u32>, field: u32) -> bool
 }
 
 // Whether the field of an object has a local type and the object is reached through a global reference.
-fn hidden_field(program: &Parts, t: Option<Seen>, name: u32) -> bool
-    ensures { result ≡ hidden_field (program_of program.now) (option_map seen t.entry) name }
+fn hidden_field(program: &ProgramData, ty: Option<TyRef>, name: u32) -> bool
+    ensures { result ≡ hidden_field (program_of program.now) (option_map ty_view ty.entry) name }
 {
-    match t {
-        Some(Seen::Class { class, local }) => {
+    match ty {
+        Some(TyRef::Class { class, local }) => {
             is_local(named_field_type(program, class, name)) && !local
         }
         _ => false,
@@ -68,30 +68,30 @@ fn hidden_field(program: &Parts, t: Option<Seen>, name: u32) -> bool
 }
 
 // Whether a grid's elements have a local type and the grid is reached through a global reference.
-fn hidden_element(t: Option<Seen>) -> bool
-    ensures { result ≡ hidden_element (option_map seen t.entry) }
+fn hidden_element(ty: Option<TyRef>) -> bool
+    ensures { result ≡ hidden_element (option_map ty_view ty.entry) }
 {
-    match t {
+    match ty {
         Some(
-            Seen::Grid {
+            TyRef::Grid {
                 elem,
                 any_dim,
                 dim: _,
                 local,
             },
-        ) => Seen::of(elem, any_dim).is_local() && !local,
+        ) => TyRef::of(elem, any_dim).is_local() && !local,
         _ => false,
     }
 }
 
-impl<'a> Site<'a> {
+impl<'a> CheckContext<'a> {
     // Whether the target is a coordinate of a point.
     #[tactic(auto, using(ti_lang::proofs::Lemmas::program_bridges))]
     fn is_coordinate(self, target: &'a Expr) -> bool
         ensures { result ≡ is_coordinate (program_at self.entry) (scope_at self.entry) (expression_of target.now) }
     {
         match target {
-            Expr::Index { receiver, .. } => is_point(self.target(boxed_expression(receiver)).ty),
+            Expr::Index { receiver, .. } => is_point(self.target(deref_expr(receiver)).ty),
             _ => false,
         }
     }
@@ -104,12 +104,10 @@ impl<'a> Site<'a> {
         match target {
             Expr::OwnField(_, field) => is_own_local(&self.program.parts, self.this(), *field),
             Expr::Select { receiver, name, .. } => {
-                let t = self.target(boxed_expression(receiver)).ty;
+                let t = self.target(deref_expr(receiver)).ty;
                 hidden_field(&self.program.parts, t, *name)
             }
-            Expr::Index { receiver, .. } => hidden_element(
-                self.target(boxed_expression(receiver)).ty,
-            ),
+            Expr::Index { receiver, .. } => hidden_element(self.target(deref_expr(receiver)).ty),
             _ => false,
         }
     }
@@ -118,13 +116,13 @@ impl<'a> Site<'a> {
     /// (Y1), a foreach variable neither (Y2), nor a local field or element through a global reference (Q2).
     #[tactic(auto, using(ti_rules::proofs::Lemmas::firsts))]
     pub fn write(self, place: Place, target: &'a Expr, value: Option<Refusal>) -> Option<Refusal>
-        ensures { result ≡ written (program_at self.entry) (scope_at self.entry) place (expression_of target.now) value }
+        ensures { result ≡ write_refusal (program_at self.entry) (scope_at self.entry) place (expression_of target.now) value }
     {
         if self.is_coordinate(target) {
             return refused_if(true, Rule::Y1, place);
         }
         let of_foreach = refused_if(is_foreach_variable(target), Rule::Y2, place);
         let hidden = refused_if(self.is_hidden_local(target), Rule::Q2, place);
-        sooner(sooner(of_foreach, hidden), value)
+        earlier_of(earlier_of(of_foreach, hidden), value)
     }
 }

@@ -1,8 +1,8 @@
 -- The listing of code, byte for byte.
 use Rattle.std.specs.Prelude.{ℕ, ◌+◌, Bool, true, false, List, [], ◌∷◌, ◌++◌, Option, None, Some, codes, decimal}
 use Rattle.ti_base.specs.declared.place.Place.{Place}
-use Rattle.ti_watch.specs.Texts.{place_text, value_text, zero_text}
-use Rattle.ti_watch.specs.Acts.{optional, literal_text, collective_text}
+use Rattle.ti_watch.specs.Texts.{place_text, trace_value_text, zero_text}
+use Rattle.ti_watch.specs.Acts.{optional, literal_number_text, collective_text}
 use Rattle.ti_code.specs.declared.code.MethodCode.{MethodCode}
 use Rattle.ti_code.specs.declared.instr.Instr.{Instr}
 use Rattle.ti_code.specs.declared.instr.Instr.TheVariants as i
@@ -43,10 +43,10 @@ operation_word o.DomMeet = codes "domMeet"
 operation_word o.AndThen = codes "andThen"
 operation_word o.OrElse = codes "orElse"
 
-abbrev pub one_word : OneOperand → List ℕ
-one_word one.Neg = codes "neg"
-one_word one.Com = codes "com"
-one_word one.Not = codes "not"
+abbrev pub unary_word : OneOperand → List ℕ
+unary_word one.Neg = codes "neg"
+unary_word one.Com = codes "com"
+unary_word one.Not = codes "not"
 
 abbrev pub member_word : Member → List ℕ
 member_word kind.Size = codes "size"
@@ -70,7 +70,7 @@ word_of (i.Trim k) = codes "trim"
 word_of i.ThisProc = codes "thisProc"
 word_of i.NumProcs = codes "numProcs"
 word_of (i.Operate op at) = operation_word op
-word_of (i.Alone op) = one_word op
+word_of (i.Alone op) = unary_word op
 word_of i.Widen = codes "widen"
 word_of i.Narrow = codes "narrow"
 word_of i.AsObj = codes "asObject"
@@ -114,9 +114,9 @@ number_part n = codes " " ++ decimal n
 abbrev pub place_part : Place → List ℕ
 place_part at = codes " " ++ place_text at
 
-abbrev pub truth_text : Bool → List ℕ
-truth_text true = codes "true"
-truth_text false = codes "false"
+abbrev pub bool_text : Bool → List ℕ
+bool_text true = codes "true"
+bool_text false = codes "false"
 
 -- Of operators, `/`, `%` and the union of domains show their place.
 abbrev pub operation_part : Operation → Place → List ℕ
@@ -131,11 +131,11 @@ member_part kind.Contains at = []
 member_part k at = place_part at
 
 abbrev pub print_part : Option ℕ → Bool → Place → List ℕ
-print_part literal value at = codes " " ++ optional literal_text literal ++ codes " " ++ truth_text value ++ place_part at
+print_part literal value at = codes " " ++ optional literal_number_text literal ++ codes " " ++ bool_text value ++ place_part at
 
 -- The operands of an instruction that the listing shows.
 abbrev pub operands_text : Instr → List ℕ
-operands_text (i.Const value) = codes " " ++ value_text value
+operands_text (i.Const value) = codes " " ++ trace_value_text value
 operands_text (i.EmptyDom dim) = number_part dim
 operands_text i.Pop = []
 operands_text i.Dup = []

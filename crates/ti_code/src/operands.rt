@@ -10,12 +10,12 @@ use ti_base::{CollKind, Place, Zero};
 use ti_watch::{Line, collective_name};
 
 // Appends a number.
-fn add_number(line: &mut Line, n: u32)
+fn add_number(line: &mut Line, number: u32)
     requires { length line.old + 11 ≤ line_room }
-    ensures text { line.new ≡ line.old ++ text.number_part n }
+    ensures text { line.new ≡ line.old ++ text.number_part number }
     ensures bound { length line.new ≤ length line.old + 11 }
 {
-    line.labelled(b" ", n);
+    line.labelled_number(b" ", number);
 }
 
 // Appends a place.
@@ -24,28 +24,28 @@ fn add_place(line: &mut Line, place: Place)
     ensures text { line.new ≡ line.old ++ text.place_part place }
     ensures bound { length line.new ≤ length line.old + 22 }
 {
-    line.labelled(b" ", place.line);
-    line.labelled(b":", place.col);
+    line.labelled_number(b" ", place.line);
+    line.labelled_number(b":", place.col);
 }
 
 // Appends a number and a place.
-fn add_both(line: &mut Line, n: u32, place: Place)
+fn add_number_and_place(line: &mut Line, number: u32, place: Place)
     requires { length line.old + 33 ≤ line_room }
-    ensures text { line.new ≡ line.old ++ (text.number_part n ++ text.place_part place) }
+    ensures text { line.new ≡ line.old ++ (text.number_part number ++ text.place_part place) }
     ensures bound { length line.new ≤ length line.old + 33 }
 {
-    add_number(line, n);
+    add_number(line, number);
     add_place(line, place);
 }
 
 // Appends two numbers.
-fn add_numbers(line: &mut Line, n: u32, m: u32)
+fn add_numbers(line: &mut Line, first: u32, second: u32)
     requires { length line.old + 22 ≤ line_room }
-    ensures text { line.new ≡ line.old ++ (text.number_part n ++ text.number_part m) }
+    ensures text { line.new ≡ line.old ++ (text.number_part first ++ text.number_part second) }
     ensures bound { length line.new ≤ length line.old + 22 }
 {
-    add_number(line, n);
-    add_number(line, m);
+    add_number(line, first);
+    add_number(line, second);
 }
 
 // Appends the place of an operator, if the listing shows it: of `/`, `%` and the union of domains, which can fault.
@@ -102,12 +102,12 @@ fn add_member(line: &mut Line, member: Member, place: Place)
 }
 
 // Appends a boolean.
-fn add_truth(line: &mut Line, b: bool)
+fn add_bool(line: &mut Line, value: bool)
     requires { length line.old + 6 ≤ line_room }
-    ensures text { line.new ≡ line.old ++ codes " " ++ text.truth_text b }
+    ensures text { line.new ≡ line.old ++ codes " " ++ text.bool_text value }
     ensures bound { length line.new ≤ length line.old + 6 }
 {
-    if b {
+    if value {
         line.text(b" true");
     } else {
         line.text(b" false");
@@ -121,7 +121,7 @@ fn add_print(line: &mut Line, literal: Option<u32>, value: bool, place: Place)
     ensures bound { length line.new ≤ length line.old + 40 }
 {
     line.optional(b"s", literal);
-    add_truth(line, value);
+    add_bool(line, value);
     add_place(line, place);
 }
 
@@ -162,7 +162,7 @@ pub fn add_operands(line: &mut Line, instr: &Instr)
         Instr::Operate(operation, place) => add_operation(line, *operation, *place),
         Instr::MakePt(n) => add_number(line, *n),
         Instr::Coord(_, place) => add_place(line, *place),
-        Instr::MakeRect(n, place) => add_both(line, *n, *place),
+        Instr::MakeRect(n, place) => add_number_and_place(line, *n, *place),
         Instr::RectOfPts(place) => add_place(line, *place),
         Instr::ToDom(place) => add_place(line, *place),
         Instr::Member(member, _, place) => add_member(line, *member, *place),
@@ -172,11 +172,11 @@ pub fn add_operands(line: &mut Line, instr: &Instr)
         Instr::JumpIfNot(target) => add_number(line, *target),
         Instr::Next(k, target) => add_numbers(line, *k, *target),
         Instr::Tick(place) => add_place(line, *place),
-        Instr::GetField(field, place) => add_both(line, *field, *place),
-        Instr::PutField(field, place) => add_both(line, *field, *place),
+        Instr::GetField(field, place) => add_number_and_place(line, *field, *place),
+        Instr::PutField(field, place) => add_number_and_place(line, *field, *place),
         Instr::GetElem(place) => add_place(line, *place),
         Instr::PutElem(place) => add_place(line, *place),
-        Instr::NewObj(class, place) => add_both(line, *class, *place),
+        Instr::NewObj(class, place) => add_number_and_place(line, *class, *place),
         Instr::NewGrid(zero, place) => add_zero(line, *zero, *place),
         Instr::Print(literal, value, place) => add_print(line, *literal, *value, *place),
         Instr::RootTest(place) => add_place(line, *place),
@@ -184,7 +184,7 @@ pub fn add_operands(line: &mut Line, instr: &Instr)
         Instr::Arrive(kind, place) => add_collective(line, *kind, *place),
         Instr::Depart(place) => add_place(line, *place),
         Instr::Take(place) => add_place(line, *place),
-        Instr::Call(k, place) => add_both(line, *k, *place),
+        Instr::Call(k, place) => add_number_and_place(line, *k, *place),
         Instr::Stop(place) => add_place(line, *place),
         Instr::Pop => {}
         Instr::Dup => {}

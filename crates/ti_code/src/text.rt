@@ -12,11 +12,11 @@ use ti_base::Memory;
 use ti_watch::Line;
 
 // The line of an instruction: its number, its name and its operands.
-fn instr_line(n: usize, instr: &Instr) -> Line
-    ensures { result ≡ text.instr_line n instr.now }
+fn instr_line(number: usize, instr: &Instr) -> Line
+    ensures { result ≡ text.instr_line number instr.now }
 {
     let mut line = Line::new();
-    line.labelled(b"  ", n);
+    line.labelled_number(b"  ", number);
     line.text(b" ");
     line.text(instr_word(instr));
     add_operands(&mut line, instr);
@@ -35,12 +35,12 @@ fn add_instrs(instrs: &[Instr], out: &mut Vec<u8>) -> Result<(), Memory>
 }
 
 // The first line of a method: its number and how many parameters it has besides `this`.
-fn method_head(k: usize, params: u32) -> Line
-    ensures { result ≡ text.method_head k params }
+fn method_head(number: usize, params: u32) -> Line
+    ensures { result ≡ text.method_head number params }
 {
     let mut line = Line::new();
-    line.labelled(b"method ", k);
-    line.labelled(b" params ", params);
+    line.labelled_number(b"method ", number);
+    line.labelled_number(b" params ", params);
     line.text(b"\n");
     line
 }

@@ -41,7 +41,7 @@ fn operation_word(operation: Operation) -> &'static [u8]
 
 // The name of a unary operator.
 fn one_word(operator: OneOperand) -> &'static [u8]
-    ensures word { result.now ≡ text.one_word operator }
+    ensures word { result.now ≡ text.unary_word operator }
     ensures short { length result.now ≤ 14 }
 {
     match operator {

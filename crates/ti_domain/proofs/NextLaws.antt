@@ -7,7 +7,7 @@ use Rattle.ti_base.specs.Points.{IsPoint, pt_lex_lt}
 use Rattle.ti_base.specs.PointSets.{same_point, IsAbove, IsNextAfter}
 use Rattle.ti_base.proofs.Lemmas.{same_from, same_self, other_below, below_trans}
 use Rattle.ti_domain.specs.Pieces.{IsShape, IsInSome}
-use Rattle.ti_domain.specs.Walks.{IsSooner, AgreeInDim, IsNext}
+use Rattle.ti_domain.specs.Walks.{IsSooner, AgreeInDim, IsNextPoint}
 
 -- of two points of one dimension the one that isn't above the other is the other or below it
 at_most : (p q : Point) → p.dim ≡ q.dim → (pt_lex_lt q p → ⊥) → (p ≡ q) ⊎ pt_lex_lt p q
@@ -41,22 +41,22 @@ module _ (M N : Point → Type 0) (p : Option Point) where
     first = λ q m up. ⊎_elim (λ l. other q l up) (λ r. b.first q r up) m;
   }
 
-  pub sooner_is_next : (a b r : Option Point) → AgreeInDim a b → IsNext M p a → IsNext N p b → IsSooner a b r → IsNext (λ q. M q ⊎ N q) p r
-  sooner_is_next None None r d x y s = subst (IsNext (λ q. M q ⊎ N q) p) (sym s) (λ q m up. ⊎_elim (λ l. x q l up) (λ k. y q k up) m)
-  sooner_is_next None (Some q) r d x y s = subst (IsNext (λ q. M q ⊎ N q) p) (sym s) (first_right q y (λ o m up. absurd (x o m up)))
-  sooner_is_next (Some q) None r d x y s = subst (IsNext (λ q. M q ⊎ N q) p) (sym s) (first_left q x (λ o m up. absurd (y o m up)))
-  sooner_is_next (Some u) (Some v) r d x y (inl s) = subst (IsNext (λ q. M q ⊎ N q) p) (sym s.1)
+  pub sooner_is_next : (a b r : Option Point) → AgreeInDim a b → IsNextPoint M p a → IsNextPoint N p b → IsSooner a b r → IsNextPoint (λ q. M q ⊎ N q) p r
+  sooner_is_next None None r d x y s = subst (IsNextPoint (λ q. M q ⊎ N q) p) (sym s) (λ q m up. ⊎_elim (λ l. x q l up) (λ k. y q k up) m)
+  sooner_is_next None (Some q) r d x y s = subst (IsNextPoint (λ q. M q ⊎ N q) p) (sym s) (first_right q y (λ o m up. absurd (x o m up)))
+  sooner_is_next (Some q) None r d x y s = subst (IsNextPoint (λ q. M q ⊎ N q) p) (sym s) (first_left q x (λ o m up. absurd (y o m up)))
+  sooner_is_next (Some u) (Some v) r d x y (inl s) = subst (IsNextPoint (λ q. M q ⊎ N q) p) (sym s.1)
       (first_right v y (λ o m up. before v u o (inr s.0) (x.first o m up)))
-  sooner_is_next (Some u) (Some v) r d x y (inr s) = subst (IsNext (λ q. M q ⊎ N q) p) (sym s.1)
+  sooner_is_next (Some u) (Some v) r d x y (inr s) = subst (IsNextPoint (λ q. M q ⊎ N q) p) (sym s.1)
       (first_left u x (λ o m up. before u v o (at_most u v (sym d) s.0) (y.first o m up)))
 
-  pub agree : (d : ℕ) (a b : Option Point) → ((q : Point) → M q → q.dim ≡ d) → ((q : Point) → N q → q.dim ≡ d) → IsNext M p a → IsNext N p b → AgreeInDim a b
+  pub agree : (d : ℕ) (a b : Option Point) → ((q : Point) → M q → q.dim ≡ d) → ((q : Point) → N q → q.dim ≡ d) → IsNextPoint M p a → IsNextPoint N p b → AgreeInDim a b
   agree d None b f g x y = tt
   agree d (Some u) None f g x y = tt
   agree d (Some u) (Some v) f g x y = g v y.member ∙ sym (f u x.member)
 
 -- the next point of a set is that of the same set
-pub next_same : (M N : Point → Type 0) (p r : Option Point) → ((q : Point) → M q ↔ N q) → IsNext M p r → IsNext N p r
+pub next_same : (M N : Point → Type 0) (p r : Option Point) → ((q : Point) → M q ↔ N q) → IsNextPoint M p r → IsNextPoint N p r
 next_same M N p None same x = λ q n up. x q ((same q).1 n) up
 next_same M N p (Some u) same x = record {
   member = (same u).0 x.member;
@@ -69,6 +69,6 @@ dim_in_some d [] p h m = elim m [ ]
 dim_in_some d (r ∷ rs) p h (inl w) = w.one_dim ∙ (All-head (IsShape d) r rs h).one_dim
 dim_in_some d (r ∷ rs) p h (inr m) = dim_in_some d rs p (All-tail (IsShape d) r rs h) m
 
-pub next_point : (M : Point → Type 0) (p r : Option Point) → ((q : Point) → M q → IsPoint q) → IsNext M p r → IfSome r IsPoint
+pub next_point : (M : Point → Type 0) (p r : Option Point) → ((q : Point) → M q → IsPoint q) → IsNextPoint M p r → IfSome r IsPoint
 next_point M p None f x = tt
 next_point M p (Some u) f x = f u x.member

@@ -10,7 +10,7 @@ use Rattle.ti_base.specs.Rects.{IsRect, IsIn, points_of}
 use Rattle.ti_base.proofs.Lemmas.{same_from, from_below, union_in, union_dim, union_lists, meet_lists, one_list, irreflexive}
 use Rattle.ti_rect.proofs.Lemmas.{points_listed, point_in}
 use Rattle.ti_rect.specs.Families.{AreApart}
-use Rattle.ti_domain.specs.Pieces.{IsShape, IsPiece, IsInSome, points_in, point_count, total_count}
+use Rattle.ti_domain.specs.Pieces.{IsShape, IsNonEmptyRect, IsInSome, points_in, point_count, total_count}
 
 -- ---- the list of a set
 
@@ -51,8 +51,8 @@ listed d (r ∷ rs) h =
       union_dim d (points_of r) (points_in rs) a m.1,
     )
 
-pub shapes : (d : ℕ) (rs : List Rect) → All (IsPiece d) rs → All (IsShape d) rs
-shapes d rs = All-weaker (IsPiece d) (IsShape d) (λ r p. p.shape) rs
+pub shapes : (d : ℕ) (rs : List Rect) → All (IsNonEmptyRect d) rs → All (IsShape d) rs
+shapes d rs = All-weaker (IsNonEmptyRect d) (IsShape d) (λ r p. p.shape) rs
 
 pub forms : (d : ℕ) (rs : List Rect) → All (IsShape d) rs → All IsRect rs
 forms d rs = All-weaker (IsShape d) IsRect (λ r p. p.form) rs

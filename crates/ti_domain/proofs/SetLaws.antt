@@ -15,8 +15,8 @@ use Rattle.ti_base.proofs.Lemmas.{union_lists, meet_lists, minus_lists}
 use Rattle.ti_rect.proofs.Lemmas.{meet_points, points_listed, none_in, full_of, in_tests, covers_none, covers_one, covers_append}
 use Rattle.ti_rect.proofs.Lemmas.{covers_map, covers_list}
 use Rattle.ti_rect.specs.Families.{AreApart, Covers}
-use Rattle.ti_domain.specs.Pieces.{IsShape, IsPiece, IsInSome, ArePieces, ArePiecesOf, points_in, point_count, total_count}
-use Rattle.ti_domain.specs.Domains.{Domain, IsDom, IsKept, alone}
+use Rattle.ti_domain.specs.Pieces.{IsShape, IsNonEmptyRect, IsInSome, ArePieces, ArePiecesOf, points_in, point_count, total_count}
+use Rattle.ti_domain.specs.Domains.{Domain, IsDom, IsKept, one_piece}
 use Rattle.ti_domain.proofs.PieceLaws.{one_of, listed, shapes, length_in, length_filter}
 
 -- ---- a point is in one of the rectangles or in none
@@ -61,8 +61,8 @@ module _ (d : ℕ) (a b : List Rect) (left : ArePieces d a) (right : ArePieces d
 
   -- the pieces of the first and what the second has beyond it
   pub union_covers : (more : List Rect) → ArePiecesOf d more (λ p. IsInSome b p × (IsInSome a p → ⊥)) → ArePiecesOf d (a ++ more) (λ p. IsInSome a p ⊎ IsInSome b p)
-  union_covers more c = covers_append (IsPiece d) IsIn a more (IsInSome a) (λ p. IsInSome b p × (IsInSome a p → ⊥)) (λ p. IsInSome a p ⊎ IsInSome b p)
-      (covers_list (IsPiece d) IsIn a left.each left.apart) c
+  union_covers more c = covers_append (IsNonEmptyRect d) IsIn a more (IsInSome a) (λ p. IsInSome b p × (IsInSome a p → ⊥)) (λ p. IsInSome a p ⊎ IsInSome b p)
+      (covers_list (IsNonEmptyRect d) IsIn a left.each left.apart) c
       (λ p m n. n.1 m)
       (λ p. (
         ⊎_elim inl (λ n. inr n.0),
@@ -102,8 +102,8 @@ kept_meet d a b v is left right small c = record {
 
 -- ---- one rectangle
 
-alone_cases : (r : Rect) → IsRect r → ((r ≡ empty_rect r.dim) × (alone r ≡ [])) ⊎ (HasPoints r × (alone r ≡ r ∷ []))
-alone_cases r (d, inl e) = inl (e, ap alone e)
+alone_cases : (r : Rect) → IsRect r → ((r ≡ empty_rect r.dim) × (one_piece r ≡ [])) ⊎ (HasPoints r × (one_piece r ≡ r ∷ []))
+alone_cases r (d, inl e) = inl (e, ap one_piece e)
 alone_cases r (d, inr h) = inr (
   h,
   ap (λ t. if t then [] else r ∷ [])
@@ -114,29 +114,29 @@ alone_cases r (d, inr h) = inr (
     ends_rise : (q : Range) → IsRange q → q.low ≤ℤ q.high
     ends_rise q is = omega (arith, ints, is.reached)
 
-pub alone_full : (r : Rect) → IsRect r → (r ≡ empty_rect r.dim → ⊥) → alone r ≡ r ∷ []
+pub alone_full : (r : Rect) → IsRect r → (r ≡ empty_rect r.dim → ⊥) → one_piece r ≡ r ∷ []
 alone_full r is not = ⊎_elim (λ h. absurd (not h.0)) (λ h. h.1) (alone_cases r is)
 
 -- the rectangle where it has points
-pub alone_covers : (d : ℕ) (r : Rect) → IsShape d r → ArePiecesOf d (alone r) (IsIn r)
+pub alone_covers : (d : ℕ) (r : Rect) → IsShape d r → ArePiecesOf d (one_piece r) (IsIn r)
 alone_covers d r s = ⊎_elim
-    (λ h. subst (λ l. ArePiecesOf d l (IsIn r)) (sym h.1) (covers_none (IsPiece d) IsIn (IsIn r) (λ p w. none_in r h.0 p w)))
-    (λ h. subst (λ l. ArePiecesOf d l (IsIn r)) (sym h.1) (covers_one (IsPiece d) IsIn r (IsIn r) record { shape = s; filled = h.0 } (λ p. (λ w. w, λ w. w))))
+    (λ h. subst (λ l. ArePiecesOf d l (IsIn r)) (sym h.1) (covers_none (IsNonEmptyRect d) IsIn (IsIn r) (λ p w. none_in r h.0 p w)))
+    (λ h. subst (λ l. ArePiecesOf d l (IsIn r)) (sym h.1) (covers_one (IsNonEmptyRect d) IsIn r (IsIn r) record { shape = s; filled = h.0 } (λ p. (λ w. w, λ w. w))))
     (alone_cases r s.form)
 
-pub alone_length : (r : Rect) → IsRect r → length (alone r) ≤ 1
+pub alone_length : (r : Rect) → IsRect r → length (one_piece r) ≤ 1
 alone_length r is = ⊎_elim (λ h. let e = ap length h.1 in omega arith) (λ h. let e = ap length h.1 in omega arith) (alone_cases r is)
 
-pub points_alone : (r : Rect) → IsRect r → points_in (alone r) ≡ points_of r
+pub points_alone : (r : Rect) → IsRect r → points_in (one_piece r) ≡ points_of r
 points_alone r is =
     let s : IsShape r.dim r = record { one_dim = refl; form = is } in
     let c = alone_covers r.dim r s in
-    one_of (IsInSome (alone r)) (IsIn r) (points_in (alone r)) (points_of r) c.has (listed r.dim (alone r) (shapes r.dim (alone r) c.good)).0 (points_listed r is)
+    one_of (IsInSome (one_piece r)) (IsIn r) (points_in (one_piece r)) (points_of r) c.has (listed r.dim (one_piece r) (shapes r.dim (one_piece r) c.good)).0 (points_listed r is)
 
-pub kept_alone : (r : Rect) → IsRect r → length (points_of r) ≤ 1048576 → IsKept r.dim (alone r)
+pub kept_alone : (r : Rect) → IsRect r → length (points_of r) ≤ 1048576 → IsKept r.dim (one_piece r)
 kept_alone r is small =
     let s : IsShape r.dim r = record { one_dim = refl; form = is } in
-    record { dim_is = is.0; pieces_are = pieces_of r.dim (alone r) (IsIn r) (alone_covers r.dim r s); bound = let e = ap length (points_alone r is) in omega arith }
+    record { dim_is = is.0; pieces_are = pieces_of r.dim (one_piece r) (IsIn r) (alone_covers r.dim r s); bound = let e = ap length (points_alone r is) in omega arith }
 
 -- ---- how many points two lists have in common
 

@@ -2,7 +2,7 @@
 use Rattle.std.proofs.Common.{◌≡◌, ◌⊎◌, inl, inr, ⊎_elim, ◌↔◌, ℕ, ◌<◌, ◌≤◌, ℤ, pos, Bool, true, false, List, ◌++◌, map, refl, sym, subst, ◌∙◌, arith}
 use Rattle.ti_base.specs.declared.point.Point.{Point}
 use Rattle.ti_base.specs.declared.point.Rect.{Rect}
-use Rattle.ti_base.specs.Ranges.{Range, IsOn, is_on, IsRange, unused}
+use Rattle.ti_base.specs.Ranges.{Range, IsOn, is_on, IsRange, unused_range}
 use Rattle.ti_base.specs.Rects.{HasPoints, IsIn, first_range, second_range, third_range}
 use Rattle.ti_rect.specs.declared.axis.Axis.{Axis}
 use Rattle.ti_rect.specs.Axes.{range}
@@ -11,8 +11,8 @@ use Rattle.ti_rect.proofs.Lemmas.{covers_append, covers_same, covers_map}
 use Rattle.ti_domain.specs.declared.cut.Coordinate.{Coordinate}
 use Rattle.ti_domain.specs.declared.cut.Coordinate.TheVariants.{First, Second, Third}
 use Rattle.ti_rect.specs.Parts.{IsOff, IsPart, IsOnPart, AreParts}
-use Rattle.ti_domain.specs.Pieces.{IsPiece, ArePiecesOf}
-use Rattle.ti_domain.specs.Slabs.{coordinate, range_at, IsBeside, with_range}
+use Rattle.ti_domain.specs.Pieces.{IsNonEmptyRect, ArePiecesOf}
+use Rattle.ti_domain.specs.Slabs.{coordinate_of, range_at, IsBeside, with_range}
 
 -- ---- a number is on a range or not
 
@@ -25,14 +25,14 @@ decide_on r x positive = by (is_on r x) refl
 
 -- ---- one coordinate
 
-zero_ends : (g r : Range) → IsRange g → ((x : ℤ) → IsOn g x → IsOn r x) → r ≡ unused → (g.low ≡ pos 0) × (g.high ≡ pos 0)
+zero_ends : (g r : Range) → IsRange g → ((x : ℤ) → IsOn g x → IsOn r x) → r ≡ unused_range → (g.low ≡ pos 0) × (g.high ≡ pos 0)
 zero_ends g r full sub e = (
   zero_on (pos 0) (pos 0) 1 g.low refl refl (subst (λ q. IsOn q g.low) e (sub g.low (low_on g full))),
   zero_on (pos 0) (pos 0) 1 g.high refl refl (subst (λ q. IsOn q g.high) e (sub g.high (high_on g full))),
 )
 
 -- a part of a piece in one coordinate alone
-module _ (d : ℕ) (r : Rect) (is : IsPiece d r) where
+module _ (d : ℕ) (r : Rect) (is : IsNonEmptyRect d r) where
   filled_with : (k : Coordinate) (g : Range) → IsRange g → ((x : ℤ) → IsOn g x → IsOn (range_at k r) x) → HasPoints (with_range k g r)
   filled_with First g full sub =
       let h = is.filled in
@@ -78,7 +78,7 @@ module _ (d : ℕ) (r : Rect) (is : IsPiece d r) where
   same_dim Second g = refl
   same_dim Third g = refl
 
-  pub piece_with : (k : Coordinate) (g : Range) → IsRange g → ((x : ℤ) → IsOn g x → IsOn (range_at k r) x) → IsPiece d (with_range k g r)
+  pub piece_with : (k : Coordinate) (g : Range) → IsRange g → ((x : ℤ) → IsOn g x → IsOn (range_at k r) x) → IsNonEmptyRect d (with_range k g r)
   piece_with k g full sub =
       let h = filled_with k g full sub in
       record {
@@ -89,12 +89,12 @@ module _ (d : ℕ) (r : Rect) (is : IsPiece d r) where
         filled = h;
       }
 
-  in_with : (k : Coordinate) (g : Range) (p : Point) → IsIn (with_range k g r) p ↔ (IsOn g (coordinate k p) × IsBeside k r p)
+  in_with : (k : Coordinate) (g : Range) (p : Point) → IsIn (with_range k g r) p ↔ (IsOn g (coordinate_of k p) × IsBeside k r p)
   in_with First g p = (λ w. (w.first, (w.one_dim, w.second, w.third)), λ h. record { one_dim = h.1.0; first = h.0; second = h.1.1; third = h.1.2 })
   in_with Second g p = (λ w. (w.second, (w.one_dim, w.first, w.third)), λ h. record { one_dim = h.1.0; first = h.1.1; second = h.0; third = h.1.2 })
   in_with Third g p = (λ w. (w.third, (w.one_dim, w.first, w.second)), λ h. record { one_dim = h.1.0; first = h.1.1; second = h.1.2; third = h.0 })
 
-  in_at : (k : Coordinate) (p : Point) → IsIn r p ↔ (IsOn (range_at k r) (coordinate k p) × IsBeside k r p)
+  in_at : (k : Coordinate) (p : Point) → IsIn r p ↔ (IsOn (range_at k r) (coordinate_of k p) × IsBeside k r p)
   in_at First p = (λ w. (w.first, (w.one_dim, w.second, w.third)), λ h. record { one_dim = h.1.0; first = h.0; second = h.1.1; third = h.1.2 })
   in_at Second p = (λ w. (w.second, (w.one_dim, w.first, w.third)), λ h. record { one_dim = h.1.0; first = h.1.1; second = h.0; third = h.1.2 })
   in_at Third p = (λ w. (w.third, (w.one_dim, w.first, w.second)), λ h. record { one_dim = h.1.0; first = h.1.1; second = h.1.2; third = h.0 })
@@ -105,10 +105,10 @@ module _ (d : ℕ) (r : Rect) (is : IsPiece d r) where
   range_full Third = is.filled.third
 
   pub slab_pieces : (k : Coordinate) (c : Range) (parts : List Axis) → AreParts parts (IsOff (range_at k r) c)
-      → ArePiecesOf d (map (λ g. with_range k (range g) r) parts) (λ p. IsIn r p × (IsOn c (coordinate k p) → ⊥))
-  slab_pieces k c parts cover = covers_same (IsPiece d) IsIn (map (λ g. with_range k (range g) r) parts)
-      (λ p. IsOff (range_at k r) c (coordinate k p) × IsBeside k r p) (λ p. IsIn r p × (IsOn c (coordinate k p) → ⊥))
-      (covers_map IsPart IsOnPart (IsPiece d) IsIn (λ g. with_range k (range g) r) (coordinate k) (IsBeside k r) parts (IsOff (range_at k r) c) cover
+      → ArePiecesOf d (map (λ g. with_range k (range g) r) parts) (λ p. IsIn r p × (IsOn c (coordinate_of k p) → ⊥))
+  slab_pieces k c parts cover = covers_same (IsNonEmptyRect d) IsIn (map (λ g. with_range k (range g) r) parts)
+      (λ p. IsOff (range_at k r) c (coordinate_of k p) × IsBeside k r p) (λ p. IsIn r p × (IsOn c (coordinate_of k p) → ⊥))
+      (covers_map IsPart IsOnPart (IsNonEmptyRect d) IsIn (λ g. with_range k (range g) r) (coordinate_of k) (IsBeside k r) parts (IsOff (range_at k r) c) cover
       (λ a full sub. record { good = piece_with k (range a) full (λ x o. (sub x o).0); has = in_with k (range a) }))
       (λ p. (
         λ h. ((in_at k p).1 (h.0.0, h.1), h.0.1),
@@ -117,7 +117,7 @@ module _ (d : ℕ) (r : Rect) (is : IsPiece d r) where
 
 -- ---- a piece that is a part of another
 
-module _ (d : ℕ) (r m : Rect) (is : IsPiece d r) (part : IsPiece d m) (inside : (p : Point) → IsIn m p → IsIn r p) where
+module _ (d : ℕ) (r m : Rect) (is : IsNonEmptyRect d r) (part : IsNonEmptyRect d m) (inside : (p : Point) → IsIn m p → IsIn r p) where
   pub inside_first : (x : ℤ) → IsOn (first_range m) x → IsOn (first_range r) x
   inside_first x o = (inside _ (at_first m part.filled x o)).first
 
@@ -133,10 +133,10 @@ module _ (d : ℕ) (r m : Rect) (is : IsPiece d r) (part : IsPiece d m) (inside 
   abbrev pub the_row : Rect
   the_row = with_range Second (second_range m) the_plane
 
-  pub plane_piece : IsPiece d the_plane
+  pub plane_piece : IsNonEmptyRect d the_plane
   plane_piece = piece_with d r is First (first_range m) part.filled.first inside_first
 
-  pub row_piece : IsPiece d the_row
+  pub row_piece : IsNonEmptyRect d the_row
   row_piece = piece_with d the_plane plane_piece Second (second_range m) part.filled.second inside_second
 
   -- the points that leave the part in the first coordinate, in the second and in the third are all outside of it
@@ -147,8 +147,8 @@ module _ (d : ℕ) (r m : Rect) (is : IsPiece d r) (part : IsPiece d m) (inside 
       let P : Point → Type 0 = λ p. IsIn r p × (IsOn (first_range m) p.x1 → ⊥) in
       let Q : Point → Type 0 = λ p. IsIn the_plane p × (IsOn (second_range m) p.x2 → ⊥) in
       let S : Point → Type 0 = λ p. IsIn the_row p × (IsOn (third_range m) p.x3 → ⊥) in
-      covers_append (IsPiece d) IsIn (planes ++ rows) points (λ p. P p ⊎ Q p) S (λ p. IsIn r p × (IsIn m p → ⊥))
-      (covers_append (IsPiece d) IsIn planes rows P Q (λ p. P p ⊎ Q p) a b (λ p x y. x.1 y.0.first) (λ p. (λ h. h, λ h. h)))
+      covers_append (IsNonEmptyRect d) IsIn (planes ++ rows) points (λ p. P p ⊎ Q p) S (λ p. IsIn r p × (IsIn m p → ⊥))
+      (covers_append (IsNonEmptyRect d) IsIn planes rows P Q (λ p. P p ⊎ Q p) a b (λ p x y. x.1 y.0.first) (λ p. (λ h. h, λ h. h)))
       c
       (λ p x y. ⊎_elim (λ h. h.1 y.0.first) (λ h. h.1 y.0.second) x)
       (λ p. (forth p, λ h. back p h.0 h.1))

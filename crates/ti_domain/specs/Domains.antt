@@ -27,5 +27,5 @@ pub record IsKept (dim : ℕ) (pieces : List Rect) : Type 0 where
   pub bound : length (points_in pieces) ≤ 1048576
 
 -- the rectangle in a list, or the empty list if it has no points
-abbrev pub alone : Rect → List Rect
-alone r = if is_empty r then [] else r ∷ []
+abbrev pub one_piece : Rect → List Rect
+one_piece r = if is_empty r then [] else r ∷ []

@@ -12,7 +12,7 @@ pub record IsShape (dim : ℕ) (r : Rect) : Type 0 where
   pub form : IsRect r
 
 -- a rectangle of this dimension that has points
-pub record IsPiece (dim : ℕ) (r : Rect) : Type 0 where
+pub record IsNonEmptyRect (dim : ℕ) (r : Rect) : Type 0 where
   pub shape : IsShape dim r
   pub filled : HasPoints r
 
@@ -22,12 +22,12 @@ IsInSome rs p = IsInOne IsIn rs p
 
 -- disjoint rectangles, each with points
 pub record ArePieces (dim : ℕ) (rs : List Rect) : Type 0 where
-  pub each : All (IsPiece dim) rs
+  pub each : All (IsNonEmptyRect dim) rs
   pub apart : AreApart IsIn rs
 
 -- disjoint rectangles, each with points, whose union is this set
 abbrev pub ArePiecesOf : ℕ → List Rect → (Point → Type 0) → Type 0
-ArePiecesOf dim rs Whole = Covers (IsPiece dim) IsIn rs Whole
+ArePiecesOf dim rs Whole = Covers (IsNonEmptyRect dim) IsIn rs Whole
 
 -- the points of all of them in one sorted list
 abbrev pub points_in : List Rect → List Point

@@ -7,10 +7,10 @@ use Rattle.ti_base.specs.Rects.{first_range, second_range, third_range}
 use Rattle.ti_domain.specs.declared.cut.Coordinate.{Coordinate}
 use Rattle.ti_domain.specs.declared.cut.Coordinate.TheVariants.{First, Second, Third}
 
-abbrev pub coordinate : Coordinate → Point → ℤ
-coordinate First p = p.x1
-coordinate Second p = p.x2
-coordinate Third p = p.x3
+abbrev pub coordinate_of : Coordinate → Point → ℤ
+coordinate_of First p = p.x1
+coordinate_of Second p = p.x2
+coordinate_of Third p = p.x3
 
 abbrev pub range_at : Coordinate → Rect → Range
 range_at First r = first_range r

@@ -16,5 +16,5 @@ AgreeInDim (Some p) (Some q) = q.dim ≡ p.dim
 AgreeInDim a b = Unit {0}
 
 -- the first point of the set above the given one, or None if there is none
-abbrev pub IsNext : (Point → Type 0) → Option Point → Option Point → Type 0
-IsNext Members p q = MatchOption q (NoneAfter Members p) (λ next. IsNextAfter Members p next)
+abbrev pub IsNextPoint : (Point → Type 0) → Option Point → Option Point → Type 0
+IsNextPoint Members p q = MatchOption q (NoneAfter Members p) (λ next. IsNextAfter Members p next)

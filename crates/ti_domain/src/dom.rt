@@ -5,9 +5,9 @@ ghost use Rattle.ti_base.specs.declared.point.Point.{Point};
 ghost use Rattle.ti_base.specs.PointSets.{IsAmong};
 ghost use Rattle.ti_base.specs.Rects.{IsRect, points_of};
 ghost use Rattle.ti_domain.specs.Pieces.{ArePieces, IsInSome, points_in};
-ghost use Rattle.ti_domain.specs.Domains.{IsDom, IsKept, alone};
+ghost use Rattle.ti_domain.specs.Domains.{IsDom, IsKept, one_piece};
 
-use crate::cut::{copied, piece_of};
+use crate::cut::{copy_rects, piece_of};
 use crate::error::DomErr;
 use crate::sizes::MAX_POINTS;
 use std::alloc::Global;
@@ -37,25 +37,25 @@ impl Model for Dom {
 }
 
 /// The rectangles that represent the domain: each has points, no two have a common one, and their union is the domain.
-pub fn dom_pieces(a: &Dom) -> &[Rect]
-    ensures domain { IsDom a.now }
-    ensures pieces { ArePieces a.now.dim result.now }
-    ensures members { (p : Point) → IsAmong a.now.points p ↔ IsInSome result.now p }
-    ensures list { a.now.points ≡ points_in result.now }
-    ensures same { result.now ≡ a.now.pieces }
+pub fn dom_pieces(dom: &Dom) -> &[Rect]
+    ensures domain { IsDom dom.now }
+    ensures pieces { ArePieces dom.now.dim result.now }
+    ensures members { (p : Point) → IsAmong dom.now.points p ↔ IsInSome result.now p }
+    ensures list { dom.now.points ≡ points_in result.now }
+    ensures same { result.now ≡ dom.now.pieces }
 {
-    a.pieces.as_slice()
+    dom.pieces.as_slice()
 }
 
 /// The dimension of the domain's points.
-pub fn dim_of(a: &Dom) -> u8
-    ensures { result ≡ a.now.dim }
+pub fn dim_of(dom: &Dom) -> u8
+    ensures { result ≡ dom.now.dim }
 {
-    a.dim
+    dom.dim
 }
 
 /// The domain that these disjoint rectangles represent.
-pub fn made(dim: u8, pieces: Vec<Rect>) -> Dom
+pub fn dom_from_pieces(dim: u8, pieces: Vec<Rect>) -> Dom
     requires { IsKept dim pieces.items }
     ensures { result ≡ record { dim = dim; points = points_in pieces.items; pieces = pieces.items } }
 {
@@ -63,35 +63,35 @@ pub fn made(dim: u8, pieces: Vec<Rect>) -> Dom
 }
 
 /// Whether the rectangle has too many points for a domain.
-fn is_large(r: &Rect) -> bool
-    requires { IsRect r.now }
-    ensures { IsTrue result ↔ (1048576 < length (points_of r.now)) }
+fn is_large(rect: &Rect) -> bool
+    requires { IsRect rect.now }
+    ensures { IsTrue result ↔ (1048576 < length (points_of rect.now)) }
 {
-    match rect_size(r) {
+    match rect_size(rect) {
         Ok(count) => count as u64 > MAX_POINTS,
         Err(_) => true,
     }
 }
 
 /// The domain with the points of the rectangle. The error is `TooLarge` exactly if there are more than 1,048,576.
-pub fn dom_of(alloc: Global, r: &Rect) -> Result<Dom, DomErr>
-    requires { IsRect r.now }
-    ensures large { IsErrOf result DomErr.TooLarge ↔ (1048576 < length (points_of r.now)) }
-    ensures dim { IfOk result (λ d. d.dim ≡ r.now.dim) }
-    ensures points { IfOk result (λ d. d.points ≡ points_of r.now) }
-    ensures pieces { IfOk result (λ d. d.pieces ≡ alone r.now) }
+pub fn dom_of(alloc: Global, rect: &Rect) -> Result<Dom, DomErr>
+    requires { IsRect rect.now }
+    ensures large { IsErrOf result DomErr.TooLarge ↔ (1048576 < length (points_of rect.now)) }
+    ensures dim { IfOk result (λ d. d.dim ≡ rect.now.dim) }
+    ensures points { IfOk result (λ d. d.points ≡ points_of rect.now) }
+    ensures pieces { IfOk result (λ d. d.pieces ≡ one_piece rect.now) }
 {
-    if is_large(r) {
+    if is_large(rect) {
         return Err(DomErr::TooLarge);
     }
-    let pieces = piece_of(alloc, r)?;
-    Ok(made(r.dim, pieces))
+    let pieces = piece_of(alloc, rect)?;
+    Ok(dom_from_pieces(rect.dim, pieces))
 }
 
 /// A copy of the domain.
-pub fn dom_copy(alloc: Global, a: &Dom) -> Result<Dom, Memory>
-    ensures { IfOk result (λ d. d ≡ a.now) }
+pub fn dom_copy(alloc: Global, dom: &Dom) -> Result<Dom, Memory>
+    ensures { IfOk result (λ d. d ≡ dom.now) }
 {
-    let pieces = copied(alloc, dom_pieces(a))?;
-    Ok(made(dim_of(a), pieces))
+    let pieces = copy_rects(alloc, dom_pieces(dom))?;
+    Ok(dom_from_pieces(dim_of(dom), pieces))
 }

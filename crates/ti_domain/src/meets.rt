@@ -2,37 +2,37 @@
 
 ghost use Rattle.std.specs.Prelude.{◌≡◌, ◌*◌, ◌≤◌, ◌++◌, IfOk, length};
 ghost use Rattle.ti_base.specs.Rects.{IsIn, IsRect};
-ghost use Rattle.ti_domain.specs.Domains.{alone};
-ghost use Rattle.ti_domain.specs.Pieces.{IsPiece, ArePieces, ArePiecesOf, IsInSome};
+ghost use Rattle.ti_domain.specs.Domains.{one_piece};
+ghost use Rattle.ti_domain.specs.Pieces.{IsNonEmptyRect, ArePieces, ArePiecesOf, IsInSome};
 
-use crate::cut::joined;
+use crate::cut::append_rects;
 use std::alloc::Global;
 use ti_base::{Memory, Rect};
 use ti_rect::rect::is_empty;
 use ti_rect::rect_meet;
 
-/// The rectangles, with `r` appended if it has points.
-fn with_filled(mut rects: Vec<Rect>, r: Rect) -> Result<Vec<Rect>, Memory>
-    requires { IsRect r }
-    ensures { IfOk result (λ v. v.items ≡ rects.items ++ alone r) }
+/// The rectangles, with `rect` appended if it has points.
+fn with_filled(mut rects: Vec<Rect>, rect: Rect) -> Result<Vec<Rect>, Memory>
+    requires { IsRect rect }
+    ensures { IfOk result (λ v. v.items ≡ rects.items ++ one_piece rect) }
 {
-    if is_empty(&r) {
+    if is_empty(&rect) {
         return Ok(rects);
     }
-    rects.push(r)?;
+    rects.push(rect)?;
     Ok(rects)
 }
 
-/// The points of `r` that are in one of the other rectangles, as disjoint rectangles.
-fn meets_with(alloc: Global, r: &Rect, others: &[Rect]) -> Result<Vec<Rect>, Memory>
-    requires piece { IsPiece r.now.dim r.now }
-    requires others { ArePieces r.now.dim others.now }
-    ensures pieces { IfOk result (λ v. ArePiecesOf r.now.dim v.items (λ p. IsIn r.now p × IsInSome others.now p)) }
+/// The points of `rect` that are in one of the other rectangles, as disjoint rectangles.
+fn meets_with(alloc: Global, rect: &Rect, others: &[Rect]) -> Result<Vec<Rect>, Memory>
+    requires piece { IsNonEmptyRect rect.now.dim rect.now }
+    requires others { ArePieces rect.now.dim others.now }
+    ensures pieces { IfOk result (λ v. ArePiecesOf rect.now.dim v.items (λ p. IsIn rect.now p × IsInSome others.now p)) }
     ensures number { IfOk result (λ v. length v.items ≤ length others.now) }
 {
     let mut common = Vec::new(alloc);
     for other in others {
-        common = with_filled(common, rect_meet(r, other))?;
+        common = with_filled(common, rect_meet(rect, other))?;
     }
     Ok(common)
 }
@@ -49,7 +49,7 @@ pub fn meets(alloc: Global, dim: u8, rects: &[Rect], others: &[Rect]) -> Result<
     let mut common = Vec::new(alloc);
     for r in rects {
         let more = meets_with(alloc, r, others)?;
-        common = joined(common, more.as_slice())?;
+        common = append_rects(common, more.as_slice())?;
     }
     Ok(common)
 }

@@ -12,12 +12,12 @@ use ti_rect::{rect_meet, rect_size};
 pub const MAX_POINTS: u64 = 1_048_576;
 
 /// The number of points of a rectangle, which has few enough for a domain.
-pub fn size(r: &Rect) -> u64
-    requires form { IsRect r.now }
-    requires small { point_count r.now ≤ 1048576 }
-    ensures { result ≡ point_count r.now }
+pub fn size(rect: &Rect) -> u64
+    requires form { IsRect rect.now }
+    requires small { point_count rect.now ≤ 1048576 }
+    ensures { result ≡ point_count rect.now }
 {
-    match rect_size(r) {
+    match rect_size(rect) {
         Ok(count) => count as u64,
         Err(_) => unreachable!(),
     }
@@ -36,23 +36,23 @@ pub fn total(pieces: &[Rect]) -> u64
     total
 }
 
-/// The total number of points that `r` has in common with each of the others.
-fn common_with(r: &Rect, others: &[Rect]) -> u64
-    requires form { IsRect r.now }
-    requires others { All (IsShape r.now.dim) others.now }
-    requires small { sum_by (λ s. point_count (rects.meet r.now s)) others.now ≤ 1048576 }
-    ensures { result ≡ sum_by (λ s. point_count (rects.meet r.now s)) others.now }
+/// The total number of points that `rect` has in common with each of the others.
+fn common_with(rect: &Rect, others: &[Rect]) -> u64
+    requires form { IsRect rect.now }
+    requires others { All (IsShape rect.now.dim) others.now }
+    requires small { sum_by (λ s. point_count (rects.meet rect.now s)) others.now ≤ 1048576 }
+    ensures { result ≡ sum_by (λ s. point_count (rects.meet rect.now s)) others.now }
 {
     let mut total = 0;
     for other in others {
-        total += size(&rect_meet(r, other));
+        total += size(&rect_meet(rect, other));
     }
     total
 }
 
 /// The total number of points that each of the rectangles has in common with each of the others. `dim` is for the prover: the dimension
 /// of all of them.
-pub fn common(dim: u8, pieces: &[Rect], others: &[Rect]) -> u64
+pub fn common_count(dim: u8, pieces: &[Rect], others: &[Rect]) -> u64
     requires pieces { All (IsShape dim) pieces.now }
     requires others { All (IsShape dim) others.now }
     requires small { sum_by (λ r. sum_by (λ s. point_count (rects.meet r s)) others.now) pieces.now ≤ 1048576 }

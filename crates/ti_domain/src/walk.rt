@@ -10,30 +10,31 @@ use ti_base::{Point, pt_lex_lt};
 use ti_rect::rect_next_after;
 
 /// The lexicographically smaller of two points; if only one is given, that one.
-fn sooner(a: Option<Point>, b: Option<Point>) -> Option<Point>
-    requires { AgreeInDim a b }
-    ensures { IsSooner a b result }
+fn earlier_point(left: Option<Point>, right: Option<Point>) -> Option<Point>
+    requires { AgreeInDim left right }
+    ensures { IsSooner left right result }
 {
-    match a {
-        Some(p) => match b {
+    match left {
+        Some(p) => match right {
             Some(q) => { if pt_lex_lt(&q, &p) { Some(q) } else { Some(p) } }
             None => Some(p),
         },
-        None => b,
+        None => right,
     }
 }
 
-/// The lexicographically first point above `p`, or the first of all if `p` is None; the result is None exactly if there is no such point.
-pub fn dom_next_after(a: &Dom, p: Option<&Point>) -> Option<Point>
-    requires { IfSome (option_copied p) (λ q. q.dim ≡ a.now.dim) }
+/// The lexicographically first point above `point`, or the first of all if `point` is None; the result is None exactly if there is no such
+/// point.
+pub fn dom_next_after(dom: &Dom, point: Option<&Point>) -> Option<Point>
+    requires { IfSome (option_copied point) (λ q. q.dim ≡ dom.now.dim) }
     ensures point { IfSome result IsPoint }
-    ensures next { MatchOption result (NoneAfter (IsAmong a.now.points) (option_copied p.entry))
-        (λ q. IsNextAfter (IsAmong a.now.points) (option_copied p.entry) q) }
+    ensures next { MatchOption result (NoneAfter (IsAmong dom.now.points) (option_copied point.entry))
+        (λ q. IsNextAfter (IsAmong dom.now.points) (option_copied point.entry) q) }
 {
-    let pieces = dom_pieces(a);
+    let pieces = dom_pieces(dom);
     let mut next = None;
     for r in pieces {
-        next = sooner(next, rect_next_after(r, p));
+        next = earlier_point(next, rect_next_after(r, point));
     }
     next
 }

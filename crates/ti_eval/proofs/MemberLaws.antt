@@ -14,19 +14,19 @@ use Rattle.ti_base.proofs.Lemmas.{length_points, among_from, among_to}
 use Rattle.ti_rect.proofs.Lemmas.{in_tests}
 use Rattle.ti_domain.proofs.Lemmas.{dim_of}
 use Rattle.ti_lang.specs.Meaning.Held.{Plain}
-use Rattle.ti_lang.specs.Meaning.Asking.{Gives, Fails}
-use Rattle.ti_lang.specs.Meaning.MemberForms.{sized}
+use Rattle.ti_lang.specs.Meaning.Comp.{Gives, Fails}
+use Rattle.ti_lang.specs.Meaning.MemberForms.{domain_size}
 use Rattle.ti_eval.proofs.Sizes.{passes, fails}
 
 -- ---- sizes
 
-pub counts : (at : Place) (r : Rect) (n : ℤ) (rest : List Answer) → (2147483647 < length (points_of r) → ⊥) → n ≡ pos (length (points_of r)) → sized at (Plain (Rc r)) rest ≡ Gives (Plain (Int n)) rest
+pub counts : (at : Place) (r : Rect) (n : ℤ) (rest : List Answer) → (2147483647 < length (points_of r) → ⊥) → n ≡ pos (length (points_of r)) → domain_size at (Plain (Rc r)) rest ≡ Gives (Plain (Int n)) rest
 counts at r n rest h e =
     let s : size_of r ≤ 2147483647 = omega (arith, h, length_points r) in
     passes (size_of r) 2147483647 DomainSize at (Plain (Int (pos (size_of r)))) rest s
     ∙ ap (λ (k : ℤ). Gives (Plain (Int k)) rest) (ap pos (sym (length_points r)) ∙ sym e)
 
-pub uncounted : (at : Place) (r : Rect) (rest : List Answer) → 2147483647 < length (points_of r) → sized at (Plain (Rc r)) rest ≡ Fails DomainSize at
+pub uncounted : (at : Place) (r : Rect) (rest : List Answer) → 2147483647 < length (points_of r) → domain_size at (Plain (Rc r)) rest ≡ Fails DomainSize at
 uncounted at r rest h =
     let s : 2147483647 < size_of r = omega (arith, length_points r) in
     fails (size_of r) 2147483647 DomainSize at (Plain (Int (pos (size_of r)))) rest s

@@ -11,16 +11,16 @@ use Rattle.ti_base.specs.declared.entry.Answer.{Answer}
 use Rattle.ti_base.specs.Rects.{points_of, size_of}
 use Rattle.ti_base.proofs.Lemmas.{length_points}
 use Rattle.ti_lang.specs.Meaning.Held.{Plain, Dm}
-use Rattle.ti_lang.specs.Meaning.Asking.{Gives, Fails, guarded}
+use Rattle.ti_lang.specs.Meaning.Comp.{Gives, Fails, guard}
 use Rattle.ti_lang.specs.Meaning.Conversions.{to_domain, domain_within}
 use Rattle.ti_domain.specs.Domains.{Domain}
 
-pub passes : {A : Type 0} (n m : ℕ) (kind : FaultKind) (at : Place) (a : A) (rest : List Answer) → n ≤ m → guarded (nat_le n m) kind at a rest ≡ Gives a rest
+pub passes : {A : Type 0} (n m : ℕ) (kind : FaultKind) (at : Place) (a : A) (rest : List Answer) → n ≤ m → guard (nat_le n m) kind at a rest ≡ Gives a rest
 passes n m kind at a rest h =
     let t : nat_le n m ≡ true = grind (arith, nat_tests) in
     rw t refl
 
-pub fails : {A : Type 0} (n m : ℕ) (kind : FaultKind) (at : Place) (a : A) (rest : List Answer) → m < n → guarded (nat_le n m) kind at a rest ≡ Fails kind at
+pub fails : {A : Type 0} (n m : ℕ) (kind : FaultKind) (at : Place) (a : A) (rest : List Answer) → m < n → guard (nat_le n m) kind at a rest ≡ Fails kind at
 fails n m kind at a rest h =
     let t : nat_le n m ≡ false = grind (arith, nat_tests) in
     rw t refl

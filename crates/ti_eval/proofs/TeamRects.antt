@@ -10,7 +10,7 @@ use Rattle.ti_lang.specs.Meaning.Operands.{same_points}
 use Rattle.ti_lang.specs.Meaning.Copies.{element_at}
 use Rattle.ti_lang.specs.Meaning.Collectives.{team}
 use Rattle.ti_eval.proofs.Points.{tells_same}
-use Rattle.ti_eval.specs.Mirrors.Teams.{last_of}
+use Rattle.ti_eval.specs.Mirrors.ProcDomain.{last_proc_element}
 
 none_among : (ps : List Point) → ((p : Point) → IsAmong ps p → ⊥) → ps ≡ []
 none_among [] h = refl
@@ -35,7 +35,7 @@ of_none b r n f e h =
 
 -- ---- a team of some
 
-first_in : (n : ℕ) → 0 < n → IsSpanned (element_at 0) (last_of n) (element_at 1) (element_at 0)
+first_in : (n : ℕ) → 0 < n → IsSpanned (element_at 0) (last_proc_element n) (element_at 1) (element_at 0)
 first_in n some = record {
   one_dim = refl;
   first = record { steps = 0; reached = refl; within = omega (arith, ints) };
@@ -44,11 +44,11 @@ first_in n some = record {
 }
 
 -- the element of the first process is among those of all
-pub first_spanned : (n : ℕ) (lo hi step : Point) → lo ≡ element_at 0 → hi ≡ last_of n → step ≡ element_at 1 → 0 < n → IsSpanned lo hi step (element_at 0)
+pub first_spanned : (n : ℕ) (lo hi step : Point) → lo ≡ element_at 0 → hi ≡ last_proc_element n → step ≡ element_at 1 → 0 < n → IsSpanned lo hi step (element_at 0)
 first_spanned n lo hi step e f g some =
     subst (λ (p : Point). IsSpanned p hi step (element_at 0)) (sym e)
     (subst (λ (p : Point). IsSpanned (element_at 0) p step (element_at 0)) (sym f)
-    (subst (λ (p : Point). IsSpanned (element_at 0) (last_of n) p (element_at 0)) (sym g) (first_in n some)))
+    (subst (λ (p : Point). IsSpanned (element_at 0) (last_proc_element n) p (element_at 0)) (sym g) (first_in n some)))
 
 same_rect : (r s : Rect) (q : Point) → IsRect r → IsRect s → IsIn s q → points_of r ≡ points_of s → r ≡ s
 same_rect r s q f g w l =

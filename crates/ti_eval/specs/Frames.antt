@@ -11,19 +11,19 @@ use Rattle.ti_lang.specs.Program.Expressions.{NumberedExp, NumberedExps}
 use Rattle.ti_lang.specs.Program.Expressions as e
 use Rattle.ti_lang.specs.Program.Statements.{NumberedStm, MaybeNumbered, NoStm, NumberedStms}
 use Rattle.ti_lang.specs.Program.Statements as s
-use Rattle.ti_lang.specs.Program.Classes.{NumberedMethod, NumberedProgram, Void, Words}
+use Rattle.ti_lang.specs.Program.Classes.{NumberedMethod, ProgramView, Void, MainArgs}
 use Rattle.ti_lang.specs.Program.Views.{numbered_method_of, variable_of}
-use Rattle.ti_lang.specs.Typing.TextTypes.{type_in_text}
+use Rattle.ti_lang.specs.Typing.TextTypes.{syntactic_type}
 use Rattle.ti_lang.specs.Meaning.Held.{Held, points_in, dim_of}
-use Rattle.ti_lang.specs.Meaning.Asking.{Reference}
-use Rattle.ti_lang.specs.Meaning.Copies.{counted}
-use Rattle.ti_lang.specs.Meaning.Processes.{Variable, Loop, While, Foreach, Work, Do, End, Before, Behind, CopyAll, TakeAll}
+use Rattle.ti_lang.specs.Meaning.Comp.{Reference}
+use Rattle.ti_lang.specs.Meaning.Copies.{count_up}
+use Rattle.ti_lang.specs.Meaning.Processes.{Variable, Loop, While, Foreach, ContItem, Do, End, Before, Behind, CopyAll, TakeAll}
 use Rattle.ti_eval.specs.declared.frame.Slot.{Slot}
-use Rattle.ti_eval.specs.declared.frame.Todo.{Todo}
-use Rattle.ti_eval.specs.declared.frame.Todo.TheVariants as todo
-use Rattle.ti_eval.specs.declared.frame.Level.{Level}
-use Rattle.ti_eval.specs.declared.frame.Part.TheVariants as part
-use Rattle.ti_eval.specs.Places.{list_of, part_of, inside}
+use Rattle.ti_eval.specs.declared.frame.Resume.{Resume}
+use Rattle.ti_eval.specs.declared.frame.Resume.TheVariants as resume
+use Rattle.ti_eval.specs.declared.frame.StmtFrame.{StmtFrame}
+use Rattle.ti_eval.specs.declared.frame.ChildIndex.TheVariants as part
+use Rattle.ti_eval.specs.Places.{list_of, child_of, inside}
 
 -- ---- variables
 
@@ -48,7 +48,7 @@ no_method = record {
   result = Void;
   place = nowhere;
   name = 0;
-  params = Words;
+  params = MainArgs;
   body = [];
   end = nowhere;
 }
@@ -60,11 +60,11 @@ method_seen (Some m) = numbered_method_of m.now
 -- ---- the parts of statements
 
 -- The place of a loop.
-abbrev pub place_of : NumberedStm → Place
-place_of (s.While at c body) = at
-place_of (s.For at first c update body) = at
-place_of (s.Foreach at variable domain body) = at
-place_of x = nowhere
+abbrev pub loop_place_of : NumberedStm → Place
+loop_place_of (s.While at c body) = at
+loop_place_of (s.For at first c update body) = at
+loop_place_of (s.Foreach at variable domain body) = at
+loop_place_of x = nowhere
 
 -- The condition of a loop.
 abbrev pub condition_in : NumberedStm → Option NumberedExp
@@ -102,20 +102,20 @@ member_args x = e.NoExp
 -- ---- work
 
 -- The program, the class of `this`, and the number of processes.
-pub record Site : Type 0 where
-  pub program : NumberedProgram
+pub record MethodContext : Type 0 where
+  pub program : ProgramView
   pub this : Option ℕ
   pub procs : ℕ
 
 -- A `while` or `for` as a loop, given any statement.
 abbrev pub loop_of : NumberedStm → Loop
-loop_of x = While (place_of x) (condition_in x) (update_in x) (part_of x part.Body)
+loop_of x = While (loop_place_of x) (condition_in x) (update_in x) (child_of x part.Body)
 
 abbrev pub foreach_of : NumberedStm → ℕ → List Point → Loop
-foreach_of x variable points = Foreach (place_of x) variable (domain_in x) points (part_of x part.Body)
+foreach_of x variable points = Foreach (loop_place_of x) variable (domain_in x) points (child_of x part.Body)
 
 -- The end of a `for`.
-abbrev pub end_of_for : NumberedStm → List Work
+abbrev pub end_of_for : NumberedStm → List ContItem
 end_of_for (s.For at first c update body) = End (s.For at first c update body) ∷ []
 end_of_for x = []
 
@@ -130,40 +130,40 @@ from_point domain None = []
 from_point domain (Some p) = p ∷ points_above domain (Some p)
 
 -- A reference to an object or a grid, with the type of the expression that yielded it.
-abbrev pub reference : Site → NumberedExp → Id → Reference
-reference site x id = record { thing = id; type = type_in_text site.program site.this x }
+abbrev pub reference : MethodContext → NumberedExp → Id → Reference
+reference site x id = record { thing = id; type = syntactic_type site.program site.this x }
 
-abbrev pub first_reference : Site → NumberedExps → Id → Reference
+abbrev pub first_reference : MethodContext → NumberedExps → Id → Reference
 first_reference site e.NoExp id = record { thing = id; type = t.Void }
 first_reference site (e.MoreExp x xs) id = reference site x id
 
 -- The pending work of a statement.
-abbrev pub work_of : Site → NumberedStm → Todo → List Work
-work_of site x todo.Here = Do x ∷ []
-work_of site x todo.Inside = []
-work_of site x (todo.From n) = map Do (drop n (list_in x)) ++ End x ∷ []
-work_of site x todo.Ending = End x ∷ []
-work_of site x todo.Before = Before (loop_of x) ∷ end_of_for x
-work_of site x todo.Behind = Behind (loop_of x) ∷ end_of_for x
-work_of site x (todo.Each variable domain last) = Before (foreach_of x variable (points_above domain.value last)) ∷ []
-work_of site x (todo.Turn variable domain at) = Behind (foreach_of x variable (at.point ∷ points_above domain.value (Some at.point))) ∷ []
-work_of site x (todo.Copying copy last) =
+abbrev pub work_of : MethodContext → NumberedStm → Resume → List ContItem
+work_of site x resume.Here = Do x ∷ []
+work_of site x resume.Inside = []
+work_of site x (resume.From n) = map Do (drop n (list_in x)) ++ End x ∷ []
+work_of site x resume.Ending = End x ∷ []
+work_of site x resume.Before = Before (loop_of x) ∷ end_of_for x
+work_of site x resume.Behind = Behind (loop_of x) ∷ end_of_for x
+work_of site x (resume.Each variable domain last) = Before (foreach_of x variable (points_above domain.value last)) ∷ []
+work_of site x (resume.Turn variable domain at) = Behind (foreach_of x variable (at.point ∷ points_above domain.value (Some at.point))) ∷ []
+work_of site x (resume.Copying copy last) =
     CopyAll (member_place x) (reference site (member_receiver x) copy.value.to) (first_reference site (member_args x) copy.value.from)
     (points_above copy.value.domain last) ∷ []
-work_of site x (todo.Taking grid next) =
-    TakeAll (member_place x) (reference site (member_receiver x) grid) (counted next (site.procs - next)) ∷ []
+work_of site x (resume.Taking grid next) =
+    TakeAll (member_place x) (reference site (member_receiver x) grid) (count_up next (site.procs - next)) ∷ []
 
 -- The pending work of the body of a method.
-abbrev pub work_of_body : NumberedStms → Todo → List Work
-work_of_body body (todo.From n) = map Do (drop n (list_of body))
+abbrev pub work_of_body : NumberedStms → Resume → List ContItem
+work_of_body body (resume.From n) = map Do (drop n (list_of body))
 work_of_body body t = []
 
 -- The pending work of a frame, from that of the innermost statement on.
-abbrev pub left_of : Site → NumberedStms → List Level → Todo → List Work
-left_of site body [] t = work_of_body body t
-left_of site body (l ∷ ls) t = work_of site (inside body (l ∷ ls)) t ++ left_of site body ls l.todo
+abbrev pub pending_of : MethodContext → NumberedStms → List StmtFrame → Resume → List ContItem
+pending_of site body [] t = work_of_body body t
+pending_of site body (l ∷ ls) t = work_of site (inside body (l ∷ ls)) t ++ pending_of site body ls l.resume
 
 -- The pending work after the innermost statement.
-abbrev pub rest_of : Site → NumberedStms → List Level → List Work
+abbrev pub rest_of : MethodContext → NumberedStms → List StmtFrame → List ContItem
 rest_of site body [] = []
-rest_of site body (l ∷ ls) = left_of site body ls l.todo
+rest_of site body (l ∷ ls) = pending_of site body ls l.resume

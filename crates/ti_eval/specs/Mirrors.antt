@@ -1,2 +1,2 @@
 -- Definitions that mirror the code, for contracts of private functions: no public claim depends on them.
-pub mod Teams
+pub mod ProcDomain

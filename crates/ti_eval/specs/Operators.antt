@@ -12,19 +12,19 @@ use Rattle.ti_lang.specs.Meaning.Operands as seen
 use Rattle.ti_lang.specs.Meaning.Operands.{held_dim}
 use Rattle.ti_eval.specs.declared.pairs.Operands.{Operands}
 use Rattle.ti_eval.specs.declared.pairs.Operands.TheVariants as o
-use Rattle.ti_eval.specs.declared.kinds.Both.{Both}
-use Rattle.ti_eval.specs.declared.kinds.Both.TheVariants as b
-use Rattle.ti_eval.specs.declared.kinds.Test.{Test}
-use Rattle.ti_eval.specs.declared.kinds.Test.TheVariants as t
-use Rattle.ti_eval.specs.declared.kinds.Bits.{Bits}
-use Rattle.ti_eval.specs.declared.kinds.Bits.TheVariants as i
-use Rattle.ti_eval.specs.declared.kinds.Shift.{Shift}
-use Rattle.ti_eval.specs.declared.kinds.Shift.TheVariants as h
+use Rattle.ti_eval.specs.declared.kinds.SetOp.{SetOp}
+use Rattle.ti_eval.specs.declared.kinds.SetOp.TheVariants as b
+use Rattle.ti_eval.specs.declared.kinds.CmpOp.{CmpOp}
+use Rattle.ti_eval.specs.declared.kinds.CmpOp.TheVariants as t
+use Rattle.ti_eval.specs.declared.kinds.BitOp.{BitOp}
+use Rattle.ti_eval.specs.declared.kinds.BitOp.TheVariants as i
+use Rattle.ti_eval.specs.declared.kinds.ShiftOp.{ShiftOp}
+use Rattle.ti_eval.specs.declared.kinds.ShiftOp.TheVariants as h
 
 abbrev pub operands_of : Operands → seen.Operands
 operands_of (o.Ints a b) = seen.Wholes w32 a b
 operands_of (o.Longs a b) = seen.Wholes w64 a b
-operands_of (o.Truths a b) = seen.Truths a b
+operands_of (o.Bools a b) = seen.Truths a b
 operands_of (o.Points p q) = seen.Points p q
 operands_of (o.Rects r s) = seen.Rects r s
 operands_of o.Domains = seen.Domains
@@ -50,28 +50,28 @@ AreDomains _ x y = Unit {0}
 
 -- ---- operators
 
-abbrev pub set_of : Both → List Point → List Point → List Point
+abbrev pub set_of : SetOp → List Point → List Point → List Point
 set_of b.Union = union
-set_of b.Minus = minus
-set_of b.Meet = meet
+set_of b.Difference = minus
+set_of b.Intersection = meet
 
-abbrev pub test_of : Test → ℤ → ℤ → Bool
+abbrev pub test_of : CmpOp → ℤ → ℤ → Bool
 test_of t.Less x y = int_lt x y
 test_of t.LessEqual x y = int_le x y
 test_of t.Greater x y = int_lt y x
 test_of t.GreaterEqual x y = int_le y x
 
-abbrev pub bits_by : Bits → ℕ → ℕ → ℕ
+abbrev pub bits_by : BitOp → ℕ → ℕ → ℕ
 bits_by i.And x y = bit_and x y
 bits_by i.Or x y = bit_or x y
 bits_by i.Xor x y = bit_xor x y
 
-abbrev pub truths_by : Bits → Bool → Bool → Bool
-truths_by i.And x y = x && y
-truths_by i.Or x y = x || y
-truths_by i.Xor x y = not (same_truth x y)
+abbrev pub bools_by : BitOp → Bool → Bool → Bool
+bools_by i.And x y = x && y
+bools_by i.Or x y = x || y
+bools_by i.Xor x y = not (same_truth x y)
 
-abbrev pub shift_by : Shift → Width → ℤ → ℤ → ℤ
+abbrev pub shift_by : ShiftOp → Width → ℤ → ℤ → ℤ
 shift_by h.Left w x y = shift_left w x y
 shift_by h.Right w x y = shift_right w x y
 shift_by h.Unsigned w x y = shift_right_unsigned w x y

@@ -8,119 +8,119 @@ ghost use Rattle.ti_lang.specs.Meaning.Operators as ops;
 ghost use Rattle.ti_eval.specs.Comes.{Comes};
 ghost use Rattle.ti_eval.specs.Operators.{HaveOneDim, test_of};
 
+use crate::canonical_answer::{CanonicalAnswer, Evaluated};
 use crate::conversions::as_domain;
-use crate::held::Held;
-use crate::kinds::Test;
-use crate::pairing::operands;
+use crate::kinds::CmpOp;
+use crate::operand_pair::operands;
 use crate::pairs::Operands;
-use crate::told::{Given, Told};
+use crate::var_value::VarValue;
 use std::alloc::Global;
 use ti_base::{Id, Place, Point, Rect};
 use ti_domain::{Dom, dom_same};
 
-fn test(op: Test, a: i64, b: i64) -> bool
-    ensures { result ≡ test_of op a b }
+fn test(operator: CmpOp, left: i64, right: i64) -> bool
+    ensures { result ≡ test_of operator left right }
 {
-    match op {
-        Test::Less => a < b,
-        Test::LessEqual => a <= b,
-        Test::Greater => a > b,
-        Test::GreaterEqual => a >= b,
+    match operator {
+        CmpOp::Less => left < right,
+        CmpOp::LessEqual => left <= right,
+        CmpOp::Greater => left > right,
+        CmpOp::GreaterEqual => left >= right,
     }
 }
 
 // The test holds, or the coordinate isn't used.
-fn unless(is_unused: bool, op: Test, a: i32, b: i32) -> bool
-    ensures { result ≡ (is_unused || test_of op a b) }
+fn unless(is_unused: bool, operator: CmpOp, left: i32, right: i32) -> bool
+    ensures { result ≡ (is_unused || test_of operator left right) }
 {
     if is_unused {
         true
     } else {
-        test(op, i64::from(a), i64::from(b))
+        test(operator, i64::from(left), i64::from(right))
     }
 }
 
 // For the prover: a conjunction of three.
-fn all_three(a: bool, b: bool, c: bool) -> bool
-    ensures { result ≡ (a && b && c) }
+fn all_three(first: bool, second: bool, third: bool) -> bool
+    ensures { result ≡ (first && second && third) }
 {
-    a && b && c
+    first && second && third
 }
 
 // The test holds in each coordinate that is used.
-fn in_each(op: Test, p: &Point, q: &Point) -> bool
-    ensures { result ≡ seen.in_each (test_of op) p.now q.now }
+fn in_each(operator: CmpOp, point: &Point, other: &Point) -> bool
+    ensures { result ≡ seen.in_each (test_of operator) point.now other.now }
 {
-    let first = test(op, i64::from(p.x1), i64::from(q.x1));
-    let second = unless(p.dim < 2, op, p.x2, q.x2);
-    let third = unless(p.dim < 3, op, p.x3, q.x3);
+    let first = test(operator, i64::from(point.x1), i64::from(other.x1));
+    let second = unless(point.dim < 2, operator, point.x2, other.x2);
+    let third = unless(point.dim < 3, operator, point.x3, other.x3);
     all_three(first, second, third)
 }
 
 /// A comparison of two numbers or of two points; that of points holds if it holds in every coordinate. `false` for other operands.
-pub fn compared(op: Test, x: &Held, y: &Held) -> Held
-    ensures { result ≡ ops.compared (test_of op) (seen.operands x.now y.now) }
+pub fn compare(operator: CmpOp, left: &VarValue, right: &VarValue) -> VarValue
+    ensures { result ≡ ops.compare_values (test_of operator) (seen.operands left.now right.now) }
 {
-    match operands(x, y) {
-        Operands::Ints(a, b) => Held::truth(test(op, i64::from(a), i64::from(b))),
-        Operands::Longs(a, b) => Held::truth(test(op, a, b)),
-        Operands::Points(p, q) => Held::truth(in_each(op, &p, &q)),
-        _ => Held::truth(false),
+    match operands(left, right) {
+        Operands::Ints(a, b) => VarValue::boolean(test(operator, i64::from(a), i64::from(b))),
+        Operands::Longs(a, b) => VarValue::boolean(test(operator, a, b)),
+        Operands::Points(p, q) => VarValue::boolean(in_each(operator, &p, &q)),
+        _ => VarValue::boolean(false),
     }
 }
 
 // ---- equality
 
-fn same_point(p: &Point, q: &Point) -> bool
-    ensures { result ≡ same_point_spec p.now q.now }
+fn same_point(point: &Point, other: &Point) -> bool
+    ensures { result ≡ same_point_spec point.now other.now }
 {
-    p.dim == q.dim && p.x1 == q.x1 && p.x2 == q.x2 && p.x3 == q.x3
+    point.dim == other.dim && point.x1 == other.x1 && point.x2 == other.x2 && point.x3 == other.x3
 }
 
 // Whether two rectangular domains of one dimension have the same points.
-fn same_rect(r: &Rect, s: &Rect) -> bool
-    requires first { IsRect r.now }
-    requires second { IsRect s.now }
-    requires dim { s.now.dim ≡ r.now.dim }
-    ensures { result ≡ seen.same_points (points_of r.now) (points_of s.now) }
+fn same_rect(rect: &Rect, other: &Rect) -> bool
+    requires first { IsRect rect.now }
+    requires second { IsRect other.now }
+    requires dim { other.now.dim ≡ rect.now.dim }
+    ensures { result ≡ seen.same_points (points_of rect.now) (points_of other.now) }
 {
-    if !same_point(&r.lo, &s.lo) {
+    if !same_point(&rect.lo, &other.lo) {
         return false;
     }
-    if !same_point(&r.hi, &s.hi) {
+    if !same_point(&rect.hi, &other.hi) {
         return false;
     }
-    if r.step[0] != s.step[0] {
+    if rect.step[0] != other.step[0] {
         return false;
     }
-    if r.step[1] != s.step[1] {
+    if rect.step[1] != other.step[1] {
         return false;
     }
-    if r.step[2] != s.step[2] {
+    if rect.step[2] != other.step[2] {
         return false;
     }
     true
 }
 
 // Whether two domains of one dimension have the same points.
-fn same_domain(d: &Dom, e: &Dom) -> bool
-    requires { e.now.dim ≡ d.now.dim }
-    ensures { result ≡ seen.same_points d.now.points e.now.points }
+fn same_domain(domain: &Dom, other: &Dom) -> bool
+    requires { other.now.dim ≡ domain.now.dim }
+    ensures { result ≡ seen.same_points domain.now.points other.now.points }
 {
-    dom_same(d, e)
+    dom_same(domain, other)
 }
 
-fn same_thing(a: Option<Id>, b: Option<Id>) -> bool
-    ensures { result ≡ seen.same_thing a b }
+fn same_thing(left: Option<Id>, right: Option<Id>) -> bool
+    ensures { result ≡ seen.same_thing left right }
 {
-    match a {
-        None => match b {
+    match left {
+        None => match right {
             None => true,
             Some(_) => false,
         },
-        Some(a) => match b {
+        Some(left) => match right {
             None => false,
-            Some(b) => a.maker == b.maker && a.serial == b.serial,
+            Some(right) => left.maker == right.maker && left.serial == right.serial,
         },
     }
 }
@@ -129,36 +129,36 @@ fn same_thing(a: Option<Id>, b: Option<Id>) -> bool
 #[tactic(auto, using(crate::proofs::Steps::steps))]
 fn equal_domains<'a>(
     alloc: Global,
-    at: Place,
-    x: &Held,
-    y: &Held,
-    answers: &'a [Told],
-) -> Given<'a, bool>
-    requires { HaveOneDim x.now y.now }
-    ensures { Comes result (ops.equal at x.now y.now seen.Domains answers.now) }
+    place: Place,
+    left: &VarValue,
+    right: &VarValue,
+    answers: &'a [CanonicalAnswer],
+) -> Evaluated<'a, bool>
+    requires { HaveOneDim left.now right.now }
+    ensures { Comes result (ops.equal place left.now right.now seen.Domains answers.now) }
 {
-    let (d, answers) = as_domain(alloc, at, x, answers)?;
-    let (e, answers) = as_domain(alloc, at, y, answers)?;
+    let (d, answers) = as_domain(alloc, place, left, answers)?;
+    let (e, answers) = as_domain(alloc, place, right, answers)?;
     Ok((same_domain(&d, &e), answers))
 }
 
 /// Whether two operands are equal. It can fault, since a rectangular domain may have to be converted.
 pub fn equal<'a>(
     alloc: Global,
-    at: Place,
-    x: &Held,
-    y: &Held,
-    answers: &'a [Told],
-) -> Given<'a, bool>
-    ensures { Comes result (ops.equal at x.now y.now (seen.operands x.now y.now) answers.now) }
+    place: Place,
+    left: &VarValue,
+    right: &VarValue,
+    answers: &'a [CanonicalAnswer],
+) -> Evaluated<'a, bool>
+    ensures { Comes result (ops.equal place left.now right.now (seen.operands left.now right.now) answers.now) }
 {
-    match operands(x, y) {
+    match operands(left, right) {
         Operands::Ints(a, b) => Ok((a == b, answers)),
         Operands::Longs(a, b) => Ok((a == b, answers)),
-        Operands::Truths(a, b) => Ok((a == b, answers)),
+        Operands::Bools(a, b) => Ok((a == b, answers)),
         Operands::Points(p, q) => Ok((same_point(&p, &q), answers)),
         Operands::Rects(r, s) => Ok((same_rect(&r, &s), answers)),
-        Operands::Domains => equal_domains(alloc, at, x, y, answers),
+        Operands::Domains => equal_domains(alloc, place, left, right, answers),
         Operands::Things(a, b) => Ok((same_thing(a, b), answers)),
         Operands::Regions(a, b) => Ok((a == b, answers)),
         Operands::Others => Ok((false, answers)),

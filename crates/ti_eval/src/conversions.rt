@@ -13,104 +13,119 @@ ghost use Rattle.ti_lang.specs.Meaning.Evaluation.{kept_local as kept_local_spec
 ghost use Rattle.ti_domain.specs.Domains.{Domain};
 ghost use Rattle.ti_eval.specs.Comes.{Comes, ComesAs};
 
-use crate::held::Held;
-use crate::stop::Stop;
-use crate::told::{Given, Told};
+use crate::canonical_answer::{CanonicalAnswer, Evaluated};
+use crate::interrupt::Interrupt;
+use crate::var_value::VarValue;
 use std::alloc::Global;
 use ti_base::{FaultKind, Id, Place, Rect, Value, to_int, to_long};
-use ti_domain::{Dom, DomErr, Held as Kept, dom_copy, dom_of};
+use ti_domain::{Dom, DomErr, Held, dom_copy, dom_of};
 use ti_lang::program::Ty;
-use ti_lang::typing::Seen;
+use ti_lang::typing::TyRef;
 
 // The domain of the points of a rectangular one; a fault if there are too many.
-fn widened<'a>(alloc: Global, at: Place, r: &Rect, answers: &'a [Told]) -> Given<'a, Dom>
-    requires { IsRect r.now }
-    ensures came { ComesAs (λ (d : Domain). Dm d.dim d.points) result (conversions.to_domain at (Plain (Rc r.now)) answers.now) }
-    ensures dim { IfOk result (λ p. p.0.dim ≡ r.now.dim) }
+fn widen<'a>(
+    alloc: Global,
+    place: Place,
+    rect: &Rect,
+    answers: &'a [CanonicalAnswer],
+) -> Evaluated<'a, Dom>
+    requires { IsRect rect.now }
+    ensures came { ComesAs (λ (d : Domain). Dm d.dim d.points) result (conversions.to_domain place (Plain (Rc rect.now)) answers.now) }
+    ensures dim { IfOk result (λ p. p.0.dim ≡ rect.now.dim) }
 {
-    match dom_of(alloc, r) {
+    match dom_of(alloc, rect) {
         Ok(d) => Ok((d, answers)),
-        Err(DomErr::TooLarge) => Err(Stop::Fails(FaultKind::DomainSize, at)),
-        Err(DomErr::Memory) => Err(Stop::Memory),
+        Err(DomErr::TooLarge) => Err(Interrupt::Fault(FaultKind::DomainSize, place)),
+        Err(DomErr::Memory) => Err(Interrupt::Memory),
     }
 }
 
 /// Converts a rectangular domain to a general one; a fault if it has too many points. Any other value is unchanged.
-pub fn to_domain<'a>(alloc: Global, at: Place, h: Held, answers: &'a [Told]) -> Given<'a, Held>
-    ensures { Comes result (conversions.to_domain at h answers.now) }
+pub fn to_domain<'a>(
+    alloc: Global,
+    place: Place,
+    value: VarValue,
+    answers: &'a [CanonicalAnswer],
+) -> Evaluated<'a, VarValue>
+    ensures { Comes result (conversions.to_domain place value answers.now) }
 {
-    match &h.kept {
-        Kept::Plain(Value::Rc(r)) => {
-            let (d, answers) = widened(alloc, at, r, answers)?;
-            Ok((Held::domain(d), answers))
+    match &value.kept {
+        Held::Plain(Value::Rc(r)) => {
+            let (d, answers) = widen(alloc, place, r, answers)?;
+            Ok((VarValue::domain(d), answers))
         }
-        _ => Ok((h, answers)),
+        _ => Ok((value, answers)),
     }
 }
 
 /// A copy of a domain, rectangular or not, as a general one; a fault if it has too many points.
-pub fn as_domain<'a>(alloc: Global, at: Place, h: &Held, answers: &'a [Told]) -> Given<'a, Dom>
-    requires { (n : ℕ) × (held_dim h.now ≡ Some n) }
-    ensures came { ComesAs (λ (d : Domain). Dm d.dim d.points) result (conversions.to_domain at h.now answers.now) }
-    ensures dim { IfOk result (λ p. held_dim h.now ≡ Some p.0.dim) }
+pub fn as_domain<'a>(
+    alloc: Global,
+    place: Place,
+    value: &VarValue,
+    answers: &'a [CanonicalAnswer],
+) -> Evaluated<'a, Dom>
+    requires { (n : ℕ) × (held_dim value.now ≡ Some n) }
+    ensures came { ComesAs (λ (d : Domain). Dm d.dim d.points) result (conversions.to_domain place value.now answers.now) }
+    ensures dim { IfOk result (λ p. held_dim value.now ≡ Some p.0.dim) }
 {
-    match &h.kept {
-        Kept::Plain(Value::Rc(r)) => widened(alloc, at, r, answers),
-        Kept::Plain(_) => unreachable!(),
-        Kept::Dm(d) => Ok((dom_copy(alloc, d)?, answers)),
+    match &value.kept {
+        Held::Plain(Value::Rc(r)) => widen(alloc, place, r, answers),
+        Held::Plain(_) => unreachable!(),
+        Held::Dm(d) => Ok((dom_copy(alloc, d)?, answers)),
     }
 }
 
 /// Converts an int to a long; any other value is unchanged.
-pub fn as_long(h: Held) -> Held
-    ensures { result ≡ as_type types.Long h }
+pub fn as_long(value: VarValue) -> VarValue
+    ensures { result ≡ as_type types.Long value }
 {
-    match &h.kept {
-        Kept::Plain(Value::Int(n)) => Held::plain(Value::Long(to_long(*n))),
-        _ => h,
+    match &value.kept {
+        Held::Plain(Value::Int(n)) => VarValue::plain(Value::Long(to_long(*n))),
+        _ => value,
     }
 }
 
 /// Converts a long to an int, keeping its low 32 bits; any other value is unchanged.
-pub fn as_int(h: Held) -> Held
-    ensures { result ≡ as_type types.Int h }
+pub fn as_int(value: VarValue) -> VarValue
+    ensures { result ≡ as_type types.Int value }
 {
-    match &h.kept {
-        Kept::Plain(Value::Long(n)) => Held::plain(Value::Int(to_int(*n))),
-        _ => h,
+    match &value.kept {
+        Held::Plain(Value::Long(n)) => VarValue::plain(Value::Int(to_int(*n))),
+        _ => value,
     }
 }
 
 /// Converts a value to a type that isn't a domain's.
-pub fn as_type(ty: &Ty, h: Held) -> Held
-    ensures { result ≡ as_type (value_type_of ty.now) h }
+pub fn as_type(ty: &Ty, value: VarValue) -> VarValue
+    ensures { result ≡ as_type (value_type_of ty.now) value }
 {
     match ty {
-        Ty::Long => as_long(h),
-        Ty::Int => as_int(h),
-        Ty::Class { class: _, local: _ } => Held::plain(Value::Obj(h.thing())),
+        Ty::Long => as_long(value),
+        Ty::Int => as_int(value),
+        Ty::Class { class: _, local: _ } => VarValue::plain(Value::Obj(value.thing())),
         Ty::Grid {
             elem: _,
             dim: _,
             local: _,
-        } => Held::plain(Value::Grid(h.thing())),
-        _ => h,
+        } => VarValue::plain(Value::Grid(value.thing())),
+        _ => value,
     }
 }
 
 /// Converts a value to a type. A domain with too many points is a fault.
-pub fn converted<'a>(
+pub fn coerce<'a>(
     alloc: Global,
-    at: Place,
+    place: Place,
     ty: &Ty,
-    h: Held,
-    answers: &'a [Told],
-) -> Given<'a, Held>
-    ensures { Comes result (conversions.converted at (value_type_of ty.now) h answers.now) }
+    value: VarValue,
+    answers: &'a [CanonicalAnswer],
+) -> Evaluated<'a, VarValue>
+    ensures { Comes result (conversions.converted place (value_type_of ty.now) value answers.now) }
 {
     match ty {
-        Ty::Dm(_) => to_domain(alloc, at, h, answers),
-        _ => Ok((as_type(ty, h), answers)),
+        Ty::Dm(_) => to_domain(alloc, place, value, answers),
+        _ => Ok((as_type(ty, value), answers)),
     }
 }
 
@@ -126,22 +141,22 @@ fn is_own(number: u32, id: Option<Id>) -> bool
 fn is_local(ty: &Ty) -> bool
     ensures { result ≡ is_local_spec (value_type_of ty.now) }
 {
-    Seen::of(ty, false).is_local()
+    TyRef::of(ty, false).is_local()
 }
 
 /// Checks a reference of local type: a fault unless it is null or refers to an object or array of the process itself.
-pub fn kept_local<'a>(
+pub fn check_local<'a>(
     number: u32,
-    at: Place,
+    place: Place,
     ty: &Ty,
-    h: Held,
-    answers: &'a [Told],
-) -> Given<'a, Held>
-    ensures { Comes result (kept_local_spec number at (value_type_of ty.now) h answers.now) }
+    value: VarValue,
+    answers: &'a [CanonicalAnswer],
+) -> Evaluated<'a, VarValue>
+    ensures { Comes result (kept_local_spec number place (value_type_of ty.now) value answers.now) }
 {
-    if !is_local(ty) || is_own(number, h.thing()) {
-        Ok((h, answers))
+    if !is_local(ty) || is_own(number, value.thing()) {
+        Ok((value, answers))
     } else {
-        Err(Stop::Fails(FaultKind::NotLocal, at))
+        Err(Interrupt::Fault(FaultKind::NotLocal, place))
     }
 }

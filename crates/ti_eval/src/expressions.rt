@@ -11,11 +11,11 @@ ghost use Rattle.ti_lang.specs.Program.Expressions.{numbered_exps, numbered_rang
 ghost use Rattle.ti_lang.specs.Program.Expressions as form;
 ghost use Rattle.ti_lang.specs.Program.Views.{expression_of, bound_of, type_use_of, variable_of};
 ghost use Rattle.ti_lang.specs.Typing.Kinds.{is_point as is_point_spec};
-ghost use Rattle.ti_lang.specs.Typing.Seen.{built_in_of};
+ghost use Rattle.ti_lang.specs.Typing.TyRef.{built_in_of};
 ghost use Rattle.ti_lang.specs.Meaning.Scoping.{type_of as type_of_spec, value_by};
 ghost use Rattle.ti_lang.specs.Meaning.Held.{Held as Seen, Plain};
-ghost use Rattle.ti_lang.specs.Meaning.Asking.{followed, gives};
-ghost use Rattle.ti_lang.specs.Meaning.Parts.{Field, fetched, indexed as indexed_spec};
+ghost use Rattle.ti_lang.specs.Meaning.Comp.{bind_result, gives};
+ghost use Rattle.ti_lang.specs.Meaning.CellRefs.{Field, fetched, indexed as indexed_spec};
 ghost use Rattle.ti_lang.specs.Meaning.MemberForms as forms;
 ghost use Rattle.ti_lang.specs.Meaning.Evaluation as evaluation;
 ghost use Rattle.ti_eval.specs.Bounds.{bounds_of};
@@ -24,57 +24,81 @@ ghost use Rattle.ti_eval.specs.Envs.{env_of};
 ghost use Rattle.ti_eval.specs.Scalars.{held_of_scalar};
 
 use crate::bounds::Bounds;
-use crate::conversions::{converted, kept_local};
+use crate::canonical_answer::{CanonicalAnswer, Evaluated};
+use crate::conversions::{check_local, coerce};
 use crate::env::{Env, called_member, type_of, variable};
 use crate::fields::field_selected;
-use crate::held::Held;
+use crate::heap_reads::fetch_field;
 use crate::literals::{
-    joined, no_bounds, plain_bounds, point_of_numbers, rect_within, stepped_bounds, with_numbers,
+    concat_bounds, no_bounds, plain_bounds, point_of_numbers, rect_within, stepped_bounds,
+    with_numbers,
 };
-use crate::members::{indexed, member};
-use crate::operators::{operated, operated_alone, settled};
-use crate::parts::fetch_field;
+use crate::members::{index_value, member};
+use crate::operators::{apply_binary, apply_unary, short_circuit};
 use crate::scalars::Scalar;
-use crate::told::{Given, Told};
+use crate::var_value::VarValue;
 use std::alloc::Global;
 use ti_base::{Id, Place, Value};
 use ti_lang::program::{Expr, Range, TypeUse, Variable};
 use ti_lang::tree::{BinaryOperator, UnaryOperator};
-use ti_lang::typing::{BuiltIn, Seen as Kind};
+use ti_lang::typing::{BuiltIn, TyRef as Kind};
 
 // Whether the static type of an expression is that of a point.
-fn is_point(env: &Env, e: &Expr) -> bool
-    ensures { result ≡ is_point_spec (type_of_spec (env_of env.now) (expression_of e.now)) }
+fn is_point(env: &Env, expr: &Expr) -> bool
+    ensures { result ≡ is_point_spec (type_of_spec (env_of env.now) (expression_of expr.now)) }
 {
-    match type_of(env, e) {
+    match type_of(env, expr) {
         Kind::Pt(_) => true,
         _ => false,
     }
 }
 
 // The value of a variable.
-fn held_by<'a>(alloc: Global, env: &Env, v: &Variable, answers: &'a [Told]) -> Given<'a, Held>
-    ensures { Comes result (gives (value_by (variable_of v.now).declared (env_of env.now) (variable_of v.now)) answers.now) }
+fn value_of_variable<'a>(
+    alloc: Global,
+    env: &Env,
+    variable_use: &Variable,
+    answers: &'a [CanonicalAnswer],
+) -> Evaluated<'a, VarValue>
+    ensures { Comes result (gives (value_by (variable_of variable_use.now).declared (env_of env.now) (variable_of variable_use.now)) answers.now) }
 {
-    Ok((variable(alloc, env, v)?, answers))
+    Ok((variable(alloc, env, variable_use)?, answers))
 }
 
 // A field of `this`.
-fn own_field<'a>(env: &Env, at: Place, field: u32, answers: &'a [Told]) -> Given<'a, Held>
-    ensures { (type through : ValueType) → Comes result (fetched at type (Field (Plain (Obj env.now.this)) through field) answers.now) }
+fn own_field<'a>(
+    env: &Env,
+    place: Place,
+    field: u32,
+    answers: &'a [CanonicalAnswer],
+) -> Evaluated<'a, VarValue>
+    ensures { (type through : ValueType) → Comes result (fetched place type (Field (Plain (Obj env.now.this)) through field) answers.now) }
 {
-    fetch_field(at, &Held::plain(Value::Obj(env.this)), field, answers)
+    fetch_field(
+        place,
+        &VarValue::plain(Value::Obj(env.this)),
+        field,
+        answers,
+    )
 }
 
 // A point.
 #[cycle(evaluate)]
 #[tactic(auto, using(crate::proofs::Steps::steps))]
-fn point<'a>(alloc: Global, env: &Env, parts: &[Expr], answers: &'a [Told]) -> Given<'a, Held>
+fn point<'a>(
+    alloc: Global,
+    env: &Env,
+    parts: &[Expr],
+    answers: &'a [CanonicalAnswer],
+) -> Evaluated<'a, VarValue>
     ensures { (at : At) → Comes result (evaluation.eval (env_of env.now) (form.Point at (numbered_exps (map expression_of parts.now)))
         answers.now) }
 {
     let (numbers, answers) = evaluate_numbers(alloc, env, parts, answers)?;
-    Ok((Held::plain(Value::Pt(point_of_numbers(&numbers))), answers))
+    Ok((
+        VarValue::plain(Value::Pt(point_of_numbers(&numbers))),
+        answers,
+    ))
 }
 
 /// The rectangular domain of ranges, one per coordinate.
@@ -83,14 +107,14 @@ fn point<'a>(alloc: Global, env: &Env, parts: &[Expr], answers: &'a [Told]) -> G
 pub fn rectangle<'a>(
     alloc: Global,
     env: &Env,
-    at: Place,
+    place: Place,
     ranges: &[Range],
-    answers: &'a [Told],
-) -> Given<'a, Held>
-    ensures { Comes result (evaluation.eval (env_of env.now) (form.Rect at (numbered_ranges (map bound_of ranges.now))) answers.now) }
+    answers: &'a [CanonicalAnswer],
+) -> Evaluated<'a, VarValue>
+    ensures { Comes result (evaluation.eval (env_of env.now) (form.Rect place (numbered_ranges (map bound_of ranges.now))) answers.now) }
 {
     let (bounds, answers) = evaluate_ranges(alloc, env, ranges, answers)?;
-    rect_within(at, &bounds, answers)
+    rect_within(place, &bounds, answers)
 }
 
 // A unary operator.
@@ -99,14 +123,14 @@ pub fn rectangle<'a>(
 fn unary<'a>(
     alloc: Global,
     env: &Env,
-    op: UnaryOperator,
+    operator: UnaryOperator,
     operand: &Expr,
-    answers: &'a [Told],
-) -> Given<'a, Held>
-    ensures { (at : At) → Comes result (evaluation.eval (env_of env.now) (form.Unary at op (expression_of operand.now)) answers.now) }
+    answers: &'a [CanonicalAnswer],
+) -> Evaluated<'a, VarValue>
+    ensures { (at : At) → Comes result (evaluation.eval (env_of env.now) (form.Unary at operator (expression_of operand.now)) answers.now) }
 {
     let (h, answers) = evaluate(alloc, env, operand, answers)?;
-    Ok((operated_alone(op, h), answers))
+    Ok((apply_unary(operator, h), answers))
 }
 
 // A binary operator, given the value of its left operand. `&&` and `||` may not evaluate the right one.
@@ -115,19 +139,19 @@ fn unary<'a>(
 fn with_right<'a>(
     alloc: Global,
     env: &Env,
-    at: Place,
-    op: BinaryOperator,
-    h: &Held,
+    place: Place,
+    operator: BinaryOperator,
+    left: &VarValue,
     right: &Expr,
-    answers: &'a [Told],
-) -> Given<'a, Held>
-    ensures { Comes result (evaluation.with_right at op h.now (evaluation.eval (env_of env.now) (expression_of right.now)) answers.now) }
+    answers: &'a [CanonicalAnswer],
+) -> Evaluated<'a, VarValue>
+    ensures { Comes result (evaluation.with_right place operator left.now (evaluation.eval (env_of env.now) (expression_of right.now)) answers.now) }
 {
-    if let Some(k) = settled(op, h) {
+    if let Some(k) = short_circuit(operator, left) {
         return Ok((k, answers));
     }
     let (k, answers) = evaluate(alloc, env, right, answers)?;
-    operated(alloc, at, op, h, k, answers)
+    apply_binary(alloc, place, operator, left, k, answers)
 }
 
 // A cast.
@@ -136,34 +160,34 @@ fn with_right<'a>(
 fn cast<'a>(
     alloc: Global,
     env: &Env,
-    at: Place,
+    place: Place,
     to: &TypeUse,
     operand: &Expr,
-    answers: &'a [Told],
-) -> Given<'a, Held>
-    ensures { Comes result (evaluation.eval (env_of env.now) (form.Cast at (type_use_of to.now) (expression_of operand.now)) answers.now) }
+    answers: &'a [CanonicalAnswer],
+) -> Evaluated<'a, VarValue>
+    ensures { Comes result (evaluation.eval (env_of env.now) (form.Cast place (type_use_of to.now) (expression_of operand.now)) answers.now) }
 {
     let (h, answers) = evaluate(alloc, env, operand, answers)?;
-    let (k, answers) = converted(alloc, at, &to.ty, h, answers)?;
-    kept_local(env.team.number, at, &to.ty, k, answers)
+    let (k, answers) = coerce(alloc, place, &to.ty, h, answers)?;
+    check_local(env.rank.number, place, &to.ty, k, answers)
 }
 
 // A field of an object.
 #[cycle(evaluate)]
 #[tactic(auto, using(crate::proofs::Steps::steps))]
-fn selected<'a>(
+fn select_field<'a>(
     alloc: Global,
     env: &Env,
-    at: Place,
+    place: Place,
     receiver: &Expr,
     name: u32,
-    answers: &'a [Told],
-) -> Given<'a, Held>
-    ensures { Comes result (evaluation.eval (env_of env.now) (form.Select at (expression_of receiver.now) name) answers.now) }
+    answers: &'a [CanonicalAnswer],
+) -> Evaluated<'a, VarValue>
+    ensures { Comes result (evaluation.eval (env_of env.now) (form.Select place (expression_of receiver.now) name) answers.now) }
 {
     let (h, answers) = evaluate(alloc, env, receiver, answers)?;
     let field = field_selected(env, receiver, name)?;
-    fetch_field(at, &h, field, answers)
+    fetch_field(place, &h, field, answers)
 }
 
 // A built-in member, given the value of its receiver.
@@ -172,18 +196,18 @@ fn selected<'a>(
 fn with_arguments<'a>(
     alloc: Global,
     env: &Env,
-    at: Place,
+    place: Place,
     called: Option<BuiltIn>,
-    h: &Held,
+    value: &VarValue,
     args: &[Expr],
-    answers: &'a [Told],
-) -> Given<'a, Held>
-    ensures { (type through : ValueType) → Comes result (followed (evaluation.eval_all (env_of env.now)
+    answers: &'a [CanonicalAnswer],
+) -> Evaluated<'a, VarValue>
+    ensures { (type through : ValueType) → Comes result (bind_result (evaluation.eval_all (env_of env.now)
         (numbered_exps (map expression_of args.now)) answers.now)
-        (λ hs. forms.member at type (option_map built_in_of called) through h.now hs)) }
+        (λ hs. forms.member place type (option_map built_in_of called) through value.now hs)) }
 {
     let (hs, answers) = evaluate_all(alloc, env, args, answers)?;
-    member(at, called, h, &hs, answers)
+    member(place, called, value, &hs, answers)
 }
 
 // An indexing, given the value of the point or the grid.
@@ -192,18 +216,18 @@ fn with_arguments<'a>(
 fn with_indices<'a>(
     alloc: Global,
     env: &Env,
-    at: Place,
+    place: Place,
     is_point: bool,
-    h: &Held,
+    value: &VarValue,
     indices: &[Expr],
-    answers: &'a [Told],
-) -> Given<'a, Held>
-    ensures { (type through : ValueType) → Comes result (followed (evaluation.eval_numbers (env_of env.now)
+    answers: &'a [CanonicalAnswer],
+) -> Evaluated<'a, VarValue>
+    ensures { (type through : ValueType) → Comes result (bind_result (evaluation.eval_numbers (env_of env.now)
         (numbered_exps (map expression_of indices.now)) answers.now)
-        (λ xs. indexed_spec is_point at type through h.now xs)) }
+        (λ xs. indexed_spec is_point place type through value.now xs)) }
 {
     let (numbers, answers) = evaluate_numbers(alloc, env, indices, answers)?;
-    indexed(is_point, at, h, &numbers, answers)
+    index_value(is_point, place, value, &numbers, answers)
 }
 
 /// The values of expressions, in order.
@@ -211,15 +235,15 @@ fn with_indices<'a>(
 pub fn evaluate_all<'a>(
     alloc: Global,
     env: &Env,
-    xs: &[Expr],
-    answers: &'a [Told],
-) -> Given<'a, Vec<Held>>
+    exprs: &[Expr],
+    answers: &'a [CanonicalAnswer],
+) -> Evaluated<'a, Vec<VarValue>>
     ensures { ComesAs (λ (v : Row Seen Heap). v.items) result (evaluation.eval_all (env_of env.now)
-        (numbered_exps (map expression_of xs.now)) answers.now) }
+        (numbered_exps (map expression_of exprs.now)) answers.now) }
 {
     let mut found = Vec::new(alloc);
     let mut left = answers;
-    for x in xs {
+    for x in exprs {
         let (h, rest) = evaluate(alloc, env, x, left)?;
         found.push(h)?;
         left = rest;
@@ -232,15 +256,15 @@ pub fn evaluate_all<'a>(
 pub fn evaluate_numbers<'a>(
     alloc: Global,
     env: &Env,
-    xs: &[Expr],
-    answers: &'a [Told],
-) -> Given<'a, Vec<i32>>
+    exprs: &[Expr],
+    answers: &'a [CanonicalAnswer],
+) -> Evaluated<'a, Vec<i32>>
     ensures { ComesAs (λ (v : Row ℤ Heap). v.items) result (evaluation.eval_numbers (env_of env.now)
-        (numbered_exps (map expression_of xs.now)) answers.now) }
+        (numbered_exps (map expression_of exprs.now)) answers.now) }
 {
     let mut found = Vec::new(alloc);
     let mut left = answers;
-    for x in xs {
+    for x in exprs {
         let (h, rest) = evaluate(alloc, env, x, left)?;
         found = with_numbers(found, h)?;
         left = rest;
@@ -251,10 +275,15 @@ pub fn evaluate_numbers<'a>(
 // The bounds of a range, of numbers or of points.
 #[cycle(evaluate)]
 #[tactic(auto, using(crate::proofs::Steps::steps))]
-fn range<'a>(alloc: Global, env: &Env, r: &Range, answers: &'a [Told]) -> Given<'a, Bounds>
-    ensures { ComesAs bounds_of result (evaluation.eval_range (env_of env.now) (bound_of r.now) answers.now) }
+fn range<'a>(
+    alloc: Global,
+    env: &Env,
+    range: &Range,
+    answers: &'a [CanonicalAnswer],
+) -> Evaluated<'a, Bounds>
+    ensures { ComesAs bounds_of result (evaluation.eval_range (env_of env.now) (bound_of range.now) answers.now) }
 {
-    match r {
+    match range {
         Range::Plain { low, high } => {
             let (a, answers) = evaluate(alloc, env, low, answers)?;
             let (b, answers) = evaluate(alloc, env, high, answers)?;
@@ -275,15 +304,15 @@ pub fn evaluate_ranges<'a>(
     alloc: Global,
     env: &Env,
     ranges: &[Range],
-    answers: &'a [Told],
-) -> Given<'a, Bounds>
+    answers: &'a [CanonicalAnswer],
+) -> Evaluated<'a, Bounds>
     ensures { ComesAs bounds_of result (evaluation.eval_ranges (env_of env.now) (numbered_ranges (map bound_of ranges.now)) answers.now) }
 {
     let mut found = no_bounds(alloc);
     let mut left = answers;
     for r in ranges {
         let (b, rest) = range(alloc, env, r, left)?;
-        found = joined(found, b)?;
+        found = concat_bounds(found, b)?;
         left = rest;
     }
     Ok((found, left))
@@ -293,19 +322,24 @@ pub fn evaluate_ranges<'a>(
 /// with a fault if the semantics does. A call of a declared method has no value here.
 #[cycle(evaluate)]
 #[tactic(auto, using(crate::proofs::Evaluating::evaluating))]
-pub fn evaluate<'a>(alloc: Global, env: &Env, e: &Expr, answers: &'a [Told]) -> Given<'a, Held>
-    ensures { Comes result (evaluation.eval (env_of env.now) (expression_of e.now) answers.now) }
+pub fn evaluate<'a>(
+    alloc: Global,
+    env: &Env,
+    expr: &Expr,
+    answers: &'a [CanonicalAnswer],
+) -> Evaluated<'a, VarValue>
+    ensures { Comes result (evaluation.eval (env_of env.now) (expression_of expr.now) answers.now) }
 {
-    match e {
-        Expr::Int(_, n) => made(Scalar::Int(*n), answers),
-        Expr::Long(_, n) => made(Scalar::Long(*n), answers),
-        Expr::Truth(_, b) => made(Scalar::Truth(*b), answers),
+    match expr {
+        Expr::Int(_, n) => scalar_value(Scalar::Int(*n), answers),
+        Expr::Long(_, n) => scalar_value(Scalar::Long(*n), answers),
+        Expr::Bool(_, b) => scalar_value(Scalar::Bool(*b), answers),
         Expr::Null(_) => object(None, answers),
         Expr::This(_) => object(env.this, answers),
-        Expr::Variable(_, v) => held_by(alloc, env, v, answers),
+        Expr::Variable(_, v) => value_of_variable(alloc, env, v, answers),
         Expr::OwnField(place, field) => own_field(env, *place, *field, answers),
-        Expr::ThisProc(_) => made(this_proc(env), answers),
-        Expr::NumProcs(_) => made(num_procs(env), answers),
+        Expr::ThisProc(_) => scalar_value(this_proc(env), answers),
+        Expr::NumProcs(_) => scalar_value(num_procs(env), answers),
         Expr::Point(_, parts) => point(alloc, env, parts, answers),
         Expr::Rect(place, ranges) => rectangle(alloc, env, *place, ranges, answers),
         Expr::Unary {
@@ -327,7 +361,7 @@ pub fn evaluate<'a>(alloc: Global, env: &Env, e: &Expr, answers: &'a [Told]) -> 
             place,
             receiver,
             name,
-        } => selected(alloc, env, *place, receiver, *name, answers),
+        } => select_field(alloc, env, *place, receiver, *name, answers),
         Expr::Member {
             place,
             receiver,
@@ -347,37 +381,37 @@ pub fn evaluate<'a>(alloc: Global, env: &Env, e: &Expr, answers: &'a [Told]) -> 
             let is_point = is_point(env, receiver);
             with_indices(alloc, env, *place, is_point, &h, indices, answers)
         }
-        Expr::Call { .. } => made(Scalar::Truth(false), answers),
-        Expr::OwnCall { .. } => made(Scalar::Truth(false), answers),
+        Expr::Call { .. } => scalar_value(Scalar::Bool(false), answers),
+        Expr::OwnCall { .. } => scalar_value(Scalar::Bool(false), answers),
     }
 }
 
 // The number of the process.
 fn this_proc(env: &Env) -> Scalar
-    ensures { held_of_scalar result ≡ Plain (Int (pos env.now.team.number)) }
+    ensures { held_of_scalar result ≡ Plain (Int (pos env.now.rank.number)) }
 {
-    let team = env.team;
-    Scalar::Int(team.number as i32)
+    let rank = env.rank;
+    Scalar::Int(rank.number as i32)
 }
 
 // The number of processes.
 fn num_procs(env: &Env) -> Scalar
-    ensures { held_of_scalar result ≡ Plain (Int (pos env.now.team.procs)) }
+    ensures { held_of_scalar result ≡ Plain (Int (pos env.now.rank.procs)) }
 {
-    let team = env.team;
-    Scalar::Int(team.procs as i32)
+    let rank = env.rank;
+    Scalar::Int(rank.procs as i32)
 }
 
 // The value of a number or a boolean.
-fn made<'a>(x: Scalar, answers: &'a [Told]) -> Given<'a, Held>
-    ensures { Comes result (gives (held_of_scalar x) answers.now) }
+fn scalar_value<'a>(scalar: Scalar, answers: &'a [CanonicalAnswer]) -> Evaluated<'a, VarValue>
+    ensures { Comes result (gives (held_of_scalar scalar) answers.now) }
 {
-    Ok((x.held(), answers))
+    Ok((scalar.into_value(), answers))
 }
 
 // The value of an object, or null.
-fn object<'a>(id: Option<Id>, answers: &'a [Told]) -> Given<'a, Held>
+fn object<'a>(id: Option<Id>, answers: &'a [CanonicalAnswer]) -> Evaluated<'a, VarValue>
     ensures { Comes result (gives (Plain (Obj id)) answers.now) }
 {
-    Ok((Held::plain(Value::Obj(id)), answers))
+    Ok((VarValue::plain(Value::Obj(id)), answers))
 }

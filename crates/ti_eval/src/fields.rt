@@ -12,10 +12,10 @@ use ti_lang::typing::field_number;
 
 /// The number of the field that `e.f` denotes, given the number of its name; 0 if there is no such field. Out of memory if the number
 /// doesn't fit into 32 bits.
-pub fn field_selected(env: &Env, e: &Expr, name: u32) -> Result<u32, Memory>
-    ensures { IfOk result (λ n. n ≡ selected_spec (env_of env.now) (expression_of e.now) name) }
+pub fn field_selected(env: &Env, expr: &Expr, name: u32) -> Result<u32, Memory>
+    ensures { IfOk result (λ n. n ≡ selected_spec (env_of env.now) (expression_of expr.now) name) }
 {
-    match field_number(env.program, type_of(env, e), name) {
+    match field_number(env.program, type_of(env, expr), name) {
         Some(n) => match u32::try_from(n) {
             Ok(n) => Ok(n),
             Err(_) => Err(Memory),

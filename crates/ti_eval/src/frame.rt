@@ -2,7 +2,7 @@
 
 ghost use Rattle.ti_base.specs.Points.{IsPoint};
 
-use crate::held::Held;
+use crate::var_value::VarValue;
 use ti_base::{Id, Point};
 use ti_lang::program::Variable;
 
@@ -10,12 +10,12 @@ use ti_lang::program::Variable;
 #[derive(Drop)]
 pub struct Slot {
     pub variable: Variable,
-    pub held: Held,
+    pub held: VarValue,
 }
 
 /// A canonical point.
 #[derive(Clone, Copy)]
-pub struct Spot {
+pub struct CanonicalPoint {
     pub point: Point,
     pub ghost formed: { IsPoint point },
 }
@@ -25,12 +25,12 @@ pub struct Spot {
 pub struct Copy {
     pub to: Id,
     pub from: Id,
-    pub domain: Held,
+    pub domain: VarValue,
 }
 
 /// The pending work of a statement.
 #[derive(Drop)]
-pub enum Todo {
+pub enum Resume {
     /// All of it.
     Here,
     /// None of its own: something inside it is pending, or a value on its way to it.
@@ -46,14 +46,14 @@ pub enum Todo {
     /// The next iteration of a `foreach` with this variable and domain, at the first point after the last one.
     Each {
         variable: u32,
-        domain: Box<Held>,
+        domain: Box<VarValue>,
         last: Option<Point>,
     },
     /// The end of an iteration of a `foreach` at a point.
     Turn {
         variable: u32,
-        domain: Box<Held>,
-        at: Spot,
+        domain: Box<VarValue>,
+        at: CanonicalPoint,
     },
     /// A copy at the points after the last one.
     Copying {
@@ -69,7 +69,7 @@ pub enum Todo {
 
 /// A part of a statement that is a statement.
 #[derive(Clone, Copy)]
-pub enum Part {
+pub enum ChildIndex {
     /// The statement of this number in a block.
     Item(usize),
     /// The branch of an `if` that is taken if the condition holds.
@@ -86,7 +86,7 @@ pub enum Part {
 
 /// A statement that has been entered: its pending work after the part inside, and which part that is.
 #[derive(Drop)]
-pub struct Level {
-    pub todo: Todo,
-    pub inner: Part,
+pub struct StmtFrame {
+    pub resume: Resume,
+    pub inner: ChildIndex,
 }

@@ -2,15 +2,15 @@
 
 /// A set operation on two domains.
 #[derive(Clone, Copy)]
-pub enum Both {
+pub enum SetOp {
     Union,
-    Minus,
-    Meet,
+    Difference,
+    Intersection,
 }
 
 /// A comparison of two numbers.
 #[derive(Clone, Copy)]
-pub enum Test {
+pub enum CmpOp {
     Less,
     LessEqual,
     Greater,
@@ -19,7 +19,7 @@ pub enum Test {
 
 /// An operator on bits, or on booleans.
 #[derive(Clone, Copy)]
-pub enum Bits {
+pub enum BitOp {
     And,
     Or,
     Xor,
@@ -27,7 +27,7 @@ pub enum Bits {
 
 /// A shift: to the left, to the right with the sign, or to the right with zeros.
 #[derive(Clone, Copy)]
-pub enum Shift {
+pub enum ShiftOp {
     Left,
     Right,
     Unsigned,

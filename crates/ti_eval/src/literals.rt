@@ -9,47 +9,47 @@ ghost use Rattle.ti_eval.specs.Comes.{Comes};
 ghost use Rattle.ti_eval.specs.Bounds.{bounds_of};
 
 use crate::bounds::Bounds;
-use crate::held::Held;
-use crate::stop::Stop;
-use crate::told::{Given, Told};
+use crate::canonical_answer::{CanonicalAnswer, Evaluated};
+use crate::interrupt::Interrupt;
+use crate::var_value::VarValue;
 use crate::variables::empty_rect;
 use std::alloc::Global;
 use ti_base::{FaultKind, Memory, Place, Point, Rect, Value};
-use ti_domain::Held as Kept;
+use ti_domain::Held;
 use ti_rect::rect_make;
 
 // Appends the coordinates of a point, or the number if the value is one.
-fn add_numbers(found: &mut Vec<i32>, h: &Held) -> Result<(), Memory>
-    ensures { OnOk result (found.new.items ≡ found.old.items ++ literal.numbers_in h.now) }
+fn add_numbers(found: &mut Vec<i32>, value: &VarValue) -> Result<(), Memory>
+    ensures { OnOk result (found.new.items ≡ found.old.items ++ literal.numbers_in value.now) }
 {
-    match &h.kept {
-        Kept::Plain(Value::Pt(p)) => {
+    match &value.kept {
+        Held::Plain(Value::Pt(p)) => {
             let all = [p.x1, p.x2, p.x3];
             found.extend_from_slice(&all[..usize::from(p.dim)])?;
             Ok(())
         }
         _ => {
-            found.push(h.int())?;
+            found.push(value.int())?;
             Ok(())
         }
     }
 }
 
 /// These numbers followed by the coordinates of a point, or by the number if the value is one.
-pub fn with_numbers(numbers: Vec<i32>, h: Held) -> Result<Vec<i32>, Memory>
-    ensures { IfOk result (λ v. v.items ≡ numbers.items ++ literal.numbers_in h) }
+pub fn with_numbers(numbers: Vec<i32>, value: VarValue) -> Result<Vec<i32>, Memory>
+    ensures { IfOk result (λ v. v.items ≡ numbers.items ++ literal.numbers_in value) }
 {
     let mut found = numbers;
-    add_numbers(&mut found, &h)?;
+    add_numbers(&mut found, &value)?;
     Ok(found)
 }
 
 // The coordinates of a point, or the number if the value is one.
-fn numbers_of(alloc: Global, h: &Held) -> Result<Vec<i32>, Memory>
-    ensures { IfOk result (λ v. v.items ≡ literal.numbers_in h.now) }
+fn numbers_of(alloc: Global, value: &VarValue) -> Result<Vec<i32>, Memory>
+    ensures { IfOk result (λ v. v.items ≡ literal.numbers_in value.now) }
 {
     let mut found = Vec::new(alloc);
-    add_numbers(&mut found, h)?;
+    add_numbers(&mut found, value)?;
     Ok(found)
 }
 
@@ -63,7 +63,7 @@ fn ones(alloc: Global, numbers: &[i32]) -> Result<Vec<i32>, Memory>
 }
 
 /// The bounds of a range whose steps are 1.
-pub fn plain_bounds(alloc: Global, low: &Held, high: &Held) -> Result<Bounds, Memory>
+pub fn plain_bounds(alloc: Global, low: &VarValue, high: &VarValue) -> Result<Bounds, Memory>
     ensures { IfOk result (λ b. bounds_of b ≡ literal.plain_bounds low.now high.now) }
 {
     let low = numbers_of(alloc, low)?;
@@ -73,7 +73,12 @@ pub fn plain_bounds(alloc: Global, low: &Held, high: &Held) -> Result<Bounds, Me
 }
 
 /// The bounds of a range with steps.
-pub fn stepped_bounds(alloc: Global, low: &Held, high: &Held, step: &Held) -> Result<Bounds, Memory>
+pub fn stepped_bounds(
+    alloc: Global,
+    low: &VarValue,
+    high: &VarValue,
+    step: &VarValue,
+) -> Result<Bounds, Memory>
     ensures { IfOk result (λ b. bounds_of b ≡ literal.stepped_bounds low.now high.now step.now) }
 {
     let low = numbers_of(alloc, low)?;
@@ -83,17 +88,17 @@ pub fn stepped_bounds(alloc: Global, low: &Held, high: &Held, step: &Held) -> Re
 }
 
 /// The coordinates of the first bounds followed by those of the second.
-pub fn joined(a: Bounds, b: Bounds) -> Result<Bounds, Memory>
-    ensures { IfOk result (λ c. bounds_of c ≡ literal.joined (bounds_of a) (bounds_of b)) }
+pub fn concat_bounds(left: Bounds, right: Bounds) -> Result<Bounds, Memory>
+    ensures { IfOk result (λ c. bounds_of c ≡ literal.append_bounds (bounds_of left) (bounds_of right)) }
 {
     let Bounds {
         mut low,
         mut high,
         mut step,
-    } = a;
-    low.extend_from_slice(&b.low)?;
-    high.extend_from_slice(&b.high)?;
-    step.extend_from_slice(&b.step)?;
+    } = left;
+    low.extend_from_slice(&right.low)?;
+    high.extend_from_slice(&right.high)?;
+    step.extend_from_slice(&right.step)?;
     Ok(Bounds { low, high, step })
 }
 
@@ -146,11 +151,11 @@ pub fn point_of_numbers(numbers: &[i32]) -> Point
     }
 }
 
-fn is_even(b: &Bounds) -> bool
-    ensures { result ≡ literal.is_even (bounds_of b.now) }
+fn is_even(bounds: &Bounds) -> bool
+    ensures { result ≡ literal.is_even (bounds_of bounds.now) }
 {
-    let n = b.low.len();
-    1 <= n && n <= 3 && b.high.len() == n && b.step.len() == n
+    let n = bounds.low.len();
+    1 <= n && n <= 3 && bounds.high.len() == n && bounds.step.len() == n
 }
 
 // Whether all steps are at least 1.
@@ -161,17 +166,17 @@ fn all_forward(steps: &[i32]) -> bool
 }
 
 // The rectangular domain within the bounds, whose steps are all at least 1.
-fn rect_of(b: &Bounds) -> Rect
-    requires { list_all (int_le (pos 1)) b.now.step.items ≡ true }
-    ensures value { result ≡ literal.rect_of_bounds (bounds_of b.now) }
+fn rect_of(bounds: &Bounds) -> Rect
+    requires { list_all (int_le (pos 1)) bounds.now.step.items ≡ true }
+    ensures value { result ≡ literal.rect_of_bounds (bounds_of bounds.now) }
     ensures form { IsRect result }
 {
-    if !is_even(b) {
+    if !is_even(bounds) {
         return empty_rect(1);
     }
-    let low = point_of_numbers(&b.low);
-    let high = point_of_numbers(&b.high);
-    let step = point_of_numbers(&b.step);
+    let low = point_of_numbers(&bounds.low);
+    let high = point_of_numbers(&bounds.high);
+    let step = point_of_numbers(&bounds.step);
     match rect_make(&low, &high, &step) {
         Ok(r) => r,
         Err(_) => unreachable!(),
@@ -179,11 +184,15 @@ fn rect_of(b: &Bounds) -> Rect
 }
 
 /// The rectangular domain within the bounds; a fault if a step is below 1.
-pub fn rect_within<'a>(at: Place, b: &Bounds, answers: &'a [Told]) -> Given<'a, Held>
-    ensures { Comes result (literal.rect_within at (bounds_of b.now) answers.now) }
+pub fn rect_within<'a>(
+    place: Place,
+    bounds: &Bounds,
+    answers: &'a [CanonicalAnswer],
+) -> Evaluated<'a, VarValue>
+    ensures { Comes result (literal.rect_within place (bounds_of bounds.now) answers.now) }
 {
-    if !all_forward(&b.step) {
-        return Err(Stop::Fails(FaultKind::BadStride, at));
+    if !all_forward(&bounds.step) {
+        return Err(Interrupt::Fault(FaultKind::BadStride, place));
     }
-    Ok((Held::plain(Value::Rc(rect_of(b))), answers))
+    Ok((VarValue::plain(Value::Rc(rect_of(bounds))), answers))
 }

@@ -7,7 +7,7 @@ use ti_base::{Id, Point, Rect};
 pub enum Operands {
     Ints(i32, i32),
     Longs(i64, i64),
-    Truths(bool, bool),
+    Bools(bool, bool),
     Points(Point, Point),
     Rects(Rect, Rect),
     /// Domains that aren't both rectangular.

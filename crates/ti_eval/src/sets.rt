@@ -5,36 +5,36 @@ ghost use Rattle.ti_lang.specs.Meaning.Conversions as conversions;
 ghost use Rattle.ti_eval.specs.Comes.{Comes};
 ghost use Rattle.ti_eval.specs.Operators.{HaveOneDim, set_of};
 
+use crate::canonical_answer::{CanonicalAnswer, Evaluated};
 use crate::conversions::as_domain;
-use crate::held::Held;
-use crate::kinds::Both;
-use crate::stop::Stop;
-use crate::told::{Given, Told};
+use crate::interrupt::Interrupt;
+use crate::kinds::SetOp;
+use crate::var_value::VarValue;
 use std::alloc::Global;
 use ti_base::{FaultKind, Place};
 use ti_domain::{Dom, DomErr, dom_meet, dom_minus, dom_union};
 
 // A set operation on two domains; a fault if the result has too many points.
 #[tactic(auto, using(crate::proofs::Sizes::sizes))]
-fn joined<'a>(
+fn apply_set_op<'a>(
     alloc: Global,
-    at: Place,
-    both: Both,
-    d: &Dom,
-    e: &Dom,
-    answers: &'a [Told],
-) -> Given<'a, Held>
-    requires { e.now.dim ≡ d.now.dim }
-    ensures { Comes result (conversions.domain_within at d.now.dim (set_of both d.now.points e.now.points) answers.now) }
+    place: Place,
+    operator: SetOp,
+    domain: &Dom,
+    other: &Dom,
+    answers: &'a [CanonicalAnswer],
+) -> Evaluated<'a, VarValue>
+    requires { other.now.dim ≡ domain.now.dim }
+    ensures { Comes result (conversions.domain_within place domain.now.dim (set_of operator domain.now.points other.now.points) answers.now) }
 {
-    match both {
-        Both::Union => match dom_union(alloc, d, e) {
-            Ok(u) => Ok((Held::domain(u), answers)),
-            Err(DomErr::TooLarge) => Err(Stop::Fails(FaultKind::DomainSize, at)),
-            Err(DomErr::Memory) => Err(Stop::Memory),
+    match operator {
+        SetOp::Union => match dom_union(alloc, domain, other) {
+            Ok(u) => Ok((VarValue::domain(u), answers)),
+            Err(DomErr::TooLarge) => Err(Interrupt::Fault(FaultKind::DomainSize, place)),
+            Err(DomErr::Memory) => Err(Interrupt::Memory),
         },
-        Both::Minus => Ok((Held::domain(dom_minus(alloc, d, e)?), answers)),
-        Both::Meet => Ok((Held::domain(dom_meet(alloc, d, e)?), answers)),
+        SetOp::Difference => Ok((VarValue::domain(dom_minus(alloc, domain, other)?), answers)),
+        SetOp::Intersection => Ok((VarValue::domain(dom_meet(alloc, domain, other)?), answers)),
     }
 }
 
@@ -42,16 +42,16 @@ fn joined<'a>(
 #[tactic(auto, using(crate::proofs::Steps::steps))]
 pub fn of_domains<'a>(
     alloc: Global,
-    at: Place,
-    both: Both,
-    x: &Held,
-    y: &Held,
-    answers: &'a [Told],
-) -> Given<'a, Held>
-    requires { HaveOneDim x.now y.now }
-    ensures { Comes result (conversions.of_domains (set_of both) at x.now y.now answers.now) }
+    place: Place,
+    operator: SetOp,
+    left: &VarValue,
+    right: &VarValue,
+    answers: &'a [CanonicalAnswer],
+) -> Evaluated<'a, VarValue>
+    requires { HaveOneDim left.now right.now }
+    ensures { Comes result (conversions.of_domains (set_of operator) place left.now right.now answers.now) }
 {
-    let (d, answers) = as_domain(alloc, at, x, answers)?;
-    let (e, answers) = as_domain(alloc, at, y, answers)?;
-    joined(alloc, at, both, &d, &e, answers)
+    let (d, answers) = as_domain(alloc, place, left, answers)?;
+    let (e, answers) = as_domain(alloc, place, right, answers)?;
+    apply_set_op(alloc, place, operator, &d, &e, answers)
 }

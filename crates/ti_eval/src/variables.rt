@@ -10,17 +10,17 @@ ghost use Rattle.ti_lang.specs.Meaning.Scoping.{same_declaration, same_variable,
 ghost use Rattle.ti_eval.specs.Frames.{slots_of};
 
 use crate::frame::Slot;
-use crate::held::Held;
+use crate::var_value::VarValue;
 use std::alloc::Global;
 use ti_base::{Memory, Point, Rect, Value};
 use ti_domain::{Dom, DomErr, dom_of};
 use ti_lang::program::{Declared, Ty, Variable};
 use ti_lang::typing::same_elements;
 
-fn same_declared(a: &Declared, b: &Declared) -> bool
-    ensures { result ≡ same_declaration (declared_of a.now) (declared_of b.now) }
+fn same_declared(left: &Declared, right: &Declared) -> bool
+    ensures { result ≡ same_declaration (declared_of left.now) (declared_of right.now) }
 {
-    match (a, b) {
+    match (left, right) {
         (
             Declared::Typed { single, ty },
             Declared::Typed {
@@ -34,10 +34,10 @@ fn same_declared(a: &Declared, b: &Declared) -> bool
 }
 
 /// Whether two variables are the same.
-pub fn same(a: &Variable, b: &Variable) -> bool
-    ensures { result ≡ same_variable (variable_of a.now) (variable_of b.now) }
+pub fn is_same_variable(left: &Variable, right: &Variable) -> bool
+    ensures { result ≡ same_variable (variable_of left.now) (variable_of right.now) }
 {
-    a.number == b.number && same_declared(&a.declared, &b.declared)
+    left.number == right.number && same_declared(&left.declared, &right.declared)
 }
 
 // ---- zeros
@@ -86,13 +86,13 @@ fn no_points(alloc: Global, dim: u8) -> Result<Dom, Memory>
 }
 
 // The zero of points of the given number of dimensions.
-fn zero_point(dim: u8) -> Held
+fn zero_point(dim: u8) -> VarValue
     ensures { result ≡ zero_of (value_type_of (Ty.Pt dim)) }
 {
     if !has_dim(dim) {
-        return Held::truth(false);
+        return VarValue::boolean(false);
     }
-    Held::plain(Value::Pt(Point {
+    VarValue::plain(Value::Pt(Point {
         dim,
         x1: 0,
         x2: 0,
@@ -100,67 +100,67 @@ fn zero_point(dim: u8) -> Held
     }))
 }
 
-fn zero_rect(dim: u8) -> Held
+fn zero_rect(dim: u8) -> VarValue
     ensures { result ≡ zero_of (value_type_of (Ty.Rc dim)) }
 {
     if !has_dim(dim) {
-        return Held::truth(false);
+        return VarValue::boolean(false);
     }
-    Held::plain(Value::Rc(empty_rect(dim)))
+    VarValue::plain(Value::Rc(empty_rect(dim)))
 }
 
-fn zero_domain(alloc: Global, dim: u8) -> Result<Held, Memory>
+fn zero_domain(alloc: Global, dim: u8) -> Result<VarValue, Memory>
     ensures { IfOk result (λ h. h ≡ zero_of (value_type_of (Ty.Dm dim))) }
 {
     if !has_dim(dim) {
-        return Ok(Held::truth(false));
+        return Ok(VarValue::boolean(false));
     }
-    Ok(Held::domain(no_points(alloc, dim)?))
+    Ok(VarValue::domain(no_points(alloc, dim)?))
 }
 
 // The zero of a type.
-fn zero(alloc: Global, ty: &Ty) -> Result<Held, Memory>
+fn zero(alloc: Global, ty: &Ty) -> Result<VarValue, Memory>
     ensures { IfOk result (λ h. h ≡ zero_of (value_type_of ty.now)) }
 {
     match ty {
-        Ty::Int => Ok(Held::plain(Value::Int(0))),
-        Ty::Long => Ok(Held::plain(Value::Long(0))),
-        Ty::Bool => Ok(Held::truth(false)),
+        Ty::Int => Ok(VarValue::plain(Value::Int(0))),
+        Ty::Long => Ok(VarValue::plain(Value::Long(0))),
+        Ty::Bool => Ok(VarValue::boolean(false)),
         Ty::Pt(dim) => Ok(zero_point(*dim)),
         Ty::Rc(dim) => Ok(zero_rect(*dim)),
         Ty::Dm(dim) => zero_domain(alloc, *dim),
-        Ty::Region => Ok(Held::plain(Value::Region(0))),
-        Ty::Class { class: _, local: _ } => Ok(Held::plain(Value::Obj(None))),
+        Ty::Region => Ok(VarValue::plain(Value::Region(0))),
+        Ty::Class { class: _, local: _ } => Ok(VarValue::plain(Value::Obj(None))),
         Ty::Grid {
             elem: _,
             dim: _,
             local: _,
-        } => Ok(Held::plain(Value::Grid(None))),
-        Ty::Null => Ok(Held::plain(Value::Obj(None))),
-        Ty::Void => Ok(Held::truth(false)),
+        } => Ok(VarValue::plain(Value::Grid(None))),
+        Ty::Null => Ok(VarValue::plain(Value::Obj(None))),
+        Ty::Void => Ok(VarValue::boolean(false)),
     }
 }
 
 // The initial value of a variable with this declaration.
-fn zero_declared(alloc: Global, declared: &Declared) -> Result<Held, Memory>
+fn zero_declared(alloc: Global, declared: &Declared) -> Result<VarValue, Memory>
     ensures { IfOk result (λ h. h ≡ zero_declared (declared_of declared.now)) }
 {
     match declared {
         Declared::Typed { single: _, ty } => zero(alloc, ty),
-        Declared::Foreach => Ok(Held::truth(false)),
+        Declared::Foreach => Ok(VarValue::boolean(false)),
     }
 }
 
 // ---- values
 
 /// The value of a variable; the zero of its type if it isn't in scope.
-pub fn find(alloc: Global, variable: &Variable, slots: &[Slot]) -> Result<Held, Memory>
+pub fn find(alloc: Global, variable: &Variable, slots: &[Slot]) -> Result<VarValue, Memory>
     ensures { IfOk result (λ h. h ≡ find_variable (variable_of variable.now) (slots_of slots.now)) }
 {
     let mut n = slots.len();
     while n > 0 {
         n -= 1;
-        if same(variable, &slots[n].variable) {
+        if is_same_variable(variable, &slots[n].variable) {
             return slots[n].held.copy(alloc);
         }
     }
@@ -168,13 +168,13 @@ pub fn find(alloc: Global, variable: &Variable, slots: &[Slot]) -> Result<Held, 
 }
 
 /// Assigns to the newest of these variables that is the same; does nothing if it isn't in scope.
-pub fn change(slots: &mut Vec<Slot>, variable: &Variable, held: Held)
+pub fn change(slots: &mut Vec<Slot>, variable: &Variable, held: VarValue)
     ensures { slots_of slots.new.items ≡ with_changed (variable_of variable.now) held (slots_of slots.old.items) }
 {
     let mut n = slots.len();
     while n > 0 {
         n -= 1;
-        if same(variable, &slots[n].variable) {
+        if is_same_variable(variable, &slots[n].variable) {
             slots[n].held = held;
             return;
         }

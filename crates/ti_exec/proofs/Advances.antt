@@ -3,15 +3,15 @@ use Rattle.std.proofs.Common.{◌≡◌, ◌∙◌, ℕ, ◌<◌, refl, ap, subs
 use Rattle.std.specs.declared.vec.Vec.{Vec}
 use Rattle.std.specs.declared.alloc.Global.{Global}
 use Rattle.ti_base.specs.declared.entry.Answer.{Answer}
-use Rattle.ti_lang.specs.Program.Classes.{NumberedProgram}
+use Rattle.ti_lang.specs.Program.Classes.{ProgramView}
 use Rattle.ti_lang.specs.Meaning.Processes.{Process}
 use Rattle.ti_lang.specs.Meaning.Steps.{To, step}
 use Rattle.ti_lang.specs.Meaning.NextStep.{Reaches, here, later, After, none, more}
 use Rattle.ti_lang.proofs.Lemmas.{Fitting, Falls, weight, step_falls}
-use Rattle.ti_exec.specs.declared.process.Mode.{Mode}
-use Rattle.ti_exec.specs.declared.process.Mode.TheVariants as mode
-use Rattle.ti_exec.specs.declared.process.Walker.{Walker}
-use Rattle.ti_exec.specs.States.{process_of, going_on}
+use Rattle.ti_exec.specs.declared.process.ControlMode.{ControlMode}
+use Rattle.ti_exec.specs.declared.process.ControlMode.TheVariants as mode
+use Rattle.ti_exec.specs.declared.process.TreeMachine.{TreeMachine}
+use Rattle.ti_exec.specs.States.{process_of, process_in_mode}
 
 -- ---- silent steps
 
@@ -33,14 +33,14 @@ one_more p q r [] a none y = y
 one_more p q r (b ∷ rs) a (more {go = go} x e z) y = more x e (one_more (go b) q r rs a z y)
 
 -- what a process has spent, how it goes on and its answers don't tell where its calls stand
-pub moved : (c : NumberedProgram) (w : Walker) (spent : ℕ) (behind : Mode) (answers : Vec Answer Global) (m : Mode) (rs : List Answer)
-    → going_on c (record w { spent = spent; mode = behind; answers = answers }) m rs ≡ record (going_on c w m rs) { spent = spent }
+pub moved : (c : ProgramView) (w : TreeMachine) (spent : ℕ) (behind : ControlMode) (answers : Vec Answer Global) (m : ControlMode) (rs : List Answer)
+    → process_in_mode c (record w { spent = spent; mode = behind; answers = answers }) m rs ≡ record (process_in_mode c w m rs) { spent = spent }
 moved c w spent behind answers (mode.Walks t) rs = refl
 moved c w spent behind answers (mode.Receives h) rs = refl
-moved c w spent behind answers (mode.Waits meeting t) rs = refl
-moved c w spent behind answers (mode.Expects meeting) rs = refl
+moved c w spent behind answers (mode.Waits collective t) rs = refl
+moved c w spent behind answers (mode.Expects collective) rs = refl
 moved c w spent behind answers mode.Ended rs = refl
 
 -- more room changes nothing
-pub with_room : (c : NumberedProgram) (w : Walker) (v : Vec Answer Global) → v.items ≡ w.answers.items → process_of c (record w { answers = v }) ≡ process_of c w
-with_room c w v e = moved c w w.spent w.mode v w.mode v.items ∙ ap (λ rs. going_on c w w.mode rs) e
+pub with_room : (c : ProgramView) (w : TreeMachine) (v : Vec Answer Global) → v.items ≡ w.answers.items → process_of c (record w { answers = v }) ≡ process_of c w
+with_room c w v e = moved c w w.spent w.mode v w.mode v.items ∙ ap (λ rs. process_in_mode c w w.mode rs) e

@@ -6,7 +6,7 @@ use Rattle.std.proofs.lemmas.List.Sums.{count_by-le-length, length-filter}
 use Rattle.ti_lang.specs.Program.Types.{VariableUse}
 use Rattle.ti_lang.specs.Meaning.Held.{Held}
 use Rattle.ti_lang.specs.Meaning.Processes.{Variable}
-use Rattle.ti_lang.specs.Meaning.Scoping.{same_variable, with_changed, without}
+use Rattle.ti_lang.specs.Meaning.Scoping.{same_variable, with_changed, without_variables}
 use Rattle.ti_eval.specs.declared.frame.Slot.{Slot}
 use Rattle.ti_eval.specs.Frames.{slot_of, slots_of}
 use Rattle.ti_eval.proofs.Lemmas.{newest, one_more}
@@ -27,7 +27,7 @@ pub changed_few : (xs ys : List Slot) (x : VariableUse) (h : Held) → slots_of 
 changed_few xs ys x h e = sym (as_many ys) ∙ ap length e ∙ as_many_changed x h (slots_of xs) ∙ as_many xs
 
 -- nor does it when some leave
-pub without_few : (xs ys : List Slot) (vs : List VariableUse) → slots_of ys ≡ without vs (slots_of xs) → length ys ≤ length xs
+pub without_few : (xs ys : List Slot) (vs : List VariableUse) → slots_of ys ≡ without_variables vs (slots_of xs) → length ys ≤ length xs
 without_few xs ys vs e =
     let a = as_many ys in
     let b = as_many xs in

@@ -5,7 +5,7 @@ use Rattle.ti_base.specs.declared.value.Value.TheVariants as v
 use Rattle.ti_base.specs.declared.entry.Answer.{Answer}
 use Rattle.ti_lang.specs.Program.Types.{ValueType}
 use Rattle.ti_lang.specs.Program.Types as t
-use Rattle.ti_lang.specs.Meaning.Asking.{Wanted, ToBeDone, ValueOf, NewThing}
+use Rattle.ti_lang.specs.Meaning.Comp.{Wanted, ToBeDone, ValueOf, NewThing}
 use Rattle.ti_lang.specs.Meaning.Answers.{HasForm, FitsWanted}
 use Rattle.ti_eval.specs.Forms.{IsFormedValue, IsFormedAnswer}
 

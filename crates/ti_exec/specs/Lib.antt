@@ -1,5 +1,5 @@
 pub mod Marks
 pub mod Mirrors
+pub mod Pending
 pub mod Standing
 pub mod States
-pub mod Walking

@@ -6,13 +6,13 @@ ghost use Rattle.ti_base.specs.declared.entry.Next.{Next};
 ghost use Rattle.ti_lang.specs.Meaning.Answers.{FitsAction};
 ghost use Rattle.ti_lang.specs.Meaning.Processes.{Process};
 ghost use Rattle.ti_eval.specs.Forms.{IsFormedAnswer};
-ghost use Rattle.ti_exec.specs.Standing.{TreeStanding, HasNext};
+ghost use Rattle.ti_exec.specs.Standing.{TreeProcView, HasNext};
 
 use crate::tree_proc::TreeProc;
 
 /// What a process has next is unique: it is determined by its initial configuration and the answers that it has received.
-pub fn has_one_next()
-    ensures { (s : TreeStanding) (m n : Next) → HasNext s m → HasNext s n → m ≡ n }
+pub fn next_is_unique()
+    ensures { (s : TreeProcView) (m n : Next) → HasNext s m → HasNext s n → m ≡ n }
 {}
 
 /// An answer that fits the action that a process has next is canonical, as `TreeProc::answer` requires.
@@ -20,9 +20,9 @@ pub fn fitting_is_formed()
     ensures { (p : Process) (r : Answer) → FitsAction p r → IsFormedAnswer r }
 {}
 
-fn sent<T: Send>() {}
+fn require_send<T: Send>() {}
 
 /// A process can be sent to another thread. Nothing calls this: the claim is that it compiles, since `sent` has the bound `Send`.
 pub fn process_is_sent() {
-    sent::<TreeProc>();
+    require_send::<TreeProc>();
 }

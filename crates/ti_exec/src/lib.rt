@@ -1,24 +1,27 @@
 //! A tree interpreter: a process that executes the trees of its program.
 #![tactic(auto)]
 
-mod applying;
-mod asking;
-mod below;
-mod going_on;
+mod call_stack;
+mod environment;
+mod ghost_history;
 mod jumps;
 mod laws;
 mod loops;
-mod past;
+mod normalization;
 mod process;
-mod spot;
+mod requests;
+mod run_loop;
 mod steps;
+mod transitions;
 mod tree_proc;
 mod variables;
-mod walker;
 
 pub use jumps::is_mark;
-pub use laws::{fitting_is_formed, has_one_next, process_is_sent};
-pub use loops::behind_loop;
-pub use process::{Asking, Below, Call, Mode, Pending, Turn, Variables, Walker};
+pub use laws::{fitting_is_formed, next_is_unique, process_is_sent};
+pub use loops::after_loop;
+pub use process::{
+    CallFrame, CallStack, ControlMode, OnAnswer, PendingRequest, StepOutcome, TreeMachine,
+    Variables,
+};
 pub use steps::end_place;
 pub use tree_proc::TreeProc;

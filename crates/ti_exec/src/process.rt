@@ -3,8 +3,8 @@
 ghost use Rattle.std.specs.Prelude.{◌≡◌, ◌<◌, ◌^◌, length};
 
 use ti_base::{Action, FaultKind, Id, Place};
-use ti_eval::{Held, Level, Slot, Team, Todo, Told};
-use ti_moves::Meeting;
+use ti_eval::{CanonicalAnswer, Rank, Resume, Slot, StmtFrame, VarValue};
+use ti_moves::CollectiveCall;
 
 /// The variables in scope of a call, the oldest first. Their number is bounded, so that those of all calls can be counted in 32 bits.
 #[derive(Drop)]
@@ -15,40 +15,40 @@ pub struct Variables {
 
 /// A call in progress, at a statement of its method.
 #[derive(Drop)]
-pub struct Call {
+pub struct CallFrame {
     /// The number of the method.
     pub method: usize,
     pub this: Option<Id>,
     pub variables: Variables,
     /// The statements entered, the outermost first.
-    pub levels: Vec<Level>,
+    pub levels: Vec<StmtFrame>,
 }
 
 /// The calls that wait in their statements for the result of the call above, the outermost first.
 #[derive(Drop)]
-pub struct Below {
-    pub calls: Vec<Call>,
+pub struct CallStack {
+    pub calls: Vec<CallFrame>,
     pub ghost few: { length calls.items < 200 },
 }
 
 /// The mode of the interpreter.
 #[derive(Drop)]
-pub enum Mode {
+pub enum ControlMode {
     /// It executes: this work of the innermost statement is pending.
-    Walks(Todo),
+    Walks(Resume),
     /// A value is on its way to the receiver of the innermost statement.
-    Receives(Held),
+    Receives(VarValue),
     /// It waits at a collective, after which this work is pending.
-    Waits(Meeting, Todo),
+    Waits(CollectiveCall, Resume),
     /// It waits at a collective for whose value the innermost statement waits.
-    Expects(Meeting),
+    Expects(CollectiveCall),
     /// No call is in progress.
     Ended,
 }
 
-impl Mode {
+impl ControlMode {
     /// For the prover: assigns the mode.
-    pub(crate) fn set(&mut self, mode: Mode)
+    pub(crate) fn set(&mut self, mode: ControlMode)
         ensures { self.new ≡ mode }
     {
         *self = mode;
@@ -57,44 +57,44 @@ impl Mode {
 
 /// A process: its innermost call, the calls below, and its mode.
 #[derive(Drop)]
-pub struct Walker {
-    pub team: Team,
+pub struct TreeMachine {
+    pub rank: Rank,
     /// The fuel of the process in ticks.
     pub fuel: u32,
     /// The ticks that it has spent.
     pub spent: u32,
-    pub below: Below,
-    pub top: Call,
-    pub mode: Mode,
+    pub callers: CallStack,
+    pub top: CallFrame,
+    pub mode: ControlMode,
     /// The answers that its current work has received so far.
-    pub answers: Vec<Told>,
+    pub answers: Vec<CanonicalAnswer>,
 }
 
 /// The effect of an action's answer on a process.
 #[derive(Drop)]
-pub enum Pending {
+pub enum OnAnswer {
     /// It is added to the answers of the current work.
-    Pushed,
+    Append,
     /// The process has arrived at a collective, and continues in this mode.
-    Arrived(Mode),
+    Arrive(ControlMode),
     /// The process has left the collective.
-    Left,
+    Depart,
 }
 
 /// A requested action, and the effect of its answer.
 #[derive(Drop)]
-pub struct Asking {
+pub struct PendingRequest {
     pub place: Place,
     pub action: Action,
-    pub pending: Pending,
+    pub on_answer: OnAnswer,
 }
 
 /// The result of a step.
 #[derive(Drop)]
-pub enum Turn {
+pub enum StepOutcome {
     /// A silent step: the process continues.
-    Went,
-    Asks(Box<Asking>),
-    Ends(Place),
-    Fails(FaultKind, Place),
+    Continue,
+    Request(Box<PendingRequest>),
+    End(Place),
+    Fault(FaultKind, Place),
 }

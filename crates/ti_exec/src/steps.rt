@@ -1,102 +1,117 @@
 // The steps of a process: the dispatch on its mode.
 
 ghost use Rattle.std.specs.Prelude.{◌≡◌, ◌<◌, length, IfOk};
-ghost use Rattle.ti_lang.specs.Program.Classes.{NumberedProgram};
+ghost use Rattle.ti_lang.specs.Program.Classes.{ProgramView};
 ghost use Rattle.ti_lang.specs.Program.Views.{program_of};
-ghost use Rattle.ti_lang.specs.Meaning.Asking.{gives};
+ghost use Rattle.ti_lang.specs.Meaning.Comp.{gives};
 ghost use Rattle.ti_lang.specs.Meaning.Moves.{receives};
 ghost use Rattle.ti_lang.specs.Meaning.Statements.{statement as statement_spec};
 ghost use Rattle.ti_lang.specs.Meaning.Steps.{end_of};
-ghost use Rattle.ti_eval.specs.declared.frame.Todo.{Todo as Left};
-ghost use Rattle.ti_eval.specs.declared.frame.Todo.TheVariants.{Here};
+ghost use Rattle.ti_eval.specs.declared.frame.Resume.{Resume as Left};
+ghost use Rattle.ti_eval.specs.declared.frame.Resume.TheVariants.{Here};
 ghost use Rattle.ti_eval.specs.Comes.{ComesAs};
-ghost use Rattle.ti_moves.specs.Moves.{move_of};
+ghost use Rattle.ti_moves.specs.Outcomes.{outcome_of};
 ghost use Rattle.ti_moves.specs.Receiving.{receiver_of};
-ghost use Rattle.ti_moves.specs.declared.moves.Meeting.{Meeting as Met};
-ghost use Rattle.ti_exec.specs.declared.process.Mode.TheVariants.{Walks, Waits, Expects};
-ghost use Rattle.ti_exec.specs.States.{IsTurn, IsSettled, IsWalking, IsReceiving, env_in, here};
+ghost use Rattle.ti_moves.specs.declared.outcomes.CollectiveCall.{CollectiveCall as Met};
+ghost use Rattle.ti_exec.specs.declared.process.ControlMode.TheVariants.{Walks, Waits, Expects};
+ghost use Rattle.ti_exec.specs.States.{IsStepOutcome, IsNormalized, IsWalking, IsReceiving, env_in, innermost_stmt};
 
-use crate::process::{Mode, Pending, Turn, Walker};
+use crate::process::{ControlMode, OnAnswer, StepOutcome, TreeMachine};
 use std::alloc::Global;
 use ti_base::{Action, Memory, Place};
-use ti_eval::{Held, Stop, Todo, Told};
-use ti_lang::program::Parts;
-use ti_moves::{Move, method, received, statement};
+use ti_eval::{CanonicalAnswer, Interrupt, Resume, VarValue};
+use ti_lang::program::ProgramData;
+use ti_moves::{StmtOutcome, method, statement, store_received};
 
 /// The place of the brace that closes `main`.
-pub fn end_place(c: &Parts) -> Place
-    ensures { result ≡ end_of (program_of c.now) }
+pub fn end_place(program: &ProgramData) -> Place
+    ensures { result ≡ end_of (program_of program.now) }
 {
-    match method(c, c.main as usize) {
+    match method(program, program.main as usize) {
         Some(main) => main.end,
         None => Place { line: 0, col: 0 },
     }
 }
 
-impl Walker {
+impl TreeMachine {
     // The outcome of the innermost statement.
-    fn stated<'a, 'c>(&'a self, alloc: Global, c: &'c Parts) -> Result<(Move<'c>, &'a [Told]), Stop>
+    fn stmt_outcome<'a, 'c>(
+        &'a self,
+        alloc: Global,
+        program: &'c ProgramData,
+    ) -> Result<(StmtOutcome<'c>, &'a [CanonicalAnswer]), Interrupt>
         requires { 0 < length self.now.top.levels.items }
-        ensures { ComesAs (move_of (env_in (program_of c.now) self.now) (here (program_of c.now) self.now.top)) result
-            (statement_spec (env_in (program_of c.now) self.now) (here (program_of c.now) self.now.top) self.now.answers.items) }
+        ensures { ComesAs (outcome_of (env_in (program_of program.now) self.now) (innermost_stmt (program_of program.now) self.now.top)) result
+            (statement_spec (env_in (program_of program.now) self.now) (innermost_stmt (program_of program.now) self.now.top) self.now.answers.items) }
     {
-        statement(alloc, &self.env(c), self.top.stands(c), &self.answers)
+        statement(
+            alloc,
+            &self.env(program),
+            self.top.current_stmt(program),
+            &self.answers,
+        )
     }
 
     // The outcome of the innermost statement after it has received a value.
-    fn given<'a, 'c>(
+    fn store_outcome<'a, 'c>(
         &'a self,
         alloc: Global,
-        c: &'c Parts,
-        h: &Held,
-    ) -> Result<(Move<'c>, &'a [Told]), Stop>
+        program: &'c ProgramData,
+        value: &VarValue,
+    ) -> Result<(StmtOutcome<'c>, &'a [CanonicalAnswer]), Interrupt>
         requires { 0 < length self.now.top.levels.items }
-        ensures { ComesAs (move_of (env_in (program_of c.now) self.now) (here (program_of c.now) self.now.top)) result
-            (receives (env_in (program_of c.now) self.now) (receiver_of (here (program_of c.now) self.now.top))
-            (gives h.now) self.now.answers.items) }
+        ensures { ComesAs (outcome_of (env_in (program_of program.now) self.now) (innermost_stmt (program_of program.now) self.now.top)) result
+            (receives (env_in (program_of program.now) self.now) (receiver_of (innermost_stmt (program_of program.now) self.now.top))
+            (gives value.now) self.now.answers.items) }
     {
-        received(alloc, &self.env(c), self.top.stands(c), h, &self.answers)
+        store_received(
+            alloc,
+            &self.env(program),
+            self.top.current_stmt(program),
+            value,
+            &self.answers,
+        )
     }
 
     // The step at the beginning of the innermost statement.
-    fn at_statement(&mut self, alloc: Global, c: &Parts) -> Result<Turn, Memory>
+    fn at_statement(&mut self, alloc: Global, program: &ProgramData) -> Result<StepOutcome, Memory>
         requires inner { 0 < length self.old.top.levels.items }
         requires mode { self.old.mode ≡ Walks Here }
-        ensures { IfOk result (λ t. IsTurn (program_of c.now) self.old t self.new) }
+        ensures { IfOk result (λ t. IsStepOutcome (program_of program.now) self.old t self.new) }
     {
-        match self.stated(alloc, c) {
-            Ok((m, _)) => self.moves(alloc, c, m),
+        match self.stmt_outcome(alloc, program) {
+            Ok((m, _)) => self.apply_outcome(alloc, program, m),
             Err(stop) => self.stops(alloc, stop),
         }
     }
 
     // The step of a process that executes pending work.
-    fn walks(&mut self, alloc: Global, c: &Parts) -> Result<Turn, Memory>
-        requires settled { IsSettled (program_of c.now) self.old }
+    fn walks(&mut self, alloc: Global, program: &ProgramData) -> Result<StepOutcome, Memory>
+        requires settled { IsNormalized (program_of program.now) self.old }
         requires mode { IsWalking self.old.mode }
-        ensures { IfOk result (λ t. IsTurn (program_of c.now) self.old t self.new) }
+        ensures { IfOk result (λ t. IsStepOutcome (program_of program.now) self.old t self.new) }
     {
         if self.top.levels.is_empty() {
             return Ok(self.returns(None));
         }
         match &self.mode {
-            Mode::Walks(Todo::Here) => self.at_statement(alloc, c),
-            _ => self.at_rest(alloc, c),
+            ControlMode::Walks(Resume::Here) => self.at_statement(alloc, program),
+            _ => self.resume_stmt(alloc, program),
         }
     }
 
     /// The step of a process with a value on its way. In the body of a method the value is dropped.
-    pub fn receiving(&mut self, alloc: Global, c: &Parts) -> Result<Turn, Memory>
+    pub fn receive(&mut self, alloc: Global, program: &ProgramData) -> Result<StepOutcome, Memory>
         requires { IsReceiving self.old.mode }
-        ensures { IfOk result (λ t. IsTurn (program_of c.now) self.old t self.new) }
+        ensures { IfOk result (λ t. IsStepOutcome (program_of program.now) self.old t self.new) }
     {
         if self.top.levels.is_empty() {
-            self.proceeds(Mode::Walks(Todo::Inside));
-            return Ok(Turn::Went);
+            self.proceeds(ControlMode::Walks(Resume::Inside));
+            return Ok(StepOutcome::Continue);
         }
         match &self.mode {
-            Mode::Receives(h) => match self.given(alloc, c, h) {
-                Ok((m, _)) => self.moves(alloc, c, m),
+            ControlMode::Receives(h) => match self.store_outcome(alloc, program, h) {
+                Ok((m, _)) => self.apply_outcome(alloc, program, m),
                 Err(stop) => self.stops(alloc, stop),
             },
             _ => unreachable!(),
@@ -104,34 +119,34 @@ impl Walker {
     }
 
     /// The step of a process that waits at a collective: it requests the departure.
-    pub fn leaves(&self, alloc: Global, at: Place) -> Result<Turn, Memory>
-        ensures waits { IfOk result (λ r. (c : NumberedProgram) (m : Met) (t : Left) → self.now.mode ≡ Waits m t → m.place ≡ at
-            → IsTurn c self.now r self.now) }
-        ensures expects { IfOk result (λ r. (c : NumberedProgram) (m : Met) → self.now.mode ≡ Expects m → m.place ≡ at
-            → IsTurn c self.now r self.now) }
+    pub fn leaves(&self, alloc: Global, place: Place) -> Result<StepOutcome, Memory>
+        ensures waits { IfOk result (λ r. (c : ProgramView) (m : Met) (t : Left) → self.now.mode ≡ Waits m t → m.place ≡ place
+            → IsStepOutcome c self.now r self.now) }
+        ensures expects { IfOk result (λ r. (c : ProgramView) (m : Met) → self.now.mode ≡ Expects m → m.place ≡ place
+            → IsStepOutcome c self.now r self.now) }
     {
-        self.asks(alloc, at, Action::Depart, Pending::Left)
+        self.asks(alloc, place, Action::Depart, OnAnswer::Depart)
     }
 
     // The step at the work at hand.
-    fn act(&mut self, alloc: Global, c: &Parts) -> Result<Turn, Memory>
-        requires { IsSettled (program_of c.now) self.old }
-        ensures { IfOk result (λ t. IsTurn (program_of c.now) self.old t self.new) }
+    fn act(&mut self, alloc: Global, program: &ProgramData) -> Result<StepOutcome, Memory>
+        requires { IsNormalized (program_of program.now) self.old }
+        ensures { IfOk result (λ t. IsStepOutcome (program_of program.now) self.old t self.new) }
     {
         match &self.mode {
-            Mode::Walks(_) => self.walks(alloc, c),
-            Mode::Receives(_) => self.receiving(alloc, c),
-            Mode::Waits(meeting, _) => self.leaves(alloc, meeting.place),
-            Mode::Expects(meeting) => self.leaves(alloc, meeting.place),
-            Mode::Ended => Ok(Turn::Ends(end_place(c))),
+            ControlMode::Walks(_) => self.walks(alloc, program),
+            ControlMode::Receives(_) => self.receive(alloc, program),
+            ControlMode::Waits(collective, _) => self.leaves(alloc, collective.place),
+            ControlMode::Expects(collective) => self.leaves(alloc, collective.place),
+            ControlMode::Ended => Ok(StepOutcome::End(end_place(program))),
         }
     }
 
     /// One step.
-    pub fn step(&mut self, alloc: Global, c: &Parts) -> Result<Turn, Memory>
-        ensures { IfOk result (λ t. IsTurn (program_of c.now) self.old t self.new) }
+    pub fn step(&mut self, alloc: Global, program: &ProgramData) -> Result<StepOutcome, Memory>
+        ensures { IfOk result (λ t. IsStepOutcome (program_of program.now) self.old t self.new) }
     {
-        self.settle(c)?;
-        self.act(alloc, c)
+        self.normalize(program)?;
+        self.act(alloc, program)
     }
 }

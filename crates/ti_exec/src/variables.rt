@@ -1,21 +1,21 @@
 // The variables in scope of a call. Their number is bounded, so that the contribution to the deletion of a region fits into 32 bits.
 
 ghost use Rattle.std.specs.Prelude.{◌≡◌, ◌<◌, ◌≤◌, ◌+◌, ◌^◌, [], ◌∷◌, ◌++◌, count_by, if◌then◌else◌, IfOk, OnOk};
-ghost use Rattle.ti_lang.specs.Meaning.Held.{thing_of};
+ghost use Rattle.ti_lang.specs.Meaning.Held.{referent_of};
 ghost use Rattle.ti_lang.specs.Meaning.Processes.{Variable};
-ghost use Rattle.ti_lang.specs.Meaning.Scoping.{without};
+ghost use Rattle.ti_lang.specs.Meaning.Scoping.{without_variables};
 ghost use Rattle.ti_lang.specs.Meaning.Performing.{declared_in};
 ghost use Rattle.ti_lang.specs.Meaning.Steps.{lies_in as lies_in_spec};
 ghost use Rattle.ti_eval.specs.Frames.{slots_of};
-ghost use Rattle.ti_moves.specs.Moves.{changed};
+ghost use Rattle.ti_moves.specs.Outcomes.{update_variables};
 ghost use Rattle.ti_moves.specs.Receiving.{stm_seen};
 
-use crate::process::{Call, Variables};
+use crate::process::{CallFrame, Variables};
 use std::alloc::Global;
 use ti_base::{Id, Memory};
 use ti_eval::{Slot, change};
 use ti_lang::program::Stmt;
-use ti_moves::{Change, leave};
+use ti_moves::{VarUpdate, leave};
 
 // The most variables of a call.
 const ROOM: usize = 16777215;
@@ -63,13 +63,13 @@ impl Variables {
 
     /// Applies a change.
     #[tactic(auto, using(crate::proofs::Few::few))]
-    pub fn vary(&mut self, by: Change) -> Result<(), Memory>
-        ensures { OnOk result (slots_of self.new.slots.items ≡ changed by.entry (slots_of self.old.slots.items)) }
+    pub fn vary(&mut self, by: VarUpdate) -> Result<(), Memory>
+        ensures { OnOk result (slots_of self.new.slots.items ≡ update_variables by.entry (slots_of self.old.slots.items)) }
     {
         match by {
-            Change::Same => Ok(()),
-            Change::New(slot) => Ok(self.add(slot)?),
-            Change::Changed(variable, held) => {
+            VarUpdate::Same => Ok(()),
+            VarUpdate::New(slot) => Ok(self.add(slot)?),
+            VarUpdate::Changed(variable, held) => {
                 change(&mut self.slots, variable, held);
                 Ok(())
             }
@@ -78,16 +78,16 @@ impl Variables {
 
     /// Removes the variables of a block or a `for` at its end.
     #[tactic(auto, using(crate::proofs::Few::few))]
-    pub fn leave(&mut self, x: Option<&Stmt>)
-        ensures { slots_of self.new.slots.items ≡ without (declared_in (stm_seen x.entry)) (slots_of self.old.slots.items) }
+    pub fn leave(&mut self, stmt: Option<&Stmt>)
+        ensures { slots_of self.new.slots.items ≡ without_variables (declared_in (stm_seen stmt.entry)) (slots_of self.old.slots.items) }
     {
-        leave(&mut self.slots, x);
+        leave(&mut self.slots, stmt);
     }
 
     // How many of the variables refer to something in a region.
     #[tactic(auto, using(crate::proofs::Few::few))]
-    fn named(&self, region: u32) -> u32
-        ensures value { result ≡ count_by (λ (x : Variable). lies_in_spec region (thing_of x.held)) (slots_of self.now.slots.items) }
+    fn count_in_region(&self, region: u32) -> u32
+        ensures value { result ≡ count_by (λ (x : Variable). lies_in_spec region (referent_of x.held)) (slots_of self.now.slots.items) }
         ensures small { result < 2 ^ 24 }
     {
         let mut count = 0;
@@ -100,14 +100,14 @@ impl Variables {
     }
 }
 
-impl Call {
+impl CallFrame {
     /// How many variables of the call refer to something in a region; `this` is one.
-    pub fn named(&self, region: u32) -> u32
-        ensures value { result ≡ count_by (λ (x : Variable). lies_in_spec region (thing_of x.held))
+    pub fn count_in_region(&self, region: u32) -> u32
+        ensures value { result ≡ count_by (λ (x : Variable). lies_in_spec region (referent_of x.held))
             (slots_of self.now.variables.slots.items) + (if lies_in_spec region self.now.this then 1 else 0) }
         ensures small { result ≤ 2 ^ 24 }
     {
-        let count = self.variables.named(region);
+        let count = self.variables.count_in_region(region);
         if lies_in(region, self.this) {
             count + 1
         } else {

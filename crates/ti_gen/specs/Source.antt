@@ -15,8 +15,8 @@ number_at seed (suc place) = next (number_at seed place)
 -- ---- steps
 
 -- the number of steps, which count from 1
-abbrev pub steps : ℕ
-steps = 200
+abbrev pub step_total : ℕ
+step_total = 200
 
 -- the factor of step k
 abbrev pub factor_of : ℕ → ℕ → ℕ
@@ -58,4 +58,4 @@ abbrev pub last_lines : List ℕ
 last_lines = codes "    println(s);\n" ++ codes "  }\n" ++ codes "}\n"
 
 unfoldable pub source_text : ℕ → List ℕ
-source_text seed = first_lines ++ steps_text seed steps ++ last_lines
+source_text seed = first_lines ++ steps_text seed step_total ++ last_lines

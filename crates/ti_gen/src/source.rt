@@ -1,6 +1,6 @@
 // The source of the program of a seed.
 ghost use Rattle.std.specs.Prelude.{◌≡◌, ◌++◌, IfOk, OnOk};
-ghost use Rattle.ti_gen.specs.Source.{next, step_text, steps_text, source_text, steps};
+ghost use Rattle.ti_gen.specs.Source.{next, step_text, steps_text, source_text, step_total};
 
 use itoa::Buffer;
 use std::alloc::Global;
@@ -27,10 +27,10 @@ const TAIL: &[u8] = b"    println(s);
 ";
 
 // The next pseudo-random number: a linear congruential generator modulo 2^32.
-fn next_number(x: u32) -> u32
-    ensures { result ≡ next x }
+fn next_number(state: u32) -> u32
+    ensures { result ≡ next state }
 {
-    ((1664525 * u64::from(x) + 1013904223) % (1 << 32)) as u32
+    ((1664525 * u64::from(state) + 1013904223) % (1 << 32)) as u32
 }
 
 // Appends the lines of a step.
@@ -49,7 +49,7 @@ fn add_step(text: &mut Vec<u8>, factor: u32, index: u32) -> Result<(), Memory>
 
 // Appends the lines of all steps.
 fn add_steps(text: &mut Vec<u8>, seed: u32) -> Result<(), Memory>
-    ensures { OnOk result (text.new.items ≡ text.old.items ++ steps_text seed steps) }
+    ensures { OnOk result (text.new.items ≡ text.old.items ++ steps_text seed step_total) }
 {
     let mut x = seed;
     for step in 0..STEPS {

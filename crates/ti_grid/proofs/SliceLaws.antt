@@ -8,13 +8,13 @@ use Rattle.ti_base.specs.declared.point.Rect.{Rect}
 use Rattle.ti_base.specs.declared.action.ViewHow.TheVariants.{Slice}
 use Rattle.ti_base.specs.declared.fault.FaultKind.TheVariants.{Bounds}
 use Rattle.ti_base.specs.PointSets.{same_number}
-use Rattle.ti_base.specs.Ranges.{Range, IsOn, IsRange, is_on, is_empty_range, unused}
+use Rattle.ti_base.specs.Ranges.{Range, IsOn, IsRange, is_on, is_empty_range, unused_range}
 use Rattle.ti_base.specs.Rects.{IsRect, HasPoints, IsIn, is_empty, empty_rect, of_ranges, first_range, second_range, third_range}
 use Rattle.ti_base.specs.Cells.{has_coordinate, view_domain, seen_point, with_coordinate}
 use Rattle.ti_rect.proofs.Lemmas.{on_from, on_to, first_step, second_step, third_step, low_on, none_in, none_on, full, full_of, point_in, tidy_first, tidy_second, tidy_third, unused_third}
 use Rattle.ti_rect.proofs.Lemmas.{any_of, view_inside}
 use Rattle.ti_grid.specs.declared.layout.Layout.{Layout}
-use Rattle.ti_grid.specs.Mirrors.Numbers.{steps_to, number_of}
+use Rattle.ti_grid.specs.Mirrors.Numbers.{steps_to, cell_index}
 use Rattle.ti_grid.specs.Mirrors.Slices.{IsSplit}
 use Rattle.ti_grid.specs.Views.{SomeHas, IsLaid, IsSeen}
 use Rattle.ti_grid.proofs.SeenLaws.{is_laid, is_seen, first_below, second_below, third_below}
@@ -142,8 +142,8 @@ module _ (r : Rect) (is : IsRect r) where
 
 -- ---- the ranges of the rectangle of three ranges, where it has points
 
-pub ranges_kept : (d : ℕ) (a b : Range) (p : Point) → IsIn (of_ranges d a b unused) p → (first_range (of_ranges d a b unused) ≡ a) × (second_range (of_ranges d a b unused) ≡ b)
-ranges_kept d a b p = by (is_empty_range a || is_empty_range b || is_empty_range unused)
+pub ranges_kept : (d : ℕ) (a b : Range) (p : Point) → IsIn (of_ranges d a b unused_range) p → (first_range (of_ranges d a b unused_range) ≡ a) × (second_range (of_ranges d a b unused_range) ≡ b)
+ranges_kept d a b p = by (is_empty_range a || is_empty_range b || is_empty_range unused_range)
   where
     whole : Rect
     whole = record {
@@ -259,7 +259,7 @@ split_along l k k' out out' a a' b b' s t u e f g h is =
 -- ---- slices
 
 module _ (l : Layout) (laid : IsLaid l) (two : 2 ≤ l.dom.dim) (k : ℤ) (out a b : Range) (s t u : ℕ) (is : IsSplit l k out a b s t u)
-    (j : ℤ) (on : IsOn out j) (d : Rect) (n : ℕ) (domain : d ≡ of_ranges (l.dom.dim - 1) a b unused) (base : n ≡ steps_to out j * s) where
+    (j : ℤ) (on : IsOn out j) (d : Rect) (n : ℕ) (domain : d ≡ of_ranges (l.dom.dim - 1) a b unused_range) (base : n ≡ steps_to out j * s) where
   abbrev pub sliced : Layout
   sliced = record { block = l.block; dom = d; base = l.base + n; steps = t ∷ u ∷ 0 ∷ [] }
 
@@ -267,7 +267,7 @@ module _ (l : Layout) (laid : IsLaid l) (two : 2 ≤ l.dom.dim) (k : ℤ) (out a
   viewed = view_inside (Slice k j) l.dom laid.form tt (lt-ltb 1 l.dom.dim two) (ap (λ (t : Bool). if t then None else Some Bounds) ((is.has j).1 on))
 
   -- the number of a cell in the coordinates that are left
-  numbers : (p : Point) → IsIn (view_domain (Slice k j) l.dom) p → number_of sliced p ≡ number_of l (with_coordinate k j p)
+  numbers : (p : Point) → IsIn (view_domain (Slice k j) l.dom) p → cell_index sliced p ≡ cell_index l (with_coordinate k j p)
   numbers p w =
       let kept = ranges_kept (l.dom.dim - 1) a b p (subst (λ (r : Rect). IsIn r p) is.domain w) in
       let f : first_range d ≡ a = ap (λ (r : Rect). first_range r) domain ∙ kept.0 in
@@ -275,7 +275,7 @@ module _ (l : Layout) (laid : IsLaid l) (two : 2 ≤ l.dom.dim) (k : ℤ) (out a
       (λ i. l.base + base i + steps_to (f i) p.x1 * t + steps_to (g i) p.x2 * u + steps_to (third_range d) p.x3 * 0) ∙ omega arith ∙ sym (is.number j p)
 
   flat : (view_domain (Slice k j) l.dom).dim < 3
-  flat = let d = laid.form.0 in omega (arith, ap (λ (r : Rect). r.dim) is.domain, ranges_dim (l.dom.dim - 1) a b unused)
+  flat = let d = laid.form.0 in omega (arith, ap (λ (r : Rect). r.dim) is.domain, ranges_dim (l.dom.dim - 1) a b unused_range)
 
   pub sliced_laid : IsLaid sliced
   sliced_laid = is_laid (Slice k j) l sliced laid refl (domain ∙ sym is.domain) viewed.0 viewed.1 numbers

@@ -4,7 +4,7 @@ use Rattle.std.proofs.Math.Nat.{mul-div_cancel}
 use Rattle.std.proofs.lemmas.Nat.{mul-le}
 use Rattle.std.proofs.lemmas.Bool.{cases_lt}
 use Rattle.std.proofs.lemmas.Int.{ints}
-use Rattle.ti_base.specs.Ranges.{Range, IsOn, IsRange, natural, shifted}
+use Rattle.ti_base.specs.Ranges.{Range, IsOn, IsRange, natural, shift_range}
 use Rattle.ti_rect.proofs.Lemmas.{low_on}
 use Rattle.ti_grid.specs.Mirrors.Numbers.{steps_to}
 
@@ -18,7 +18,7 @@ pub on_steps : (r : Range) (x : ℤ) → 0 < r.step → (o : IsOn r x) → steps
 on_steps r x positive o = steps_are r x o.steps positive o.reached
 
 -- a range and a number that are moved by the same
-pub moved_steps : (r : Range) (by x : ℤ) → steps_to (shifted by r) x ≡ steps_to r (x -ℤ by)
+pub moved_steps : (r : Range) (by x : ℤ) → steps_to (shift_range by r) x ≡ steps_to r (x -ℤ by)
 moved_steps r by x =
     let d : x -ℤ (r.low +ℤ by) ≡ (x -ℤ by) -ℤ r.low = omega (arith, ints) in
     ap (λ (z : ℤ). natural z / r.step) d

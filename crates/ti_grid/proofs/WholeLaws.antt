@@ -14,7 +14,7 @@ use Rattle.ti_base.proofs.Lemmas.{length_points}
 use Rattle.ti_rect.proofs.Lemmas.{count_some, low_on, span_between, in_tests, points_listed, first_step, second_step, third_step}
 use Rattle.std.proofs.lemmas.Bool.{true≢false}
 use Rattle.ti_grid.specs.declared.layout.Layout.{Layout}
-use Rattle.ti_grid.specs.Mirrors.Numbers.{steps_to, number_of}
+use Rattle.ti_grid.specs.Mirrors.Numbers.{steps_to, cell_index}
 use Rattle.ti_grid.specs.Views.{IsLaid, IsWhole, NumbersBelow, place_in}
 use Rattle.ti_grid.proofs.ListLaws.{get_flat, get_number, length_numbers, length_flat, place_found, place_missing, place_below}
 use Rattle.ti_grid.proofs.StepLaws.{on_steps}
@@ -88,33 +88,33 @@ plane_few r h =
 -- the number of a cell is that place, with these steps
 pub whole_place : (v : Layout) → IsRect v.dom → v.base ≡ 0 → slice_index v.steps 0 ≡ count_on (second_range v.dom) * count_on (third_range v.dom)
     → slice_index v.steps 1 ≡ count_on (third_range v.dom) → slice_index v.steps 2 ≡ 1
-    → (p : Point) → IsIn v.dom p → slice_get (points_of v.dom) (number_of v p) ≡ Some p
+    → (p : Point) → IsIn v.dom p → slice_get (points_of v.dom) (cell_index v p) ≡ Some p
 whole_place v is b e f g p w =
     let i = steps_to (first_range v.dom) p.x1 in
     let j = steps_to (second_range v.dom) p.x2 in
     let k = steps_to (third_range v.dom) p.x3 in
     let m = count_on (second_range v.dom) in
     let n = count_on (third_range v.dom) in
-    let same : number_of v p ≡ 0 + i * (m * n) + j * n + k * 1 = λ t. b t + i * e t + j * f t + k * g t in
+    let same : cell_index v p ≡ 0 + i * (m * n) + j * n + k * 1 = λ t. b t + i * e t + j * f t + k * g t in
     let placed : 0 + i * (m * n) + j * n + k * 1 ≡ i * (m * n) + (j * n + k) = omega arith in
     ap (slice_get (points_of v.dom)) (same ∙ placed) ∙ place_of v.dom is p w
 
 -- ---- a view that numbers the points so
 
 module _ (v : Layout) (is : IsRect v.dom) (few : length (points_of v.dom) ≤ 1048576)
-    (places : (p : Point) → IsIn v.dom p → slice_get (points_of v.dom) (number_of v p) ≡ Some p) where
+    (places : (p : Point) → IsIn v.dom p → slice_get (points_of v.dom) (cell_index v p) ≡ Some p) where
   pub whole_laid : IsLaid v
   whole_laid = record {
     form = is;
-    below = λ p w. omega (arith, slice_get_within (points_of v.dom) (number_of v p) p (places p w));
+    below = λ p w. omega (arith, slice_get_within (points_of v.dom) (cell_index v p) p (places p w));
     apart = λ p q w x e. same_Some p q (sym (places p w) ∙ ap (slice_get (points_of v.dom)) e ∙ places q x);
   }
 
   pub whole_numbers : IsWhole v
   whole_numbers p = by (is_in v.dom p) refl
     where
-      by : (t : Bool) → is_in v.dom p ≡ t → (if t then Some (number_of v p) else None) ≡ place_in (points_of v.dom) p
-      by true e = sym (place_found (points_of v.dom) (number_of v p) p (points_listed v.dom is).rises (places p ((in_tests v.dom p is).0 e)))
+      by : (t : Bool) → is_in v.dom p ≡ t → (if t then Some (cell_index v p) else None) ≡ place_in (points_of v.dom) p
+      by true e = sym (place_found (points_of v.dom) (cell_index v p) p (points_listed v.dom is).rises (places p ((in_tests v.dom p is).0 e)))
       by false e = sym (place_missing (points_of v.dom) p (λ m. true≢false (sym ((in_tests v.dom p is).1 (((points_listed v.dom is).has p).0 m)) ∙ e)))
 
 -- the numbers of a whole block are below the count of its points

@@ -8,11 +8,11 @@ use Rattle.ti_base.specs.PointSets.{same_point}
 use Rattle.ti_base.specs.Rects.{IsRect, IsIn, is_in, points_of}
 use Rattle.ti_base.specs.Cells.{view_domain, seen_point}
 use Rattle.ti_grid.specs.declared.layout.Layout.{Layout}
-use Rattle.ti_grid.specs.Mirrors.Numbers.{number_of}
+use Rattle.ti_grid.specs.Mirrors.Numbers.{cell_index}
 
 -- the cell index of a point, if the view has the point
 abbrev pub cell_number : Layout → Point → Option ℕ
-cell_number v p = if is_in v.dom p then Some (number_of v p) else None
+cell_number v p = if is_in v.dom p then Some (cell_index v p) else None
 
 -- different points have different cells
 abbrev pub DifferInCells : Layout → Type 0
@@ -53,5 +53,5 @@ SomeHas r k j = (p : Point) × IsIn r p × HasCoordinate k j p
 -- the invariant of a view: the cell indices are below 1,048,576, and different points have different cells
 pub record IsLaid (v : Layout) : Type 0 where
   pub form : IsRect v.dom
-  pub below : (p : Point) → IsIn v.dom p → number_of v p < 1048576
-  pub apart : (p q : Point) → IsIn v.dom p → IsIn v.dom q → number_of v p ≡ number_of v q → p ≡ q
+  pub below : (p : Point) → IsIn v.dom p → cell_index v p < 1048576
+  pub apart : (p q : Point) → IsIn v.dom p → IsIn v.dom q → cell_index v p ≡ cell_index v q → p ≡ q

@@ -10,7 +10,7 @@ ghost use Rattle.ti_grid.specs.Views.{IsLaid, IsSeen, SomeHas};
 
 use crate::layout::Layout;
 use crate::numbers::offset;
-use crate::view::{View, laid, layout};
+use crate::view::{View, layout, view_from_layout};
 use ti_base::FaultKind;
 use ti_rect::axis::{Axis, UNUSED, contains};
 use ti_rect::rect::{first, of_axes, second, third};
@@ -22,54 +22,54 @@ struct Lane {
     step: u64,
 }
 
-/// Splits off coordinate `k`, counted from 1: it comes first, then the others in their order. None exactly if the dimension has no such
+/// Splits off `coordinate`, counted from 1: it comes first, then the others in their order. None exactly if the dimension has no such
 /// coordinate.
-fn set_apart(l: &Layout, k: i32) -> Option<(Lane, Lane, Lane)>
-    requires laid { IsLaid l.now }
-    requires two { 2 ≤ l.now.dom.dim }
-    ensures { MatchOption result ((j : ℤ) → false ≡ has_coordinate l.now.dom k j) (λ s.
-        IsSplit l.now k (range s.0.axis) (range s.1.axis) (range s.2.axis) s.0.step s.1.step s.2.step) }
+fn set_apart(layout: &Layout, coordinate: i32) -> Option<(Lane, Lane, Lane)>
+    requires laid { IsLaid layout.now }
+    requires two { 2 ≤ layout.now.dom.dim }
+    ensures { MatchOption result ((j : ℤ) → false ≡ has_coordinate layout.now.dom coordinate j) (λ s.
+        IsSplit layout.now coordinate (range s.0.axis) (range s.1.axis) (range s.2.axis) s.0.step s.1.step s.2.step) }
 {
-    if k < 1 || i32::from(l.dom.dim) < k {
+    if coordinate < 1 || i32::from(layout.dom.dim) < coordinate {
         return None;
     }
     let x = Lane {
-        axis: first(&l.dom),
-        step: l.steps[0],
+        axis: first(&layout.dom),
+        step: layout.steps[0],
     };
     let y = Lane {
-        axis: second(&l.dom),
-        step: l.steps[1],
+        axis: second(&layout.dom),
+        step: layout.steps[1],
     };
     let z = Lane {
-        axis: third(&l.dom),
-        step: l.steps[2],
+        axis: third(&layout.dom),
+        step: layout.steps[2],
     };
-    Some(match k {
+    Some(match coordinate {
         1 => (x, y, z),
         2 => (y, x, z),
         _ => (z, x, y),
     })
 }
 
-/// The view with coordinate `k`, counted from 1, fixed at `j` and left out. The fault is `Bounds`, exactly if `k` isn't between 1 and the
-/// dimension or no point of the domain has `j` as coordinate `k`; for a view without points it always is.
-pub fn view_slice(v: &View, k: i32, j: i32) -> Result<View, FaultKind>
-    requires { 2 ≤ v.now.dom.dim }
-    ensures fault { result_err result ≡ view_fault (Slice k j) v.now.dom }
-    ensures bounds { IsErr result ↔ (SomeHas v.now.dom k j → ⊥) }
-    ensures view { IfOk result (λ part. IsSeen (Slice k j) v.now part) }
+/// The view with `coordinate`, counted from 1, fixed at `position` and left out. The fault is `Bounds`, exactly if `coordinate` isn't
+/// between 1 and the dimension or no point of the domain has `position` as `coordinate`; for a view without points it always is.
+pub fn view_slice(view: &View, coordinate: i32, position: i32) -> Result<View, FaultKind>
+    requires { 2 ≤ view.now.dom.dim }
+    ensures fault { result_err result ≡ view_fault (Slice coordinate position) view.now.dom }
+    ensures bounds { IsErr result ↔ (SomeHas view.now.dom coordinate position → ⊥) }
+    ensures view { IfOk result (λ part. IsSeen (Slice coordinate position) view.now part) }
 {
-    let l = layout(v);
-    let Some((out, a, b)) = set_apart(&l, k) else {
+    let l = layout(view);
+    let Some((out, a, b)) = set_apart(&l, coordinate) else {
         return Err(FaultKind::Bounds);
     };
-    if !contains(out.axis, j) {
+    if !contains(out.axis, position) {
         return Err(FaultKind::Bounds);
     }
     let dom = of_axes(l.dom.dim - 1, a.axis, b.axis, UNUSED);
-    let base = l.base + offset(out.axis, j, out.step);
-    Ok(laid(Layout {
+    let base = l.base + offset(out.axis, position, out.step);
+    Ok(view_from_layout(Layout {
         block: l.block,
         dom,
         base,

@@ -48,15 +48,15 @@ impl View {
 }
 
 /// The layout of the view, which satisfies the invariant.
-pub fn layout(v: &View) -> Layout
-    ensures value { result ≡ v.now }
+pub fn layout(view: &View) -> Layout
+    ensures value { result ≡ view.now }
     ensures laid { IsLaid result }
 {
-    v.layout
+    view.layout
 }
 
 /// The view with this layout, which must satisfy the invariant.
-pub fn laid(layout: Layout) -> View
+pub fn view_from_layout(layout: Layout) -> View
     requires { IsLaid layout }
     ensures { result ≡ layout }
 {

@@ -5,14 +5,14 @@ ghost use Rattle.ti_base.specs.Rects.{IsRect, points_of};
 ghost use Rattle.ti_grid.specs.Views.{IsLaid, IsWhole, NumbersBelow};
 
 use crate::layout::Layout;
-use crate::view::{View, laid};
+use crate::view::{View, view_from_layout};
 use ti_base::{Id, Rect};
 use ti_rect::axis::count;
 use ti_rect::rect::{is_empty, second, third};
 
 /// The layout of a block in row-major order: a row is as long as the range of the third coordinate, and a plane has as many rows as the
 /// range of the second.
-fn whole(block: Id, dom: &Rect) -> Layout
+fn row_major_layout(block: Id, dom: &Rect) -> Layout
     requires form { IsRect dom.now }
     requires few { length (points_of dom.now) ≤ 1048576 }
     ensures block { result.block ≡ block }
@@ -48,5 +48,5 @@ pub fn view_of(block: Id, dom: &Rect) -> View
     ensures cells { IsWhole result }
     ensures below { NumbersBelow (length (points_of dom.now)) result }
 {
-    laid(whole(block, dom))
+    view_from_layout(row_major_layout(block, dom))
 }

@@ -8,14 +8,14 @@ use Rattle.ti_base.specs.declared.value.Value.{Value}
 use Rattle.ti_base.specs.Cells.{same_id}
 use Rattle.ti_grid.specs.declared.layout.Layout.{Layout}
 use Rattle.ti_grid.specs.Views.{NumbersBelow}
-use Rattle.ti_heap.specs.declared.thing.Thing.{Thing}
-use Rattle.ti_heap.specs.declared.thing.Thing.TheVariants.{Block}
+use Rattle.ti_heap.specs.declared.allocation.Allocation.{Allocation}
+use Rattle.ti_heap.specs.declared.allocation.Allocation.TheVariants.{Block}
 use Rattle.ti_heap.specs.Contents.{Cell, GridMap, Contents}
-use Rattle.ti_heap.specs.Things.{Things, is_named, named, live, values_of, layout_of, held_in, grid_in, map_of, IsBacked, IsSound}
+use Rattle.ti_heap.specs.Things.{Things, is_named, named, live, values_of, layout_of, value_in_cell, grid_in, map_of, IsBacked, IsSound}
 use Rattle.ti_heap.proofs.Names.{same_ids, id_self, one_name}
 
 -- the thing with this maker and serial is t, and the others are as before
-pub record Changed (old new : Things) (maker serial : ℕ) (t : Thing) : Type 0 where
+pub record Changed (old new : Things) (maker serial : ℕ) (t : Allocation) : Type 0 where
   pub same : new maker serial ≡ Some t
   pub other : (a b : ℕ) → (a ≡ maker → b ≡ serial → ⊥) → new a b ≡ old a b
 
@@ -27,7 +27,7 @@ pub through_if : {A B : Type 0} (f : A → B) (b : Bool) (x y : A) → f (if b t
 through_if f true x y = refl
 through_if f false x y = refl
 
-module _ (old new : Things) (id : Id) (t : Thing) (is : Changed old new id.maker id.serial t) (name : is_named id t ≡ true)
+module _ (old new : Things) (id : Id) (t : Allocation) (is : Changed old new id.maker id.serial t) (name : is_named id t ≡ true)
     (alone : (other : Id) → other.maker ≡ id.maker → other.serial ≡ id.serial → (other ≡ id → ⊥) → live old other ≡ None) where
   pub live_there : live new id ≡ Some t
   live_there = ap (option_and_then (named id)) is.same ∙ ap (λ (b : Bool). if b then Some t else None) name
@@ -52,14 +52,14 @@ module _ (old new : Things) (id : Id) (t : Thing) (is : Changed old new id.maker
       by true e = subst (λ (x : Id). live new x ≡ Some t) (sym (same_ids other id e)) (ap (option_and_then (named id)) is.same ∙ ap (λ (b : Bool). if b then Some t else None) name)
       by false e = live_beside other (λ f. both_ways (same_id other id) e (subst (λ (x : Id). same_id x id ≡ true) (sym f) (id_self id)))
 
-  pub held_changed : (c : Cell) → held_in new c ≡ (if same_id c.thing id then slice_get (values_of t) c.number else held_in old c)
+  pub held_changed : (c : Cell) → value_in_cell new c ≡ (if same_id c.thing id then slice_get (values_of t) c.number else value_in_cell old c)
   held_changed c =
-      let f : Option Thing → Option Value = option_and_then (λ (u : Thing). slice_get (values_of u) c.number) in
+      let f : Option Allocation → Option Value = option_and_then (λ (u : Allocation). slice_get (values_of u) c.number) in
       ap f (live_changed c.thing) ∙ through_if f (same_id c.thing id) (Some t) (live old c.thing)
 
   pub grid_changed : (other : Id) → grid_in new other ≡ (if same_id other id then option_map map_of (layout_of t) else grid_in old other)
   grid_changed other =
-      let f : Option Thing → Option GridMap = λ (o : Option Thing). option_map map_of (option_and_then layout_of o) in
+      let f : Option Allocation → Option GridMap = λ (o : Option Allocation). option_map map_of (option_and_then layout_of o) in
       ap f (live_changed other) ∙ through_if f (same_id other id) (Some t) (live old other)
 
   -- a view that was backed still is, where the thing keeps its elements

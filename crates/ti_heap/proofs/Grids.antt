@@ -12,10 +12,10 @@ use Rattle.ti_base.specs.Rects.{is_in, points_of}
 use Rattle.ti_base.specs.Cells.{view_domain, seen_point}
 use Rattle.ti_grid.specs.declared.layout.Layout.{Layout}
 use Rattle.ti_grid.specs.Views.{cell_number, place_in, IsWhole, IsSeen}
-use Rattle.ti_heap.specs.declared.thing.Thing.{Thing}
-use Rattle.ti_heap.specs.declared.thing.Thing.TheVariants.{Block}
+use Rattle.ti_heap.specs.declared.allocation.Allocation.{Allocation}
+use Rattle.ti_heap.specs.declared.allocation.Allocation.TheVariants.{Block}
 use Rattle.ti_heap.specs.Contents.{cell_at, whole_map, seen_map}
-use Rattle.ti_heap.specs.Things.{Things, live, values_of, held_in, map_of, IsBacked}
+use Rattle.ti_heap.specs.Things.{Things, live, values_of, value_in_cell, map_of, IsBacked}
 use Rattle.ti_heap.proofs.Changes.{through_if}
 
 pub whole_maps : (l : Layout) (id : Id) (dom : Rect) → l.block ≡ id → l.dom ≡ dom → IsWhole l → map_of l ≡ whole_map id dom
@@ -42,9 +42,9 @@ seen_backed how things l new b s = record {
 }
 
 -- the cells of a view are there
-pub backed_held : (things : Things) (l : Layout) (block : Id) (i : ℕ) → block ≡ l.block → (b : IsBacked things l) → i < length b.elements → IsSome (held_in things (cell_at block i))
+pub backed_held : (things : Things) (l : Layout) (block : Id) (i : ℕ) → block ≡ l.block → (b : IsBacked things l) → i < length b.elements → IsSome (value_in_cell things (cell_at block i))
 backed_held things l block i e b h =
     let there : live things block ≡ Some (Block b.whole b.elements) = ap (live things) e ∙ b.there in
     let some = slice_get-get_or b.elements i (v.Bool false) h in
-    let at : held_in things (cell_at block i) ≡ slice_get b.elements i = ap (option_and_then (λ (t : Thing). slice_get (values_of t) i)) there in
+    let at : value_in_cell things (cell_at block i) ≡ slice_get b.elements i = ap (option_and_then (λ (t : Allocation). slice_get (values_of t) i)) there in
     ap is_some (at ∙ some)

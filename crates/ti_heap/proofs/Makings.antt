@@ -10,40 +10,40 @@ use Rattle.ti_base.specs.declared.value.Id.{Id}
 use Rattle.ti_base.specs.declared.value.Value.{Value}
 use Rattle.ti_grid.specs.declared.layout.Layout.{Layout}
 use Rattle.ti_grid.specs.Views.{NumbersBelow}
-use Rattle.ti_heap.specs.declared.thing.Thing.{Thing}
-use Rattle.ti_heap.specs.declared.thing.Thing.TheVariants.{Object, Block, Seen, Gone}
-use Rattle.ti_heap.specs.Contents.{cell_at, GridMap, Contents, Made, with_thing, nothing}
+use Rattle.ti_heap.specs.declared.allocation.Allocation.{Allocation}
+use Rattle.ti_heap.specs.declared.allocation.Allocation.TheVariants.{Object, Block, ViewOf, Gone}
+use Rattle.ti_heap.specs.Contents.{cell_at, GridMap, Contents, Made, with_thing, empty_contents}
 use Rattle.ti_heap.specs.Things.{thing_at, is_named, named, live, values_of, layout_of, made_of, map_of, layout_in, share_of, made_in, contents, changed_at, IsBacked, IsSound, HasBacking}
 use Rattle.ti_heap.proofs.Lists.{get_changed, get_unchanged, length_changed, set_changed, set_same, get_last, get_front, no_more}
 use Rattle.ti_heap.proofs.Names.{named_region, same_ids, id_self}
 use Rattle.ti_heap.proofs.Changes.{Changed, same_contents, live_there, held_changed, grid_changed, still_backed, still_sound}
 
-pushed : (h : List (List Thing)) (p : ℕ) (things : List Thing) (t : Thing) → slice_get h p ≡ Some things
+pushed : (h : List (List Allocation)) (p : ℕ) (things : List Allocation) (t : Allocation) → slice_get h p ≡ Some things
     → Changed (thing_at h) (thing_at (changed_at p (λ ts. ts ++ t ∷ []) h)) p (length things) t
 pushed h p things t e = record {
-  same = ap (option_and_then (λ (ts : List Thing). slice_get ts (length things))) (get_changed p (λ ts. ts ++ t ∷ []) h things e) ∙ get_last things t;
+  same = ap (option_and_then (λ (ts : List Allocation). slice_get ts (length things))) (get_changed p (λ ts. ts ++ t ∷ []) h things e) ∙ get_last things t;
   other = λ a b apart. ⊎_elim
       (λ x. subst (λ (n : ℕ). thing_at (changed_at p (λ ts. ts ++ t ∷ []) h) n b ≡ thing_at h n b) (sym x)
-      (ap (option_and_then (λ (ts : List Thing). slice_get ts b)) (get_changed p (λ ts. ts ++ t ∷ []) h things e)
-      ∙ get_front things t b (λ y. apart x y) ∙ sym (ap (option_and_then (λ (ts : List Thing). slice_get ts b)) e)))
-      (λ x. ap (option_and_then (λ (ts : List Thing). slice_get ts b)) (get_unchanged p a (λ ts. ts ++ t ∷ []) h x))
+      (ap (option_and_then (λ (ts : List Allocation). slice_get ts b)) (get_changed p (λ ts. ts ++ t ∷ []) h things e)
+      ∙ get_front things t b (λ y. apart x y) ∙ sym (ap (option_and_then (λ (ts : List Allocation). slice_get ts b)) e)))
+      (λ x. ap (option_and_then (λ (ts : List Allocation). slice_get ts b)) (get_unchanged p a (λ ts. ts ++ t ∷ []) h x))
       (cases_eq a p);
 }
 
 -- a thing that has a name is made as the map says
-made_is : (id : Id) (t : Thing) → is_named id t ≡ true → made_of t ≡ record { region = id.region; cost = 1 + length (values_of t) }
+made_is : (id : Id) (t : Allocation) → is_named id t ≡ true → made_of t ≡ record { region = id.region; cost = 1 + length (values_of t) }
 made_is id (Object region fields) e = ap (λ (r : ℕ). let m : Made = record { region = r; cost = 1 + length fields } in m) (sym (named_region id (Object region fields) e))
 made_is id (Block whole elements) e = ap (λ (r : ℕ). let m : Made = record { region = r; cost = 1 + length elements } in m) (sym (named_region id (Block whole elements) e))
-made_is id (Seen view) e = ap (λ (r : ℕ). let m : Made = record { region = r; cost = 1 } in m) (sym (named_region id (Seen view) e))
+made_is id (ViewOf view) e = ap (λ (r : ℕ). let m : Made = record { region = r; cost = 1 } in m) (sym (named_region id (ViewOf view) e))
 made_is id Gone e = cc
 
-module _ (h : List (List Thing)) (id : Id) (things : List Thing) (t : Thing) (share : slice_get h id.maker ≡ Some things) (next : id.serial ≡ length things) (name : is_named id t ≡ true) where
+module _ (h : List (List Allocation)) (id : Id) (things : List Allocation) (t : Allocation) (share : slice_get h id.maker ≡ Some things) (next : id.serial ≡ length things) (name : is_named id t ≡ true) where
   change : Changed (thing_at h) (thing_at (changed_at id.maker (λ ts. ts ++ t ∷ []) h)) id.maker id.serial t
   change = subst (λ (n : ℕ). Changed (thing_at h) (thing_at (changed_at id.maker (λ ts. ts ++ t ∷ []) h)) id.maker n t) (sym next) (pushed h id.maker things t share)
 
   -- nothing has stood there
   none : thing_at h id.maker id.serial ≡ None
-  none = ap (option_and_then (λ (ts : List Thing). slice_get ts id.serial)) share ∙ ap (slice_get things) next ∙ no_more things
+  none = ap (option_and_then (λ (ts : List Allocation). slice_get ts id.serial)) share ∙ ap (slice_get things) next ∙ no_more things
 
   alone : (other : Id) → other.maker ≡ id.maker → other.serial ≡ id.serial → (other ≡ id → ⊥) → live (thing_at h) other ≡ None
   alone other m s apart = ap (option_and_then (named other)) ((λ k. thing_at h (m k) (s k)) ∙ none)
@@ -53,12 +53,12 @@ module _ (h : List (List Thing)) (id : Id) (things : List Thing) (t : Thing) (sh
   made p = ⊎_elim
       (λ e. subst (λ (n : ℕ). made_in (changed_at id.maker (λ ts. ts ++ t ∷ []) h) n
       ≡ (if eqb n id.maker then made_in h n ++ record { region = id.region; cost = 1 + length (values_of t) } ∷ [] else made_in h n)) (sym e)
-      (ap (λ (o : Option (List Thing)). map made_of (option_map_or (λ ts. ts) o [])) (get_changed id.maker (λ ts. ts ++ t ∷ []) h things share)
+      (ap (λ (o : Option (List Allocation)). map made_of (option_map_or (λ ts. ts) o [])) (get_changed id.maker (λ ts. ts ++ t ∷ []) h things share)
       ∙ map-append made_of things (t ∷ [])
       ∙ (λ i. map made_of things ++ made_is id t name i ∷ [])
-      ∙ sym (ap (λ (o : Option (List Thing)). map made_of (option_map_or (λ ts. ts) o []) ++ record { region = id.region; cost = 1 + length (values_of t) } ∷ []) share)
+      ∙ sym (ap (λ (o : Option (List Allocation)). map made_of (option_map_or (λ ts. ts) o []) ++ record { region = id.region; cost = 1 + length (values_of t) } ∷ []) share)
       ∙ sym (ap (λ (b : Bool). if b then made_in h id.maker ++ record { region = id.region; cost = 1 + length (values_of t) } ∷ [] else made_in h id.maker) (eq-eqb id.maker id.maker refl))))
-      (λ e. ap (λ (o : Option (List Thing)). map made_of (option_map_or (λ ts. ts) o [])) (get_unchanged id.maker p (λ ts. ts ++ t ∷ []) h e)
+      (λ e. ap (λ (o : Option (List Allocation)). map made_of (option_map_or (λ ts. ts) o [])) (get_unchanged id.maker p (λ ts. ts ++ t ∷ []) h e)
       ∙ sym (ap (λ (b : Bool). if b then made_in h p ++ record { region = id.region; cost = 1 + length (values_of t) } ∷ [] else made_in h p) (ne_eqb p id.maker e)))
       (cases_eq p id.maker)
 
@@ -76,7 +76,7 @@ module _ (h : List (List Thing)) (id : Id) (things : List Thing) (t : Thing) (sh
       (λ whole elements e. let f : None ≡ Some (Block whole elements) = sym (ap (option_and_then (named id)) none) ∙ e in cc) in
       still_sound (thing_at h) after id t change name alone sound kept (fresh t refl backing kept)
     where
-      fresh : (u : Thing) → t ≡ u → HasBacking (thing_at h) id u → ((l : Layout) → IsBacked (thing_at h) l → IsBacked (thing_at (changed_at id.maker (λ ts. ts ++ t ∷ []) h)) l)
+      fresh : (u : Allocation) → t ≡ u → HasBacking (thing_at h) id u → ((l : Layout) → IsBacked (thing_at h) l → IsBacked (thing_at (changed_at id.maker (λ ts. ts ++ t ∷ []) h)) l)
           → (l : Layout) → layout_of t ≡ Some l → IsBacked (thing_at (changed_at id.maker (λ ts. ts ++ t ∷ []) h)) l
       fresh (Object region fields) s b kept l e = let f : None ≡ Some l = sym (ap layout_of s) ∙ e in cc
       fresh (Block whole elements) s b kept l e =
@@ -89,7 +89,7 @@ module _ (h : List (List Thing)) (id : Id) (things : List Thing) (t : Thing) (sh
                 (live_there (thing_at h) (thing_at (changed_at id.maker (λ ts. ts ++ t ∷ []) h)) id t change name alone ∙ ap Some s);
             below = subst (NumbersBelow (length elements)) same b.1;
           }
-      fresh (Seen view) s b kept l e =
+      fresh (ViewOf view) s b kept l e =
           let f : Some view ≡ Some l = sym (ap layout_of s) ∙ e in
           let same : view ≡ l = cc in
           kept l (subst (IsBacked (thing_at h)) same b)
@@ -97,23 +97,23 @@ module _ (h : List (List Thing)) (id : Id) (things : List Thing) (t : Thing) (sh
 
 -- ---- where memory may be wanting
 
-module _ {E : Type 0} (r : Result (Unit {0}) E) (h : List (List Thing)) (id : Id) (things new : List Thing) (t : Thing) (share : slice_get h id.maker ≡ Some things)
+module _ {E : Type 0} (r : Result (Unit {0}) E) (h : List (List Allocation)) (id : Id) (things new : List Allocation) (t : Allocation) (share : slice_get h id.maker ≡ Some things)
     (next : id.serial ≡ length things) (name : is_named id t ≡ true) (ok : OnOk r (new ≡ things ++ t ∷ [])) (err : OnErr r (new ≡ things)) where
   pub pushed_sound : IsSound (thing_at h) → HasBacking (thing_at h) id t → IsSound (thing_at (set h id.maker new))
   pushed_sound sound backing = by r ok err
     where
       by : (q : Result (Unit {0}) E) → OnOk q (new ≡ things ++ t ∷ []) → OnErr q (new ≡ things) → IsSound (thing_at (set h id.maker new))
       by (Ok u) a b =
-          subst (λ (x : List (List Thing)). IsSound (thing_at x)) (sym (ap (λ (ts : List Thing). set h id.maker ts) a ∙ set_changed h id.maker (λ ts. ts ++ t ∷ []) things share))
+          subst (λ (x : List (List Allocation)). IsSound (thing_at x)) (sym (ap (λ (ts : List Allocation). set h id.maker ts) a ∙ set_changed h id.maker (λ ts. ts ++ t ∷ []) things share))
           (push_sound h id things t share next name sound backing)
-      by (Err u) a b = subst (λ (x : List (List Thing)). IsSound (thing_at x)) (sym (ap (λ (ts : List Thing). set h id.maker ts) b ∙ set_same h id.maker things share)) sound
+      by (Err u) a b = subst (λ (x : List (List Allocation)). IsSound (thing_at x)) (sym (ap (λ (ts : List Allocation). set h id.maker ts) b ∙ set_same h id.maker things share)) sound
 
   pub pushed_contents : OnOk r (contents (set h id.maker new) ≡ with_thing id (values_of t) (option_map map_of (layout_of t)) (contents h))
   pushed_contents = by r ok
     where
       by : (q : Result (Unit {0}) E) → OnOk q (new ≡ things ++ t ∷ []) → OnOk q (contents (set h id.maker new) ≡ with_thing id (values_of t) (option_map map_of (layout_of t)) (contents h))
       by (Ok u) a =
-          ap contents (ap (λ (ts : List Thing). set h id.maker ts) a ∙ set_changed h id.maker (λ ts. ts ++ t ∷ []) things share) ∙ push_contents h id things t share next name
+          ap contents (ap (λ (ts : List Allocation). set h id.maker ts) a ∙ set_changed h id.maker (λ ts. ts ++ t ∷ []) things share) ∙ push_contents h id things t share next name
       by (Err u) a = tt
 
 -- ---- a new heap
@@ -121,7 +121,7 @@ module _ {E : Type 0} (r : Result (Unit {0}) E) (h : List (List Thing)) (id : Id
 no_things : (n m s : ℕ) → thing_at (replicate n []) m s ≡ None
 no_things n m s = by n m
   where
-    by : (n m : ℕ) → option_and_then (λ (ts : List Thing). slice_get ts s) (slice_get (replicate n []) m) ≡ None
+    by : (n m : ℕ) → option_and_then (λ (ts : List Allocation). slice_get ts s) (slice_get (replicate n []) m) ≡ None
     by zero m = refl
     by (suc n) zero = refl
     by (suc n) (suc m) = by n m
@@ -134,11 +134,11 @@ no_share (suc n) (suc p) = no_share n p
 pub new_sound : (n : ℕ) → IsSound (thing_at (replicate n []))
 new_sound n m s t l at e = let f : None ≡ Some t = sym (no_things n m s) ∙ at in cc
 
-pub new_contents : (n : ℕ) → contents (replicate n []) ≡ nothing n
+pub new_contents : (n : ℕ) → contents (replicate n []) ≡ empty_contents n
 new_contents n =
-    same_contents (contents (replicate n [])) (nothing n) (let empty : List Thing = [] in length-replicate n empty)
-    (λ c. ap (λ (o : Option Thing). option_and_then (λ (u : Thing). slice_get (values_of u) c.number) (option_and_then (named c.thing) o)) (no_things n c.thing.maker c.thing.serial))
-    (λ id. ap (λ (o : Option Thing). option_map map_of (option_and_then layout_of (option_and_then (named id) o))) (no_things n id.maker id.serial))
+    same_contents (contents (replicate n [])) (empty_contents n) (let empty : List Allocation = [] in length-replicate n empty)
+    (λ c. ap (λ (o : Option Allocation). option_and_then (λ (u : Allocation). slice_get (values_of u) c.number) (option_and_then (named c.thing) o)) (no_things n c.thing.maker c.thing.serial))
+    (λ id. ap (λ (o : Option Allocation). option_map map_of (option_and_then layout_of (option_and_then (named id) o))) (no_things n id.maker id.serial))
     (λ p. ap (map made_of) (no_share n p))
 
 -- ---- what a maker's equation says of names
@@ -159,13 +159,13 @@ module _ (after before : Contents) (id : Id) (values : List Value) (grid : Optio
       by (v ∷ vs) l e = ap is_some (e ∙ slice_get-get_or (v ∷ vs) n v l)
 
 -- no grid has the name of the next thing
-pub not_next : (h : List (List Thing)) (id grid : Id) (l : Layout) → id.serial ≡ length (made_in h id.maker) → layout_in (thing_at h) grid ≡ Some l → grid ≡ id → ⊥
+pub not_next : (h : List (List Allocation)) (id grid : Id) (l : Layout) → id.serial ≡ length (made_in h id.maker) → layout_in (thing_at h) grid ≡ Some l → grid ≡ id → ⊥
 not_next h id grid l next there same =
     let none : thing_at h id.maker id.serial ≡ None = ap (thing_at h id.maker) (next ∙ length-map (share_of h id.maker) made_of) ∙ by (slice_get h id.maker) in
-    let gone : layout_in (thing_at h) id ≡ None = ap (λ (o : Option Thing). option_and_then layout_of (option_and_then (named id) o)) none in
+    let gone : layout_in (thing_at h) id ≡ None = ap (λ (o : Option Allocation). option_and_then layout_of (option_and_then (named id) o)) none in
     let f : None ≡ Some l = sym gone ∙ ap (layout_in (thing_at h)) (sym same) ∙ there in
     cc
   where
-    by : (o : Option (List Thing)) → option_and_then (λ (ts : List Thing). slice_get ts (length (option_map_or (λ (us : List Thing). us) o []))) o ≡ None
+    by : (o : Option (List Allocation)) → option_and_then (λ (ts : List Allocation). slice_get ts (length (option_map_or (λ (us : List Allocation). us) o []))) o ≡ None
     by None = refl
     by (Some ts) = no_more ts

@@ -5,9 +5,9 @@ use Rattle.std.proofs.lemmas.Bool.{and_parts, and_from, eqb-true, eq-eqb}
 use Rattle.ti_base.specs.declared.value.Id.{Id}
 use Rattle.ti_base.specs.Cells.{same_id}
 use Rattle.ti_grid.specs.declared.layout.Layout.{Layout}
-use Rattle.ti_heap.specs.declared.thing.Thing.{Thing}
-use Rattle.ti_heap.specs.declared.thing.Thing.TheVariants.{Object, Block, Seen, Gone}
-use Rattle.ti_heap.specs.Things.{Things, is_named, region_of, layout_of, named, live, layout_in}
+use Rattle.ti_heap.specs.declared.allocation.Allocation.{Allocation}
+use Rattle.ti_heap.specs.declared.allocation.Allocation.TheVariants.{Object, Block, ViewOf, Gone}
+use Rattle.ti_heap.specs.Things.{Things, is_named, allocation_region, layout_of, named, live, layout_in}
 
 one_id : (a b : Id) → a.maker ≡ b.maker → a.serial ≡ b.serial → a.owner ≡ b.owner → a.region ≡ b.region → a ≡ b
 one_id a b e f g h = λ i. record { maker = e i; serial = f i; owner = g i; region = h i }
@@ -27,7 +27,7 @@ id_self a =
     (eq-eqb a.region a.region refl)
 
 -- a thing has one name
-pub one_name : (a b : Id) (t : Thing) → is_named a t ≡ true → is_named b t ≡ true → a.maker ≡ b.maker → a.serial ≡ b.serial → a ≡ b
+pub one_name : (a b : Id) (t : Allocation) → is_named a t ≡ true → is_named b t ≡ true → a.maker ≡ b.maker → a.serial ≡ b.serial → a ≡ b
 one_name a b (Object region fields) e f m s =
     let x = and_parts (eqb a.owner a.maker) (eqb a.region region) e in
     let y = and_parts (eqb b.owner b.maker) (eqb b.region region) f in
@@ -36,20 +36,20 @@ one_name a b (Block whole elements) e f m s =
     let x = and_parts (eqb a.owner whole.block.owner) (eqb a.region whole.block.region) e in
     let y = and_parts (eqb b.owner whole.block.owner) (eqb b.region whole.block.region) f in
     one_id a b m s (eqb-true a.owner whole.block.owner x.0 ∙ sym (eqb-true b.owner whole.block.owner y.0)) (eqb-true a.region whole.block.region x.1 ∙ sym (eqb-true b.region whole.block.region y.1))
-one_name a b (Seen view) e f m s =
+one_name a b (ViewOf view) e f m s =
     let x = and_parts (eqb a.owner view.block.owner) (eqb a.region view.block.region) e in
     let y = and_parts (eqb b.owner view.block.owner) (eqb b.region view.block.region) f in
     one_id a b m s (eqb-true a.owner view.block.owner x.0 ∙ sym (eqb-true b.owner view.block.owner y.0)) (eqb-true a.region view.block.region x.1 ∙ sym (eqb-true b.region view.block.region y.1))
 one_name a b Gone e f m s = cc
 
-pub named_region : (id : Id) (t : Thing) → is_named id t ≡ true → id.region ≡ region_of t
+pub named_region : (id : Id) (t : Allocation) → is_named id t ≡ true → id.region ≡ allocation_region t
 named_region id (Object region fields) e = eqb-true id.region region (and_parts (eqb id.owner id.maker) (eqb id.region region) e).1
 named_region id (Block whole elements) e = eqb-true id.region whole.block.region (and_parts (eqb id.owner whole.block.owner) (eqb id.region whole.block.region) e).1
-named_region id (Seen view) e = eqb-true id.region view.block.region (and_parts (eqb id.owner view.block.owner) (eqb id.region view.block.region) e).1
+named_region id (ViewOf view) e = eqb-true id.region view.block.region (and_parts (eqb id.owner view.block.owner) (eqb id.region view.block.region) e).1
 named_region id Gone e = cc
 
 -- what a name says of a thing
-pub named_then : (id : Id) (t u : Thing) → named id t ≡ Some u → (is_named id t ≡ true) × (t ≡ u)
+pub named_then : (id : Id) (t u : Allocation) → named id t ≡ Some u → (is_named id t ≡ true) × (t ≡ u)
 named_then id t u e = by (is_named id t) refl e
   where
     by : (b : Bool) → is_named id t ≡ b → (if b then Some t else None) ≡ Some u → (is_named id t ≡ true) × (t ≡ u)
@@ -57,21 +57,21 @@ named_then id t u e = by (is_named id t) refl e
     by false f g = cc
 
 -- the thing of a name stands there, and has the name
-pub live_then : (things : Things) (id : Id) (t : Thing) → live things id ≡ Some t → (things id.maker id.serial ≡ Some t) × (is_named id t ≡ true)
+pub live_then : (things : Things) (id : Id) (t : Allocation) → live things id ≡ Some t → (things id.maker id.serial ≡ Some t) × (is_named id t ≡ true)
 live_then things id t e = by (things id.maker id.serial) e
   where
-    by : (o : Option Thing) → option_and_then (named id) o ≡ Some t → (o ≡ Some t) × (is_named id t ≡ true)
+    by : (o : Option Allocation) → option_and_then (named id) o ≡ Some t → (o ≡ Some t) × (is_named id t ≡ true)
     by None f = cc
-    by (Some u) f = let n = named_then id u t f in (ap Some n.1, subst (λ (x : Thing). is_named id x ≡ true) n.1 n.0)
+    by (Some u) f = let n = named_then id u t f in (ap Some n.1, subst (λ (x : Allocation). is_named id x ≡ true) n.1 n.0)
 
 -- the name of a grid has owner and region of its block
-pub grid_name : (id : Id) (t : Thing) (l : Layout) → is_named id t ≡ true → layout_of t ≡ Some l → (id.owner ≡ l.block.owner) × (id.region ≡ l.block.region)
+pub grid_name : (id : Id) (t : Allocation) (l : Layout) → is_named id t ≡ true → layout_of t ≡ Some l → (id.owner ≡ l.block.owner) × (id.region ≡ l.block.region)
 grid_name id (Object region fields) l e f = cc
 grid_name id (Block whole elements) l e f =
     let same : whole ≡ l = cc in
     let x = and_parts (eqb id.owner whole.block.owner) (eqb id.region whole.block.region) e in
     (eqb-true id.owner whole.block.owner x.0 ∙ ap (λ (y : Layout). y.block.owner) same, eqb-true id.region whole.block.region x.1 ∙ ap (λ (y : Layout). y.block.region) same)
-grid_name id (Seen view) l e f =
+grid_name id (ViewOf view) l e f =
     let same : view ≡ l = cc in
     let x = and_parts (eqb id.owner view.block.owner) (eqb id.region view.block.region) e in
     (eqb-true id.owner view.block.owner x.0 ∙ ap (λ (y : Layout). y.block.owner) same, eqb-true id.region view.block.region x.1 ∙ ap (λ (y : Layout). y.block.region) same)
@@ -80,6 +80,6 @@ grid_name id Gone l e f = cc
 pub layout_then : (things : Things) (id : Id) (l : Layout) → layout_in things id ≡ Some l → (id.owner ≡ l.block.owner) × (id.region ≡ l.block.region)
 layout_then things id l e = by (live things id) refl e
   where
-    by : (o : Option Thing) → live things id ≡ o → option_and_then layout_of o ≡ Some l → (id.owner ≡ l.block.owner) × (id.region ≡ l.block.region)
+    by : (o : Option Allocation) → live things id ≡ o → option_and_then layout_of o ≡ Some l → (id.owner ≡ l.block.owner) × (id.region ≡ l.block.region)
     by None f g = cc
     by (Some t) f g = grid_name id t l (live_then things id t f).1 g

@@ -51,12 +51,12 @@ cost_of p s = sum_by (λ (m : Made). m.cost) (s.made p)
 -- ---- the effects of calls
 
 -- an empty heap
-abbrev pub nothing : ℕ → Contents
-nothing procs = record { procs = procs; held = λ _. None; grid = λ _. None; made = λ _. [] }
+abbrev pub empty_contents : ℕ → Contents
+empty_contents procs = record { procs = procs; held = λ _. None; grid = λ _. None; made = λ _. [] }
 
 -- one cell has another value
-abbrev pub with_value : Cell → Value → Contents → Contents
-with_value cell v s = record s { held = λ other. if same_cell other cell then Some v else s.held other }
+abbrev pub with_cell_value : Cell → Value → Contents → Contents
+with_cell_value cell v s = record s { held = λ other. if same_cell other cell then Some v else s.held other }
 
 -- an object, grid or view is made, with these values in its cells; it costs 1, and 1 for each cell
 abbrev pub with_thing : Id → List Value → Option GridMap → Contents → Contents
@@ -106,14 +106,14 @@ abbrev pub grid_cell : Id → Point → Contents → Option Cell
 grid_cell grid p s = option_and_then (λ (g : GridMap). g.cell p) (s.grid grid)
 
 -- what is read through a cell; `Bounds` if there is none
-abbrev pub Reads : Contents → Option Cell → Result Value FaultKind → Type 0
-Reads s None r = r ≡ Err Bounds
-Reads s (Some cell) r = (v : Value) × (s.held cell ≡ Some v) × (r ≡ Ok v)
+abbrev pub ReadsCell : Contents → Option Cell → Result Value FaultKind → Type 0
+ReadsCell s None r = r ≡ Err Bounds
+ReadsCell s (Some cell) r = (v : Value) × (s.held cell ≡ Some v) × (r ≡ Ok v)
 
 -- what is written through a cell; `Bounds` and no change if there is none
-abbrev pub Writes : Contents → Option Cell → Value → Result (Unit {0}) FaultKind → Contents → Type 0
-Writes s None v r after = (r ≡ Err Bounds) × (after ≡ s)
-Writes s (Some cell) v r after = (r ≡ Ok tt) × (after ≡ with_value cell v s)
+abbrev pub WritesCell : Contents → Option Cell → Value → Result (Unit {0}) FaultKind → Contents → Type 0
+WritesCell s None v r after = (r ≡ Err Bounds) × (after ≡ s)
+WritesCell s (Some cell) v r after = (r ≡ Ok tt) × (after ≡ with_cell_value cell v s)
 
 -- ---- the cells of a region
 
@@ -122,14 +122,14 @@ IsAmong [] c = ⊥
 IsAmong (d ∷ ds) c = (c ≡ d) ⊎ IsAmong ds c
 
 -- no cell occurs twice in the list
-abbrev pub AreApart : List Cell → Type 0
-AreApart [] = Unit {0}
-AreApart (c ∷ cs) = (IsAmong cs c → ⊥) × AreApart cs
+abbrev pub AreDistinctCells : List Cell → Type 0
+AreDistinctCells [] = Unit {0}
+AreDistinctCells (c ∷ cs) = (IsAmong cs c → ⊥) × AreDistinctCells cs
 
 -- the values of the cells of a region, each cell once
 pub record ListsCells (s : Contents) (region : ℕ) (values : List Value) : Type 0 where
   pub cells : List Cell
-  pub once : AreApart cells
+  pub once : AreDistinctCells cells
   pub has : (c : Cell) → IsAmong cells c ↔ ((c.thing.region ≡ region) × IsSome (s.held c))
   pub values_are : map s.held cells ≡ map Some values
 

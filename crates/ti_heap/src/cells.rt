@@ -6,9 +6,9 @@ ghost use Rattle.std.specs.Iterator.{YieldsFirst, item_count};
 ghost use Rattle.ti_heap.specs.Contents.{ListsCells};
 ghost use Rattle.ti_heap.specs.Things.{values_in, all_values_in, contents};
 
+use crate::allocation::Allocation;
 use crate::heap::Heap;
-use crate::share::Share;
-use crate::thing::Thing;
+use crate::proc_heap::ProcHeap;
 use std::marker::Model;
 use ti_base::Value;
 
@@ -19,9 +19,9 @@ pub struct Cells<'a> {
     // What is left of the current object's or block's values.
     values: &'a [Value],
     // What is left of the current share.
-    things: &'a [Thing],
+    things: &'a [Allocation],
     // The shares after the current one.
-    shares: &'a [Share],
+    shares: &'a [ProcHeap],
 }
 
 impl<'a> Model for Cells<'a> {

@@ -1,7 +1,7 @@
 // Reading and writing fields of objects.
 
 ghost use Rattle.std.specs.Prelude.{◌≡◌, IsSome, Some};
-ghost use Rattle.ti_heap.specs.Contents.{cell_at, with_value};
+ghost use Rattle.ti_heap.specs.Contents.{cell_at, with_cell_value};
 ghost use Rattle.ti_heap.specs.Things.{contents};
 
 use crate::heap::Heap;
@@ -17,10 +17,10 @@ impl Heap {
     }
 
     /// Writes a field of an object; nothing else changes. The object must be in no dropped region and have the field.
-    pub fn put_field(&mut self, obj: Id, field: u32, v: Value)
+    pub fn put_field(&mut self, obj: Id, field: u32, value: Value)
         requires { IsSome ((contents self.old).held (cell_at obj field)) }
-        ensures { contents self.new ≡ with_value (cell_at obj field) v (contents self.old) }
+        ensures { contents self.new ≡ with_cell_value (cell_at obj field) value (contents self.old) }
     {
-        self.put(obj, u64::from(field), v);
+        self.put(obj, u64::from(field), value);
     }
 }

@@ -2,12 +2,12 @@
 
 ghost use Rattle.std.specs.Prelude.{◌≡◌, ℕ, ◌+◌, ◌<◌, ◌≤◌, nat_lt, true, length, IfOk, OnOk, OnErr, IsSome, Some};
 ghost use Rattle.std.specs.Option.{option_map};
-ghost use Rattle.ti_heap.specs.Contents.{nothing, cost_of, own_id, with_value, with_thing, without_region, cell_at};
-ghost use Rattle.ti_heap.specs.Things.{thing_at, live, held_in, layout_in, layout_of, map_of, values_of, contents, share_of, is_named, IsBacked, IsSound, HasBacking};
+ghost use Rattle.ti_heap.specs.Contents.{empty_contents, cost_of, own_id, with_cell_value, with_thing, without_region, cell_at};
+ghost use Rattle.ti_heap.specs.Things.{thing_at, live, value_in_cell, layout_in, layout_of, map_of, values_of, contents, share_of, is_named, IsBacked, IsSound, HasBacking};
 ghost use Rattle.ti_heap.specs.Things as things;
 
-use crate::share::Share;
-use crate::thing::Thing;
+use crate::allocation::Allocation;
+use crate::proc_heap::ProcHeap;
 use std::alloc::Global;
 use std::marker::Model;
 use ti_base::{Id, Memory, Value};
@@ -19,15 +19,15 @@ use ti_grid::View;
 /// process what it made and what that costs.
 #[derive(Drop)]
 pub struct Heap {
-    shares: Vec<Share>,
+    shares: Vec<ProcHeap>,
 }
 
 impl Model for Heap {
     ghost use Rattle.std.specs.Prelude.{List};
-    ghost use Rattle.ti_heap.specs.declared.thing.Thing.{Thing};
+    ghost use Rattle.ti_heap.specs.declared.allocation.Allocation.{Allocation};
     ghost use Rattle.ti_heap.specs.Things.{thing_at, IsSound};
 
-    ghost Value = { List (List Thing) };
+    ghost Value = { List (List Allocation) };
 
     ghost view = { λ h. h.shares.items };
 
@@ -37,17 +37,17 @@ impl Model for Heap {
 impl Heap {
     /// An empty heap for the given number of processes.
     pub fn new(alloc: Global, procs: u32) -> Result<Self, Memory>
-        ensures { IfOk result (λ heap. contents heap ≡ nothing procs) }
+        ensures { IfOk result (λ heap. contents heap ≡ empty_contents procs) }
     {
         let mut shares = Vec::new(alloc);
         for _process in 0..procs {
-            shares.push(Share::new(alloc))?;
+            shares.push(ProcHeap::new(alloc))?;
         }
         Ok(Heap { shares })
     }
 
     /// The shares of all processes, by process number.
-    pub(crate) fn shares(&self) -> &[Share]
+    pub(crate) fn shares(&self) -> &[ProcHeap]
         ensures shares { result.now ≡ self.now }
         ensures sound { IsSound (thing_at self.now) }
     {
@@ -55,7 +55,7 @@ impl Heap {
     }
 
     /// The object or grid with this name, which must be in no dropped region.
-    fn thing(&self, id: Id) -> &Thing
+    fn thing(&self, id: Id) -> &Allocation
         requires { IsSome (live (thing_at self.now) id) }
         ensures { live (thing_at self.now) id ≡ Some result.now }
     {
@@ -63,12 +63,12 @@ impl Heap {
         share.thing(id.serial)
     }
 
-    /// The value of the cell with index `i` of the object or block with this name.
-    pub(crate) fn value(&self, id: Id, i: u64) -> Value
-        requires { IsSome (held_in (thing_at self.now) (cell_at id i)) }
-        ensures { held_in (thing_at self.now) (cell_at id i) ≡ Some result }
+    /// The value of the cell with `index` of the object or block with this name.
+    pub(crate) fn value(&self, id: Id, index: u64) -> Value
+        requires { IsSome (value_in_cell (thing_at self.now) (cell_at id index)) }
+        ensures { value_in_cell (thing_at self.now) (cell_at id index) ≡ Some result }
     {
-        self.thing(id).value(i)
+        self.thing(id).value(index)
     }
 
     /// The grid with this name, as a view of a block.
@@ -79,41 +79,41 @@ impl Heap {
     {
         let _shares = self.shares();
         match self.thing(grid) {
-            Thing::Block { whole, .. } => whole,
-            Thing::Seen(view) => view,
+            Allocation::Block { whole, .. } => whole,
+            Allocation::ViewOf(view) => view,
             _ => unreachable!(),
         }
     }
 
-    /// How many objects, grids and views process `p` has made, dropped ones included.
-    pub(crate) fn count(&self, p: u32) -> u64
-        requires { p < length self.now }
-        ensures { result ≡ length ((contents self.now).made p) }
+    /// How many objects, grids and views `process` has made, dropped ones included.
+    pub(crate) fn count(&self, process: u32) -> u64
+        requires { process < length self.now }
+        ensures { result ≡ length ((contents self.now).made process) }
     {
-        let share = &self.shares()[p as usize];
+        let share = &self.shares()[process as usize];
         share.count()
     }
 
-    /// Whether the cost of process `p` would exceed the limit if it grew by `cells`.
-    pub(crate) fn is_full(&self, p: u32, cells: u64) -> bool
-        requires { p < length self.now }
-        ensures { result ≡ nat_lt 1048576 (cost_of p (contents self.now) + cells) }
+    /// Whether the cost of `process` would exceed the limit if it grew by `cells`.
+    pub(crate) fn is_full(&self, process: u32, cells: u64) -> bool
+        requires { process < length self.now }
+        ensures { result ≡ nat_lt 1048576 (cost_of process (contents self.now) + cells) }
     {
-        let share = &self.shares()[p as usize];
+        let share = &self.shares()[process as usize];
         share.is_full(cells)
     }
 
-    /// Writes a value to the cell with index `i` of the object or block with this name.
-    pub(crate) fn put(&mut self, id: Id, i: u64, value: Value)
-        requires { IsSome (held_in (thing_at self.old) (cell_at id i)) }
-        ensures { contents self.new ≡ with_value (cell_at id i) value (contents self.old) }
+    /// Writes a value to the cell with `index` of the object or block with this name.
+    pub(crate) fn put(&mut self, id: Id, index: u64, value: Value)
+        requires { IsSome (value_in_cell (thing_at self.old) (cell_at id index)) }
+        ensures { contents self.new ≡ with_cell_value (cell_at id index) value (contents self.old) }
     {
         let share = &mut self.shares[id.maker as usize];
-        share.put(id.serial, i, value);
+        share.put(id.serial, index, value);
     }
 
     /// Adds an object, grid or view with this name, which is the next one of its maker. If memory runs out, nothing changes.
-    pub(crate) fn push(&mut self, id: Id, thing: Thing) -> Result<(), Memory>
+    pub(crate) fn push(&mut self, id: Id, thing: Allocation) -> Result<(), Memory>
         requires here { id.maker < length self.old }
         requires next { id.serial ≡ length (share_of self.old id.maker) }
         requires named { is_named id thing ≡ true }

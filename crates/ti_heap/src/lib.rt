@@ -2,14 +2,14 @@
 //! dropped as a whole.
 #![tactic(auto)]
 
+mod allocation;
 mod cells;
 mod elements;
 mod error;
 mod fields;
 mod heap;
 mod makers;
-mod share;
-mod thing;
+mod proc_heap;
 mod values;
 
 pub use cells::Cells;

@@ -102,19 +102,19 @@ impl Values {
     }
 
     /// The value with this index.
-    pub fn get(&self, i: u64) -> Value
-        requires { i < length self.now }
-        ensures { slice_get self.now i ≡ Some result }
+    pub fn get(&self, index: u64) -> Value
+        requires { index < length self.now }
+        ensures { slice_get self.now index ≡ Some result }
     {
-        self.items[i as usize]
+        self.items[index as usize]
     }
 
     /// Replaces the value with this index.
-    pub fn put(&mut self, i: u64, value: Value)
-        requires { i < length self.old }
-        ensures { self.new ≡ slice_set self.old i value }
+    pub fn put(&mut self, index: u64, value: Value)
+        requires { index < length self.old }
+        ensures { self.new ≡ slice_set self.old index value }
     {
-        self.items[i as usize] = value;
+        self.items[index as usize] = value;
     }
 
     /// The values as a slice.

@@ -1,46 +1,46 @@
 -- The solution of the constraints of a program is what inference returns.
 use Rattle.std.proofs.Common.{◌≡◌, List, [], ◌++◌, Option, Some, None, refl, subst}
 use Rattle.ti_base.specs.declared.place.Place.{Place}
-use Rattle.ti_lang.specs.Program.Classes.{NumberedProgram}
+use Rattle.ti_lang.specs.Program.Classes.{ProgramView}
 use Rattle.ti_lang.specs.Numbering.{IsNumbered}
 use Rattle.ti_rules.specs.TypeRules.{type_refusals}
 use Rattle.ti_blame.specs.declared.mark.Mark.{Mark}
 use Rattle.ti_blame.specs.Marks.{Marks, marks_of}
-use Rattle.ti_blame.specs.Settling.{IsSettled}
+use Rattle.ti_blame.specs.Solutions.{IsSolution}
 use Rattle.ti_infer.specs.Stripped.{stripped, HavePlainResults}
-use Rattle.ti_infer.specs.Names.{names_of}
+use Rattle.ti_infer.specs.Candidates.{candidate_marks}
 use Rattle.ti_infer.specs.Accepted.{IsAccepted}
 use Rattle.ti_infer.specs.Limited.{every_one, counts_to}
 use Rattle.ti_infer.specs.Inferred.{IsAcceptedTo}
 use Rattle.ti_infer.specs.Answer.{IsGreatest, IsFirstUnaligned}
-use Rattle.ti_infer.specs.Mirrors.Edges.{all_reasons, program_edges}
+use Rattle.ti_infer.specs.Mirrors.Implications.{all_reasons, program_edges}
 use Rattle.ti_infer.specs.Mirrors.Fits.{fit_edges}
-use Rattle.ti_infer.specs.Mirrors.Settled.{AreInferred}
+use Rattle.ti_infer.specs.Mirrors.Solution.{AreInferred}
 use Rattle.ti_infer.proofs.Descending.{by_rules, fewer_keep}
 use Rattle.ti_infer.proofs.LimitedRules.{limited_by_reasons}
 use Rattle.ti_infer.proofs.StrippedResults.{stripped_plain}
 use Rattle.ti_infer.proofs.NoMainCalls.{none_always}
 use Rattle.ti_infer.proofs.Inferring.{inferred}
 
-plain_results : (p : NumberedProgram) → stripped p ≡ p → HavePlainResults p.methods
-plain_results p plain = subst (λ (q : NumberedProgram). HavePlainResults q.methods) plain (stripped_plain p)
+plain_results : (p : ProgramView) → stripped p ≡ p → HavePlainResults p.methods
+plain_results p plain = subst (λ (q : ProgramView). HavePlainResults q.methods) plain (stripped_plain p)
 
-pub are_inferred : (p : NumberedProgram) (marks : List Mark) (first : Option Place) → ∥ IsNumbered p ∥₁ → type_refusals p ≡ [] → stripped p ≡ p
-    → IsSettled (names_of p) (all_reasons p) (program_edges p ++ fit_edges p) marks first → AreInferred p marks first
+pub are_inferred : (p : ProgramView) (marks : List Mark) (first : Option Place) → ∥ IsNumbered p ∥₁ → type_refusals p ≡ [] → stripped p ≡ p
+    → IsSolution (candidate_marks p) (all_reasons p) (program_edges p ++ fit_edges p) marks first → AreInferred p marks first
 are_inferred p marks first numbered types plain settled =
-    record { settled = settled; inferred = inferred p (names_of p) marks first types (plain_results p plain) (none_always p numbered types plain) settled }
+    record { settled = settled; inferred = inferred p (candidate_marks p) marks first types (plain_results p plain) (none_always p numbered types plain) settled }
 
 -- what is accepted is so up to each collective
-accepted_to : (p : NumberedProgram) (a : Marks) (last : Option Place) → HavePlainResults p.methods → IsAccepted p a → IsAcceptedTo last p a
+accepted_to : (p : ProgramView) (a : Marks) (last : Option Place) → HavePlainResults p.methods → IsAccepted p a → IsAcceptedTo last p a
 accepted_to p a last plain h = record {
   types = h.types;
   single = limited_by_reasons (counts_to last) p a plain (fewer_keep (counts_to last) every_one p a (λ at k. refl) (by_rules p a h.single));
 }
 
-pub is_greatest : (p : NumberedProgram) (marks : List Mark) → AreInferred p marks None → IsGreatest p marks
+pub is_greatest : (p : ProgramView) (marks : List Mark) → AreInferred p marks None → IsGreatest p marks
 is_greatest p marks h = record { names = h.settled.part; accepted = h.inferred.accepted refl; greatest = h.inferred.greatest; rises = h.settled.rises }
 
-pub is_first : (p : NumberedProgram) (marks : List Mark) (at : Place) → stripped p ≡ p → AreInferred p marks (Some at) → IsFirstUnaligned p at
+pub is_first : (p : ProgramView) (marks : List Mark) (at : Place) → stripped p ≡ p → AreInferred p marks (Some at) → IsFirstUnaligned p at
 is_first p marks at plain h = record {
   never = λ a names accepted. h.inferred.none a names (accepted_to p a (Some at) (plain_results p plain) accepted);
   collective = h.inferred.collective;

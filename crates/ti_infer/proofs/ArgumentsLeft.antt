@@ -4,19 +4,19 @@ use Rattle.std.proofs.lemmas.List.{drop_all}
 use Rattle.ti_lang.specs.declared.program.exprs.Expr.{Expr}
 use Rattle.ti_lang.specs.declared.program.classes.Param.{Param}
 use Rattle.ti_lang.specs.Program.Expressions.{numbered_exps, NoExp}
-use Rattle.ti_lang.specs.Program.Classes.{NumberedParam, NumberedMethod, NumberedProgram}
+use Rattle.ti_lang.specs.Program.Classes.{NumberedParam, NumberedMethod, ProgramView}
 use Rattle.ti_lang.specs.Program.Views.{expression_of, numbered_param_of}
 use Rattle.ti_blame.specs.declared.mark.Mark.{Mark}
-use Rattle.ti_blame.specs.declared.edge.Then.{Then}
-use Rattle.ti_blame.specs.declared.edge.Edge.{Edge}
-use Rattle.ti_infer.specs.Mirrors.Edges.{arguments_edges}
+use Rattle.ti_blame.specs.declared.implication.Conclusion.{Conclusion}
+use Rattle.ti_blame.specs.declared.implication.Implication.{Implication}
+use Rattle.ti_infer.specs.Mirrors.Implications.{arguments_edges}
 
-module _ (p : NumberedProgram) (m : NumberedMethod) (whole : Then) (inside : List (ℕ × List (Option Mark))) where
+module _ (p : ProgramView) (m : NumberedMethod) (whole : Conclusion) (inside : List (ℕ × List (Option Mark))) where
   no_argument : (ws : List NumberedParam) → arguments_edges p m whole inside ws NoExp ≡ []
   no_argument [] = refl
   no_argument (w ∷ ws) = refl
 
-  pub args_end : (params : List Param) (args : List Expr) (i : ℕ) (out whole_out : List Edge) → length args ≤ i
+  pub args_end : (params : List Param) (args : List Expr) (i : ℕ) (out whole_out : List Implication) → length args ≤ i
       → out ++ arguments_edges p m whole inside (map numbered_param_of (drop i params)) (numbered_exps (map expression_of (drop i args))) ≡ whole_out → out ≡ whole_out
   args_end params args i out whole_out le is =
       sym (append-nil out)

@@ -4,12 +4,12 @@ use Rattle.std.specs.Option.{option_map_or}
 use Rattle.ti_lang.specs.Program.Types.{ValueType}
 use Rattle.ti_lang.specs.Program.Expressions.{NumberedExp}
 use Rattle.ti_lang.specs.Program.Statements.{NumberedInit}
-use Rattle.ti_lang.specs.Program.Classes.{NumberedParam, NumberedParams, Words, Params, NumberedMethod, NumberedProgram}
+use Rattle.ti_lang.specs.Program.Classes.{NumberedParam, NumberedParams, MainArgs, Params, NumberedMethod, ProgramView}
 use Rattle.ti_lang.specs.Program.Scope.{ScopeVariable, parameters_from, parameters, this_of}
 use Rattle.ti_lang.specs.Typing.Kinds.{domain_dim}
 use Rattle.ti_lang.specs.Typing.Singleness.{is_single_part, is_single, is_single_initial}
-use Rattle.ti_rules.specs.Standing.{Around, scope_of, singles_in, with_point, variables_inside}
-use Rattle.ti_blame.specs.Marks.{Marks, IsPart}
+use Rattle.ti_rules.specs.StmtInContext.{StmtContext, scope_of, singles_in, with_point, variables_inside}
+use Rattle.ti_blame.specs.Marks.{Marks, IsSubset}
 use Rattle.ti_infer.specs.Marked.{marked_exp, marked_init, marked_param, marked_params, marked_method, marked}
 use Rattle.ti_infer.proofs.Truths.{Grows}
 use Rattle.ti_infer.proofs.Same.{this_same}
@@ -75,25 +75,25 @@ beside_point vs ws number a b o q h g e = rw (sym e) (by o)
     by None = h
     by (Some n) = beside_behind vs ws _ _ h refl refl g
 
-params_from_beside : (m n : Marks) (number : ℕ) (ws : List NumberedParam) → IsPart m n → BesideAll (parameters_from number (map (marked_param m) ws)) (parameters_from number (map (marked_param n) ws))
+params_from_beside : (m n : Marks) (number : ℕ) (ws : List NumberedParam) → IsSubset m n → BesideAll (parameters_from number (map (marked_param m) ws)) (parameters_from number (map (marked_param n) ws))
 params_from_beside m n number [] part = tt
 params_from_beside m n number (w ∷ ws) part = (refl, refl, part.variables w.place, params_from_beside m n (number + 1) ws part)
 
-pub params_beside : (m n : Marks) (ws : NumberedParams) → IsPart m n → BesideAll (parameters (marked_params m ws)) (parameters (marked_params n ws))
-params_beside m n Words part = tt
+pub params_beside : (m n : Marks) (ws : NumberedParams) → IsSubset m n → BesideAll (parameters (marked_params m ws)) (parameters (marked_params n ws))
+params_beside m n MainArgs part = tt
 params_beside m n (Params ws) part = params_from_beside m n 0 ws part
 
 -- ---- a place
 
 -- what stands around a place of a method
-abbrev pub around_in : Marks → NumberedMethod → List ScopeVariable → Option Bool → Around
+abbrev pub around_in : Marks → NumberedMethod → List ScopeVariable → Option Bool → StmtContext
 around_in m x vs jump_has = record { method = marked_method m x; variables = vs; jump_has = jump_has }
 
 -- from one `this` to another that is the same
 grows_this : (f g : Option ℕ → Bool) (a b c : Option ℕ) → a ≡ c → b ≡ c → Grows (f c) (g c) → Grows (f a) (g b)
 grows_this f g a b c h k l t = ap g k ∙ l (sym (ap f h) ∙ t)
 
-module _ (p : NumberedProgram) (x : NumberedMethod) (m n : Marks) (part : IsPart m n) (i j : ℕ → Bool) (marks : GrowAll i j) (vs ws : List ScopeVariable) (a b : Option Bool) (beside : BesideAll vs ws) where
+module _ (p : ProgramView) (x : NumberedMethod) (m n : Marks) (part : IsSubset m n) (i j : ℕ → Bool) (marks : GrowAll i j) (vs ws : List ScopeVariable) (a b : Option Bool) (beside : BesideAll vs ws) where
   scopes_grow : GrowAll (singles_in (scope_of (around_in m x vs a))) (singles_in (scope_of (around_in n x ws b)))
   scopes_grow number = beside_grows vs ws number beside
 

@@ -8,7 +8,7 @@ use Rattle.ti_lang.specs.Program.Expressions.{NumberedExp, NumberedExps}
 use Rattle.ti_lang.specs.Program.Expressions as e
 use Rattle.ti_lang.specs.Program.Statements.{NumberedInit, NumberedStm, MaybeNumbered, NumberedStms, numbered_stms}
 use Rattle.ti_lang.specs.Program.Statements as st
-use Rattle.ti_lang.specs.Program.Classes.{NumberedParam, NumberedParams, Words, Params, NumberedResult, NumberedMethod, NumberedProgram}
+use Rattle.ti_lang.specs.Program.Classes.{NumberedParam, NumberedParams, MainArgs, Params, NumberedResult, NumberedMethod, ProgramView}
 use Rattle.ti_lang.specs.Program.Classes as c
 use Rattle.ti_lang.specs.Program.Scope.{ScopeVariable, parameters, this_of}
 use Rattle.ti_lang.specs.Typing.Called.{called_method, member_called}
@@ -17,16 +17,16 @@ use Rattle.ti_lang.specs.Typing.Effects.{doings_of_maybe}
 use Rattle.ti_rules.specs.declared.rule.Rule.{Rule}
 use Rattle.ti_rules.specs.declared.rule.Rule.TheVariants.{S1, S2, S3, S4, S5, S6, S7, S8}
 use Rattle.ti_rules.specs.Refusals.{refused_if}
-use Rattle.ti_rules.specs.Standing.{scope_of, singles_in, loop_acts, variables_inside, inside, inside_maybe, inside_all}
+use Rattle.ti_rules.specs.StmtInContext.{scope_of, singles_in, loop_acts, variables_inside, inside, inside_maybe, inside_all}
 use Rattle.ti_rules.specs.SingleRules.{is_plain_condition, argument_refusals, params_refusals, call_refusals, is_delete, whole_refusals, initial_refusals, single_refusals_at, word_refusals, result_refusals, method_single_refusals, single_refusals}
-use Rattle.ti_blame.specs.Marks.{Marks, IsPart}
+use Rattle.ti_blame.specs.Marks.{Marks, IsSubset}
 use Rattle.ti_infer.specs.Marks.{variable_place, marks_variable}
 use Rattle.ti_infer.specs.Marked.{marked_exp, marked_exps, marked_init, marked_stm, marked_maybe, marked_stms, marked_param, marked_params, marked_result, marked_method, marked}
-use Rattle.ti_blame.specs.declared.blame.Blame.{Blame}
-use Rattle.ti_blame.specs.declared.blame.Blame.TheVariants.{OfCollective, Always, OfResult, OfVariable}
-use Rattle.ti_infer.specs.Blame.{guarded, target_reasons, result_reasons, loop_reasons, effect_reasons, blame_around, plain_here}
-use Rattle.ti_infer.specs.Blame.{arguments_blamed, params_blamed, call_blamed, whole_blamed, initial_blamed, condition_plain, own_blamed}
-use Rattle.ti_infer.specs.Blame.{blamed, blamed_of_maybe, blamed_of_all, method_blamed, program_blamed}
+use Rattle.ti_blame.specs.declared.reason.Reason.{Reason}
+use Rattle.ti_blame.specs.declared.reason.Reason.TheVariants.{OfCollective, Always, OfResult, OfVariable}
+use Rattle.ti_infer.specs.Reason.{reasons_if, target_reasons, result_reasons, loop_reasons, effect_reasons, blame_around, plain_here}
+use Rattle.ti_infer.specs.Reason.{arguments_blamed, params_blamed, call_blamed, whole_blamed, initial_blamed, condition_plain, own_blamed}
+use Rattle.ti_infer.specs.Reason.{blamed, blamed_of_maybe, blamed_of_all, method_blamed, program_blamed}
 use Rattle.ti_infer.proofs.Truths.{Grows, true_false}
 use Rattle.ti_infer.proofs.Same.{this_same, call_same, language_same}
 use Rattle.ti_infer.proofs.Growing.{GrowAll}
@@ -41,13 +41,13 @@ or_both : (a b : Bool) → (a || b) ≡ false → (a ≡ false) × (b ≡ false)
 or_both true b h = absurd (true_false h)
 or_both false b h = (refl, h)
 
-pub held_both : (marks : Marks) (xs ys : List Blame) → some_held marks (xs ++ ys) ≡ false → (some_held marks xs ≡ false) × (some_held marks ys ≡ false)
+pub held_both : (marks : Marks) (xs ys : List Reason) → some_held marks (xs ++ ys) ≡ false → (some_held marks xs ≡ false) × (some_held marks ys ≡ false)
 held_both marks xs ys h = or_both _ _ (sym (held_append marks xs ys) ∙ h)
 
-pub both_held : (marks : Marks) (xs ys : List Blame) → some_held marks xs ≡ false → some_held marks ys ≡ false → some_held marks (xs ++ ys) ≡ false
+pub both_held : (marks : Marks) (xs ys : List Reason) → some_held marks xs ≡ false → some_held marks ys ≡ false → some_held marks (xs ++ ys) ≡ false
 both_held marks xs ys h k = held_append marks xs ys ∙ ap₂ (λ a b. a || b) h k
 
-pub part_grows_variable : (v u : Marks) (m : NumberedMethod) → IsPart v u → GrowAll (marks_variable v m) (marks_variable u m)
+pub part_grows_variable : (v u : Marks) (m : NumberedMethod) → IsSubset v u → GrowAll (marks_variable v m) (marks_variable u m)
 part_grows_variable v u m part number = by (variable_place m number)
   where
     by : (o : Option Place) → Grows (option_map_or v.variables o false) (option_map_or u.variables o false)
@@ -55,17 +55,17 @@ part_grows_variable v u m part number = by (variable_place m number)
     by (Some at) = part.variables at
 
 -- a rule that isn't broken under the part: where what it wants isn't there under the whole, nothing that makes it ask is in the part
-rule_sound : (v : Marks) (asks s t : Bool) (r : Rule) (at : Place) (found : List Blame) → asks ≡ some_held v found → Grows s t
-    → refused_if (asks && not s) r at ≡ [] → some_held v (guarded (not t) found) ≡ false
-rule_sound v asks s true r at found e g h = refl
-rule_sound v asks true false r at found e g h = absurd (true_false (sym (g refl)))
+rule_sound : (v : Marks) (dependencies s t : Bool) (r : Rule) (at : Place) (found : List Reason) → dependencies ≡ some_held v found → Grows s t
+    → refused_if (dependencies && not s) r at ≡ [] → some_held v (reasons_if (not t) found) ≡ false
+rule_sound v dependencies s true r at found e g h = refl
+rule_sound v dependencies true false r at found e g h = absurd (true_false (sym (g refl)))
 rule_sound v true false false r at found e g h = absurd (true_false (refused_none _ r at h))
 rule_sound v false false false r at found e g h = sym e
 
 -- a rule for which nothing is to blame isn't broken
-pub rule_complete : (u : Marks) (asks s : Bool) (r : Rule) (at : Place) (found : List Blame) → asks ≡ some_held u found
-    → some_held u (guarded (not s) found) ≡ false → refused_if (asks && not s) r at ≡ []
-rule_complete u asks true r at found e h = none_refused _ r at (and_false asks)
+pub rule_complete : (u : Marks) (dependencies s : Bool) (r : Rule) (at : Place) (found : List Reason) → dependencies ≡ some_held u found
+    → some_held u (reasons_if (not s) found) ≡ false → refused_if (dependencies && not s) r at ≡ []
+rule_complete u dependencies true r at found e h = none_refused _ r at (and_false dependencies)
   where
     and_false : (a : Bool) → (a && false) ≡ false
     and_false true = refl
@@ -75,7 +75,7 @@ rule_complete u false false r at found e h = refl
 
 -- ---- the part
 
-module _ (p : NumberedProgram) (m : NumberedMethod) (v u : Marks) (part : IsPart v u) where
+module _ (p : ProgramView) (m : NumberedMethod) (v u : Marks) (part : IsSubset v u) where
   growth : GrowAll (marks_variable v m) (marks_variable u m)
   growth = part_grows_variable v u m part
 
@@ -85,17 +85,17 @@ module _ (p : NumberedProgram) (m : NumberedMethod) (v u : Marks) (part : IsPart
 
   delete_held : (marks : Marks) (a : NumberedExp) (name : ℕ) (at : Place)
       → is_delete (member_called (marked marks p) (this_of (marked_method marks m)) (marked_exp (marks_variable marks m) a) name)
-      ≡ some_held marks (guarded (is_delete (member_called p (this_of m) a name)) (OfCollective at ∷ []))
+      ≡ some_held marks (reasons_if (is_delete (member_called p (this_of m) a name)) (OfCollective at ∷ []))
   delete_held marks a name at =
       ap (λ this. is_delete (member_called (marked marks p) this (marked_exp (marks_variable marks m) a) name)) (this_same marks m)
       ∙ ap is_delete (language_same marks p (this_of m) (marks_variable marks m) a name)
       ∙ by (is_delete (member_called p (this_of m) a name))
     where
-      by : (b : Bool) → b ≡ some_held marks (guarded b (OfCollective at ∷ []))
+      by : (b : Bool) → b ≡ some_held marks (reasons_if b (OfCollective at ∷ []))
       by true = refl
       by false = refl
 
-  module _ (vs ws : List ScopeVariable) (j : Option Bool) (jumping : List Blame) (beside : BesideAll vs ws) (jumps : unwrap_or j false ≡ some_held v jumping) where
+  module _ (vs ws : List ScopeVariable) (j : Option Bool) (jumping : List Reason) (beside : BesideAll vs ws) (jumps : unwrap_or j false ≡ some_held v jumping) where
     here : (x : NumberedExp) → Grows (is_single_part (marked v p) (this_of (marked_method v m)) (singles_in (scope_of (around_in v m vs j)))
         (marked_exp (marks_variable v m) x)) (is_single_part (marked u p) (this_of (marked_method u m))
         (singles_in (scope_of (blame_around p m u ws))) (marked_exp (marks_variable u m) x))
@@ -109,14 +109,14 @@ module _ (p : NumberedProgram) (m : NumberedMethod) (v u : Marks) (part : IsPart
     arguments_sound (w ∷ params) e.NoExp h = refl
     arguments_sound (w ∷ params) (e.MoreExp a rest) h =
         let f = none_both _ _ h in
-        both_held v (guarded (plain_here p m u ws a) (OfVariable w.place ∷ [])) (arguments_blamed p m u ws params rest)
+        both_held v (reasons_if (plain_here p m u ws a) (OfVariable w.place ∷ [])) (arguments_blamed p m u ws params rest)
         (rule_sound v (v.variables w.place) _ _ S5 _ (OfVariable w.place ∷ []) (or_false _) (here a) f.0)
         (arguments_sound params rest f.1)
 
     params_sound : (params : NumberedParams) (args : NumberedExps)
         → params_refusals (marked v p) (around_in v m vs j) (marked_params v params) (marked_exps (marks_variable v m) args) ≡ []
         → some_held v (params_blamed p m u ws params args) ≡ false
-    params_sound Words args h = refl
+    params_sound MainArgs args h = refl
     params_sound (Params params) args h = arguments_sound params args h
 
     call_sound : (o : Option NumberedMethod) (args : NumberedExps)
@@ -138,7 +138,7 @@ module _ (p : NumberedProgram) (m : NumberedMethod) (v u : Marks) (part : IsPart
     whole_sound (e.Member at a name args) h =
         let f = none_both _ _ h in
         both_held v (call_blamed p m u ws (called_method p (this_of m) (e.Member at a name args)) args) _ (method_sound_at (e.Member at a name args) args f.0)
-        (rule_sound v _ _ _ S8 at (guarded (is_delete (member_called p (this_of m) a name)) (OfCollective at ∷ [])) (delete_held v a name at) (here a) f.1)
+        (rule_sound v _ _ _ S8 at (reasons_if (is_delete (member_called p (this_of m) a name)) (OfCollective at ∷ [])) (delete_held v a name at) (here a) f.1)
     whole_sound _ h = refl
 
     initial_sound : (x : NumberedInit) → initial_refusals (marked v p) (around_in v m vs j) (marked_init (marks_variable v m) x) ≡ [] → some_held v (initial_blamed p m u ws x) ≡ false
@@ -153,18 +153,18 @@ module _ (p : NumberedProgram) (m : NumberedMethod) (v u : Marks) (part : IsPart
         (marked_stm (marks_variable v m) v.variables body) && not
         (is_single_part (marked v p) (this_of (marked_method v m)) (singles_in (scope_of (around_in v m vs j)))
         (marked_exp (marks_variable v m) x))) r at ≡ []
-        → some_held v (guarded (plain_here p m u ws x) (loop_reasons p m update body)) ≡ false
+        → some_held v (reasons_if (plain_here p m u ws x) (loop_reasons p m update body)) ≡ false
     loop_sound r at update body x h = rule_sound v _ _ _ r at (loop_reasons p m update body) (loop_held p m v update body) (here x) h
 
     condition_sound : (at : Place) (update : MaybeNumbered) (body : NumberedStm) (x : Option NumberedExp)
         → refused_if (loop_acts (marked v p) (marked_method v m) (marked_maybe (marks_variable v m) v.variables update)
         (marked_stm (marks_variable v m) v.variables body) && is_plain_condition (marked v p) (around_in v m vs j)
         (option_map (marked_exp (marks_variable v m)) x)) S2 at ≡ []
-        → some_held v (guarded (condition_plain p m u ws x) (loop_reasons p m update body)) ≡ false
+        → some_held v (reasons_if (condition_plain p m u ws x) (loop_reasons p m update body)) ≡ false
     condition_sound at update body None h = refl
     condition_sound at update body (Some x) h = loop_sound S2 at update body x h
 
-    always_sound : (b d : Bool) (at : Place) → b ≡ d → refused_if b S2 at ≡ [] → some_held v (guarded d (Always ∷ [])) ≡ false
+    always_sound : (b d : Bool) (at : Place) → b ≡ d → refused_if b S2 at ≡ [] → some_held v (reasons_if d (Always ∷ [])) ≡ false
     always_sound b true at e h = absurd (true_false (sym e ∙ refused_none b S2 at h))
     always_sound b false at e h = refl
 
@@ -189,7 +189,7 @@ module _ (p : NumberedProgram) (m : NumberedMethod) (v u : Marks) (part : IsPart
     own_sound (st.While at c body) h = loop_sound S2 at st.NoStm body c h
     own_sound (st.For at first c update body) h =
         let f = none_both _ _ h in
-        both_held v (guarded (condition_plain p m u ws c) (loop_reasons p m update body)) (guarded (doings_of_maybe p (this_of m) update).jumps (Always ∷ []))
+        both_held v (reasons_if (condition_plain p m u ws c) (loop_reasons p m update body)) (reasons_if (doings_of_maybe p (this_of m) update).jumps (Always ∷ []))
         (condition_sound at update body c f.0) (always_sound _ _ at (maybe_held p m v update).jumps f.1)
     own_sound (st.Foreach at variable domain body) h = loop_sound S3 at st.NoStm body domain h
     own_sound (st.Return at None) h = refl
@@ -203,7 +203,7 @@ module _ (p : NumberedProgram) (m : NumberedMethod) (v u : Marks) (part : IsPart
   -- ---- statements where they stand, under the part
 
   mutual
-    pub stm_sound : (s : NumberedStm) (vs ws : List ScopeVariable) (j : Option Bool) (jumping : List Blame) → BesideAll vs ws → unwrap_or j false ≡ some_held v jumping
+    pub stm_sound : (s : NumberedStm) (vs ws : List ScopeVariable) (j : Option Bool) (jumping : List Reason) → BesideAll vs ws → unwrap_or j false ≡ some_held v jumping
         → wrong (marked v p) (inside (marked v p) (around_in v m vs j) (marked_stm (marks_variable v m) v.variables s)) ≡ [] → some_held v (blamed p m u ws jumping s) ≡ false
     stm_sound (st.Block body) vs ws j jumping b k h = stms_sound body vs ws j jumping b k h
     stm_sound (st.If at c a) vs ws j jumping b k h =
@@ -246,12 +246,12 @@ module _ (p : NumberedProgram) (m : NumberedMethod) (v u : Marks) (part : IsPart
     stm_sound (st.Return at value) vs ws j jumping b k h = own_sound vs ws j jumping b k (st.Return at value) (none_both _ _ h).0
     stm_sound _ vs ws j jumping b k h = refl
 
-    maybe_sound : (s : MaybeNumbered) (vs ws : List ScopeVariable) (j : Option Bool) (jumping : List Blame) → BesideAll vs ws → unwrap_or j false ≡ some_held v jumping
+    maybe_sound : (s : MaybeNumbered) (vs ws : List ScopeVariable) (j : Option Bool) (jumping : List Reason) → BesideAll vs ws → unwrap_or j false ≡ some_held v jumping
         → wrong (marked v p) (inside_maybe (marked v p) (around_in v m vs j) (marked_maybe (marks_variable v m) v.variables s)) ≡ [] → some_held v (blamed_of_maybe p m u ws jumping s) ≡ false
     maybe_sound st.NoStm vs ws j jumping b k h = refl
     maybe_sound (st.SomeStm s) vs ws j jumping b k h = stm_sound s vs ws j jumping b k h
 
-    pub stms_sound : (ss : NumberedStms) (vs ws : List ScopeVariable) (j : Option Bool) (jumping : List Blame) → BesideAll vs ws → unwrap_or j false ≡ some_held v jumping
+    pub stms_sound : (ss : NumberedStms) (vs ws : List ScopeVariable) (j : Option Bool) (jumping : List Reason) → BesideAll vs ws → unwrap_or j false ≡ some_held v jumping
         → wrong (marked v p) (inside_all (marked v p) (around_in v m vs j) (marked_stms (marks_variable v m) v.variables ss)) ≡ [] → some_held v (blamed_of_all p m u ws jumping ss) ≡ false
     stms_sound st.Nil vs ws j jumping b k h = refl
     stms_sound (st.Cons s rest) vs ws j jumping b k h =
@@ -270,7 +270,7 @@ module _ (p : NumberedProgram) (m : NumberedMethod) (v u : Marks) (part : IsPart
 
   word_sound : (words : List Qualifier) (at : Place) (b s t : Bool) → Grows s t
       → (if s then [] else flat_map word_refusals (words ++ (if b then record { word = Single; place = at } ∷ [] else []))) ≡ []
-      → b ≡ v.results at → some_held v (guarded (not t) (OfResult at ∷ [])) ≡ false
+      → b ≡ v.results at → some_held v (reasons_if (not t) (OfResult at ∷ [])) ≡ false
   word_sound words at b s true g h e = refl
   word_sound words at b true false g h e = absurd (true_false (sym (g refl)))
   word_sound words at true false false g h e = absurd (some_word (none_both (flat_map word_refusals words) _ (sym (flat_append word_refusals words (record { word = Single; place = at } ∷ [])) ∙ h)).1)
@@ -280,10 +280,10 @@ module _ (p : NumberedProgram) (m : NumberedMethod) (v u : Marks) (part : IsPart
   word_sound words at false false false g h e = ap (λ a. a || false) (sym e)
 
   result_sound : (r : NumberedResult) → result_refusals (marked_method v m).is_single (marked_result (v.results m.place) m.place r) ≡ []
-      → some_held v (guarded (not (marked_method u m).is_single) (result_reasons p m r)) ≡ false
+      → some_held v (reasons_if (not (marked_method u m).is_single) (result_reasons p m r)) ≡ false
   result_sound c.Void h = by (marked_method u m).is_single
     where
-      by : (b : Bool) → some_held v (guarded (not b) []) ≡ false
+      by : (b : Bool) → some_held v (reasons_if (not b) []) ≡ false
       by true = refl
       by false = refl
   result_sound (c.Typed type) h = word_sound type.qualifiers m.place (v.results m.place) _ _ method_grows h refl
@@ -292,14 +292,14 @@ module _ (p : NumberedProgram) (m : NumberedMethod) (v u : Marks) (part : IsPart
   method_sound h =
       let f = none_both _ _ h in
       let g = none_both _ _ f.0 in
-      let effects = guarded (not (marked_method u m).is_single) (effect_reasons p m [] (st.Block (numbered_stms m.body))) in
-      let result = guarded (not (marked_method u m).is_single) (result_reasons p m m.result) in
+      let effects = reasons_if (not (marked_method u m).is_single) (effect_reasons p m [] (st.Block (numbered_stms m.body))) in
+      let result = reasons_if (not (marked_method u m).is_single) (result_reasons p m m.result) in
       both_held v (effects ++ result) (blamed_of_all p m u (parameters (marked_params u m.params)) [] (numbered_stms m.body))
       (both_held v effects result (rule_sound v _ _ _ S6 m.place (effect_reasons p m [] (st.Block (numbered_stms m.body))) (method_effects_held p m v) method_grows g.0) (result_sound m.result g.1))
       (stms_sound (numbered_stms m.body) _ _ None [] (params_beside v u m.params part) refl
       (sym (ap (λ ss. wrong (marked v p) (inside_all (marked v p) (around_in v m (parameters (marked_method v m).params) None) ss)) (stms_of_map (marks_variable v m) v.variables m.body)) ∙ f.1))
 
-methods_sound : (p : NumberedProgram) (v u : Marks) (ms : List NumberedMethod) → IsPart v u
+methods_sound : (p : ProgramView) (v u : Marks) (ms : List NumberedMethod) → IsSubset v u
     → flat_map (method_single_refusals (marked v p)) (map (marked_method v) ms) ≡ [] → some_held v (flat_map (λ m. method_blamed p m u) ms)
     ≡ false
 methods_sound p v u [] part h = refl
@@ -308,5 +308,5 @@ methods_sound p v u (m ∷ ms) part h =
     both_held v (method_blamed p m u) (flat_map (λ m. method_blamed p m u) ms) (method_sound p m v u part f.0) (methods_sound p v u ms part f.1)
 
 -- nothing that is to blame under a marking is in a part of it that breaks no rule of single values
-pub blamed_sound : (p : NumberedProgram) (v u : Marks) → IsPart v u → single_refusals (marked v p) ≡ [] → some_held v (program_blamed p u) ≡ false
+pub blamed_sound : (p : ProgramView) (v u : Marks) → IsSubset v u → single_refusals (marked v p) ≡ [] → some_held v (program_blamed p u) ≡ false
 blamed_sound p v u part h = methods_sound p v u p.methods part h

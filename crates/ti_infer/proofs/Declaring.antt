@@ -5,7 +5,7 @@ use Rattle.ti_base.specs.declared.place.Place.{Place}
 use Rattle.ti_syntax.specs.Trees.Statements.{Stm, MaybeStm, Stms}
 use Rattle.ti_syntax.specs.Trees.Statements as s
 use Rattle.ti_syntax.specs.Trees.Classes.{ParamTree}
-use Rattle.ti_lang.specs.Scopes.{Site, declares, typed_as, past_variable, past, past_maybe, past_all, behind, behind_maybe, behind_params}
+use Rattle.ti_lang.specs.Scopes.{Site, declares, typed_as, past_variable, past, past_maybe, past_all, site_after, behind_maybe, behind_params}
 use Rattle.ti_lang.specs.Program.Types.{Foreach}
 use Rattle.ti_lang.specs.Program.Statements.{NumberedStm, MaybeNumbered, NumberedStms}
 use Rattle.ti_lang.specs.Program.Classes.{NumberedParam}
@@ -68,7 +68,7 @@ mutual
       both_counted site.variables (past site a).variables _ (count a) (count_all rest) (past_counted site a)
       (past_all_counted (past site a) rest)
 
-pub behind_counted : (site : Site) (a : Stm) → (behind site a).variables ≡ site.variables + count a
+pub behind_counted : (site : Site) (a : Stm) → (site_after site a).variables ≡ site.variables + count a
 behind_counted site (s.Declare at type name value) = refl
 behind_counted site (s.Block body) = past_counted site (s.Block body)
 behind_counted site (s.If at c a) = past_counted site (s.If at c a)
@@ -177,5 +177,5 @@ mutual
       → AreWithin site.variables (count_all all) (declared_place_all ys)
   stms_within site all ys number.nil n apart = refl
   stms_within site all ys (number.cons {x = a} {y = y} {xs = us} {ys = vs} h rest) n apart =
-      both_within site.variables (behind site a).variables (count a) (count_all us) (behind_counted site a) (declared_place y)
-      (declared_place_all vs) (stm_within site a y h) (stms_within (behind site a) us vs rest) n apart
+      both_within site.variables (site_after site a).variables (count a) (count_all us) (behind_counted site a) (declared_place y)
+      (declared_place_all vs) (stm_within site a y h) (stms_within (site_after site a) us vs rest) n apart

@@ -5,15 +5,15 @@ use Rattle.ti_lang.specs.Program.Types.{ValueType, Class}
 use Rattle.ti_lang.specs.Program.Types as t
 use Rattle.ti_lang.specs.Program.Expressions.{NumberedExp, NumberedExps, NumberedRange, NumberedRanges, place_of_numbered}
 use Rattle.ti_lang.specs.Program.Expressions as e
-use Rattle.ti_lang.specs.Program.Classes.{NumberedParams, Words, Params, NumberedMethod, NumberedProgram}
+use Rattle.ti_lang.specs.Program.Classes.{NumberedParams, MainArgs, Params, NumberedMethod, ProgramView}
 use Rattle.ti_lang.specs.Program.Scope.{ScopeContents}
-use Rattle.ti_lang.specs.Typing.Alike.{one_dim}
+use Rattle.ti_lang.specs.Typing.Alike.{erase_dims}
 use Rattle.ti_lang.specs.Typing.Declared.{instance_method}
 use Rattle.ti_lang.specs.Typing.Expressions.{rect_literal, operand_type}
 use Rattle.ti_rules.specs.declared.refusal.Refusal.{Refusal}
 use Rattle.ti_rules.specs.declared.rule.Rule.TheVariants.{Y4}
 use Rattle.ti_rules.specs.Parts.{parts, parts_of_all, parts_of_range, parts_of_ranges}
-use Rattle.ti_rules.specs.Broken.Refused.{refused, judged, both_judged, mistaken}
+use Rattle.ti_rules.specs.Broken.Refused.{refusal_at, judged, both_judged, operand_refusal}
 use Rattle.ti_rules.specs.Broken.Calls.{misfits, params_refusals, call_refusals, instance_refusals, built_in_refusals, member_refusals}
 use Rattle.ti_rules.specs.Broken.Misplaced.{misplaced_at, misplaced, all_misplaced, bound_misplaced, bounds_misplaced}
 use Rattle.ti_rules.specs.Broken.Words.{type_word_refusals}
@@ -57,8 +57,8 @@ length_same f [] = refl
 length_same f (x ∷ xs) = ap (λ n. suc n) (length_same f xs)
 
 params_same : (marks : Marks) (at : Place) (places : List Place) (ws : NumberedParams) (ts : List ValueType) → params_refusals at places (marked_params marks ws) ts ≡ params_refusals at places ws ts
-params_same marks at places Words ts = refl
-params_same marks at places (Params ws) ts = ap₂ (λ n us. if length ts == n then misfits places ts us else refused Y4 at) (length_same (marked_param marks) ws) (types_known marks ws)
+params_same marks at places MainArgs ts = refl
+params_same marks at places (Params ws) ts = ap₂ (λ n us. if length ts == n then misfits places ts us else refusal_at Y4 at) (length_same (marked_param marks) ws) (types_known marks ws)
 
 calls_same : (marks : Marks) (at : Place) (places : List Place) (o : Option NumberedMethod) (ts : List ValueType)
     → call_refusals at places (option_map (marked_method marks) o) ts ≡ call_refusals at places o ts
@@ -70,7 +70,7 @@ instances_same : (marks : Marks) (at : Place) (places : List Place) (o : Option 
 instances_same marks at places None ts = refl
 instances_same marks at places (Some m) ts = params_same marks at places m.params ts
 
-members_same : (marks : Marks) (p : NumberedProgram) (at : Place) (places : List Place) (name : ℕ) (x : ValueType) (ts : List ValueType)
+members_same : (marks : Marks) (p : ProgramView) (at : Place) (places : List Place) (name : ℕ) (x : ValueType) (ts : List ValueType)
     → member_refusals (marked marks p) at places name x ts ≡ member_refusals p at places name x ts
 members_same marks p at places name (t.Class class is_local) ts =
     ap (λ o. instance_refusals at places o ts) (instance_same marks p class name)
@@ -146,7 +146,7 @@ module _ (singles : ℕ → Bool) where
 
 -- ---- expressions
 
-module _ (marks : Marks) (p : NumberedProgram) (singles : ℕ → Bool) (s r : ScopeContents) (same : SameTypes s r) where
+module _ (marks : Marks) (p : ProgramView) (singles : ℕ → Bool) (s r : ScopeContents) (same : SameTypes s r) where
   pub misplaced_same : (x : NumberedExp) → misplaced (marked marks p) s (marked_exp singles x) ≡ misplaced p r x
   misplaced_same x = ap₂ misplaced_at (place_same singles x) (known_same marks p singles s r same x)
 
@@ -177,12 +177,12 @@ module _ (marks : Marks) (p : NumberedProgram) (singles : ℕ → Bool) (s r : S
   at_same (e.Rect at ranges) =
       ap₂ (λ x y. x ++ y) (bounds_misplaced_same ranges)
       (judged_same _ _ _ _ (bounds_same marks p singles s r same ranges)
-      (λ ts. ap (λ n. mistaken at (is_some (rect_literal n ts)) (is_some (rect_literal n (map one_dim ts))))
+      (λ ts. ap (λ n. operand_refusal at (is_some (rect_literal n ts)) (is_some (rect_literal n (map erase_dims ts))))
       (count_same singles ranges)))
   at_same (e.Unary at op a) = ap₂ (λ x y. x ++ y) (misplaced_same a) (judged_same _ _ _ _ (types a) (λ y. refl))
   at_same (e.Binary at op a b) = ap₂ (λ x y. x ++ y) (ap₂ (λ x y. x ++ y) (misplaced_same a) (misplaced_same b)) (both_same _ _ _ _ _ _ (types a) (types b) (λ y z. refl))
   at_same (e.Cast at to a) = ap₂ (λ x y. x ++ y) (ap (λ x. type_word_refusals false to ++ x) (misplaced_same a)) (judged_same _ _ _ _ (types a) (λ y. refl))
-  at_same (e.Select at a name) = ap₂ (λ x y. x ++ y) (misplaced_same a) (judged_same _ _ _ _ (types a) (λ y. ap (λ o. mistaken at (is_some o) false) (select_known marks p y name)))
+  at_same (e.Select at a name) = ap₂ (λ x y. x ++ y) (misplaced_same a) (judged_same _ _ _ _ (types a) (λ y. ap (λ o. operand_refusal at (is_some o) false) (select_known marks p y name)))
   at_same (e.Member at a name args) =
       ap₂ (λ x y. x ++ y) (ap₂ (λ x y. x ++ y) (misplaced_same a) (all_misplaced_same args))
       (both_same _ _ _ _ _ _ (types a) (operands_same marks p singles s r same args)

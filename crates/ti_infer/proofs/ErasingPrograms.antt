@@ -3,19 +3,19 @@ use Rattle.std.proofs.Common.{◌≡◌, ◌==◌, ◌+◌, ℕ, Bool, true, fal
 use Rattle.ti_lang.specs.Program.Types.{ValueType}
 use Rattle.ti_lang.specs.Program.Statements.{NumberedStm, MaybeNumbered, NumberedStms, numbered_stms}
 use Rattle.ti_lang.specs.Program.Statements as st
-use Rattle.ti_lang.specs.Program.Classes.{NumberedParam, NumberedParams, Words, Params, NumberedMethod, NumberedProgram}
+use Rattle.ti_lang.specs.Program.Classes.{NumberedParam, NumberedParams, MainArgs, Params, NumberedMethod, ProgramView}
 use Rattle.ti_lang.specs.Program.Scope.{ScopeVariable, parameters_from, parameters}
 use Rattle.ti_lang.specs.Typing.Kinds.{is_void, domain_dim}
 use Rattle.ti_rules.specs.declared.refusal.Refusal.{Refusal}
 use Rattle.ti_rules.specs.declared.rule.Rule.TheVariants.{Y6}
 use Rattle.ti_rules.specs.Refusals.{refused_if}
-use Rattle.ti_rules.specs.Standing.{Around, Standing, scope_of, with_point, loop_acts, inside, inside_maybe, inside_all}
+use Rattle.ti_rules.specs.StmtInContext.{StmtContext, StmtInContext, scope_of, with_point, loop_acts, inside, inside_maybe, inside_all}
 use Rattle.ti_rules.specs.Broken.Statements.{standing_refusals}
 use Rattle.ti_rules.specs.TypeRules.{class_refusals, is_return, ends_with_return, end_refusals, method_refusals, type_refusals}
 use Rattle.ti_blame.specs.Marks.{Marks}
 use Rattle.ti_infer.specs.Marks.{marks_variable}
 use Rattle.ti_infer.specs.Marked.{marked_stm, marked_maybe, marked_stms, marked_param, marked_params, marked_method, marked}
-use Rattle.ti_infer.specs.Fitting.{FitsIn, FitsMaybe, FitsAll, MethodFits, MethodsFit, MarksFit}
+use Rattle.ti_infer.specs.Fitting.{FitsIn, FitsMaybe, FitsAll, MarksFitMethod, MarksFitMethods, MarksFit}
 use Rattle.ti_infer.proofs.Same.{this_same, result_same}
 use Rattle.ti_infer.proofs.Knowing.{SameTypes, operand_same}
 use Rattle.ti_infer.proofs.Lists.{none_both, both_none, stms_of_map}
@@ -65,31 +65,31 @@ types_params marks number [] = tt
 types_params marks number (w ∷ ws) = (refl, refl, types_params marks (number + 1) ws)
 
 pub types_parameters : (marks : Marks) (ws : NumberedParams) → TypesAll (parameters (marked_params marks ws)) (parameters ws)
-types_parameters marks Words = tt
+types_parameters marks MainArgs = tt
 types_parameters marks (Params ws) = types_params marks 0 ws
 
 -- ---- statements where they stand
 
-abbrev ill : NumberedProgram → List Standing → List Refusal
+abbrev ill : ProgramView → List StmtInContext → List Refusal
 ill p xs = flat_map (standing_refusals p) xs
 
-ill_both : (p : NumberedProgram) (xs ys : List Standing) → ill p (xs ++ ys) ≡ [] → (ill p xs ≡ []) × (ill p ys ≡ [])
+ill_both : (p : ProgramView) (xs ys : List StmtInContext) → ill p (xs ++ ys) ≡ [] → (ill p xs ≡ []) × (ill p ys ≡ [])
 ill_both p xs ys h = none_both _ _ (sym (flat_append (standing_refusals p) xs ys) ∙ h)
 
-both_ill : (p : NumberedProgram) (xs ys : List Standing) → ill p xs ≡ [] → ill p ys ≡ [] → ill p (xs ++ ys) ≡ []
+both_ill : (p : ProgramView) (xs ys : List StmtInContext) → ill p xs ≡ [] → ill p ys ≡ [] → ill p (xs ++ ys) ≡ []
 both_ill p xs ys h k = flat_append (standing_refusals p) xs ys ∙ both_none _ _ h k
 
-module _ (marks : Marks) (p : NumberedProgram) (m : NumberedMethod) where
-  abbrev plain_at : List ScopeVariable → Option Bool → Around
+module _ (marks : Marks) (p : ProgramView) (m : NumberedMethod) where
+  abbrev plain_at : List ScopeVariable → Option Bool → StmtContext
   plain_at ws k = record { method = m; variables = ws; jump_has = k }
 
-  abbrev marked_at : List ScopeVariable → Option Bool → Around
+  abbrev marked_at : List ScopeVariable → Option Bool → StmtContext
   marked_at vs j = record { method = marked_method marks m; variables = vs; jump_has = j }
 
   same_at : (vs ws : List ScopeVariable) (j k : Option Bool) → TypesAll vs ws → SameTypes (scope_of (marked_at vs j)) (scope_of (plain_at ws k))
   same_at vs ws j k t = record { this = this_same marks m; types = λ number. types_found vs ws number t }
 
-  abbrev marked_there : List ScopeVariable → Option Bool → NumberedStm → List Standing
+  abbrev marked_there : List ScopeVariable → Option Bool → NumberedStm → List StmtInContext
   marked_there vs j x = inside (marked marks p) (marked_at vs j) (marked_stm (marks_variable marks m) marks.variables x)
 
   abbrev marked_jump : MaybeNumbered → NumberedStm → Option Bool
@@ -197,7 +197,7 @@ module _ (marks : Marks) (p : NumberedProgram) (m : NumberedMethod) where
   end_same : end_refusals (marked_method marks m) ≡ end_refusals m
   end_same = ap₂ (λ u b. refused_if (not (is_void u) && not b) Y6 m.place) (result_same marks m) (ends_same m.body)
 
-  pub method_fits : method_refusals p m ≡ [] → MethodFits marks m → method_refusals (marked marks p) (marked_method marks m) ≡ []
+  pub method_fits : method_refusals p m ≡ [] → MarksFitMethod marks m → method_refusals (marked marks p) (marked_method marks m) ≡ []
   method_fits h f =
       let g = none_both _ _ h in
       let d = none_both _ _ g.0 in
@@ -205,25 +205,25 @@ module _ (marks : Marks) (p : NumberedProgram) (m : NumberedMethod) where
       (ap (λ ss. ill (marked marks p) (inside_all (marked marks p) (marked_at (parameters (marked_method marks m).params) None) ss)) (stms_of_map (marks_variable marks m) marks.variables m.body)
       ∙ stms_fit (numbered_stms m.body) _ _ None None (types_parameters marks m.params) refl g.1 f.1)
 
-methods_fit : (marks : Marks) (p : NumberedProgram) (ms : List NumberedMethod) → flat_map (method_refusals p) ms ≡ [] → MethodsFit marks ms
+methods_fit : (marks : Marks) (p : ProgramView) (ms : List NumberedMethod) → flat_map (method_refusals p) ms ≡ [] → MarksFitMethods marks ms
     → flat_map (method_refusals (marked marks p)) (map (marked_method marks) ms) ≡ []
 methods_fit marks p [] h f = refl
 methods_fit marks p (m ∷ ms) h f =
     let g = none_both _ _ h in
     both_none _ _ (method_fits marks p m g.0 f.0) (methods_fit marks p ms g.1 f.1)
 
-pub marks_fit_types : (p : NumberedProgram) (marks : Marks) → type_refusals p ≡ [] → MarksFit marks p → type_refusals (marked marks p) ≡ []
+pub marks_fit_types : (p : ProgramView) (marks : Marks) → type_refusals p ≡ [] → MarksFit marks p → type_refusals (marked marks p) ≡ []
 marks_fit_types p marks h f =
     let g = none_both _ _ h in
     both_none (flat_map class_refusals p.classes) _ g.0 (methods_fit marks p p.methods g.1 f)
 
 -- ---- and the other way round
 
-module _ (marks : Marks) (p : NumberedProgram) (m : NumberedMethod) where
-  abbrev around_there : List ScopeVariable → Option Bool → Around
+module _ (marks : Marks) (p : ProgramView) (m : NumberedMethod) where
+  abbrev around_there : List ScopeVariable → Option Bool → StmtContext
   around_there vs j = record { method = marked_method marks m; variables = vs; jump_has = j }
 
-  abbrev standing_there : List ScopeVariable → Option Bool → NumberedStm → List Standing
+  abbrev standing_there : List ScopeVariable → Option Bool → NumberedStm → List StmtInContext
   standing_there vs j x = inside (marked marks p) (around_there vs j) (marked_stm (marks_variable marks m) marks.variables x)
 
   mutual
@@ -262,7 +262,7 @@ module _ (marks : Marks) (p : NumberedProgram) (m : NumberedMethod) where
         let g = ill_both (marked marks p) (standing_there vs j x) (inside_all (marked marks p) (around_there vs j) (marked_stms (marks_variable marks m) marks.variables rest)) h in
         (fit_stm x vs j g.0, fit_stms rest vs j g.1)
 
-  fit_method : method_refusals (marked marks p) (marked_method marks m) ≡ [] → MethodFits marks m
+  fit_method : method_refusals (marked marks p) (marked_method marks m) ≡ [] → MarksFitMethod marks m
   fit_method h =
       let g = none_both _ _ h in (
         (none_both _ _ g.0).0,
@@ -272,11 +272,11 @@ module _ (marks : Marks) (p : NumberedProgram) (m : NumberedMethod) where
             (stms_of_map (marks_variable marks m) marks.variables m.body)) ∙ g.1),
       )
 
-fit_methods : (marks : Marks) (p : NumberedProgram) (ms : List NumberedMethod) → flat_map (method_refusals (marked marks p)) (map (marked_method marks) ms) ≡ [] → MethodsFit marks ms
+fit_methods : (marks : Marks) (p : ProgramView) (ms : List NumberedMethod) → flat_map (method_refusals (marked marks p)) (map (marked_method marks) ms) ≡ [] → MarksFitMethods marks ms
 fit_methods marks p [] h = tt
 fit_methods marks p (m ∷ ms) h =
     let g = none_both _ _ h in
     (fit_method marks p m g.0, fit_methods marks p ms g.1)
 
-pub types_fit_marks : (p : NumberedProgram) (marks : Marks) → type_refusals (marked marks p) ≡ [] → MarksFit marks p
+pub types_fit_marks : (p : ProgramView) (marks : Marks) → type_refusals (marked marks p) ≡ [] → MarksFit marks p
 types_fit_marks p marks h = fit_methods marks p p.methods (none_both (flat_map class_refusals p.classes) _ h).1

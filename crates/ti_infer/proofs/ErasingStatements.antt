@@ -9,16 +9,16 @@ use Rattle.ti_lang.specs.Program.Expressions.{NumberedExp, NumberedRange, number
 use Rattle.ti_lang.specs.Program.Expressions as e
 use Rattle.ti_lang.specs.Program.Statements.{NumberedDims, NumberedInit, NumberedPrint, NumberedStm}
 use Rattle.ti_lang.specs.Program.Statements as st
-use Rattle.ti_lang.specs.Program.Classes.{NumberedMethod, NumberedProgram}
+use Rattle.ti_lang.specs.Program.Classes.{NumberedMethod, ProgramView}
 use Rattle.ti_lang.specs.Program.Scope.{ScopeVariable, ScopeContents}
 use Rattle.ti_lang.specs.Typing.Kinds.{is_void, is_point, is_local}
 use Rattle.ti_lang.specs.Typing.Declared.{field_type, named_field_type, result_type}
-use Rattle.ti_lang.specs.Typing.Expressions.{both, range_count, bounds, typed, operand_type}
+use Rattle.ti_lang.specs.Typing.Expressions.{and_then_both, range_count, bounds, expr_type, operand_type}
 use Rattle.ti_rules.specs.declared.refusal.Refusal.{Refusal}
 use Rattle.ti_rules.specs.declared.rule.Rule.TheVariants.{Y1, Y2, Y3, Y6, Y8, Q2}
 use Rattle.ti_rules.specs.Refusals.{refused_if}
-use Rattle.ti_rules.specs.InitialTypes.{value_type, broadcast_type, region_type, object_type, Over, Ranged, spread, new_grid_type, initial_type}
-use Rattle.ti_rules.specs.Broken.Refused.{refused, misfit}
+use Rattle.ti_rules.specs.InitialTypes.{right_side_type, broadcast_type, region_type, object_type, Over, Ranged, spread, new_grid_type, initial_type}
+use Rattle.ti_rules.specs.Broken.Refused.{refusal_at, misfit}
 use Rattle.ti_rules.specs.Broken.Misplaced.{gives_nothing, bounds_misplaced}
 use Rattle.ti_rules.specs.Broken.Expressions.{refusals_at}
 use Rattle.ti_rules.specs.Broken.Words.{type_word_refusals}
@@ -26,7 +26,7 @@ use Rattle.ti_rules.specs.Broken.RightSides.{inner_refusals, value_refusals, reg
 use Rattle.ti_rules.specs.Broken.Targets.{is_foreach_use, is_foreach_variable, is_coordinate, maybe_local, hidden_field, hidden_element, is_hidden_local, write_refusals}
 use Rattle.ti_rules.specs.Broken.Statements.{update_refusals, operator_of, is_boolean, condition_refusals, maybe_condition_refusals, printed_refusals, print_refusals, return_refusals, statement_refusals}
 use Rattle.ti_rules.specs.Parts.{parts_of_ranges}
-use Rattle.ti_rules.specs.Standing.{Around, scope_of}
+use Rattle.ti_rules.specs.StmtInContext.{StmtContext, scope_of}
 use Rattle.ti_blame.specs.Marks.{Marks}
 use Rattle.ti_infer.specs.Marked.{marked_declaration, marked_exp, marked_range, marked_ranges, marked_dims, marked_init, marked_print, marked_stm, marked_type, marked_method, marked}
 use Rattle.ti_infer.proofs.Same.{result_same, count_same}
@@ -38,7 +38,7 @@ pub ranges_listed : (singles : ℕ → Bool) (rs : List NumberedRange) → numbe
 ranges_listed singles [] = refl
 ranges_listed singles (r ∷ rs) = ap (e.MoreRange (marked_range singles r)) (ranges_listed singles rs)
 
-hidden_field_same : (marks : Marks) (p : NumberedProgram) (o : Option ValueType) (name : ℕ) → hidden_field (marked marks p) o name ≡ hidden_field p o name
+hidden_field_same : (marks : Marks) (p : ProgramView) (o : Option ValueType) (name : ℕ) → hidden_field (marked marks p) o name ≡ hidden_field p o name
 unfolding named_field_type
 hidden_field_same marks p o name = by o
   where
@@ -56,20 +56,20 @@ hidden_field_same marks p o name = by o
     by (Some t.Null) = refl
     by (Some t.Void) = refl
 
-module _ (marks : Marks) (p : NumberedProgram) (singles : ℕ → Bool) (s r : ScopeContents) (same : SameTypes s r) where
+module _ (marks : Marks) (p : ProgramView) (singles : ℕ → Bool) (s r : ScopeContents) (same : SameTypes s r) where
   types : (x : NumberedExp) → operand_type (marked marks p) s (marked_exp singles x) ≡ operand_type p r x
   types x = operand_same marks p singles s r same x
 
   inner_same : (x : NumberedExp) → inner_refusals (marked marks p) s (marked_exp singles x) ≡ inner_refusals p r x
   inner_same x = ap₂ (λ a b. a ++ b) (exp_same marks p singles s r same x) (misplaced_same marks p singles s r same x)
 
-  typed_same : (x : NumberedExp) → typed (marked marks p) s (marked_exp singles x) ≡ typed p r x
+  typed_same : (x : NumberedExp) → expr_type (marked marks p) s (marked_exp singles x) ≡ expr_type p r x
   typed_same x = ap (λ k. k.type) (known_same marks p singles s r same x)
 
   value_same : (x : NumberedExp) → value_refusals (marked marks p) s (marked_exp singles x) ≡ value_refusals p r x
   value_same x = ap₂ (λ a b. a ++ b) (exp_same marks p singles s r same x) (ap₂ (λ o at. refused_if (gives_nothing o) Y6 at) (typed_same x) (place_same singles x))
 
-  value_type_same : (x : NumberedExp) → value_type (marked marks p) s (marked_exp singles x) ≡ value_type p r x
+  value_type_same : (x : NumberedExp) → right_side_type (marked marks p) s (marked_exp singles x) ≡ right_side_type p r x
   value_type_same x = ap (only_if (λ u. not (is_void u))) (typed_same x)
 
   region_type_same : (o : Option NumberedExp) → region_type (marked marks p) s (option_map (marked_exp singles) o) ≡ region_type p r o
@@ -96,8 +96,8 @@ module _ (marks : Marks) (p : NumberedProgram) (singles : ℕ → Bool) (s r : S
   initial_type_same (st.Value x) = value_type_same x
   initial_type_same (st.NewRegion at) = refl
   initial_type_same (st.NewObject at region class) = ap (option_and_then (object_type class)) (region_type_same region)
-  initial_type_same (st.NewGrid at region element dims_at dims) = ap₂ (λ a b. both a b (new_grid_type element.type)) (region_type_same region) (spread_type_same dims)
-  initial_type_same (st.Broadcast at x root) = ap₂ (λ a b. both a b broadcast_type) (types x) (types root)
+  initial_type_same (st.NewGrid at region element dims_at dims) = ap₂ (λ a b. and_then_both a b (new_grid_type element.type)) (region_type_same region) (spread_type_same dims)
+  initial_type_same (st.Broadcast at x root) = ap₂ (λ a b. and_then_both a b broadcast_type) (types x) (types root)
 
   initial_same : (v : NumberedInit) → initial_refusals (marked marks p) s (marked_init singles v) ≡ initial_refusals p r v
   initial_same (st.Value x) = value_same x
@@ -130,9 +130,9 @@ module _ (marks : Marks) (p : NumberedProgram) (singles : ℕ → Bool) (s r : S
 
   write_same : (at : Place) (x : NumberedExp) (value : List Refusal) → write_refusals (marked marks p) s at (marked_exp singles x) value ≡ write_refusals p r at x value
   write_same at x value =
-      ap (λ c. if c then refused Y1 at else (refused_if (is_foreach_variable (marked_exp singles x)) Y2 at
+      ap (λ c. if c then refusal_at Y1 at else (refused_if (is_foreach_variable (marked_exp singles x)) Y2 at
       ++ refused_if (is_hidden_local (marked marks p) s (marked_exp singles x)) Q2 at) ++ value) (coordinate_same x)
-      ∙ ap₂ (λ f h. if is_coordinate p r x then refused Y1 at else (refused_if f Y2 at ++ refused_if h Q2 at) ++ value) (foreach_same x) (hidden_same x)
+      ∙ ap₂ (λ f h. if is_coordinate p r x then refusal_at Y1 at else (refused_if f Y2 at ++ refused_if h Q2 at) ++ value) (foreach_same x) (hidden_same x)
 
   -- ---- parts of statements
 
@@ -163,12 +163,12 @@ abbrev pub WordsFit : (Place → Bool) → NumberedStm → Type 0
 WordsFit declared (st.Declare at type variable value) = type_word_refusals true (marked_type (declared at) at type) ≡ []
 WordsFit declared x = Unit {0}
 
-module _ (marks : Marks) (p : NumberedProgram) (m : NumberedMethod) (singles : ℕ → Bool) (vs ws : List ScopeVariable) (j k : Option Bool)
+module _ (marks : Marks) (p : ProgramView) (m : NumberedMethod) (singles : ℕ → Bool) (vs ws : List ScopeVariable) (j k : Option Bool)
     (same : SameTypes (scope_of (record { method = marked_method marks m; variables = vs; jump_has = j })) (scope_of (record { method = m; variables = ws; jump_has = k }))) (looped : is_none j ≡ is_none k) where
-  abbrev pub there : Around
+  abbrev pub there : StmtContext
   there = record { method = marked_method marks m; variables = vs; jump_has = j }
 
-  abbrev pub here : Around
+  abbrev pub here : StmtContext
   here = record { method = m; variables = ws; jump_has = k }
 
   pub statement_fits : (x : NumberedStm) → statement_refusals p here x ≡ [] → WordsFit marks.variables x → statement_refusals (marked marks p) there (marked_stm singles marks.variables x) ≡ []

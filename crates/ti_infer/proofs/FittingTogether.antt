@@ -8,16 +8,16 @@ use Rattle.ti_lang.specs.Scopes as qualifier
 use Rattle.ti_lang.specs.Program.Types.{ValueType, NumberedType}
 use Rattle.ti_lang.specs.Program.Statements.{NumberedStm, MaybeNumbered, NumberedStms, numbered_stms}
 use Rattle.ti_lang.specs.Program.Statements as st
-use Rattle.ti_lang.specs.Program.Classes.{NumberedParam, NumberedParams, Words, Params, NumberedResult, NumberedMethod, NumberedProgram}
+use Rattle.ti_lang.specs.Program.Classes.{NumberedParam, NumberedParams, MainArgs, Params, NumberedResult, NumberedMethod, ProgramView}
 use Rattle.ti_lang.specs.Program.Classes as c
 use Rattle.ti_lang.specs.Typing.Kinds.{is_object}
 use Rattle.ti_rules.specs.declared.rule.Rule.TheVariants.{Y7}
 use Rattle.ti_rules.specs.Refusals.{refused_if}
 use Rattle.ti_rules.specs.Broken.Words.{base_of, is_grid, repeated_modifiers, base_word_refusals, type_word_refusals, method_modifier_refusals}
 use Rattle.ti_rules.specs.TypeRules.{result_refusals, params_refusals, head_refusals, type_refusals}
-use Rattle.ti_blame.specs.Marks.{Marks, union}
+use Rattle.ti_blame.specs.Marks.{Marks, marks_union}
 use Rattle.ti_infer.specs.Marked.{marked_type, marked_param, marked_params, marked_result, marked_method}
-use Rattle.ti_infer.specs.Fitting.{FitsIn, FitsMaybe, FitsAll, MethodsFit}
+use Rattle.ti_infer.specs.Fitting.{FitsIn, FitsMaybe, FitsAll, MarksFitMethods}
 use Rattle.ti_infer.specs.Accepted.{IsAccepted}
 use Rattle.ti_infer.proofs.Truths.{true_false}
 use Rattle.ti_infer.proofs.Same.{static_same}
@@ -62,7 +62,7 @@ either_type false b at t h k = k
 
 module _ (m n : Marks) where
   mutual
-    stm_together : (x : NumberedStm) → FitsIn m.variables x → FitsIn n.variables x → FitsIn (union m n).variables x
+    stm_together : (x : NumberedStm) → FitsIn m.variables x → FitsIn n.variables x → FitsIn (marks_union m n).variables x
     stm_together (st.Declare at type variable value) h k = either_type (m.variables at) (n.variables at) at type h k
     stm_together (st.Block body) h k = stms_together body h k
     stm_together (st.If at c a) h k = stm_together a h k
@@ -72,11 +72,11 @@ module _ (m n : Marks) where
     stm_together (st.Foreach at variable domain body) h k = stm_together body h k
     stm_together _ h k = tt
 
-    maybe_together : (x : MaybeNumbered) → FitsMaybe m.variables x → FitsMaybe n.variables x → FitsMaybe (union m n).variables x
+    maybe_together : (x : MaybeNumbered) → FitsMaybe m.variables x → FitsMaybe n.variables x → FitsMaybe (marks_union m n).variables x
     maybe_together st.NoStm h k = tt
     maybe_together (st.SomeStm x) h k = stm_together x h k
 
-    stms_together : (xs : NumberedStms) → FitsAll m.variables xs → FitsAll n.variables xs → FitsAll (union m n).variables xs
+    stms_together : (xs : NumberedStms) → FitsAll m.variables xs → FitsAll n.variables xs → FitsAll (marks_union m n).variables xs
     stms_together st.Nil h k = tt
     stms_together (st.Cons x rest) h k = (stm_together x h.0 k.0, stms_together rest h.1 k.1)
 
@@ -114,7 +114,7 @@ param_together false false b false g at t h k = k
 param_list_together : (m n : Marks) (s a b : Bool) (ws : List NumberedParam)
     → flat_map (λ (x : NumberedParam). type_word_refusals (s || a) x.ty) (map (marked_param m) ws) ≡ []
     → flat_map (λ (x : NumberedParam). type_word_refusals (s || b) x.ty) (map (marked_param n) ws) ≡ []
-    → flat_map (λ (x : NumberedParam). type_word_refusals (s || (a || b)) x.ty) (map (marked_param (union m n)) ws) ≡ []
+    → flat_map (λ (x : NumberedParam). type_word_refusals (s || (a || b)) x.ty) (map (marked_param (marks_union m n)) ws) ≡ []
 param_list_together m n s a b [] h k = refl
 param_list_together m n s a b (w ∷ ws) h k =
     let f = none_both _ _ h in
@@ -122,11 +122,11 @@ param_list_together m n s a b (w ∷ ws) h k =
     both_none _ _ (param_together s a b (m.variables w.place) (n.variables w.place) w.place w.ty f.0 g.0) (param_list_together m n s a b ws f.1 g.1)
 
 params_together : (m n : Marks) (s a b : Bool) (ws : NumberedParams) → params_refusals (s || a) (marked_params m ws) ≡ []
-    → params_refusals (s || b) (marked_params n ws) ≡ [] → params_refusals (s || (a || b)) (marked_params (union m n) ws) ≡ []
-params_together m n s a b Words h k = refl
+    → params_refusals (s || b) (marked_params n ws) ≡ [] → params_refusals (s || (a || b)) (marked_params (marks_union m n) ws) ≡ []
+params_together m n s a b MainArgs h k = refl
 params_together m n s a b (Params ws) h k = param_list_together m n s a b ws h k
 
-head_together : (m n : Marks) (x : NumberedMethod) → head_refusals (marked_method m x) ≡ [] → head_refusals (marked_method n x) ≡ [] → head_refusals (marked_method (union m n) x) ≡ []
+head_together : (m n : Marks) (x : NumberedMethod) → head_refusals (marked_method m x) ≡ [] → head_refusals (marked_method n x) ≡ [] → head_refusals (marked_method (marks_union m n) x) ≡ []
 head_together m n x h k =
     let f = none_both _ _ h in
     let g = none_both _ _ k in
@@ -135,19 +135,19 @@ head_together m n x h k =
     both_none _ _
     (both_none _ _
     (modifiers_together x.modifiers x.place (m.methods x.place) (n.methods x.place) _ _ _ (static_same m x
-    ∙ sym (static_same (union m n) x)) (static_same n x ∙ sym (static_same (union m n) x)) d.0 e.0)
+    ∙ sym (static_same (marks_union m n) x)) (static_same n x ∙ sym (static_same (marks_union m n) x)) d.0 e.0)
     (results_together (m.results x.place) (n.results x.place) x.place x.result d.1 e.1))
     (params_together m n x.is_single (m.methods x.place) (n.methods x.place) x.params f.1 g.1)
 
 -- ---- programs
 
-fits_together : (m n : Marks) (xs : List NumberedMethod) → MethodsFit m xs → MethodsFit n xs → MethodsFit (union m n) xs
+fits_together : (m n : Marks) (xs : List NumberedMethod) → MarksFitMethods m xs → MarksFitMethods n xs → MarksFitMethods (marks_union m n) xs
 fits_together m n [] h k = tt
 fits_together m n (x ∷ xs) h k = ((head_together m n x h.0.0 k.0.0, stms_together m n (numbered_stms x.body) h.0.1 k.0.1), fits_together m n xs h.1 k.1)
 
 -- the union of two accepted markings is accepted
-pub union_accepted : (p : NumberedProgram) (m n : Marks) → type_refusals p ≡ [] → HavePlainResults p.methods → IsAccepted p m → IsAccepted p n → IsAccepted p (union m n)
+pub union_accepted : (p : ProgramView) (m n : Marks) → type_refusals p ≡ [] → HavePlainResults p.methods → IsAccepted p m → IsAccepted p n → IsAccepted p (marks_union m n)
 union_accepted p m n plain results h k = record {
-  types = marks_fit_types p (union m n) plain (fits_together m n p.methods (types_fit_marks p m h.types) (types_fit_marks p n k.types));
-  single = by_reasons p (union m n) results (union_keeps every_one p m n (by_rules p m h.single) (by_rules p n k.single));
+  types = marks_fit_types p (marks_union m n) plain (fits_together m n p.methods (types_fit_marks p m h.types) (types_fit_marks p n k.types));
+  single = by_reasons p (marks_union m n) results (union_keeps every_one p m n (by_rules p m h.single) (by_rules p n k.single));
 }

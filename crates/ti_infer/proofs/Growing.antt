@@ -6,12 +6,12 @@ use Rattle.ti_lang.specs.Program.Expressions.{NumberedExp, NumberedExps, Numbere
 use Rattle.ti_lang.specs.Program.Expressions as e
 use Rattle.ti_lang.specs.Program.Statements.{NumberedInit}
 use Rattle.ti_lang.specs.Program.Statements as st
-use Rattle.ti_lang.specs.Program.Classes.{NumberedResult, NumberedMethod, NumberedProgram}
+use Rattle.ti_lang.specs.Program.Classes.{NumberedResult, NumberedMethod, ProgramView}
 use Rattle.ti_lang.specs.Program.Classes as c
 use Rattle.ti_lang.specs.Typing.Kinds.{is_point}
 use Rattle.ti_lang.specs.Typing.Called.{called_method}
 use Rattle.ti_lang.specs.Typing.Singleness.{declared_single, tells_of_domain, is_single_part, are_single, is_single_range, are_single_ranges, single_result, has_single_result, is_single, is_single_sent, is_single_initial}
-use Rattle.ti_blame.specs.Marks.{Marks, IsPart}
+use Rattle.ti_blame.specs.Marks.{Marks, IsSubset}
 use Rattle.ti_infer.specs.Marked.{marked_declaration, marked_exp, marked_exps, marked_range, marked_ranges, marked_init, marked_result, marked_method, marked}
 use Rattle.ti_infer.proofs.Truths.{Grows, grows_and, grows_behind}
 use Rattle.ti_infer.proofs.Same.{text_same, call_same, language_same}
@@ -26,7 +26,7 @@ declared_grows : (a b : Bool) (s t : ℕ → Bool) (number : ℕ) (d : Declarati
 declared_grows a b s t number (Typed is_single type) f g = f
 declared_grows a b s t number Foreach f g = g number
 
-module _ (p : NumberedProgram) (this : Option ℕ) (m n : Marks) (i j s t : ℕ → Bool) (marks : GrowAll i j) (scope : GrowAll s t) where
+module _ (p : ProgramView) (this : Option ℕ) (m n : Marks) (i j s t : ℕ → Bool) (marks : GrowAll i j) (scope : GrowAll s t) where
   mutual
     pub part_grows : (x : NumberedExp) → Grows (is_single_part (marked m p) this s (marked_exp i x)) (is_single_part (marked n p) this t (marked_exp j x))
     part_grows (e.Int at k) = λ h. refl
@@ -63,15 +63,15 @@ result_grows : (a b : Bool) (at : _) (r : NumberedResult) → Grows a b → Grow
 result_grows a b at c.Void f = λ h. h
 result_grows a b at (c.Typed type) f = f
 
-pub method_result_grows : (m n : Marks) (x : NumberedMethod) → IsPart m n → Grows (has_single_result (marked_method m x)) (has_single_result (marked_method n x))
+pub method_result_grows : (m n : Marks) (x : NumberedMethod) → IsSubset m n → Grows (has_single_result (marked_method m x)) (has_single_result (marked_method n x))
 method_result_grows m n x part = result_grows (m.results x.place) (n.results x.place) x.place x.result (part.results x.place)
 
-chosen_grows : (m n : Marks) (o : Option NumberedMethod) (a b : Bool) → IsPart m n → Grows a b
+chosen_grows : (m n : Marks) (o : Option NumberedMethod) (a b : Bool) → IsSubset m n → Grows a b
     → Grows (option_map_or has_single_result (option_map (marked_method m) o) a) (option_map_or has_single_result (option_map (marked_method n) o) b)
 chosen_grows m n None a b part f = f
 chosen_grows m n (Some x) a b part f = method_result_grows m n x part
 
-module _ (p : NumberedProgram) (this : Option ℕ) (m n : Marks) (i j s t : ℕ → Bool) (part : IsPart m n) (marks : GrowAll i j) (scope : GrowAll s t) where
+module _ (p : ProgramView) (this : Option ℕ) (m n : Marks) (i j s t : ℕ → Bool) (part : IsSubset m n) (marks : GrowAll i j) (scope : GrowAll s t) where
   pub single_grows : (x : NumberedExp) → Grows (is_single (marked m p) this s (marked_exp i x)) (is_single (marked n p) this t (marked_exp j x))
   single_grows x h =
       ap (λ o. option_map_or has_single_result o (is_single_part (marked n p) this t (marked_exp j x))) (call_same n p this j x)

@@ -22,10 +22,10 @@ pub mod Within
 pub mod PlainRead
 pub mod Pushing
 pub mod ArgumentsLeft
-pub mod Asking
-pub mod EdgesMeant
-pub mod ProgramEdges
-pub mod FitEdges
+pub mod Depending
+pub mod ImplicationsMeant
+pub mod ImplicationsOfProgram
+pub mod FitImplications
 pub mod Inferring
 pub mod StrippedResults
 pub mod LocalsTold

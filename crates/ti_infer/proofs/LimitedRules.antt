@@ -7,9 +7,9 @@ use Rattle.ti_lang.specs.Program.Expressions.{NumberedExp, NumberedExps}
 use Rattle.ti_lang.specs.Program.Expressions as e
 use Rattle.ti_lang.specs.Program.Statements.{NumberedInit, NumberedStm, MaybeNumbered, NumberedStms}
 use Rattle.ti_lang.specs.Program.Statements as st
-use Rattle.ti_lang.specs.Program.Classes.{NumberedMethod, NumberedProgram}
+use Rattle.ti_lang.specs.Program.Classes.{NumberedMethod, ProgramView}
 use Rattle.ti_lang.specs.Program.Scope.{this_of}
-use Rattle.ti_lang.specs.Typing.TextTypes.{type_in_text}
+use Rattle.ti_lang.specs.Typing.TextTypes.{syntactic_type}
 use Rattle.ti_lang.specs.Typing.Called.{member_called}
 use Rattle.ti_lang.specs.Typing.Singleness.{is_single_sent}
 use Rattle.ti_lang.specs.Typing.Effects.{is_collective, is_collective_call}
@@ -18,8 +18,8 @@ use Rattle.ti_blame.specs.Marks.{Marks, holds}
 use Rattle.ti_infer.specs.Marks.{marks_variable}
 use Rattle.ti_infer.specs.Marked.{marked_type, marked_exp, marked_exps, marked_init, marked_stm, marked_maybe, marked_stms, marked_method, marked}
 use Rattle.ti_infer.specs.Stripped.{HavePlainResults}
-use Rattle.ti_infer.specs.Limited.{every_one, idle, limited_whole, limited_initial, limited_stm, limited_maybe, limited_stms, limited, limited_refusals}
-use Rattle.ti_infer.specs.Blame.{method_blamed, KeepsSingle}
+use Rattle.ti_infer.specs.Limited.{every_one, idle, limited_whole, limited_initial, limited_stm, limited_maybe, limited_stms, limited_method, limited_refusals}
+use Rattle.ti_infer.specs.Reason.{method_blamed, KeepsSingle}
 use Rattle.ti_infer.proofs.Same.{this_same, text_same, language_same}
 use Rattle.ti_infer.proofs.Lists.{none_both, both_none}
 use Rattle.ti_infer.proofs.Blaming.{method_sound}
@@ -30,7 +30,7 @@ use Rattle.ti_infer.proofs.Limiting.{marks_kept, method_blamed_alike}
 
 -- ---- the marked method without the collectives that don't count is the method without them, marked
 
-module _ (counts : Place → Bool) (p : NumberedProgram) (marks : Marks) (m : NumberedMethod) (f : ℕ → Bool) where
+module _ (counts : Place → Bool) (p : ProgramView) (marks : Marks) (m : NumberedMethod) (f : ℕ → Bool) where
   whole_swap : (x : NumberedExp) → limited_whole counts (marked marks p) (this_of (marked_method marks m)) (marked_exp f x) ≡ marked_exp f (limited_whole counts p (this_of m) x)
   whole_swap (e.Member at a name args) =
       ap (λ b. if is_collective b && not (counts at) then e.Null at else e.Member at (marked_exp f a) name (marked_exps f args))
@@ -52,8 +52,8 @@ module _ (counts : Place → Bool) (p : NumberedProgram) (marks : Marks) (m : Nu
       by false = refl
   initial_swap (st.Broadcast at x root) =
       ap (λ type. if counts at then st.Broadcast at (marked_exp f x) (marked_exp f root) else st.Value (idle (is_single_sent type) at))
-      (ap (λ this. type_in_text (marked marks p) this (marked_exp f x)) (this_same marks m) ∙ text_same marks p (this_of m) f x)
-      ∙ by (counts at) (is_single_sent (type_in_text p (this_of m) x))
+      (ap (λ this. syntactic_type (marked marks p) this (marked_exp f x)) (this_same marks m) ∙ text_same marks p (this_of m) f x)
+      ∙ by (counts at) (is_single_sent (syntactic_type p (this_of m) x))
     where
       by : (d s : Bool) → (if d then st.Broadcast at (marked_exp f x) (marked_exp f root) else st.Value (idle s at))
           ≡ marked_init f (if d then st.Broadcast at x root else st.Value (idle s at))
@@ -97,8 +97,8 @@ module _ (counts : Place → Bool) (p : NumberedProgram) (marks : Marks) (m : Nu
   list_swap [] = refl
   list_swap (x ∷ xs) = ap₂ (λ y ys. y ∷ ys) (stm_swap x) (list_swap xs)
 
-method_swap : (counts : Place → Bool) (p : NumberedProgram) (marks : Marks) (m : NumberedMethod)
-    → limited counts (marked marks p) (marked_method marks m) ≡ marked_method marks (limited counts p m)
+method_swap : (counts : Place → Bool) (p : ProgramView) (marks : Marks) (m : NumberedMethod)
+    → limited_method counts (marked marks p) (marked_method marks m) ≡ marked_method marks (limited_method counts p m)
 method_swap counts p marks m =
     ap (λ body. record (marked_method marks m) { body = body })
     (list_swap counts p marks m (marks_variable marks m) m.body
@@ -106,13 +106,13 @@ method_swap counts p marks m =
 
 -- ---- the rules by reasons
 
-module _ (counts : Place → Bool) (p : NumberedProgram) (marks : Marks) where
-  methods_by_rules : (ms : List NumberedMethod) → flat_map (λ m. method_single_refusals (marked marks p) (limited counts (marked marks p) m)) (map (marked_method marks) ms) ≡ []
+module _ (counts : Place → Bool) (p : ProgramView) (marks : Marks) where
+  methods_by_rules : (ms : List NumberedMethod) → flat_map (λ m. method_single_refusals (marked marks p) (limited_method counts (marked marks p) m)) (map (marked_method marks) ms) ≡ []
       → list_any (holds counts marks) (flat_map (λ m. method_blamed p m marks) ms) ≡ false
   methods_by_rules [] h = refl
   methods_by_rules (m ∷ ms) h =
       let f = none_both _ _ h in
-      let sound = method_sound p (limited counts p m) marks marks (part_itself marks)
+      let sound = method_sound p (limited_method counts p m) marks marks (part_itself marks)
       (ap (method_single_refusals (marked marks p)) (sym (method_swap counts p marks m)) ∙ f.0) in
       list_any-append (holds counts marks) (method_blamed p m marks) (flat_map (λ m. method_blamed p m marks) ms)
       ∙ ap₂ (λ a b. a || b) (sym (method_blamed_alike counts marks p m).same ∙ sound) (methods_by_rules ms f.1)
@@ -122,24 +122,24 @@ module _ (counts : Place → Bool) (p : NumberedProgram) (marks : Marks) where
   or_both false b h = (refl, h)
 
   methods_by_reasons : (ms : List NumberedMethod) → HavePlainResults ms → list_any (holds counts marks) (flat_map (λ m. method_blamed p m marks) ms) ≡ false
-      → flat_map (λ m. method_single_refusals (marked marks p) (limited counts (marked marks p) m)) (map (marked_method marks) ms) ≡ []
+      → flat_map (λ m. method_single_refusals (marked marks p) (limited_method counts (marked marks p) m)) (map (marked_method marks) ms) ≡ []
   methods_by_reasons [] plain h = refl
   methods_by_reasons (m ∷ ms) plain h =
       let f = or_both _ _ (sym (list_any-append (holds counts marks) (method_blamed p m marks) (flat_map (λ m. method_blamed p m marks) ms)) ∙ h) in
       both_none _ _
       (ap (method_single_refusals (marked marks p)) (method_swap counts p marks m)
-      ∙ method_complete p (limited counts p m) marks plain.0 ((method_blamed_alike counts marks p m).same ∙ f.0))
+      ∙ method_complete p (limited_method counts p m) marks plain.0 ((method_blamed_alike counts marks p m).same ∙ f.0))
       (methods_by_reasons ms plain.1 f.1)
 
-pub limited_by_rules : (counts : Place → Bool) (p : NumberedProgram) (m : Marks) → limited_refusals counts (marked m p) ≡ [] → KeepsSingle counts p m
+pub limited_by_rules : (counts : Place → Bool) (p : ProgramView) (m : Marks) → limited_refusals counts (marked m p) ≡ [] → KeepsSingle counts p m
 limited_by_rules counts p m h = methods_by_rules counts p m p.methods h
 
-pub limited_by_reasons : (counts : Place → Bool) (p : NumberedProgram) (m : Marks) → HavePlainResults p.methods → KeepsSingle counts p m → limited_refusals counts (marked m p) ≡ []
+pub limited_by_reasons : (counts : Place → Bool) (p : ProgramView) (m : Marks) → HavePlainResults p.methods → KeepsSingle counts p m → limited_refusals counts (marked m p) ≡ []
 limited_by_reasons counts p m plain h = methods_by_reasons counts p m p.methods plain h
 
 -- ---- where all collectives count, they are the rules
 
-module _ (p : NumberedProgram) (this : Option ℕ) where
+module _ (p : ProgramView) (this : Option ℕ) where
   whole_left : (x : NumberedExp) → limited_whole every_one p this x ≡ x
   whole_left x = by (is_collective_call p this x)
     where
@@ -177,12 +177,12 @@ module _ (p : NumberedProgram) (this : Option ℕ) where
   list_left [] = refl
   list_left (x ∷ xs) = ap₂ (λ y ys. y ∷ ys) (stm_left x) (list_left xs)
 
-method_left : (p : NumberedProgram) (m : NumberedMethod) → limited every_one p m ≡ m
+method_left : (p : ProgramView) (m : NumberedMethod) → limited_method every_one p m ≡ m
 method_left p m = ap (λ body. record m { body = body }) (list_left p (this_of m) m.body)
 
-methods_left : (p : NumberedProgram) (ms : List NumberedMethod) → flat_map (λ m. method_single_refusals p (limited every_one p m)) ms ≡ flat_map (method_single_refusals p) ms
+methods_left : (p : ProgramView) (ms : List NumberedMethod) → flat_map (λ m. method_single_refusals p (limited_method every_one p m)) ms ≡ flat_map (method_single_refusals p) ms
 methods_left p [] = refl
 methods_left p (m ∷ ms) = ap₂ (λ xs ys. xs ++ ys) (ap (method_single_refusals p) (method_left p m)) (methods_left p ms)
 
-pub limited_to_all : (p : NumberedProgram) → limited_refusals every_one p ≡ single_refusals p
+pub limited_to_all : (p : ProgramView) → limited_refusals every_one p ≡ single_refusals p
 limited_to_all p = methods_left p p.methods

@@ -5,12 +5,12 @@ use Rattle.ti_lang.specs.Program.Expressions.{NumberedExp}
 use Rattle.ti_lang.specs.Program.Expressions as e
 use Rattle.ti_lang.specs.Program.Statements.{NumberedStm, numbered_stms}
 use Rattle.ti_lang.specs.Program.Statements as st
-use Rattle.ti_lang.specs.Program.Classes.{NumberedProgram}
+use Rattle.ti_lang.specs.Program.Classes.{ProgramView}
 use Rattle.ti_lang.specs.Typing.Effects.{is_collective, is_collective_call}
 use Rattle.ti_rules.specs.declared.rule.Rule.{Rule}
 use Rattle.ti_rules.specs.declared.refusal.Refusal.{Refusal}
 use Rattle.ti_rules.specs.Refusals.{refused_if}
-use Rattle.ti_rules.specs.Standing.{Standing}
+use Rattle.ti_rules.specs.StmtInContext.{StmtInContext}
 use Rattle.ti_rules.specs.SingleRules.{standing_single_refusals}
 use Rattle.ti_blame.specs.Marks.{Marks}
 use Rattle.ti_infer.specs.Marked.{marked_exp, marked_stm, marked_stms, marked}
@@ -50,16 +50,16 @@ flat_append f (x ∷ xs) ys = ap (λ zs. f x ++ zs) (flat_append f xs ys) ∙ as
     assoc (z ∷ a) b d = ap (λ w. z ∷ w) (assoc a b d)
 
 -- what is wrong with statements where they stand
-abbrev pub wrong : NumberedProgram → List Standing → List Refusal
+abbrev pub wrong : ProgramView → List StmtInContext → List Refusal
 wrong p xs = flat_map (standing_single_refusals p) xs
 
-pub wrong_both : (p : NumberedProgram) (xs ys : List Standing) → wrong p (xs ++ ys) ≡ [] → (wrong p xs ≡ []) × (wrong p ys ≡ [])
+pub wrong_both : (p : ProgramView) (xs ys : List StmtInContext) → wrong p (xs ++ ys) ≡ [] → (wrong p xs ≡ []) × (wrong p ys ≡ [])
 wrong_both p xs ys h = none_both _ _ (sym (flat_append (standing_single_refusals p) xs ys) ∙ h)
 
-pub both_wrong : (p : NumberedProgram) (xs ys : List Standing) → wrong p xs ≡ [] → wrong p ys ≡ [] → wrong p (xs ++ ys) ≡ []
+pub both_wrong : (p : ProgramView) (xs ys : List StmtInContext) → wrong p xs ≡ [] → wrong p ys ≡ [] → wrong p (xs ++ ys) ≡ []
 both_wrong p xs ys h k = flat_append (standing_single_refusals p) xs ys ∙ both_none _ _ h k
 
-module _ (p : NumberedProgram) (this : Option ℕ) (marks : Marks) (i : ℕ → Bool) where
+module _ (p : ProgramView) (this : Option ℕ) (marks : Marks) (i : ℕ → Bool) where
   pub collective_same : (x : NumberedExp) → is_collective_call (marked marks p) this (marked_exp i x) ≡ is_collective_call p this x
   collective_same (e.Member at a name args) = ap is_collective (language_same marks p this i a name)
   collective_same _ = refl

@@ -3,13 +3,13 @@ use Rattle.std.proofs.Common.{◌≡◌, ℕ, List, [], ◌∷◌, ◌++◌, Opt
 use Rattle.std.specs.Option.{option_or}
 use Rattle.ti_lang.specs.Program.Statements.{NumberedStm, MaybeNumbered, NumberedStms}
 use Rattle.ti_lang.specs.Program.Statements as st
-use Rattle.ti_blame.specs.declared.blame.Blame.TheVariants.{OfVariable}
+use Rattle.ti_blame.specs.declared.reason.Reason.TheVariants.{OfVariable}
 use Rattle.ti_infer.specs.declared.local.Local.{Local}
 use Rattle.ti_infer.specs.Marks.{declared_place, declared_place_maybe, declared_place_all}
-use Rattle.ti_infer.specs.Names.{variable_name, declared_names, declared_names_maybe, declared_names_all}
-use Rattle.ti_infer.specs.Mirrors.Fits.{falls_unless, declared_edges, declared_edges_maybe, declared_edges_all}
+use Rattle.ti_infer.specs.Candidates.{variable_candidate, declared_candidates, declared_candidates_maybe, declared_candidates_all}
+use Rattle.ti_infer.specs.Mirrors.Fits.{rule_out_unless, declared_edges, declared_edges_maybe, declared_edges_all}
 use Rattle.ti_infer.specs.Mirrors.Places.{place_if}
-use Rattle.ti_infer.specs.Mirrors.Locals.{locals_in, locals_in_maybe, locals_in_all, place_among, local_names, local_edges}
+use Rattle.ti_infer.specs.Mirrors.Locals.{locals_in, locals_in_maybe, locals_in_all, place_among, local_candidates, local_edges}
 use Rattle.ti_infer.proofs.Lists.{flat_append}
 
 none_more : {A : Type 0} (o : Option A) → option_or o None ≡ o
@@ -20,12 +20,12 @@ pub or_assoc : {A : Type 0} (a b c : Option A) → option_or (option_or a b) c �
 or_assoc None b c = refl
 or_assoc (Some x) b c = refl
 
-names_both : (xs ys : List Local) → local_names (xs ++ ys) ≡ local_names xs ++ local_names ys
+names_both : (xs ys : List Local) → local_candidates (xs ++ ys) ≡ local_candidates xs ++ local_candidates ys
 names_both [] ys = refl
-names_both (x ∷ xs) ys = ap (λ z. variable_name x.place ∷ z) (names_both xs ys)
+names_both (x ∷ xs) ys = ap (λ z. variable_candidate x.place ∷ z) (names_both xs ys)
 
 edges_both : (xs ys : List Local) → local_edges (xs ++ ys) ≡ local_edges xs ++ local_edges ys
-edges_both xs ys = flat_append (λ (l : Local). falls_unless l.takes (OfVariable l.place)) xs ys
+edges_both xs ys = flat_append (λ (l : Local). rule_out_unless l.accepts (OfVariable l.place)) xs ys
 
 places_both : (n : ℕ) (xs ys : List Local) → place_among (xs ++ ys) n ≡ option_or (place_among xs n) (place_among ys n)
 places_both n [] ys = refl
@@ -34,7 +34,7 @@ places_both n (x ∷ xs) ys = ap (option_or (place_if x.number x.place n)) (plac
 -- ---- names
 
 mutual
-  names_told : (x : NumberedStm) → local_names (locals_in x) ≡ declared_names x
+  names_told : (x : NumberedStm) → local_candidates (locals_in x) ≡ declared_candidates x
   names_told (st.Block body) = names_told_all body
   names_told (st.If at c a) = names_told a
   names_told (st.IfElse at c a b) = names_both (locals_in a) (locals_in b) ∙ ap₂ (λ a b. a ++ b) (names_told a) (names_told b)
@@ -45,11 +45,11 @@ mutual
   names_told (st.Foreach at variable domain body) = names_told body
   names_told _ = refl
 
-  names_told_maybe : (x : MaybeNumbered) → local_names (locals_in_maybe x) ≡ declared_names_maybe x
+  names_told_maybe : (x : MaybeNumbered) → local_candidates (locals_in_maybe x) ≡ declared_candidates_maybe x
   names_told_maybe st.NoStm = refl
   names_told_maybe (st.SomeStm x) = names_told x
 
-  pub names_told_all : (xs : NumberedStms) → local_names (locals_in_all xs) ≡ declared_names_all xs
+  pub names_told_all : (xs : NumberedStms) → local_candidates (locals_in_all xs) ≡ declared_candidates_all xs
   names_told_all st.Nil = refl
   names_told_all (st.Cons x rest) = names_both (locals_in x) (locals_in_all rest) ∙ ap₂ (λ a b. a ++ b) (names_told x) (names_told_all rest)
 

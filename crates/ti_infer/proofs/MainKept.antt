@@ -11,12 +11,12 @@ use Rattle.ti_syntax.specs.declared.tree.classes.ModifierWord.TheVariants as w
 use Rattle.ti_syntax.specs.Trees.Classes.{MethodTree, TextTree}
 use Rattle.ti_lang.specs.MainForm.{is_public, has_main_form}
 use Rattle.ti_lang.specs.Members.{is_single_word, is_single, is_static, methods_of}
-use Rattle.ti_lang.specs.Program.Classes.{NumberedMethod, NumberedProgram}
+use Rattle.ti_lang.specs.Program.Classes.{NumberedMethod, ProgramView}
 use Rattle.ti_lang.specs.Numbering.{Numbers, IsNumbered}
 use Rattle.ti_rules.specs.Broken.Words.{same_word, repeated_modifiers}
 use Rattle.ti_rules.specs.TypeRules.{type_refusals}
 use Rattle.ti_blame.specs.Marks.{Marks}
-use Rattle.ti_infer.specs.Fitting.{MethodFits, MethodsFit}
+use Rattle.ti_infer.specs.Fitting.{MarksFitMethod, MarksFitMethods}
 use Rattle.ti_infer.specs.Marked.{marked, marks_main}
 use Rattle.ti_infer.proofs.Truths.{true_false}
 use Rattle.ti_infer.proofs.Lists.{refused_none, none_both}
@@ -48,19 +48,19 @@ alone_behind before (k ∷ ms) at h =
     let here = neither (same_word w.Single k.word) (stands_in w.Single before) later.0 in
     (here.1, ap (λ b. b || is_single ms) (single_word k.word ∙ here.0) ∙ later.1)
 
-fits_at : (marks : Marks) (ns : List NumberedMethod) → MethodsFit marks ns → (i : ℕ) (y : NumberedMethod) → slice_get ns i ≡ Some y
-    → MethodFits marks y
+fits_at : (marks : Marks) (ns : List NumberedMethod) → MarksFitMethods marks ns → (i : ℕ) (y : NumberedMethod) → slice_get ns i ≡ Some y
+    → MarksFitMethod marks y
 fits_at marks [] f i y at = absurd (none_some y at)
   where
     none_some : (a : NumberedMethod) → ◌≡◌ {A = Option NumberedMethod} None (Some a) → ⊥
     none_some a e = cc
-fits_at marks (n ∷ ns) f zero y at = subst (MethodFits marks) (some_same n y at) f.0
+fits_at marks (n ∷ ns) f zero y at = subst (MarksFitMethod marks) (some_same n y at) f.0
   where
     some_same : (a d : NumberedMethod) → ◌≡◌ {A = Option NumberedMethod} (Some a) (Some d) → a ≡ d
     some_same a d e = cc
 fits_at marks (n ∷ ns) f (suc i) y at = fits_at marks ns f.1 i y at
 
-single_method : (marks : Marks) (y : NumberedMethod) → MethodFits marks y → is_single y.modifiers ≡ true → marks.methods y.place ≡ false
+single_method : (marks : Marks) (y : NumberedMethod) → MarksFitMethod marks y → is_single y.modifiers ≡ true → marks.methods y.place ≡ false
 single_method marks y f single = by (marks.methods y.place) (none_both _ _ (none_both _ _ (none_both _ _ f.0).0).0).0
   where
     by : (b : Bool) → repeated_modifiers [] (y.modifiers ++ (if b then record { word = w.Single; place = y.place } ∷ [] else [])) ≡ []
@@ -77,7 +77,7 @@ main_single tree h = by ((length tree.modifiers == 3) && is_public tree.modifier
     by true false d e h = absurd (true_false (sym h))
     by false b d e h = absurd (true_false (sym h))
 
-pub main_unmarked : (p : NumberedProgram) (marks : Marks) → ∥ IsNumbered p ∥₁ → type_refusals (marked marks p) ≡ []
+pub main_unmarked : (p : ProgramView) (marks : Marks) → ∥ IsNumbered p ∥₁ → type_refusals (marked marks p) ≡ []
     → marks_main marks p ≡ false
 main_unmarked p marks numbered h = ∥∥₁_elim numbered (Bool-set _ _) (λ n. by n.0 n.2)
   where

@@ -15,21 +15,21 @@ use Rattle.ti_syntax.specs.Trees.Classes.{ParamsTree, ResultTree, TextTree}
 use Rattle.ti_lang.specs.Members as members
 use Rattle.ti_lang.specs.Members.{OwnMethod, methods_of, is_single, name_number}
 use Rattle.ti_lang.specs.Scopes as scopes
-use Rattle.ti_lang.specs.Scopes.{has_single, has_local, literals_in, Site, declares, past, past_maybe, behind, behind_maybe, behind_params, method_site, body_site}
+use Rattle.ti_lang.specs.Scopes.{has_single, has_local, literals_in, Site, declares, past, past_maybe, site_after, behind_maybe, behind_params, method_site, body_site}
 use Rattle.ti_lang.specs.Program.Types.{NumberedType, Foreach}
 use Rattle.ti_lang.specs.Program.Statements.{NumberedInit, NumberedStm, MaybeNumbered, NumberedStms, numbered_stms}
 use Rattle.ti_lang.specs.Program.Statements as m
-use Rattle.ti_lang.specs.Program.Classes.{NumberedField, NumberedClass, NumberedParam, NumberedParams, Words, Params, NumberedResult, NumberedMethod, NumberedProgram}
+use Rattle.ti_lang.specs.Program.Classes.{NumberedField, NumberedClass, NumberedParam, NumberedParams, MainArgs, Params, NumberedResult, NumberedMethod, ProgramView}
 use Rattle.ti_lang.specs.Program.Classes as c
 use Rattle.ti_lang.specs.Numbering as number
 use Rattle.ti_lang.specs.Numbering.{NumbersType, NumbersStm, NumbersMaybeStm, NumbersStms, NumbersClasses, NumbersResult, NumbersParams, NumbersMethod, NumbersMethods, HasMain, Numbers, IsNumbered}
 use Rattle.ti_blame.specs.Marks.{Marks}
 use Rattle.ti_infer.specs.Marks.{params_place, declared_place, declared_place_maybe, declared_place_all, variable_place, marks_variable}
-use Rattle.ti_infer.specs.Reworded.{Rewording, reworded_grid, reworded_type, reworded, reworded_all, reworded_params, reworded_result, reworded_text}
+use Rattle.ti_infer.specs.Remarked.{Remarking, remarked_grid, remarked_type, remarked_stm, remarked_all, remarked_params, remarked_result, remarked_text}
 use Rattle.ti_infer.specs.Marked.{marked_type, marked_exp, marked_init, marked_stm, marked_maybe, marked_stms, marked_params, marked_result, marked_method, marked, marks_main}
 use Rattle.ti_infer.specs.Stripped.{plain_type, plain_stm, plain_maybe, plain_stms, plain_params, plain_result, plain_methods, stripped}
 use Rattle.ti_infer.proofs.Respelled.{respelled}
-use Rattle.ti_infer.proofs.Refound.{any_static, IsMild, reworded_own, methods_same, method_same, names_same, name_same, reworded_map, body_literals, text_literals}
+use Rattle.ti_infer.proofs.Refound.{any_static, IsMild, remarked_own, methods_same, method_same, names_same, name_same, remarked_map, body_literals, text_literals}
 use Rattle.ti_infer.proofs.Renumbered.{retyped, Restating, restated, restated_init, restated_maybe, restated_all, restated_params}
 use Rattle.ti_infer.proofs.Renumbered.{restated_field, restated_class, IsFine, AreFine, MaybeFine, AllFine, ParamsFine, AreRetyped}
 use Rattle.ti_infer.proofs.Renumbered.{numbers_type, site_there, stms_there, restated_map, classes_there, HeadFine, params_there}
@@ -47,7 +47,7 @@ abbrev modifier_at : Bool → Place → List Modifier
 modifier_at b at = if b then record { word = modifier.Single; place = at } ∷ [] else []
 
 -- the words of a text with `single` behind those of what is marked
-abbrev marking : Marks → Rewording
+abbrev marking : Marks → Remarking
 marking marks = record {
   words = λ qs. qs;
   declared = λ at qs. qs ++ qualifier_at (marks.variables at) at;
@@ -98,7 +98,7 @@ mild marks = record {
   methods = λ params at ms. static_with ms (marks.methods at) at;
 }
 
-grids_same : (marks : Marks) (gs : List GridTree) → map (reworded_grid (marking marks)) gs ≡ gs
+grids_same : (marks : Marks) (gs : List GridTree) → map (remarked_grid (marking marks)) gs ≡ gs
 grids_same marks [] = refl
 grids_same marks (g ∷ gs) = ap (λ hs. g ∷ hs) (grids_same marks gs)
 
@@ -129,7 +129,7 @@ ParamsPlain [] = Unit {0}
 ParamsPlain (w ∷ ws) = (has_single w.ty.qualifiers ≡ false) × ParamsPlain ws
 
 abbrev HeadPlain : NumberedParams → Type 0
-HeadPlain Words = Unit {0}
+HeadPlain MainArgs = Unit {0}
 HeadPlain (Params ws) = ParamsPlain ws
 
 abbrev ResultPlain : NumberedResult → Type 0
@@ -171,7 +171,7 @@ params_plain [] = tt
 params_plain (w ∷ ws) = (no_single w.ty.qualifiers, params_plain ws)
 
 head_plain : (ps : NumberedParams) → HeadPlain (plain_params ps)
-head_plain Words = tt
+head_plain MainArgs = tt
 head_plain (Params ws) = params_plain ws
 
 result_plain : (r : NumberedResult) → ResultPlain (plain_result r)
@@ -239,7 +239,7 @@ module _ (marks : Marks) (singles : ℕ → Bool) where
   body_marked (y ∷ ys) = ap₂ (λ z zs. z ∷ zs) (stm_marked y) (body_marked ys)
 
   params_marked : (ps : NumberedParams) → restated_params (marked_so marks singles) ps ≡ marked_params marks ps
-  params_marked Words = refl
+  params_marked MainArgs = refl
   params_marked (Params ws) = refl
 
   fields_kept : (gs : List NumberedField)
@@ -333,7 +333,7 @@ module _ (marks : Marks) (places : ℕ → Option Place) where
         → AreAlike places site.variables (count_all all) (declared_place_all ys) → AllFine method_so (marking marks) ys
     stms_fine site all ys number.nil h f = tt
     stms_fine site all ys (number.cons {x = a} {y = y} {xs = us} {ys = vs} i rest) h f =
-        let next = behind site a in
+        let next = site_after site a in
         let is = behind_counted site a in (
           stm_fine site a y i h.0
               (first_alike site.variables next.variables (count a) (count_all us) is (declared_place y) (declared_place_all vs) places f (stms_within next us vs rest)),
@@ -373,7 +373,7 @@ module _ (marks : Marks) (text : TextTree) (before : ℕ) (own : OwnMethod) (n :
 
   head_fine : (ps : NumberedParams) → n.params ≡ ps → HeadPlain ps
       → HeadFine (marking marks) (mild marks) so (types marks so.singles) here ps
-  head_fine Words i h = tt
+  head_fine MainArgs i h = tt
   head_fine (Params ws) i h =
       params_fine marks (variable_place n) 0 ws h
       (λ k w at. ap (variable_place n) (zero_more k) ∙ ap (λ (ps : NumberedParams). option_or (params_place ps k)
@@ -400,18 +400,18 @@ module _ (marks : Marks) (text : TextTree) (before : ℕ) (own : OwnMethod) (n :
 
 result_marked : (marks : Marks) (text : TextTree) (place : Place) (r : ResultTree) (n : NumberedResult) → NumbersResult text r n
     → ResultPlain n
-    → NumbersResult (reworded_text (marking marks) text) (reworded_result (marking marks) place r)
+    → NumbersResult (remarked_text (marking marks) text) (remarked_result (marking marks) place r)
     (marked_result (marks.results place) place n)
 result_marked marks text place r n number.void h = number.void
 result_marked marks text place r n (number.typed {ty = ty} {type = type} i) h =
     number.typed
-    (subst (NumbersType (reworded_text (marking marks) text) (reworded_type (marking marks) ((marking marks).results place) ty)) (sym (marked_retyped marks type (marks.results place) place h))
+    (subst (NumbersType (remarked_text (marking marks) text) (remarked_type (marking marks) ((marking marks).results place) ty)) (sym (marked_retyped marks type (marks.results place) place h))
     (numbers_type (marking marks) (mild marks) text ((marking marks).results place) ((mild marks).results place) ty type i))
 
 method_marked : (marks : Marks) (text : TextTree) (before : ℕ) (own : OwnMethod) (n : NumberedMethod)
     → NumbersMethod (method_site text own before) own n → MethodPlain n
-    → NumbersMethod (method_site (reworded_text (marking marks) text) (reworded_own (marking marks) own) before)
-    (reworded_own (marking marks) own) (marked_method marks n)
+    → NumbersMethod (method_site (remarked_text (marking marks) text) (remarked_own (marking marks) own) before)
+    (remarked_own (marking marks) own) (marked_method marks n)
 method_marked marks text before own n (number.method {result = result} {params = params} {body = body} r ps h) plain =
     let k = marking marks in
     let singles = marks_variable marks n in
@@ -421,15 +421,15 @@ method_marked marks text before own n (number.method {result = result} {params =
     let tree = own.method in
     let words = tree.modifiers ++ modifier_at (marks.methods tree.place) tree.place in
     let head = head_fine marks text before own n params refl plain.1 in
-    let inner : NumbersStms (body_site there (reworded_params k tree.params)) (stms (map (reworded k) tree.body)) (numbered_stms (map (marked_stm singles marks.variables) body)) =
-    subst (λ l. NumbersStms (body_site there (reworded_params k tree.params)) l (numbered_stms (map (marked_stm singles marks.variables) body))) (reworded_map k tree.body)
-    (subst (NumbersStms (body_site there (reworded_params k tree.params)) (reworded_all k (stms tree.body)))
+    let inner : NumbersStms (body_site there (remarked_params k tree.params)) (stms (map (remarked_stm k) tree.body)) (numbered_stms (map (marked_stm singles marks.variables) body)) =
+    subst (λ l. NumbersStms (body_site there (remarked_params k tree.params)) l (numbered_stms (map (marked_stm singles marks.variables) body))) (remarked_map k tree.body)
+    (subst (NumbersStms (body_site there (remarked_params k tree.params)) (remarked_all k (stms tree.body)))
     (restated_map k (mild marks) restating (types marks singles) body ∙ ap numbered_stms (body_marked marks singles body))
-    (subst (λ l. NumbersStms l (reworded_all k (stms tree.body)) (restated_all restating (numbered_stms body)))
+    (subst (λ l. NumbersStms l (remarked_all k (stms tree.body)) (restated_all restating (numbered_stms body)))
     (sym (body_site_same k (mild marks) restating (types marks singles) site tree.params params ps head))
     (stms_there k (mild marks) restating (types marks singles) (body_site site tree.params) _ _ h (body_fine marks text before own n tree.params params _ ps refl h plain.2)))) in
-    let outer : NumbersParams there (reworded_params k tree.params) (marked_params marks params) =
-    subst (NumbersParams there (reworded_params k tree.params)) (params_marked marks singles params)
+    let outer : NumbersParams there (remarked_params k tree.params) (marked_params marks params) =
+    subst (NumbersParams there (remarked_params k tree.params)) (params_marked marks singles params)
     (params_there k (mild marks) restating (types marks singles) site tree.params params ps head) in
     let whole : Bool → ℕ → NumberedMethod = λ single name. record {
       class = own.class;
@@ -442,19 +442,19 @@ method_marked marks text before own n (number.method {result = result} {params =
       body = map (marked_stm singles marks.variables) body;
       end = tree.end;
     } in
-    subst (λ l. NumbersMethod l (reworded_own k own) (whole (is_single tree.modifiers || marks.methods tree.place)
+    subst (λ l. NumbersMethod l (remarked_own k own) (whole (is_single tree.modifiers || marks.methods tree.place)
     (name_number text tree.name))) (sym (method_site_same k (mild marks) restating (types marks singles) text own before))
-    (subst (NumbersMethod there (reworded_own k own)) (ap₂ whole (single_method_with tree.modifiers (marks.methods tree.place) tree.place) (name_same k text tree.name))
+    (subst (NumbersMethod there (remarked_own k own)) (ap₂ whole (single_method_with tree.modifiers (marks.methods tree.place) tree.place) (name_same k text tree.name))
     (number.method (result_marked marks text tree.place _ _ r plain.0) outer inner))
 
 methods_marked : (marks : Marks) (text : TextTree) (n before : ℕ) (owns : List OwnMethod) (ns : List NumberedMethod)
     → NumbersMethods text n before owns ns → MethodsPlain ns
-    → NumbersMethods (reworded_text (marking marks) text) n before (map (reworded_own (marking marks)) owns) (map (marked_method marks) ns)
+    → NumbersMethods (remarked_text (marking marks) text) n before (map (remarked_own (marking marks)) owns) (map (marked_method marks) ns)
 methods_marked marks text n before owns ns number.none plain = number.none
 methods_marked marks text n before owns ns (number.more {own = own} {method = y} {rest = us} {methods = vs} named h rest) plain =
     let k = marking marks in
     number.more (method_same k text own.class own.method.name ∙ named) (method_marked marks text before own y h plain.0)
-    (subst (λ ls. NumbersMethods (reworded_text k text) (n + 1) (before + length ls) (map (reworded_own k) us) (map (marked_method marks) vs)) (sym (body_literals k own))
+    (subst (λ ls. NumbersMethods (remarked_text k text) (n + 1) (before + length ls) (map (remarked_own k) us) (map (marked_method marks) vs)) (sym (body_literals k own))
     (methods_marked marks text (n + 1) (before + length (literals_in (stms own.method.body))) us vs rest plain.1))
 
 -- ---- `main`
@@ -480,7 +480,7 @@ method_at text n before owns ns (number.more {own = first} {method = y} named h 
     itself y (number.method r ps h) = (refl, refl)
 method_at text n before owns ns (number.more named h rest) (suc i) own at = method_at text (n + 1) _ _ _ rest i own at
 
-main_place : (text : TextTree) (y : NumberedProgram) (n : Numbers text y) (marks : Marks)
+main_place : (text : TextTree) (y : ProgramView) (n : Numbers text y) (marks : Marks)
     → marks_main marks y ≡ marks.methods n.main.own.method.place
 main_place text y n marks =
     let there = method_at text 0 0 (methods_of text) y.methods n.methods y.main n.main.own n.main.stands in
@@ -488,7 +488,7 @@ main_place text y n marks =
     ∙ ap marks.methods there.2.0
 
 main_marked : (marks : Marks) (text : TextTree) (n : ℕ) (h : HasMain text n) → marks.methods h.own.method.place ≡ false
-    → HasMain (reworded_text (marking marks) text) n
+    → HasMain (remarked_text (marking marks) text) n
 main_marked marks text n h none =
     let tree = h.own.method in
     main_there (marking marks) text n h
@@ -496,17 +496,17 @@ main_marked marks text n h none =
 
 -- ---- programs
 
-numbers_marked : (marks : Marks) (text : TextTree) (y : NumberedProgram) → Numbers text y → MethodsPlain y.methods
-    → marks_main marks y ≡ false → Numbers (reworded_text (marking marks) text) (marked marks y)
+numbers_marked : (marks : Marks) (text : TextTree) (y : ProgramView) → Numbers text y → MethodsPlain y.methods
+    → marks_main marks y ≡ false → Numbers (remarked_text (marking marks) text) (marked marks y)
 numbers_marked marks text y n plain none =
     let k = marking marks in
     let none_single : ℕ → Bool = λ number. false in
     record {
       classes =
-          subst (NumbersClasses (reworded_text k text) 0 (reworded_text k text)) (classes_kept marks none_single y.classes)
+          subst (NumbersClasses (remarked_text k text) 0 (remarked_text k text)) (classes_kept marks none_single y.classes)
           (classes_there k (mild marks) (marked_so marks none_single) (types marks none_single) text 0 text y.classes n.classes);
       methods =
-          subst (λ os. NumbersMethods (reworded_text k text) 0 0 os (map (marked_method marks) y.methods)) (sym (methods_same k text))
+          subst (λ os. NumbersMethods (remarked_text k text) 0 0 os (map (marked_method marks) y.methods)) (sym (methods_same k text))
           (methods_marked marks text 0 0 (methods_of text) y.methods n.methods plain);
       main = main_marked marks text y.main n.main (sym (main_place text y n marks) ∙ none);
       names = n.names ∙ sym (names_same k text);
@@ -514,8 +514,8 @@ numbers_marked marks text y n plain none =
     }
 
 -- the marked program of a stripped program of a text is the program of a text
-pub marked_numbered : (y : NumberedProgram) (marks : Marks) → ∥ IsNumbered y ∥₁ → stripped y ≡ y → marks_main marks y ≡ false
+pub marked_numbered : (y : ProgramView) (marks : Marks) → ∥ IsNumbered y ∥₁ → stripped y ≡ y → marks_main marks y ≡ false
     → ∥ IsNumbered (marked marks y) ∥₁
 marked_numbered y marks h same none =
-    let plain = subst MethodsPlain (ap (λ (p : NumberedProgram). p.methods) same) (methods_plain y.main 0 y.methods) in
-    ∥∥₁_map h (λ n. (reworded_text (marking marks) n.0, respelled (marking marks) n.0 n.1, numbers_marked marks n.0 y n.2 plain none))
+    let plain = subst MethodsPlain (ap (λ (p : ProgramView). p.methods) same) (methods_plain y.main 0 y.methods) in
+    ∥∥₁_map h (λ n. (remarked_text (marking marks) n.0, respelled (marking marks) n.0 n.1, numbers_marked marks n.0 y n.2 plain none))

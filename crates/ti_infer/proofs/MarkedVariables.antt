@@ -10,17 +10,17 @@ use Rattle.ti_lang.specs.Program.Classes.{NumberedParams, NumberedResult, Number
 use Rattle.ti_blame.specs.Marks.{Marks}
 use Rattle.ti_infer.specs.Marks.{marks_variable}
 use Rattle.ti_infer.specs.Marked.{marked_stm, marked_params, marked_result, marked_method}
-use Rattle.ti_infer.specs.Mirrors.Places.{place_in}
+use Rattle.ti_infer.specs.Mirrors.Places.{listed_place}
 
 table_told : (declared : Place → Bool) (places : List (Option Place)) (n : ℕ)
-    → get_or (map (λ place. option_map_or declared place false) places) n false ≡ option_map_or declared (place_in places n) false
+    → get_or (map (λ place. option_map_or declared place false) places) n false ≡ option_map_or declared (listed_place places n) false
 table_told declared [] n = refl
 table_told declared (p ∷ ps) zero = refl
 table_told declared (p ∷ ps) (suc n) = table_told declared ps n
 
 pub marks_told : (declared : Place → Bool) (places : List (Option Place)) (singles : List Bool)
     → singles ≡ map (λ place. option_map_or declared place false) places
-    → (found : ℕ → Option Place) → ((n : ℕ) → place_in places n ≡ found n) → (n : ℕ) → get_or singles n false ≡ option_map_or declared
+    → (found : ℕ → Option Place) → ((n : ℕ) → listed_place places n ≡ found n) → (n : ℕ) → get_or singles n false ≡ option_map_or declared
     (found n) false
 marks_told declared places singles is found so n =
     ap (λ (bs : List Bool). get_or bs n false) is ∙ table_told declared places n

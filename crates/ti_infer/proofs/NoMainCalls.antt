@@ -16,24 +16,24 @@ use Rattle.ti_lang.specs.Program.Expressions.{NumberedExp, place_of_numbered}
 use Rattle.ti_lang.specs.Program.Expressions as e
 use Rattle.ti_lang.specs.Program.Statements.{NumberedInit, NumberedStm, MaybeNumbered, NumberedStms, numbered_stms}
 use Rattle.ti_lang.specs.Program.Statements as s
-use Rattle.ti_lang.specs.Program.Classes.{NumberedParams, Words, NumberedMethod, NumberedProgram}
+use Rattle.ti_lang.specs.Program.Classes.{NumberedParams, MainArgs, NumberedMethod, ProgramView}
 use Rattle.ti_lang.specs.Program.Scope.{ScopeVariable, ScopeContents, parameters, this_of}
 use Rattle.ti_lang.specs.MainForm.{is_words, is_void, is_public, has_main_modifiers, has_main_form}
 use Rattle.ti_lang.specs.Members.{OwnMethod, methods_of, is_static, is_single, name_number}
-use Rattle.ti_lang.specs.Scopes.{Site, declares, past, past_maybe, behind, behind_maybe, method_site, body_site}
+use Rattle.ti_lang.specs.Scopes.{Site, declares, past, past_maybe, site_after, behind_maybe, method_site, body_site}
 use Rattle.ti_lang.specs.Numbering as number
 use Rattle.ti_lang.specs.Numbering.{NumbersExp, NumbersInit, NumbersStm, NumbersMaybeStm, NumbersStms, NumbersParams, NumbersMethod, NumbersMethods, Numbers, IsNumbered}
 use Rattle.ti_lang.specs.Typing.Kinds.{domain_dim}
 use Rattle.ti_lang.specs.Typing.Declared.{instance_method, is_static_method}
-use Rattle.ti_lang.specs.Typing.TextTypes.{type_in_text}
+use Rattle.ti_lang.specs.Typing.TextTypes.{syntactic_type}
 use Rattle.ti_lang.specs.Typing.Called.{called_method, method_behind}
 use Rattle.ti_lang.specs.Typing.Effects.{is_collective_call}
-use Rattle.ti_lang.specs.Typing.Expressions.{called, known, operands, operand_type}
+use Rattle.ti_lang.specs.Typing.Expressions.{called, type_result, operands, operand_type}
 use Rattle.ti_rules.specs.Known.{IsThere}
 use Rattle.ti_rules.specs.declared.refusal.Refusal.{Refusal}
-use Rattle.ti_rules.specs.InitialTypes.{value_type, initial_type}
-use Rattle.ti_rules.specs.Standing.{Around, Standing, stands, with_point, variables_inside, loop_acts, inside, inside_maybe, inside_all, standing_in_method}
-use Rattle.ti_rules.specs.Broken.Refused.{judged, both_judged, mistaken, misfit}
+use Rattle.ti_rules.specs.InitialTypes.{right_side_type, initial_type}
+use Rattle.ti_rules.specs.StmtInContext.{StmtContext, StmtInContext, stands, with_point, variables_inside, loop_acts, inside, inside_maybe, inside_all, standing_in_method}
+use Rattle.ti_rules.specs.Broken.Refused.{judged, both_judged, operand_refusal, misfit}
 use Rattle.ti_rules.specs.Broken.Misplaced.{misplaced}
 use Rattle.ti_rules.specs.Broken.Words.{type_word_refusals}
 use Rattle.ti_rules.specs.Broken.Expressions.{exp_refusals}
@@ -44,21 +44,21 @@ use Rattle.ti_rules.specs.TypeRules.{class_refusals, head_refusals, end_refusals
 use Rattle.ti_rules.proofs.Lemmas.{nil_left, nil_right, each_left, each_right, not_mistaken, operand_there, and_left, and_right, has_type}
 use Rattle.ti_rules.proofs.Lemmas.{none_some, some_same, only_if_there, TextFits, text_fits, SiteFits, past_fits, past_maybe_fits}
 use Rattle.ti_rules.proofs.Lemmas.{behind_fits, behind_maybe_fits, own_there, static_there, exp_known, point_fits, body_fits}
-use Rattle.ti_blame.specs.declared.blame.Blame.{Blame}
-use Rattle.ti_blame.specs.declared.blame.Blame.TheVariants.{OfMethod, OfCollective, Always}
+use Rattle.ti_blame.specs.declared.reason.Reason.{Reason}
+use Rattle.ti_blame.specs.declared.reason.Reason.TheVariants.{OfMethod, OfCollective, Always}
 use Rattle.ti_blame.specs.Marks.{Marks}
 use Rattle.ti_infer.specs.Stripped.{plain_method, plain_methods, stripped}
 use Rattle.ti_infer.specs.Marks.{variable_place}
-use Rattle.ti_infer.specs.Blame.{guarded, method_reasons, acts_reasons, initial_reasons, place_reasons, declared_reasons, target_reasons, reasons, reasons_of_maybe, reasons_of_all, program_blamed}
+use Rattle.ti_infer.specs.Reason.{reasons_if, method_reasons, acts_reasons, initial_reasons, place_reasons, declared_reasons, target_reasons, reasons, reasons_of_maybe, reasons_of_all, program_blamed}
 use Rattle.ti_infer.specs.Descent.{is_always}
 use Rattle.ti_infer.proofs.Truths.{true_false}
 use Rattle.ti_infer.proofs.Within.{never_blamed}
 use Rattle.ti_infer.proofs.OnlyChanges.{text_still}
 
-abbrev acts_always : List Blame → Bool
+abbrev acts_always : List Reason → Bool
 acts_always xs = list_any is_always xs
 
-both_calm : (xs ys : List Blame) → acts_always xs ≡ false → acts_always ys ≡ false → acts_always (xs ++ ys) ≡ false
+both_calm : (xs ys : List Reason) → acts_always xs ≡ false → acts_always ys ≡ false → acts_always (xs ++ ys) ≡ false
 both_calm xs ys h k = list_any-append is_always xs ys ∙ ap₂ (λ a b. a || b) h k
 
 -- ---- methods that aren't single, or that nobody calls
@@ -66,7 +66,7 @@ both_calm xs ys h k = list_any-append is_always xs ys ∙ ap₂ (λ a b. a || b)
 -- it takes its words, and is static
 pub record IsMain (m : NumberedMethod) : Type 0 where
   static : is_static_method m ≡ true
-  words : m.params ≡ Words
+  words : m.params ≡ MainArgs
 
 abbrev PlainOrMain : NumberedMethod → Type 0
 PlainOrMain m = (m.is_single ≡ false) ⊎ IsMain m
@@ -103,7 +103,7 @@ typed_calm m None type h i = absurd (none_some type i)
 typed_calm m (Some ts) type (inl h) i = plain_calm m h
 typed_calm m (Some ts) type (inr h) i = absurd (none_some type (sym (taken m.params h.words) ∙ i))
   where
-    taken : (ps : NumberedParams) → ps ≡ Words → (called (Some (record m { params = ps })) (Some ts)).type ≡ None
+    taken : (ps : NumberedParams) → ps ≡ MainArgs → (called (Some (record m { params = ps })) (Some ts)).type ≡ None
     taken ps is = ap (λ (ps : NumberedParams). (called (Some (record m { params = ps })) (Some ts)).type) is
 
 -- ---- calls
@@ -112,14 +112,14 @@ not_is : (b : Bool) → not b ≡ true → b ≡ false
 not_is true h = absurd (true_false (sym h))
 not_is false h = refl
 
-instance_is : (p : NumberedProgram) → MethodsPlain p.methods → (class name : ℕ) (m : NumberedMethod) → instance_method p class name ≡ Some m → PlainOrMain m × (is_static_method m ≡ false)
+instance_is : (p : ProgramView) → MethodsPlain p.methods → (class name : ℕ) (m : NumberedMethod) → instance_method p class name ≡ Some m → PlainOrMain m × (is_static_method m ≡ false)
 unfolding instance_method
 instance_is p plain class name m h =
     let test = λ (m : NumberedMethod). (m.class == class) && (m.name == name) in
     let q = only_if_there (λ (m : NumberedMethod). not (is_static_method m)) (find test p.methods) m h in
     (find_plain test p.methods plain m q.0, not_is (is_static_method m) q.1)
 
-behind_calm : (p : NumberedProgram) → MethodsPlain p.methods → (type : ValueType) (name : ℕ) → acts_always (method_reasons (method_behind p type name)) ≡ false
+behind_calm : (p : ProgramView) → MethodsPlain p.methods → (type : ValueType) (name : ℕ) → acts_always (method_reasons (method_behind p type name)) ≡ false
 behind_calm p plain (t.Class class is_local) name = by (instance_method p class name) refl
   where
     by : (o : Option NumberedMethod) → instance_method p class name ≡ o → acts_always (method_reasons o) ≡ false
@@ -127,11 +127,11 @@ behind_calm p plain (t.Class class is_local) name = by (instance_method p class 
     by (Some m) i = let q = instance_is p plain class name m i in instance_calm m q.0 q.1
 behind_calm p plain _ name = refl
 
-guarded_calm : (b : Bool) (at : Place) → acts_always (guarded b (OfCollective at ∷ [])) ≡ false
+guarded_calm : (b : Bool) (at : Place) → acts_always (reasons_if b (OfCollective at ∷ [])) ≡ false
 guarded_calm true at = refl
 guarded_calm false at = refl
 
-module _ (p : NumberedProgram) (plain : MethodsPlain p.methods) (s : ScopeContents) (site : Site) (k : SiteFits p s site) where
+module _ (p : ProgramView) (plain : MethodsPlain p.methods) (s : ScopeContents) (site : Site) (k : SiteFits p s site) where
   -- a call by the number of a method
   numbered_calm : (method : ℕ) (m : NumberedMethod) → slice_get p.methods method ≡ Some m → (q : Option (List ValueType)) (type : ValueType) → (called (slice_get p.methods method) q).type ≡ Some type
       → acts_always (method_reasons (slice_get p.methods method)) ≡ false
@@ -151,19 +151,19 @@ module _ (p : NumberedProgram) (plain : MethodsPlain p.methods) (s : ScopeConten
   called_calm x y (number.own_call {name = name} {method = method} n z h) r =
       let c = own_there p s site k name method n in
       ap (λ (o : Option NumberedMethod). acts_always (method_reasons o)) c.1 ∙ instance_calm c.0 (get_plain p.methods plain method c.0 c.1) (c.2 ∙ z)
-  called_calm x y (number.member {y = a} {name = name} n i h) r = behind_calm p plain (type_in_text p s.this_class a) _
+  called_calm x y (number.member {y = a} {name = name} n i h) r = behind_calm p plain (syntactic_type p s.this_class a) _
   called_calm x y _ r = refl
 
 -- ---- statements
 
-module _ (p : NumberedProgram) (plain : MethodsPlain p.methods) (m : NumberedMethod) where
-  abbrev here : List ScopeVariable → Option Bool → Around
+module _ (p : ProgramView) (plain : MethodsPlain p.methods) (m : NumberedMethod) where
+  abbrev here : List ScopeVariable → Option Bool → StmtContext
   here vs j = record { method = m; variables = vs; jump_has = j }
 
   abbrev scope : List ScopeVariable → ScopeContents
   scope vs = record { this_class = this_of m; variables = vs }
 
-  abbrev wrong : List Standing → List Refusal
+  abbrev wrong : List StmtInContext → List Refusal
   wrong xs = flat_map (standing_refusals p) xs
 
   whole_calm : (vs : List ScopeVariable) (site : Site) → SiteFits p (scope vs) site → (x : Exp) (y : NumberedExp) → NumbersExp site x y
@@ -205,7 +205,7 @@ module _ (p : NumberedProgram) (plain : MethodsPlain p.methods) (m : NumberedMet
   inner_there : (vs : List ScopeVariable) (site : Site) → SiteFits p (scope vs) site → (x : Exp) (y : NumberedExp) → NumbersExp site x y
       → inner_refusals p (scope vs) y ≡ [] → IsThere (operand_type p (scope vs) y)
   inner_there vs site k x y n h =
-      operand_there (known p (scope vs) y) (place_of_numbered y)
+      operand_there (type_result p (scope vs) y) (place_of_numbered y)
       (has_type p (scope vs) y (exp_known p (scope vs) site k x y n) (nil_left (exp_refusals p (scope vs) y) (misplaced p (scope vs) y) h))
       (nil_right (exp_refusals p (scope vs) y) (misplaced p (scope vs) y) h)
 
@@ -228,7 +228,7 @@ module _ (p : NumberedProgram) (plain : MethodsPlain p.methods) (m : NumberedMet
         (init_calm vs site k value v h (nil_right (exp_refusals p (scope vs) target) (initial_refusals p (scope vs) v) (nil_left own misfits (nil_left (own ++ misfits) [] r))))
     stm_calm vs j site k x y (number.update {at = at} {op = op} {b = a} {x = target} {y = c} g h) r =
         let own = exp_refusals p (scope vs) target ++ value_refusals p (scope vs) c in
-        let misfits = both_judged (operand_type p (scope vs) target) (value_type p (scope vs) c) (λ (t u : ValueType). write_refusals p (scope vs) at target (update_refusals at op t u)) in
+        let misfits = both_judged (operand_type p (scope vs) target) (right_side_type p (scope vs) c) (λ (t u : ValueType). write_refusals p (scope vs) at target (update_refusals at op t u)) in
         both_calm (target_reasons p m target) (acts_reasons p m c) (target_calm target)
         (value_calm vs site k a c h (nil_right (exp_refusals p (scope vs) target) (value_refusals p (scope vs) c) (nil_left own misfits (nil_left (own ++ misfits) [] r))))
     stm_calm vs j site k x y (number.step {x = target} h) r = target_calm target
@@ -263,7 +263,7 @@ module _ (p : NumberedProgram) (plain : MethodsPlain p.methods) (m : NumberedMet
         (both_calm (reasons_of_maybe p m u) (reasons p m c) (maybe_calm vs j next fits update u i (each_left (standing_refusals p) two three others))
         (stm_calm vs l (past_maybe next update) (past_maybe_fits p (scope vs) next update fits) a c o (each_right (standing_refusals p) two three others)))
     stm_calm vs j site k x y (number.foreach {at = at} {name = name} {c = a} {d = d} {x = b} {y = c} fresh room g h) r =
-        let rule = λ (type : ValueType). mistaken at (is_some (domain_dim type)) false in
+        let rule = λ (type : ValueType). operand_refusal at (is_some (domain_dim type)) false in
         let l = Some (loop_acts p m s.NoStm c) in
         let vars = variables_inside p (scope vs) site.variables d in
         let own = standing_refusals p (stands (here vs j) (s.Foreach at site.variables d c)) in
@@ -272,9 +272,9 @@ module _ (p : NumberedProgram) (plain : MethodsPlain p.methods) (m : NumberedMet
         let taken = not_mistaken at (is_some (domain_dim there.0)) false
         (some_rule (operand_type p (scope vs) d) rule there.0 there.1 (nil_right (inner_refusals p (scope vs) d) (judged (operand_type p (scope vs) d) rule) right)) in
         let dim = dim_there (domain_dim there.0) taken in
-        let known = ap (option_and_then domain_dim) there.1 ∙ dim.1 in
+        let type_result = ap (option_and_then domain_dim) there.1 ∙ dim.1 in
         stm_calm vars l (declares site name Foreach) (foreach_fits vs site name dim.0 _
-        (option_and_then domain_dim (operand_type p (scope vs) d)) known k) b c h (nil_right own (wrong (inside p (here vars l) c)) r)
+        (option_and_then domain_dim (operand_type p (scope vs) d)) type_result k) b c h (nil_right own (wrong (inside p (here vars l) c)) r)
 
     maybe_calm : (vs : List ScopeVariable) (j : Option Bool) (site : Site) → SiteFits p (scope vs) site → (x : MaybeStm) (y : MaybeNumbered)
         → NumbersMaybeStm site x y → wrong (inside_maybe p (here vs j) y) ≡ [] → acts_always (reasons_of_maybe p m y) ≡ false
@@ -286,11 +286,11 @@ module _ (p : NumberedProgram) (plain : MethodsPlain p.methods) (m : NumberedMet
     stms_calm vs j site k xs ys number.nil r = refl
     stms_calm vs j site k xs ys (number.cons {x = x} {y = y} {xs = us} {ys = rest} h more) r =
         both_calm (reasons p m y) (reasons_of_all p m rest) (stm_calm vs j site k x y h (each_left (standing_refusals p) (inside p (here vs j) y) (inside_all p (here vs j) rest) r))
-        (stms_calm vs j (behind site x) (behind_fits p (scope vs) site x k) us rest more (each_right (standing_refusals p) (inside p (here vs j) y) (inside_all p (here vs j) rest) r))
+        (stms_calm vs j (site_after site x) (behind_fits p (scope vs) site x k) us rest more (each_right (standing_refusals p) (inside p (here vs j) y) (inside_all p (here vs j) rest) r))
 
 -- ---- methods
 
-method_calm : (p : NumberedProgram) → MethodsPlain p.methods → (text : TextTree) (before : ℕ) (own : OwnMethod) (m : NumberedMethod)
+method_calm : (p : ProgramView) → MethodsPlain p.methods → (text : TextTree) (before : ℕ) (own : OwnMethod) (m : NumberedMethod)
     → TextFits p text → NumbersMethod (method_site text own before) own m → method_refusals p m ≡ []
     → acts_always (reasons_of_all p m (numbered_stms m.body)) ≡ false
 method_calm p plain text before own m k (number.method {result = result} {params = params} {body = body} r ps h) e =
@@ -309,7 +309,7 @@ method_calm p plain text before own m k (number.method {result = result} {params
     stms_calm p plain m (parameters params) None (body_site (method_site text own before) own.method.params) fits (stms own.method.body) (numbered_stms body) h
     (nil_right (head_refusals m ++ end_refusals m) (flat_map (standing_refusals p) (standing_in_method p m)) e)
 
-methods_calm : (p : NumberedProgram) → MethodsPlain p.methods → (text : TextTree) (n before : ℕ) (owns : List OwnMethod)
+methods_calm : (p : ProgramView) → MethodsPlain p.methods → (text : TextTree) (n before : ℕ) (owns : List OwnMethod)
     (ms : List NumberedMethod) → TextFits p text → NumbersMethods text n before owns ms
     → flat_map (method_refusals p) ms ≡ [] → acts_always (flat_map (λ m. reasons_of_all p m (numbered_stms m.body)) ms) ≡ false
 methods_calm p plain text n before owns ms k number.none e = refl
@@ -319,7 +319,7 @@ methods_calm p plain text n before owns ms k (number.more {own = own} {method = 
 
 -- ---- `main`
 
-words_alone : (site : Site) (ps : ParamsTree) (q : NumberedParams) → NumbersParams site ps q → is_words ps ≡ true → q ≡ Words
+words_alone : (site : Site) (ps : ParamsTree) (q : NumberedParams) → NumbersParams site ps q → is_words ps ≡ true → q ≡ MainArgs
 words_alone site ps q number.words e = refl
 words_alone site ps q (number.params h) e = absurd (true_false (sym e))
 
@@ -369,13 +369,13 @@ methods_plain main n (m ∷ ms) f e =
 plain_number : (k n : ℕ) → 0 + k ≡ n → k ≡ n
 plain_number k n h = omega (arith, h)
 
-pub stripped_methods_plain : (p : NumberedProgram) (text : TextTree) → Numbers text p → stripped p ≡ p → MethodsPlain p.methods
+pub stripped_methods_plain : (p : ProgramView) (text : TextTree) → Numbers text p → stripped p ≡ p → MethodsPlain p.methods
 stripped_methods_plain p text n e =
     methods_plain p.main 0 p.methods (λ k m i z. main_at text 0 0 (methods_of text) p.methods n.methods p.main n.main.own n.main.stands
-    n.main.form m (sym (ap (slice_get p.methods) (plain_number k p.main z)) ∙ i)) (ap (λ (q : NumberedProgram). q.methods) e)
+    n.main.form m (sym (ap (slice_get p.methods) (plain_number k p.main z)) ∙ i)) (ap (λ (q : ProgramView). q.methods) e)
 
 -- in such a program of a text nothing is to blame in any case, whatever is marked
-pub none_always : (p : NumberedProgram) → ∥ IsNumbered p ∥₁ → type_refusals p ≡ [] → stripped p ≡ p → (marks : Marks) → acts_always (program_blamed p marks) ≡ false
+pub none_always : (p : ProgramView) → ∥ IsNumbered p ∥₁ → type_refusals p ≡ [] → stripped p ≡ p → (marks : Marks) → acts_always (program_blamed p marks) ≡ false
 none_always p numbered types plain marks = ∥∥₁_elim numbered (Bool-set _ _) by
   where
     by : IsNumbered p → acts_always (program_blamed p marks) ≡ false

@@ -10,7 +10,7 @@ use Rattle.ti_syntax.specs.Spelling.Statements.{Declared, declared, Changed, Fir
 use Rattle.ti_syntax.specs.Spelling.Classes as k
 use Rattle.ti_syntax.specs.Spelling.Classes.{Method, Members, Class, AllClasses}
 use Rattle.ti_lang.specs.Program.Statements.{NumberedStm, MaybeNumbered, NumberedStms, numbered_stms}
-use Rattle.ti_lang.specs.Program.Classes.{NumberedMethod, NumberedProgram}
+use Rattle.ti_lang.specs.Program.Classes.{NumberedMethod, ProgramView}
 use Rattle.ti_lang.specs.Program.Scope.{this_of}
 use Rattle.ti_lang.specs.Members.{OwnMethod, methods_in, methods_from, methods_of, is_single, name_number}
 use Rattle.ti_lang.specs.Scopes.{Site}
@@ -116,7 +116,7 @@ spelled_changes text spelled = classes_changes 0 _ text spelled.1.classes
 
 -- ---- numbered statements
 
-module _ (p : NumberedProgram) (m : NumberedMethod) where
+module _ (p : ProgramView) (m : NumberedMethod) where
   change_still : (site : Site) (x : Stm) (y : NumberedStm) → NumbersStm site x y → IsChange x → (doings p (this_of m) y).jumps ≡ false
   change_still site x y (number.assign h v) c = refl
   change_still site x y (number.update h i) c = refl
@@ -151,7 +151,7 @@ module _ (p : NumberedProgram) (m : NumberedMethod) where
     stms_still site xs ys number.nil c = tt
     stms_still site xs ys (number.cons h rest) c = (stm_still _ _ _ h c.0, stms_still _ _ _ rest c.1)
 
-method_still : (p : NumberedProgram) (site : Site) (own : OwnMethod) (m : NumberedMethod) → NumbersMethod site own m → AllChanges (stms own.method.body) → StillAll p m (numbered_stms m.body)
+method_still : (p : ProgramView) (site : Site) (own : OwnMethod) (m : NumberedMethod) → NumbersMethod site own m → AllChanges (stms own.method.body) → StillAll p m (numbered_stms m.body)
 method_still p site own m (number.method {result = result} {params = params} {body = body} r ps h) c =
     let m : NumberedMethod = record {
       class = own.class;
@@ -166,11 +166,11 @@ method_still p site own m (number.method {result = result} {params = params} {bo
     } in
     stms_still p m _ _ _ h c
 
-methods_still : (p : NumberedProgram) (text : TextTree) (n before : ℕ) (owns : List OwnMethod) (ms : List NumberedMethod)
+methods_still : (p : ProgramView) (text : TextTree) (n before : ℕ) (owns : List OwnMethod) (ms : List NumberedMethod)
     → NumbersMethods text n before owns ms → MethodsChanges owns → MethodsStill p ms
 methods_still p text n before owns ms number.none c = tt
 methods_still p text n before owns ms (number.more h k rest) c = (method_still p _ _ _ k c.0, methods_still p text _ _ _ _ rest c.1)
 
 -- no update of a spelled text has a jump in it
-pub text_still : (p : NumberedProgram) (text : TextTree) → IsSpelled text → NumbersMethods text 0 0 (methods_of text) p.methods → MethodsStill p p.methods
+pub text_still : (p : ProgramView) (text : TextTree) → IsSpelled text → NumbersMethods text 0 0 (methods_of text) p.methods → MethodsStill p p.methods
 text_still p text spelled h = methods_still p text 0 0 (methods_of text) p.methods h (spelled_changes text spelled)

@@ -2,21 +2,21 @@
 use Rattle.std.proofs.Common.{◌≡◌, Bool, not, Option, Some, None, option_map, refl, ap, sym, ◌∙◌}
 use Rattle.std.specs.Option.{option_map_or}
 use Rattle.ti_lang.specs.Program.Expressions.{NumberedExp}
-use Rattle.ti_lang.specs.Program.Classes.{NumberedMethod, NumberedProgram}
+use Rattle.ti_lang.specs.Program.Classes.{NumberedMethod, ProgramView}
 use Rattle.ti_lang.specs.Program.Scope.{ScopeContents, this_of}
 use Rattle.ti_lang.specs.Typing.Called.{called_method}
 use Rattle.ti_lang.specs.Typing.Singleness.{has_single_result, is_single_part}
-use Rattle.ti_rules.specs.Standing.{scope_of, singles_in}
+use Rattle.ti_rules.specs.StmtInContext.{scope_of, singles_in}
 use Rattle.ti_rules.specs.SingleRules.{is_plain}
 use Rattle.ti_blame.specs.Marks.{Marks}
 use Rattle.ti_infer.specs.Marks.{marks_variable}
 use Rattle.ti_infer.specs.Marked.{marked_exp, marked_method, marked}
-use Rattle.ti_infer.specs.Blame.{blame_around, plain_here}
+use Rattle.ti_infer.specs.Reason.{blame_around, plain_here}
 use Rattle.ti_infer.specs.Mirrors.SingleUnder.{variable_under, single_under}
 use Rattle.ti_infer.proofs.Same.{this_same, call_same}
 use Rattle.ti_infer.proofs.Under.{under}
 
-module _ (p : NumberedProgram) (m : NumberedMethod) (marks : Marks) (s : ScopeContents) (this : s.this_class ≡ this_of m) where
+module _ (p : ProgramView) (m : NumberedMethod) (marks : Marks) (s : ScopeContents) (this : s.this_class ≡ this_of m) where
   part_is : (x : NumberedExp) → single_under p s.this_class (variable_under marks m (singles_in s)) x
       ≡ is_single_part (marked marks p) (this_of (marked_method marks m)) (singles_in (scope_of (blame_around p m marks s.variables)))
       (marked_exp (marks_variable marks m) x)

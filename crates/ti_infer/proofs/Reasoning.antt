@@ -9,35 +9,35 @@ use Rattle.ti_lang.specs.Program.Expressions.{NumberedExp, place_of_numbered}
 use Rattle.ti_lang.specs.Program.Expressions as e
 use Rattle.ti_lang.specs.Program.Statements.{NumberedInit, NumberedStm, MaybeNumbered, NumberedStms, numbered_stms}
 use Rattle.ti_lang.specs.Program.Statements as st
-use Rattle.ti_lang.specs.Program.Classes.{NumberedResult, NumberedMethod, NumberedProgram}
+use Rattle.ti_lang.specs.Program.Classes.{NumberedResult, NumberedMethod, ProgramView}
 use Rattle.ti_lang.specs.Program.Classes as c
 use Rattle.ti_lang.specs.Program.Scope.{ScopeVariable, this_of}
 use Rattle.ti_lang.specs.Typing.Called.{called_method}
 use Rattle.ti_lang.specs.Typing.Singleness.{declared_single, single_result, has_single_result}
 use Rattle.ti_lang.specs.Typing.Effects.{is_collective_call, acts, initial_acts, is_single_target, Doings, acting, together, kept_in_loop, doings, doings_of_maybe, doings_of_all, doings_of_method, return_acts, jump_acts, has_global_effects}
-use Rattle.ti_rules.specs.Standing.{loop_acts}
+use Rattle.ti_rules.specs.StmtInContext.{loop_acts}
 use Rattle.ti_rules.specs.SingleRules.{has_effects}
 use Rattle.ti_blame.specs.Marks.{Marks}
 use Rattle.ti_infer.specs.Marks.{variable_place, marks_variable}
 use Rattle.ti_infer.specs.Marked.{marked_declaration, marked_exp, marked_init, marked_stm, marked_maybe, marked_stms, marked_result, marked_method, marked}
-use Rattle.ti_blame.specs.declared.blame.Blame.{Blame}
-use Rattle.ti_blame.specs.declared.blame.Blame.TheVariants.{OfCollective, Always, OfMethod}
+use Rattle.ti_blame.specs.declared.reason.Reason.{Reason}
+use Rattle.ti_blame.specs.declared.reason.Reason.TheVariants.{OfCollective, Always, OfMethod}
 use Rattle.ti_blame.specs.Marks.{holds}
 use Rattle.ti_infer.specs.Limited.{every_one}
-use Rattle.ti_infer.specs.Blame.{guarded, method_reasons, acts_reasons, initial_reasons, place_reasons, declared_reasons, target_reasons, reasons, reasons_of_maybe, reasons_of_all, result_reasons, return_reasons, loop_reasons, effect_reasons}
+use Rattle.ti_infer.specs.Reason.{reasons_if, method_reasons, acts_reasons, initial_reasons, place_reasons, declared_reasons, target_reasons, reasons, reasons_of_maybe, reasons_of_all, result_reasons, return_reasons, loop_reasons, effect_reasons}
 use Rattle.ti_infer.proofs.Same.{this_same, call_same}
 use Rattle.ti_infer.proofs.Lists.{collective_same}
 use Rattle.ti_infer.proofs.Beside.{around_in}
 use Rattle.ti_infer.proofs.Lists.{stms_of_map}
 
 -- one of them is there, where all collectives count
-abbrev pub some_held : Marks → List Blame → Bool
+abbrev pub some_held : Marks → List Reason → Bool
 some_held marks found = list_any (holds every_one marks) found
 
-pub held_append : (marks : Marks) (xs ys : List Blame) → some_held marks (xs ++ ys) ≡ (some_held marks xs || some_held marks ys)
+pub held_append : (marks : Marks) (xs ys : List Reason) → some_held marks (xs ++ ys) ≡ (some_held marks xs || some_held marks ys)
 held_append marks xs ys = list_any-append (holds every_one marks) xs ys
 
-pub held_guarded : (marks : Marks) (b : Bool) (xs : List Blame) → some_held marks (guarded b xs) ≡ (b && some_held marks xs)
+pub held_guarded : (marks : Marks) (b : Bool) (xs : List Reason) → some_held marks (reasons_if b xs) ≡ (b && some_held marks xs)
 held_guarded marks true xs = refl
 held_guarded marks false xs = refl
 
@@ -46,28 +46,28 @@ or_false true = refl
 or_false false = refl
 
 -- what a statement does under a marking is told by its reasons, and by what it does in any case
-pub record Told (marks : Marks) (d : Doings) (found : List Blame) (plain : Doings) : Type 0 where
+pub record Told (marks : Marks) (d : Doings) (found : List Reason) (plain : Doings) : Type 0 where
   pub acts : d.acts ≡ some_held marks found
   pub returns : d.returns ≡ plain.returns
   pub jumps : d.jumps ≡ plain.jumps
 
-told_acting : (marks : Marks) (b a : Bool) (found : List Blame) → b ≡ some_held marks found → Told marks (acting b) found (acting a)
+told_acting : (marks : Marks) (b a : Bool) (found : List Reason) → b ≡ some_held marks found → Told marks (acting b) found (acting a)
 told_acting marks b a found h = record { acts = h; returns = refl; jumps = refl }
 
-told_together : (marks : Marks) (a b d f : Doings) (xs ys : List Blame) → Told marks a xs b → Told marks d ys f → Told marks (together a d) (xs ++ ys) (together b f)
+told_together : (marks : Marks) (a b d f : Doings) (xs ys : List Reason) → Told marks a xs b → Told marks d ys f → Told marks (together a d) (xs ++ ys) (together b f)
 told_together marks a b d f xs ys h k = record {
   acts = ap₂ (λ s t. s || t) h.acts k.acts ∙ sym (held_append marks xs ys);
   returns = ap₂ (λ s t. s || t) h.returns k.returns;
   jumps = ap₂ (λ s t. s || t) h.jumps k.jumps;
 }
 
-told_loop : (marks : Marks) (a b : Doings) (xs : List Blame) → Told marks a xs b → Told marks (kept_in_loop a) xs (kept_in_loop b)
+told_loop : (marks : Marks) (a b : Doings) (xs : List Reason) → Told marks a xs b → Told marks (kept_in_loop a) xs (kept_in_loop b)
 told_loop marks a b xs h = record { acts = h.acts; returns = h.returns; jumps = refl }
 
 told_same : (marks : Marks) (a : Doings) → a.acts ≡ false → Told marks a [] a
 told_same marks a h = record { acts = h; returns = refl; jumps = refl }
 
-module _ (p : NumberedProgram) (m : NumberedMethod) (marks : Marks) where
+module _ (p : ProgramView) (m : NumberedMethod) (marks : Marks) where
   method_held : (o : Option NumberedMethod) → option_map_or (λ (y : NumberedMethod). y.is_single) (option_map (marked_method marks) o) false ≡ some_held marks (method_reasons o)
   method_held None = refl
   method_held (Some y) = by y.is_single
@@ -83,7 +83,7 @@ module _ (p : NumberedProgram) (m : NumberedMethod) (marks : Marks) where
       (collective_same p (this_of m) marks (marks_variable marks m) x ∙ by (is_collective_call p (this_of m) x))
       ∙ sym (held_append marks (method_reasons (called_method p (this_of m) x)) _)
     where
-      by : (b : Bool) → b ≡ some_held marks (guarded b (OfCollective (place_of_numbered x) ∷ []))
+      by : (b : Bool) → b ≡ some_held marks (reasons_if b (OfCollective (place_of_numbered x) ∷ []))
       by true = refl
       by false = refl
 
@@ -108,7 +108,7 @@ module _ (p : NumberedProgram) (m : NumberedMethod) (marks : Marks) where
 
   -- ---- statements
 
-  both_held : (a b : Bool) (xs ys : List Blame) → a ≡ some_held marks xs → b ≡ some_held marks ys → (a || b) ≡ some_held marks (xs ++ ys)
+  both_held : (a b : Bool) (xs ys : List Reason) → a ≡ some_held marks xs → b ≡ some_held marks ys → (a || b) ≡ some_held marks (xs ++ ys)
   both_held a b xs ys h k = ap₂ (λ s t. s || t) h k ∙ sym (held_append marks xs ys)
 
   mutual
@@ -141,7 +141,7 @@ module _ (p : NumberedProgram) (m : NumberedMethod) (marks : Marks) where
 
   -- ---- in the marked method
 
-  told_by : (a b d : Doings) (xs : List Blame) → a ≡ b → Told marks b xs d → Told marks a xs d
+  told_by : (a b d : Doings) (xs : List Reason) → a ≡ b → Told marks b xs d → Told marks a xs d
   told_by a b d xs h t = rw h t
 
   pub stm_held : (s : NumberedStm) → Told marks (doings (marked marks p) (this_of (marked_method marks m))
@@ -166,7 +166,7 @@ module _ (p : NumberedProgram) (m : NumberedMethod) (marks : Marks) where
   pub return_held : return_acts (marked marks p) (marked_method marks m) ≡ some_held marks (return_reasons p m)
   return_held = both_held _ _ (result_reasons p m m.result) (reasons_of_all p m (numbered_stms m.body)) has_result_held method_held_all.acts
 
-  behind_held : (a b r : Bool) (xs : List Blame) → a ≡ b → r ≡ some_held marks xs → (a && r) ≡ some_held marks (guarded b xs)
+  behind_held : (a b r : Bool) (xs : List Reason) → a ≡ b → r ≡ some_held marks xs → (a && r) ≡ some_held marks (reasons_if b xs)
   behind_held a b r xs h k = ap₂ (λ s t. s && t) h k ∙ sym (held_guarded marks b xs)
 
   or_and : (a b r : Bool) → ((a || b) && r) ≡ ((a && r) || (b && r))
@@ -193,21 +193,21 @@ module _ (p : NumberedProgram) (m : NumberedMethod) (marks : Marks) where
       (doings (marked marks p) (this_of (marked_method marks m)) (marked_stm (marks_variable marks m) marks.variables body))
       (return_acts (marked marks p) (marked_method marks m))
       ∙ both_held _ _ (reasons_of_maybe p m update ++ reasons p m body)
-      (guarded (doings_of_maybe p (this_of m) update).returns (return_reasons p m)
-      ++ guarded (doings p (this_of m) body).returns (return_reasons p m))
+      (reasons_if (doings_of_maybe p (this_of m) update).returns (return_reasons p m)
+      ++ reasons_if (doings p (this_of m) body).returns (return_reasons p m))
       (both_held _ _ (reasons_of_maybe p m update) (reasons p m body) u.acts b.acts)
-      (both_held _ _ (guarded (doings_of_maybe p (this_of m) update).returns (return_reasons p m)) (guarded (doings p (this_of m) body).returns (return_reasons p m))
+      (both_held _ _ (reasons_if (doings_of_maybe p (this_of m) update).returns (return_reasons p m)) (reasons_if (doings p (this_of m) body).returns (return_reasons p m))
       (behind_held _ (doings_of_maybe p (this_of m) update).returns _ (return_reasons p m) u.returns return_held)
       (behind_held _ (doings p (this_of m) body).returns _ (return_reasons p m) b.returns return_held))
 
-  global_held : (j : Bool) (d q : Doings) (xs jumping : List Blame) → Told marks d xs q → j ≡ some_held marks jumping
-      → has_global_effects (return_acts (marked marks p) (marked_method marks m)) j d ≡ some_held marks ((xs ++ guarded q.returns (return_reasons p m)) ++ guarded q.jumps jumping)
+  global_held : (j : Bool) (d q : Doings) (xs jumping : List Reason) → Told marks d xs q → j ≡ some_held marks jumping
+      → has_global_effects (return_acts (marked marks p) (marked_method marks m)) j d ≡ some_held marks ((xs ++ reasons_if q.returns (return_reasons p m)) ++ reasons_if q.jumps jumping)
   global_held j d q xs jumping t h =
-      both_held _ _ (xs ++ guarded q.returns (return_reasons p m)) (guarded q.jumps jumping)
-      (both_held _ _ xs (guarded q.returns (return_reasons p m)) t.acts (behind_held _ q.returns _ (return_reasons p m) t.returns return_held))
+      both_held _ _ (xs ++ reasons_if q.returns (return_reasons p m)) (reasons_if q.jumps jumping)
+      (both_held _ _ xs (reasons_if q.returns (return_reasons p m)) t.acts (behind_held _ q.returns _ (return_reasons p m) t.returns return_held))
       (behind_held _ q.jumps _ jumping t.jumps h)
 
-  pub effects_held : (vs : List ScopeVariable) (j : Option Bool) (jumping : List Blame) (s : NumberedStm) → unwrap_or j false ≡ some_held marks jumping
+  pub effects_held : (vs : List ScopeVariable) (j : Option Bool) (jumping : List Reason) (s : NumberedStm) → unwrap_or j false ≡ some_held marks jumping
       → has_effects (marked marks p) (around_in marks m vs j) (marked_stm (marks_variable marks m) marks.variables s) ≡ some_held marks (effect_reasons p m jumping s)
   effects_held vs j jumping s h = global_held (unwrap_or j false) _ (doings p (this_of m) s) (reasons p m s) jumping (stm_held s) h
 

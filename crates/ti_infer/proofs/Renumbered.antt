@@ -17,25 +17,25 @@ use Rattle.ti_syntax.specs.Trees.Classes as c
 use Rattle.ti_lang.specs.MainForm.{is_words, is_void, has_main_modifiers, has_main_form}
 use Rattle.ti_lang.specs.Members.{only_if, fields_in, OwnMethod, methods_of, method_named, is_static_method}
 use Rattle.ti_lang.specs.Scopes as scopes
-use Rattle.ti_lang.specs.Scopes.{has_single, has_local, value_type, Known, Site, with_variable, declares, typed_as, past, past_maybe, past_all, behind, behind_maybe, behind_params, method_site, body_site, own_field_named, own_method_named, static_method_named, class_before_dot, IsFresh, HasRoom}
+use Rattle.ti_lang.specs.Scopes.{has_single, has_local, value_type, Known, Site, with_variable, declares, typed_as, past, past_maybe, past_all, site_after, behind_maybe, behind_params, method_site, body_site, own_field_named, own_method_named, static_method_named, class_before_dot, IsFresh, HasRoom}
 use Rattle.ti_lang.specs.Program.Types.{ValueType, NumberedType, Declaration, Typed, Foreach, VariableUse}
 use Rattle.ti_lang.specs.Program.Expressions.{NumberedExp, NumberedExps, NumberedRange, NumberedRanges, numbered_ranges}
 use Rattle.ti_lang.specs.Program.Expressions as e
 use Rattle.ti_lang.specs.Program.Statements.{NumberedDims, NumberedInit, NumberedPrint, NumberedStm, MaybeNumbered, NumberedStms, numbered_stms}
 use Rattle.ti_lang.specs.Program.Statements as m
-use Rattle.ti_lang.specs.Program.Classes.{NumberedField, NumberedClass, NumberedParam, NumberedParams, Words, Params}
+use Rattle.ti_lang.specs.Program.Classes.{NumberedField, NumberedClass, NumberedParam, NumberedParams, MainArgs, Params}
 use Rattle.ti_lang.specs.Numbering as number
 use Rattle.ti_lang.specs.Numbering.{NumbersType, NumbersExp, NumbersExps, NumbersRange, NumbersRanges, NumbersMaybe, NumbersDims, NumbersInit, NumbersPrint, NumbersStm, NumbersMaybeStm, NumbersStms, NumbersFields, NumbersClasses, NumbersParamList, NumbersParams, HasMain}
-use Rattle.ti_infer.specs.Reworded.{Rewording, reworded_grid, reworded_type, reworded_init, reworded, reworded_maybe, reworded_all, reworded_param, reworded_params, reworded_result, reworded_field, reworded_method, reworded_class, reworded_text}
+use Rattle.ti_infer.specs.Remarked.{Remarking, remarked_grid, remarked_type, remarked_init, remarked_stm, remarked_maybe, remarked_all, remarked_param, remarked_params, remarked_result, remarked_field, remarked_method, remarked_class, remarked_text}
 use Rattle.ti_infer.specs.Marked.{marked_declaration, marked_exp, marked_exps, marked_range, marked_ranges, marked_dims, marked_init, marked_print}
-use Rattle.ti_infer.proofs.Refound.{IsMild, map_both, reworded_own, class_same, fields_same, field_same, methods_same, method_same, static_kept, static_same, name_same, value_same, cast_same, known_same}
+use Rattle.ti_infer.proofs.Refound.{IsMild, map_both, remarked_own, class_same, fields_same, field_same, methods_same, method_same, static_kept, static_same, name_same, value_same, cast_same, known_same}
 
 -- ---- numbered parts with other words
 
 -- a numbered type with other words
-abbrev pub retyped : Rewording → (List Qualifier → List Qualifier) → NumberedType → NumberedType
+abbrev pub retyped : Remarking → (List Qualifier → List Qualifier) → NumberedType → NumberedType
 retyped r words t =
-    record { type = t.type; is_single = has_single (words t.qualifiers); qualifiers = words t.qualifiers; grids = map (reworded_grid r) t.grids }
+    record { type = t.type; is_single = has_single (words t.qualifiers); qualifiers = words t.qualifiers; grids = map (remarked_grid r) t.grids }
 
 -- what becomes of types, of those of declared names, and of uses of variables by their numbers
 pub record Restating : Type 0 where
@@ -81,15 +81,15 @@ module _ (u : Restating) where
   restated_param w = record w { ty = u.declared w.place w.ty }
 
   abbrev pub restated_params : NumberedParams → NumberedParams
-  restated_params Words = Words
+  restated_params MainArgs = MainArgs
   restated_params (Params ws) = Params (map restated_param ws)
 
   -- a declared type becomes that with the other words, and is single where its variable is
-  abbrev pub IsFine : Rewording → Place → NumberedType → ℕ → Type 0
+  abbrev pub IsFine : Remarking → Place → NumberedType → ℕ → Type 0
   IsFine r at type variable =
       (u.declared at type ≡ retyped r (r.declared at) type) × (has_single (r.declared at type.qualifiers) ≡ u.singles variable)
 
-  module _ (r : Rewording) where
+  module _ (r : Remarking) where
     abbrev mutual
       -- so does each in a statement
       pub AreFine : NumberedStm → Type 0
@@ -117,46 +117,46 @@ module _ (u : Restating) where
 
 -- ---- types
 
-module _ (r : Rewording) (k : IsMild r) where
+module _ (r : Remarking) (k : IsMild r) where
   pub numbers_type : (text : TextTree) (words : List Qualifier → List Qualifier)
       → ((qs : List Qualifier) → has_local (words qs) ≡ has_local qs)
-      → (y : TypeTree) (n : NumberedType) → NumbersType text y n → NumbersType (reworded_text r text) (reworded_type r words y)
+      → (y : TypeTree) (n : NumberedType) → NumbersType text y n → NumbersType (remarked_text r text) (remarked_type r words y)
       (retyped r words n)
   numbers_type text words h y n (number.known w) =
-      subst (NumbersType (reworded_text r text) (reworded_type r words y))
+      subst (NumbersType (remarked_text r text) (remarked_type r words y))
       (ap (λ (v : ValueType). record {
         type = v;
         is_single = has_single (words y.qualifiers);
         qualifiers = words y.qualifiers;
-        grids = map (reworded_grid r) y.grids;
+        grids = map (remarked_grid r) y.grids;
       }) (value_same r k text words y (h y.qualifiers)))
       (number.known (known_same r text y.base w))
 
-  cast_numbers_type : (text : TextTree) (y : TypeTree) (n : NumberedType) → NumbersType text y n → NumbersType (reworded_text r text) y n
+  cast_numbers_type : (text : TextTree) (y : TypeTree) (n : NumberedType) → NumbersType text y n → NumbersType (remarked_text r text) y n
   cast_numbers_type text y n (number.known w) =
-      subst (NumbersType (reworded_text r text) y)
+      subst (NumbersType (remarked_text r text) y)
       (ap (λ (v : ValueType). record { type = v; is_single = has_single y.qualifiers; qualifiers = y.qualifiers; grids = y.grids }) (cast_same r text y))
       (number.known (known_same r text y.base w))
 
 -- what a type that is written becomes, is that with the other words
-abbrev pub AreRetyped : Restating → Rewording → Type 0
+abbrev pub AreRetyped : Restating → Remarking → Type 0
 AreRetyped u r =
     (v : ValueType) (y : TypeTree) → u.ty
     (record { type = v; is_single = has_single y.qualifiers; qualifiers = y.qualifiers; grids = y.grids })
     ≡ retyped r r.words (record { type = v; is_single = has_single y.qualifiers; qualifiers = y.qualifiers; grids = y.grids })
 
-module _ (r : Rewording) (k : IsMild r) (u : Restating) (types : AreRetyped u r) where
+module _ (r : Remarking) (k : IsMild r) (u : Restating) (types : AreRetyped u r) where
   numbers_inner : (text : TextTree) (y : TypeTree) (n : NumberedType) → NumbersType text y n
-      → NumbersType (reworded_text r text) (reworded_type r r.words y) (u.ty n)
+      → NumbersType (remarked_text r text) (remarked_type r r.words y) (u.ty n)
   numbers_inner text y n (number.known w) =
-      subst (NumbersType (reworded_text r text) (reworded_type r r.words y)) (sym (types (value_type text y) y))
+      subst (NumbersType (remarked_text r text) (remarked_type r r.words y)) (sym (types (value_type text y) y))
       (numbers_type r k text r.words k.words y _ (number.known w))
 
   numbers_declared : (text : TextTree) (at : Place) (variable : ℕ) (y : TypeTree) (n : NumberedType) → IsFine u r at n variable
       → NumbersType text y n
-      → NumbersType (reworded_text r text) (reworded_type r (r.declared at) y) (u.declared at n)
+      → NumbersType (remarked_text r text) (remarked_type r (r.declared at) y) (u.declared at n)
   numbers_declared text at variable y n f h =
-      subst (NumbersType (reworded_text r text) (reworded_type r (r.declared at) y)) (sym f.0)
+      subst (NumbersType (remarked_text r text) (remarked_type r (r.declared at) y)) (sym f.0)
       (numbers_type r k text (r.declared at) (k.declared at) y n h)
 
   -- ---- sites
@@ -168,7 +168,7 @@ module _ (r : Rewording) (k : IsMild r) (u : Restating) (types : AreRetyped u r)
   known_there w = (w.0, use_there w.1)
 
   abbrev pub site_there : Site → Site
-  site_there site = record site { text = reworded_text r site.text; scope = map known_there site.scope }
+  site_there site = record site { text = remarked_text r site.text; scope = map known_there site.scope }
 
   lookup_same : (test : List ℕ → Bool) (scope : List Known) → lookup test (map known_there scope) ≡ option_map use_there (lookup test scope)
   lookup_same test [] = refl
@@ -207,12 +207,12 @@ module _ (r : Rewording) (k : IsMild r) (u : Restating) (types : AreRetyped u r)
       (with_same site.scope name (record { number = site.variables; declared = d }))
 
   typed_same : (text : TextTree) (at : Place) (y : TypeTree) (b : Bool) → has_single (r.declared at y.qualifiers) ≡ b
-      → typed_as (reworded_text r text) (reworded_type r (r.declared at) y) ≡ marked_declaration b (typed_as text y)
+      → typed_as (remarked_text r text) (remarked_type r (r.declared at) y) ≡ marked_declaration b (typed_as text y)
   typed_same text at y b h = ap₂ Typed h (value_same r k text (r.declared at) y (k.declared at y.qualifiers))
 
   behind_declared : (site : Site) (at : Place) (y : TypeTree) (name : List ℕ)
       → has_single (r.declared at y.qualifiers) ≡ u.singles site.variables
-      → declares (site_there site) name (typed_as (reworded_text r site.text) (reworded_type r (r.declared at) y)) ≡ site_there
+      → declares (site_there site) name (typed_as (remarked_text r site.text) (remarked_type r (r.declared at) y)) ≡ site_there
       (declares site name (typed_as site.text y))
   behind_declared site at y name h =
       ap (declares (site_there site) name) (typed_same site.text at y (u.singles site.variables) h)
@@ -235,13 +235,13 @@ module _ (r : Rewording) (k : IsMild r) (u : Restating) (types : AreRetyped u r)
 
   own_method_same : (site : Site) (name : List ℕ) → own_method_named (site_there site) name ≡ own_method_named site name
   own_method_same site name =
-      ap (only_if (λ n. is_static_method (reworded_text r site.text) n || not site.static)) (method_same r site.text site.class name)
+      ap (only_if (λ n. is_static_method (remarked_text r site.text) n || not site.static)) (method_same r site.text site.class name)
       ∙ only_if_same _ _ (method_named site.text site.class name) (λ n. ap (λ z. z || not site.static) (static_same r k site.text n))
 
   static_method_same : (site : Site) (class : ℕ) (name : List ℕ)
       → static_method_named (site_there site) class name ≡ static_method_named site class name
   static_method_same site class name =
-      ap (only_if (is_static_method (reworded_text r site.text))) (method_same r site.text class name)
+      ap (only_if (is_static_method (remarked_text r site.text))) (method_same r site.text class name)
       ∙ only_if_same _ _ (method_named site.text class name) (static_same r k site.text)
 
   before_dot_same : (site : Site) (y : Exp) → class_before_dot (site_there site) y ≡ class_before_dot site y
@@ -319,7 +319,7 @@ module _ (r : Rewording) (k : IsMild r) (u : Restating) (types : AreRetyped u r)
     dims_there d z (number.ranges {rs = rs} {qs = qs} h) =
         number.ranges (subst (NumbersRanges there (x.ranges_tree rs)) (sym (ranges_of_map qs)) (ranges_there _ _ h))
 
-    init_there : (v : InitTree) (z : NumberedInit) → NumbersInit site v z → NumbersInit there (reworded_init r v) (restated_init u z)
+    init_there : (v : InitTree) (z : NumberedInit) → NumbersInit site v z → NumbersInit there (remarked_init r v) (restated_init u z)
     init_there v z (number.value h) = number.value (exp_there _ _ h)
     init_there v z number.new_region = number.new_region
     init_there v z (number.new_object {name = name} h i) = number.new_object (maybe_there _ _ h) (class_same r site.text name ∙ i)
@@ -335,29 +335,29 @@ module _ (r : Rewording) (k : IsMild r) (u : Restating) (types : AreRetyped u r)
   -- ---- the sites behind
 
   mutual
-    past_same : (site : Site) (y : Stm) → past (site_there site) (reworded r y) ≡ site_there (past site y)
+    past_same : (site : Site) (y : Stm) → past (site_there site) (remarked_stm r y) ≡ site_there (past site y)
     past_same site (s.Block body) = past_all_same site body
     past_same site (s.If at a y) = past_same site y
-    past_same site (s.IfElse at a y z) = ap (λ l. past l (reworded r z)) (past_same site y) ∙ past_same (past site y) z
+    past_same site (s.IfElse at a y z) = ap (λ l. past l (remarked_stm r z)) (past_same site y) ∙ past_same (past site y) z
     past_same site (s.While at a body) = past_same site body
     past_same site (s.For at first a update body) =
-        ap (λ l. past (past_maybe l (reworded_maybe r update)) (reworded r body)) (past_maybe_same site first)
-        ∙ ap (λ l. past l (reworded r body)) (past_maybe_same (past_maybe site first) update)
+        ap (λ l. past (past_maybe l (remarked_maybe r update)) (remarked_stm r body)) (past_maybe_same site first)
+        ∙ ap (λ l. past l (remarked_stm r body)) (past_maybe_same (past_maybe site first) update)
         ∙ past_same (past_maybe (past_maybe site first) update) body
     past_same site (s.Foreach at name_at name domain body) = past_same (scopes.past_variable site) body
     past_same site _ = refl
 
-    past_maybe_same : (site : Site) (y : MaybeStm) → past_maybe (site_there site) (reworded_maybe r y) ≡ site_there (past_maybe site y)
+    past_maybe_same : (site : Site) (y : MaybeStm) → past_maybe (site_there site) (remarked_maybe r y) ≡ site_there (past_maybe site y)
     past_maybe_same site s.NoStm = refl
     past_maybe_same site (s.SomeStm y) = past_same site y
 
-    past_all_same : (site : Site) (ys : Stms) → past_all (site_there site) (reworded_all r ys) ≡ site_there (past_all site ys)
+    past_all_same : (site : Site) (ys : Stms) → past_all (site_there site) (remarked_all r ys) ≡ site_there (past_all site ys)
     past_all_same site s.Nil = refl
-    past_all_same site (s.Cons y rest) = ap (λ l. past_all l (reworded_all r rest)) (past_same site y) ∙ past_all_same (past site y) rest
+    past_all_same site (s.Cons y rest) = ap (λ l. past_all l (remarked_all r rest)) (past_same site y) ∙ past_all_same (past site y) rest
 
   -- behind a statement whose declarations become what they are to
   behind_same : (site : Site) (a : Stm) (y : NumberedStm) → NumbersStm site a y → AreFine u r y
-      → behind (site_there site) (reworded r a) ≡ site_there (behind site a)
+      → site_after (site_there site) (remarked_stm r a) ≡ site_there (site_after site a)
   behind_same site a y (number.declare {at = at} {ty = type} {name = name} (number.known w) fresh room v) f =
       behind_declared site at type name f.1
   behind_same site a y (number.block {xs = xs} h) f = past_same site (s.Block xs)
@@ -380,7 +380,7 @@ module _ (r : Rewording) (k : IsMild r) (u : Restating) (types : AreRetyped u r)
   behind_same site a y (number.return h) f = refl
 
   behind_maybe_same : (site : Site) (a : MaybeStm) (y : MaybeNumbered) → NumbersMaybeStm site a y → MaybeFine u r y
-      → behind_maybe (site_there site) (reworded_maybe r a) ≡ site_there (behind_maybe site a)
+      → behind_maybe (site_there site) (remarked_maybe r a) ≡ site_there (behind_maybe site a)
   behind_maybe_same site a y number.no_stm f = refl
   behind_maybe_same site a y (number.some_stm h) f = behind_same site _ _ h f
 
@@ -388,7 +388,7 @@ module _ (r : Rewording) (k : IsMild r) (u : Restating) (types : AreRetyped u r)
 
   mutual
     stm_there : (site : Site) (a : Stm) (y : NumberedStm) → NumbersStm site a y → AreFine u r y
-        → NumbersStm (site_there site) (reworded r a) (restated u y)
+        → NumbersStm (site_there site) (remarked_stm r a) (restated u y)
     stm_there site a y number.empty f = number.empty
     stm_there site a y (number.declare {at = at} {name = name} type fresh room v) f =
         number.declare (numbers_declared site.text at site.variables _ _ f type) (fresh_same site name fresh) (room_same site room)
@@ -406,32 +406,32 @@ module _ (r : Rewording) (k : IsMild r) (u : Restating) (types : AreRetyped u r)
     stm_there site a y (number.if_alone g h) f = number.if_alone (exp_there site _ _ g) (stm_there site _ _ h f)
     stm_there site a y (number.if_else {a = b} {b = v} {y = z} g h i) f =
         number.if_else (exp_there site _ _ g) (stm_there site _ _ h f.0)
-        (subst (λ l. NumbersStm l (reworded r v) (restated u z)) (sym (past_same site b)) (stm_there (past site b) v z i f.1))
+        (subst (λ l. NumbersStm l (remarked_stm r v) (restated u z)) (sym (past_same site b)) (stm_there (past site b) v z i f.1))
     stm_there site a y (number.while g h) f = number.while (exp_there site _ _ g) (stm_there site _ _ h f)
     stm_there site a y (number.for {first = first} {update = update} {f = begun} {u = changed} {c = g} {d = d} {x = v} {y = z} h i j w) f =
         let next = behind_maybe site first in
-        let is : site_there next ≡ behind_maybe (site_there site) (reworded_maybe r first) =
+        let is : site_there next ≡ behind_maybe (site_there site) (remarked_maybe r first) =
         sym (behind_maybe_same site first begun h f.0) in
         number.for (maybe_stm_there site _ _ h f.0)
         (subst (λ l. NumbersMaybe l g (option_map (marked_exp u.singles) d)) is (maybe_there next g d i))
-        (subst (λ l. NumbersMaybeStm l (reworded_maybe r update) (restated_maybe u changed)) is (maybe_stm_there next update changed j f.1))
-        (subst (λ l. NumbersStm l (reworded r v) (restated u z)) (sym (past_maybe_same next update)
-        ∙ ap (λ l. past_maybe l (reworded_maybe r update)) is) (stm_there (past_maybe next update) v z w f.2))
+        (subst (λ l. NumbersMaybeStm l (remarked_maybe r update) (restated_maybe u changed)) is (maybe_stm_there next update changed j f.1))
+        (subst (λ l. NumbersStm l (remarked_stm r v) (restated u z)) (sym (past_maybe_same next update)
+        ∙ ap (λ l. past_maybe l (remarked_maybe r update)) is) (stm_there (past_maybe next update) v z w f.2))
     stm_there site a y (number.foreach {name = name} {x = v} {y = z} fresh room g h) f =
         number.foreach (fresh_same site name fresh) (room_same site room) (exp_there site _ _ g)
-        (subst (λ l. NumbersStm l (reworded r v) (restated u z)) (sym (declares_same site name Foreach)) (stm_there (declares site name Foreach) v z h f))
+        (subst (λ l. NumbersStm l (remarked_stm r v) (restated u z)) (sym (declares_same site name Foreach)) (stm_there (declares site name Foreach) v z h f))
 
     maybe_stm_there : (site : Site) (a : MaybeStm) (y : MaybeNumbered) → NumbersMaybeStm site a y → MaybeFine u r y
-        → NumbersMaybeStm (site_there site) (reworded_maybe r a) (restated_maybe u y)
+        → NumbersMaybeStm (site_there site) (remarked_maybe r a) (restated_maybe u y)
     maybe_stm_there site a y number.no_stm f = number.no_stm
     maybe_stm_there site a y (number.some_stm h) f = number.some_stm (stm_there site _ _ h f)
 
     pub stms_there : (site : Site) (trees : Stms) (ys : NumberedStms) → NumbersStms site trees ys → AllFine u r ys
-        → NumbersStms (site_there site) (reworded_all r trees) (restated_all u ys)
+        → NumbersStms (site_there site) (remarked_all r trees) (restated_all u ys)
     stms_there site trees ys number.nil f = number.nil
     stms_there site trees ys (number.cons {x = a} {y = y} {xs = us} {ys = vs} h rest) f =
         number.cons (stm_there site _ _ h f.0)
-        (subst (λ l. NumbersStms l (reworded_all r us) (restated_all u vs)) (sym (behind_same site a y h f.0)) (stms_there (behind site a) us vs rest f.1))
+        (subst (λ l. NumbersStms l (remarked_all r us) (restated_all u vs)) (sym (behind_same site a y h f.0)) (stms_there (site_after site a) us vs rest f.1))
 
   pub restated_map : (ys : List NumberedStm) → restated_all u (numbered_stms ys) ≡ numbered_stms (map (restated u) ys)
   restated_map [] = refl
@@ -446,106 +446,106 @@ module _ (r : Rewording) (k : IsMild r) (u : Restating) (types : AreRetyped u r)
   restated_class d = record d { fields = map restated_field d.fields }
 
   fields_there : (text : TextTree) (class n : ℕ) (fs : List FieldTree) (gs : List NumberedField) → NumbersFields text class n fs gs
-      → NumbersFields (reworded_text r text) class n (map (reworded_field r) fs) (map restated_field gs)
+      → NumbersFields (remarked_text r text) class n (map (remarked_field r) fs) (map restated_field gs)
   fields_there text class n fs gs number.none = number.none
   fields_there text class n fs gs (number.more {f = f} {type = type} {fs = us} {gs = vs} h t rest) =
-      subst (λ l. NumbersFields (reworded_text r text) class n (map (reworded_field r) (f ∷ us))
+      subst (λ l. NumbersFields (remarked_text r text) class n (map (remarked_field r) (f ∷ us))
       (record { modifiers = r.fields f.modifiers; ty = u.ty type; name = l } ∷ map restated_field vs)) (name_same r text f.name)
       (number.more (field_same r text class f.name ∙ h) (numbers_inner text f.ty type t) (fields_there text class (n + 1) us vs rest))
 
   pub classes_there : (text : TextTree) (n : ℕ) (cs : List ClassTree) (ds : List NumberedClass) → NumbersClasses text n cs ds
-      → NumbersClasses (reworded_text r text) n (map (reworded_class r) cs) (map restated_class ds)
+      → NumbersClasses (remarked_text r text) n (map (remarked_class r) cs) (map restated_class ds)
   classes_there text n cs ds number.none = number.none
   classes_there text n cs ds (number.more {c = d} {gs = gs} h fs rest) =
       number.more (class_same r text d.name ∙ h)
-      (subst (λ l. NumbersFields (reworded_text r text) n 0 l (map restated_field gs)) (sym (fields_same r d.members)) (fields_there text n 0 (fields_in d.members) gs fs))
+      (subst (λ l. NumbersFields (remarked_text r text) n 0 l (map restated_field gs)) (sym (fields_same r d.members)) (fields_there text n 0 (fields_in d.members) gs fs))
       (classes_there text (n + 1) _ _ rest)
 
   -- ---- methods
 
   param_list_there : (site : Site) (ps : List ParamTree) (ys : List NumberedParam) → NumbersParamList site ps ys
       → ParamsFine u r site.variables ys
-      → NumbersParamList (site_there site) (map (reworded_param r) ps) (map (restated_param u) ys)
+      → NumbersParamList (site_there site) (map (remarked_param r) ps) (map (restated_param u) ys)
   param_list_there site ps ys number.none f = number.none
   param_list_there site ps ys (number.more {param = param} {params = us} {ys = vs} (number.known w) fresh room rest) f =
       number.more (numbers_declared site.text param.place site.variables _ _ f.0 (number.known w)) (fresh_same site param.name fresh)
       (room_same site room)
-      (subst (λ l. NumbersParamList l (map (reworded_param r) us) (map (restated_param u) vs)) (sym (behind_declared site param.place param.ty param.name f.0.1))
+      (subst (λ l. NumbersParamList l (map (remarked_param r) us) (map (restated_param u) vs)) (sym (behind_declared site param.place param.ty param.name f.0.1))
       (param_list_there (declares site param.name (typed_as site.text param.ty)) us vs rest f.1))
 
   behind_params_same : (site : Site) (ps : List ParamTree) (ys : List NumberedParam) → NumbersParamList site ps ys
       → ParamsFine u r site.variables ys
-      → behind_params (site_there site) (map (reworded_param r) ps) ≡ site_there (behind_params site ps)
+      → behind_params (site_there site) (map (remarked_param r) ps) ≡ site_there (behind_params site ps)
   behind_params_same site ps ys number.none f = refl
   behind_params_same site ps ys (number.more {param = param} {params = us} {ys = vs} (number.known w) fresh room rest) f =
-      ap (λ l. behind_params l (map (reworded_param r) us)) (behind_declared site param.place param.ty param.name f.0.1)
+      ap (λ l. behind_params l (map (remarked_param r) us)) (behind_declared site param.place param.ty param.name f.0.1)
       ∙ behind_params_same (declares site param.name (typed_as site.text param.ty)) us vs rest f.1
 
   -- those of a method become what they are to
   abbrev pub HeadFine : Site → NumberedParams → Type 0
-  HeadFine site Words = Unit {0}
+  HeadFine site MainArgs = Unit {0}
   HeadFine site (Params ws) = ParamsFine u r site.variables ws
 
   pub params_there : (site : Site) (ps : ParamsTree) (ys : NumberedParams) → NumbersParams site ps ys → HeadFine site ys
-      → NumbersParams (site_there site) (reworded_params r ps) (restated_params u ys)
+      → NumbersParams (site_there site) (remarked_params r ps) (restated_params u ys)
   params_there site ps ys number.words f = number.words
   params_there site ps ys (number.params h) f = number.params (param_list_there site _ _ h f)
 
   pub body_site_same : (site : Site) (ps : ParamsTree) (ys : NumberedParams) → NumbersParams site ps ys → HeadFine site ys
-      → body_site (site_there site) (reworded_params r ps) ≡ site_there (body_site site ps)
+      → body_site (site_there site) (remarked_params r ps) ≡ site_there (body_site site ps)
   body_site_same site ps ys number.words f = refl
   body_site_same site ps ys (number.params h) f = behind_params_same site _ _ h f
 
   pub method_site_same : (text : TextTree) (own : OwnMethod) (before : ℕ)
-      → method_site (reworded_text r text) (reworded_own r own) before ≡ site_there (method_site text own before)
+      → method_site (remarked_text r text) (remarked_own r own) before ≡ site_there (method_site text own before)
   method_site_same text own before =
-      ap (λ (b : Bool). record { text = reworded_text r text; class = own.class; static = b; scope = []; variables = 0; literals = before })
+      ap (λ (b : Bool). record { text = remarked_text r text; class = own.class; static = b; scope = []; variables = 0; literals = before })
       (static_kept r k own.method)
 
 -- ---- `main`
 
-module _ (r : Rewording) where
-  words_same : (ps : ParamsTree) → is_words (reworded_params r ps) ≡ is_words ps
-  words_same (c.Words at name) = refl
+module _ (r : Remarking) where
+  words_same : (ps : ParamsTree) → is_words (remarked_params r ps) ≡ is_words ps
+  words_same (c.MainArgs at name) = refl
   words_same (c.Params ps) = refl
 
-  void_same : (place : Place) (y : ResultTree) → is_void (reworded_result r place y) ≡ is_void y
+  void_same : (place : Place) (y : ResultTree) → is_void (remarked_result r place y) ≡ is_void y
   void_same place (c.Void at) = refl
   void_same place (c.Typed type) = refl
 
   -- a method that keeps its words keeps the form of `main`
   pub form_same : (y : MethodTree) → r.methods y.params y.place y.modifiers ≡ y.modifiers
-      → has_main_form (reworded_method r y) ≡ has_main_form y
+      → has_main_form (remarked_method r y) ≡ has_main_form y
   form_same y h =
       ap₂ (λ (ms : List Modifier) (b : Bool). has_main_modifiers (record y { modifiers = ms }) && b) h
       (ap₂ (λ a d. a && d) (void_same y.place y.result) (words_same y.params))
 
   -- `main` stays where it has the form
-  pub main_there : (text : TextTree) (n : ℕ) (h : HasMain text n) → has_main_form (reworded_method r h.own.method) ≡ true
-      → HasMain (reworded_text r text) n
+  pub main_there : (text : TextTree) (n : ℕ) (h : HasMain text n) → has_main_form (remarked_method r h.own.method) ≡ true
+      → HasMain (remarked_text r text) n
   main_there text n h form = record {
     class = h.class;
     is_class = class_same r text (codes "Main") ∙ h.is_class;
     is_method = method_same r text h.class (codes "main") ∙ h.is_method;
-    own = reworded_own r h.own;
+    own = remarked_own r h.own;
     stands =
-        ap (λ os. slice_get os n) (methods_same r text) ∙ slice_get-map (reworded_own r) (methods_of text) n
-        ∙ ap (option_map (reworded_own r)) h.stands;
+        ap (λ os. slice_get os n) (methods_same r text) ∙ slice_get-map (remarked_own r) (methods_of text) n
+        ∙ ap (option_map (remarked_own r)) h.stands;
     form = form;
     alone =
         λ i other stands words. by i other words (slice_get (methods_of text) i) refl
-        (sym (ap (λ os. slice_get os i) (methods_same r text) ∙ slice_get-map (reworded_own r) (methods_of text) i) ∙ stands);
+        (sym (ap (λ os. slice_get os i) (methods_same r text) ∙ slice_get-map (remarked_own r) (methods_of text) i) ∙ stands);
   }
     where
       by : (i : ℕ) (other : OwnMethod) → is_words other.method.params ≡ true → (o : Option OwnMethod) → slice_get (methods_of text) i ≡ o
-          → option_map (reworded_own r) o ≡ Some other → i ≡ n
+          → option_map (remarked_own r) o ≡ Some other → i ≡ n
       by i other words None e z = absurd (none_some other z)
         where
           none_some : (a : OwnMethod) → ◌≡◌ {A = Option OwnMethod} None (Some a) → ⊥
           none_some a e = cc
       by i other words (Some own) e z =
           h.alone i own e
-          (sym (words_same own.method.params) ∙ ap (λ (o : OwnMethod). is_words o.method.params) (some_same (reworded_own r own) other z) ∙ words)
+          (sym (words_same own.method.params) ∙ ap (λ (o : OwnMethod). is_words o.method.params) (some_same (remarked_own r own) other z) ∙ words)
         where
           some_same : (a d : OwnMethod) → ◌≡◌ {A = Option OwnMethod} (Some a) (Some d) → a ≡ d
           some_same a d e = cc

@@ -12,14 +12,14 @@ use Rattle.ti_lang.specs.Program.Types.{ValueType, Declaration, Typed, Foreach}
 use Rattle.ti_lang.specs.Program.Types as t
 use Rattle.ti_lang.specs.Program.Expressions.{NumberedExp, NumberedExps, NumberedRange, NumberedRanges}
 use Rattle.ti_lang.specs.Program.Expressions as e
-use Rattle.ti_lang.specs.Program.Classes.{NumberedResult, NumberedMethod, NumberedProgram}
+use Rattle.ti_lang.specs.Program.Classes.{NumberedResult, NumberedMethod, ProgramView}
 use Rattle.ti_lang.specs.Program.Classes as c
 use Rattle.ti_lang.specs.Program.Scope.{this_of}
 use Rattle.ti_lang.specs.Typing.Kinds.{dim_of_type, is_object}
 use Rattle.ti_lang.specs.Typing.BuiltIn.{built_in}
 use Rattle.ti_lang.specs.Typing.Declared.{is_static_method, instance_method, named_field_type, type_of_result, result_type}
 use Rattle.ti_lang.specs.Typing.Expressions.{range_count}
-use Rattle.ti_lang.specs.Typing.TextTypes.{used_type, operator_type, field_seen, element_seen, built_in_type, member_seen, how_many, type_at, dims_of_range, dims_of_ranges, type_in_text}
+use Rattle.ti_lang.specs.Typing.TextTypes.{used_type, operator_type, static_field_type, static_element_type, built_in_type, static_member_type, how_many, type_at, dims_of_range, dims_of_ranges, syntactic_type}
 use Rattle.ti_lang.specs.Typing.Called.{method_behind, called_method, member_called}
 use Rattle.ti_blame.specs.Marks.{Marks}
 use Rattle.ti_infer.specs.Marked.{marked_declaration, marked_exp, marked_exps, marked_range, marked_ranges, marked_result, marked_method, marked}
@@ -50,7 +50,7 @@ result_same marks m = by (marks.results m.place) m.place m.result
     by b at c.Void = refl
     by b at (c.Typed type) = refl
 
-pub method_same : (marks : Marks) (p : NumberedProgram) (k : ℕ) → slice_get (marked marks p).methods k ≡ option_map (marked_method marks) (slice_get p.methods k)
+pub method_same : (marks : Marks) (p : ProgramView) (k : ℕ) → slice_get (marked marks p).methods k ≡ option_map (marked_method marks) (slice_get p.methods k)
 method_same marks p k = slice_get-map (marked_method marks) p.methods k
 
 found_map : {A : Type 0} (f : A → A) (test : A → Bool) (a : A) (xs : List A) (b : Bool) → test (f a) ≡ b → test a ≡ b → find test (map f xs) ≡ option_map f (find test xs)
@@ -70,7 +70,7 @@ only_map f test (Some a) same = ap (λ b. if b then Some (f a) else None) (same 
     by true = refl
     by false = refl
 
-pub instance_same : (marks : Marks) (p : NumberedProgram) (class name : ℕ) → instance_method (marked marks p) class name ≡ option_map (marked_method marks) (instance_method p class name)
+pub instance_same : (marks : Marks) (p : ProgramView) (class name : ℕ) → instance_method (marked marks p) class name ≡ option_map (marked_method marks) (instance_method p class name)
 unfolding instance_method
 instance_same marks p class name =
     ap (only_if (λ (m : NumberedMethod). not (is_static_method m))) (find_map (marked_method marks) (λ (m : NumberedMethod). (m.class == class) && (m.name == name)) p.methods (λ m. refl))
@@ -82,7 +82,7 @@ given_same : (marks : Marks) (o : Option NumberedMethod) → option_map_or resul
 given_same marks None = refl
 given_same marks (Some m) = result_same marks m
 
-called_same : (marks : Marks) (p : NumberedProgram) (k : ℕ) → option_map_or result_type (slice_get (marked marks p).methods k) t.Void ≡ option_map_or result_type (slice_get p.methods k) t.Void
+called_same : (marks : Marks) (p : ProgramView) (k : ℕ) → option_map_or result_type (slice_get (marked marks p).methods k) t.Void ≡ option_map_or result_type (slice_get p.methods k) t.Void
 called_same marks p k = ap (λ o. option_map_or result_type o t.Void) (method_same marks p k) ∙ given_same marks (slice_get p.methods k)
 
 -- ---- types in the text
@@ -91,11 +91,11 @@ used_same : (dims : ℕ → ℕ) (number : ℕ) (b : Bool) (d : Declaration) →
 used_same dims number b (Typed is_single type) = refl
 used_same dims number b Foreach = refl
 
-field_same : (marks : Marks) (p : NumberedProgram) (name : ℕ) (x : ValueType) → field_seen (marked marks p) name x ≡ field_seen p name x
+field_same : (marks : Marks) (p : ProgramView) (name : ℕ) (x : ValueType) → static_field_type (marked marks p) name x ≡ static_field_type p name x
 unfolding named_field_type
 field_same marks p name x = by x
   where
-    by : (x : ValueType) → field_seen (marked marks p) name x ≡ field_seen p name x
+    by : (x : ValueType) → static_field_type (marked marks p) name x ≡ static_field_type p name x
     by (t.Class class is_local) = refl
     by t.Int = refl
     by t.Long = refl
@@ -108,11 +108,11 @@ field_same marks p name x = by x
     by t.Null = refl
     by t.Void = refl
 
-pub built_in_same : (marks : Marks) (p : NumberedProgram) (name : ℕ) → built_in (marked marks p) name ≡ built_in p name
+pub built_in_same : (marks : Marks) (p : ProgramView) (name : ℕ) → built_in (marked marks p) name ≡ built_in p name
 unfolding built_in
 built_in_same marks p name = refl
 
-member_same : (marks : Marks) (p : NumberedProgram) (name : ℕ) (x : ValueType) → member_seen (marked marks p) name x ≡ member_seen p name x
+member_same : (marks : Marks) (p : ProgramView) (name : ℕ) (x : ValueType) → static_member_type (marked marks p) name x ≡ static_member_type p name x
 member_same marks p name (t.Class class is_local) = ap (λ o. option_map_or result_type o t.Void) (instance_same marks p class name) ∙ given_same marks (instance_method p class name)
 member_same marks p name t.Int = ap (λ b. built_in_type b t.Int) (built_in_same marks p name)
 member_same marks p name t.Long = ap (λ b. built_in_type b t.Long) (built_in_same marks p name)
@@ -133,7 +133,7 @@ pub count_same : (singles : ℕ → Bool) (rs : NumberedRanges) → range_count 
 count_same singles e.NoRange = refl
 count_same singles (e.MoreRange r rs) = ap (λ n. 1 + n) (count_same singles rs)
 
-module _ (marks : Marks) (p : NumberedProgram) (this : Option ℕ) (dims : ℕ → ℕ) (singles : ℕ → Bool) where
+module _ (marks : Marks) (p : ProgramView) (this : Option ℕ) (dims : ℕ → ℕ) (singles : ℕ → Bool) where
   mutual
     pub type_same : (x : NumberedExp) → type_at (marked marks p) this dims (marked_exp singles x) ≡ type_at p this dims x
     type_same (e.Variable at v) = used_same dims v.number (singles v.number) v.declared
@@ -143,9 +143,9 @@ module _ (marks : Marks) (p : NumberedProgram) (this : Option ℕ) (dims : ℕ �
     type_same (e.Rect at ranges) = ap t.Rc (ranges_same ranges)
     type_same (e.Unary at o x) = type_same x
     type_same (e.Binary at o x y) = ap₂ (operator_type o) (type_same x) (type_same y)
-    type_same (e.Select at x name) = field_same marks p name _ ∙ ap (field_seen p name) (type_same x)
-    type_same (e.Member at x name args) = member_same marks p name _ ∙ ap (member_seen p name) (type_same x)
-    type_same (e.Index at x parts) = ap element_seen (type_same x)
+    type_same (e.Select at x name) = field_same marks p name _ ∙ ap (static_field_type p name) (type_same x)
+    type_same (e.Member at x name args) = member_same marks p name _ ∙ ap (static_member_type p name) (type_same x)
+    type_same (e.Index at x parts) = ap static_element_type (type_same x)
     type_same _ = refl
 
     range_same : (r : NumberedRange) → dims_of_range (marked marks p) this dims (marked_range singles r) ≡ dims_of_range p this dims r
@@ -157,23 +157,23 @@ module _ (marks : Marks) (p : NumberedProgram) (this : Option ℕ) (dims : ℕ �
     ranges_same (e.MoreRange r e.NoRange) = range_same r
     ranges_same (e.MoreRange r (e.MoreRange q rs)) = ap (λ n. 1 + (1 + n)) (count_same singles rs)
 
-pub text_same : (marks : Marks) (p : NumberedProgram) (this : Option ℕ) (singles : ℕ → Bool) (x : NumberedExp) → type_in_text (marked marks p) this (marked_exp singles x) ≡ type_in_text p this x
+pub text_same : (marks : Marks) (p : ProgramView) (this : Option ℕ) (singles : ℕ → Bool) (x : NumberedExp) → syntactic_type (marked marks p) this (marked_exp singles x) ≡ syntactic_type p this x
 text_same marks p this singles x = type_same marks p this (λ number. 1) singles x
 
 -- ---- what is called
 
-behind_same : (marks : Marks) (p : NumberedProgram) (name : ℕ) (x : ValueType) → method_behind (marked marks p) x name ≡ option_map (marked_method marks) (method_behind p x name)
+behind_same : (marks : Marks) (p : ProgramView) (name : ℕ) (x : ValueType) → method_behind (marked marks p) x name ≡ option_map (marked_method marks) (method_behind p x name)
 behind_same marks p name (t.Class class is_local) = instance_same marks p class name
 behind_same marks p name _ = refl
 
-pub call_same : (marks : Marks) (p : NumberedProgram) (this : Option ℕ) (singles : ℕ → Bool) (x : NumberedExp)
+pub call_same : (marks : Marks) (p : ProgramView) (this : Option ℕ) (singles : ℕ → Bool) (x : NumberedExp)
     → called_method (marked marks p) this (marked_exp singles x) ≡ option_map (marked_method marks) (called_method p this x)
 call_same marks p this singles (e.Call at method args) = method_same marks p method
 call_same marks p this singles (e.OwnCall at method args) = method_same marks p method
 call_same marks p this singles (e.Member at x name args) = behind_same marks p name _ ∙ ap (λ y. option_map (marked_method marks) (method_behind p y name)) (text_same marks p this singles x)
 call_same marks p this singles _ = refl
 
-pub language_same : (marks : Marks) (p : NumberedProgram) (this : Option ℕ) (singles : ℕ → Bool) (x : NumberedExp) (name : ℕ)
+pub language_same : (marks : Marks) (p : ProgramView) (this : Option ℕ) (singles : ℕ → Bool) (x : NumberedExp) (name : ℕ)
     → member_called (marked marks p) this (marked_exp singles x) name ≡ member_called p this x name
 language_same marks p this singles x name = ap (λ y. if is_object y then None else built_in (marked marks p) name)
-    (text_same marks p this singles x) ∙ ap (λ b. if is_object (type_in_text p this x) then None else b) (built_in_same marks p name)
+    (text_same marks p this singles x) ∙ ap (λ b. if is_object (syntactic_type p this x) then None else b) (built_in_same marks p name)

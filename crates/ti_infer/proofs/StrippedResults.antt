@@ -2,7 +2,7 @@
 use Rattle.std.proofs.Common.{◌≡◌, ℕ, ◌+◌, Bool, true, false, not, if◌then◌else◌, List, [], ◌∷◌, flat_map, refl}
 use Rattle.ti_syntax.specs.declared.tree.types.Qualifier.{Qualifier}
 use Rattle.ti_lang.specs.Scopes.{is_single_word}
-use Rattle.ti_lang.specs.Program.Classes.{NumberedResult, NumberedMethod, NumberedProgram}
+use Rattle.ti_lang.specs.Program.Classes.{NumberedResult, NumberedMethod, ProgramView}
 use Rattle.ti_lang.specs.Program.Classes as c
 use Rattle.ti_rules.specs.SingleRules.{word_refusals}
 use Rattle.ti_infer.specs.Stripped.{plain_words, plain_result, plain_methods, stripped, IsPlainResult, HavePlainResults}
@@ -24,5 +24,5 @@ methods_plain : (main number : ℕ) (ms : List NumberedMethod) → HavePlainResu
 methods_plain main number [] = tt
 methods_plain main number (m ∷ ms) = (result_plain m.result, methods_plain main (number + 1) ms)
 
-pub stripped_plain : (p : NumberedProgram) → HavePlainResults (stripped p).methods
+pub stripped_plain : (p : ProgramView) → HavePlainResults (stripped p).methods
 stripped_plain p = methods_plain p.main 0 p.methods

@@ -16,15 +16,15 @@ use Rattle.ti_lang.specs.Scopes.{has_single, has_local, literals_in, Site, metho
 use Rattle.ti_lang.specs.Program.Types.{NumberedType}
 use Rattle.ti_lang.specs.Program.Statements.{NumberedInit, NumberedStm, MaybeNumbered, NumberedStms, numbered_stms}
 use Rattle.ti_lang.specs.Program.Statements as m
-use Rattle.ti_lang.specs.Program.Classes.{NumberedParam, NumberedParams, Words, Params, NumberedResult, NumberedMethod, NumberedProgram}
+use Rattle.ti_lang.specs.Program.Classes.{NumberedParam, NumberedParams, MainArgs, Params, NumberedResult, NumberedMethod, ProgramView}
 use Rattle.ti_lang.specs.Numbering as number
 use Rattle.ti_lang.specs.Numbering.{NumbersType, NumbersStms, NumbersResult, NumbersParams, NumbersMethod, NumbersMethods, HasMain, Numbers, IsNumbered}
-use Rattle.ti_infer.specs.Reworded.{Rewording, reworded_type, reworded, reworded_all, reworded_params, reworded_result, reworded_text}
+use Rattle.ti_infer.specs.Remarked.{Remarking, remarked_type, remarked_stm, remarked_all, remarked_params, remarked_result, remarked_text}
 use Rattle.ti_infer.specs.Marked.{marked_exp}
 use Rattle.ti_infer.specs.Stripped.{plain_words, plain_modifiers, plain_grid, plain_type, none_single, plain_init, plain_stm, plain_maybe, plain_stms, plain_params, plain_result, plain_method, plain_methods, stripped}
 use Rattle.ti_infer.proofs.Truths.{true_false}
 use Rattle.ti_infer.proofs.Respelled.{respelled}
-use Rattle.ti_infer.proofs.Refound.{any_static, IsMild, reworded_own, methods_same, method_same, names_same, name_same, reworded_map, body_literals, text_literals}
+use Rattle.ti_infer.proofs.Refound.{any_static, IsMild, remarked_own, methods_same, method_same, names_same, name_same, remarked_map, body_literals, text_literals}
 use Rattle.ti_infer.proofs.Renumbered.{retyped, Restating, restated, restated_init, restated_maybe, restated_all, restated_params, IsFine}
 use Rattle.ti_infer.proofs.Renumbered.{AreFine, MaybeFine, AllFine, ParamsFine, AreRetyped, numbers_type, site_there, stms_there}
 use Rattle.ti_infer.proofs.Renumbered.{restated_map, classes_there, HeadFine, params_there, body_site_same, method_site_same, form_same}
@@ -33,7 +33,7 @@ use Rattle.ti_infer.proofs.Renumbered.{main_there}
 -- ---- words
 
 -- the words of a text without `single`; the method that takes its words, `main`, keeps its own
-abbrev stripping : Rewording
+abbrev stripping : Remarking
 stripping = record {
   words = plain_words;
   declared = λ at. plain_words;
@@ -43,7 +43,7 @@ stripping = record {
 }
 
 abbrev plain_text : TextTree → TextTree
-plain_text text = reworded_text stripping text
+plain_text text = remarked_text stripping text
 
 pub no_single : (qs : List Qualifier) → has_single (plain_words qs) ≡ false
 no_single [] = refl
@@ -169,7 +169,7 @@ body_plain [] = refl
 body_plain (y ∷ ys) = ap₂ (λ z zs. z ∷ zs) (stm_plain y) (body_plain ys)
 
 params_plain : (ps : NumberedParams) → restated_params plainly ps ≡ plain_params ps
-params_plain Words = refl
+params_plain MainArgs = refl
 params_plain (Params ws) = refl
 
 -- ---- methods
@@ -178,18 +178,18 @@ abbrev plain_site : Site → Site
 plain_site site = site_there stripping mild plainly types site
 
 abbrev plain_own : OwnMethod → OwnMethod
-plain_own own = reworded_own stripping own
+plain_own own = remarked_own stripping own
 
 head_fine : (site : Site) (ps : NumberedParams) → HeadFine stripping mild plainly types site ps
-head_fine site Words = tt
+head_fine site MainArgs = tt
 head_fine site (Params ws) = params_fine site.variables ws
 
 result_plain : (text : TextTree) (place : Place) (r : ResultTree) (n : NumberedResult) → NumbersResult text r n
-    → NumbersResult (plain_text text) (reworded_result stripping place r) (plain_result n)
+    → NumbersResult (plain_text text) (remarked_result stripping place r) (plain_result n)
 result_plain text place r n number.void = number.void
 result_plain text place r n (number.typed {ty = ty} {type = type} h) =
     number.typed
-    (subst (NumbersType (plain_text text) (reworded_type stripping plain_words ty)) (sym (plain_retyped type)) (numbers_type stripping mild text plain_words same_local ty type h))
+    (subst (NumbersType (plain_text text) (remarked_type stripping plain_words ty)) (sym (plain_retyped type)) (numbers_type stripping mild text plain_words same_local ty type h))
 
 single_kept : (b : Bool) (ms : List Modifier) → is_single (if b then ms else plain_modifiers ms) ≡ (if b then is_single ms else false)
 single_kept true ms = refl
@@ -201,16 +201,16 @@ method_plain text before own n (number.method {result = result} {params = params
     let here = method_site text own before in
     let tree = own.method in
     let words = if is_words tree.params then tree.modifiers else plain_modifiers tree.modifiers in
-    let inner : NumbersStms (body_site (plain_site here) (reworded_params stripping tree.params)) (stms (map (reworded stripping) tree.body)) (numbered_stms (map plain_stm body)) =
-    subst (λ k. NumbersStms (body_site (plain_site here) (reworded_params stripping tree.params)) k (numbered_stms (map plain_stm body)))
-    (reworded_map stripping tree.body)
-    (subst (NumbersStms (body_site (plain_site here) (reworded_params stripping tree.params)) (reworded_all stripping (stms tree.body)))
+    let inner : NumbersStms (body_site (plain_site here) (remarked_params stripping tree.params)) (stms (map (remarked_stm stripping) tree.body)) (numbered_stms (map plain_stm body)) =
+    subst (λ k. NumbersStms (body_site (plain_site here) (remarked_params stripping tree.params)) k (numbered_stms (map plain_stm body)))
+    (remarked_map stripping tree.body)
+    (subst (NumbersStms (body_site (plain_site here) (remarked_params stripping tree.params)) (remarked_all stripping (stms tree.body)))
     (restated_map stripping mild plainly types body ∙ ap numbered_stms (body_plain body))
-    (subst (λ k. NumbersStms k (reworded_all stripping (stms tree.body)) (restated_all plainly (numbered_stms body)))
+    (subst (λ k. NumbersStms k (remarked_all stripping (stms tree.body)) (restated_all plainly (numbered_stms body)))
     (sym (body_site_same stripping mild plainly types here tree.params params ps (head_fine here params)))
     (stms_there stripping mild plainly types (body_site here tree.params) _ _ h (all_fine (numbered_stms body))))) in
-    let outer : NumbersParams (plain_site here) (reworded_params stripping tree.params) (plain_params params) =
-    subst (NumbersParams (plain_site here) (reworded_params stripping tree.params)) (params_plain params)
+    let outer : NumbersParams (plain_site here) (remarked_params stripping tree.params) (plain_params params) =
+    subst (NumbersParams (plain_site here) (remarked_params stripping tree.params)) (params_plain params)
     (params_there stripping mild plainly types here tree.params params ps (head_fine here params)) in
     let whole : Bool → ℕ → NumberedMethod = λ single name. record {
       class = own.class;
@@ -288,7 +288,7 @@ words_where_main text n h k own i = by (k == n) (is_words own.method.params) ref
 
 -- ---- programs
 
-numbers_plain : (text : TextTree) (y : NumberedProgram) → Numbers text y → Numbers (plain_text text) (stripped y)
+numbers_plain : (text : TextTree) (y : ProgramView) → Numbers text y → Numbers (plain_text text) (stripped y)
 numbers_plain text y n = record {
   classes = classes_there stripping mild plainly types text 0 text y.classes n.classes;
   methods =
@@ -300,5 +300,5 @@ numbers_plain text y n = record {
 }
 
 -- the stripped program of a text is the program of a text
-pub stripped_numbered : (y : NumberedProgram) → ∥ IsNumbered y ∥₁ → ∥ IsNumbered (stripped y) ∥₁
+pub stripped_numbered : (y : ProgramView) → ∥ IsNumbered y ∥₁ → ∥ IsNumbered (stripped y) ∥₁
 stripped_numbered y h = ∥∥₁_map h (λ n. (plain_text n.0, respelled stripping n.0 n.1, numbers_plain n.0 y n.2))

@@ -1,22 +1,22 @@
 -- Facts about lists of parameters and of variables, stated of whole methods.
 use Rattle.std.proofs.Common.{◌≡◌, List, ◌++◌, map, refl, ap, ◌∙◌, append_assoc, Result, OnOk}
 use Rattle.std.proofs.lemmas.Result.{on_ok_weaker}
-use Rattle.ti_lang.specs.Program.Classes.{NumberedParams, Words, Params, NumberedMethod}
-use Rattle.ti_infer.specs.Names.{param_name, param_names}
-use Rattle.ti_infer.specs.Mirrors.Edges.{params_inside, first_inside}
+use Rattle.ti_lang.specs.Program.Classes.{NumberedParams, MainArgs, Params, NumberedMethod}
+use Rattle.ti_infer.specs.Candidates.{param_candidate, param_candidates}
+use Rattle.ti_infer.specs.Mirrors.Implications.{params_inside, first_inside}
 use Rattle.ti_infer.specs.Mirrors.Fits.{param_edges, all_param_edges}
-use Rattle.ti_infer.specs.Mirrors.Locals.{params_of}
+use Rattle.ti_infer.specs.Mirrors.Locals.{declared_params}
 
-pub params_edges_told : (m : NumberedMethod) (ps : NumberedParams) → param_edges m (params_of ps) ≡ all_param_edges m ps
-params_edges_told m Words = refl
+pub params_edges_told : (m : NumberedMethod) (ps : NumberedParams) → param_edges m (declared_params ps) ≡ all_param_edges m ps
+params_edges_told m MainArgs = refl
 params_edges_told m (Params ws) = refl
 
-pub params_names_told : (ps : NumberedParams) → map param_name (params_of ps) ≡ param_names ps
-params_names_told Words = refl
+pub params_names_told : (ps : NumberedParams) → map param_candidate (declared_params ps) ≡ param_candidates ps
+params_names_told MainArgs = refl
 params_names_told (Params ws) = refl
 
-pub params_inside_told : (ps : NumberedParams) → params_inside 0 (params_of ps) ≡ first_inside ps
-params_inside_told Words = refl
+pub params_inside_told : (ps : NumberedParams) → params_inside 0 (declared_params ps) ≡ first_inside ps
+params_inside_told MainArgs = refl
 params_inside_told (Params ws) = refl
 
 -- four parts of a list that are pushed one after the other

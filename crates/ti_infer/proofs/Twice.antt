@@ -11,7 +11,7 @@ use Rattle.ti_lang.specs.Program.Expressions.{NumberedExp, NumberedExps, Numbere
 use Rattle.ti_lang.specs.Program.Expressions as x
 use Rattle.ti_lang.specs.Program.Statements.{NumberedDims, NumberedInit, NumberedPrint, NumberedStm, MaybeNumbered, NumberedStms}
 use Rattle.ti_lang.specs.Program.Statements as st
-use Rattle.ti_lang.specs.Program.Classes.{NumberedField, NumberedClass, NumberedParam, NumberedParams, Words, Params, NumberedResult, NumberedMethod, NumberedProgram}
+use Rattle.ti_lang.specs.Program.Classes.{NumberedField, NumberedClass, NumberedParam, NumberedParams, MainArgs, Params, NumberedResult, NumberedMethod, ProgramView}
 use Rattle.ti_lang.specs.Program.Classes as c
 use Rattle.ti_infer.specs.Marked.{marked_declaration, marked_exp, marked_exps, marked_range, marked_ranges, marked_dims, marked_print}
 use Rattle.ti_infer.specs.Stripped.{plain_words, plain_modifiers, plain_grid, plain_type, none_single, plain_init, plain_stm, plain_maybe, plain_stms, plain_field, plain_class, plain_params, plain_result, plain_method, plain_methods, stripped}
@@ -169,7 +169,7 @@ param_twice : (w : NumberedParam) → plain_param (plain_param w) ≡ plain_para
 param_twice w = ap (λ (t : NumberedType). record w { ty = t }) (type_twice w.ty)
 
 params_twice : (ps : NumberedParams) → plain_params (plain_params ps) ≡ plain_params ps
-params_twice Words = refl
+params_twice MainArgs = refl
 params_twice (Params params) = ap (λ ws. Params ws) (map_twice plain_param param_twice params)
 
 result_twice : (r : NumberedResult) → plain_result (plain_result r) ≡ plain_result r
@@ -191,7 +191,7 @@ methods_twice main n [] = refl
 methods_twice main n (m ∷ ms) = ap₂ (λ y ys. y ∷ ys) (method_twice (n == main) m) (methods_twice main (n + 1) ms)
 
 -- stripped once, a program is stripped
-pub stripped_twice : (p : NumberedProgram) → stripped (stripped p) ≡ stripped p
+pub stripped_twice : (p : ProgramView) → stripped (stripped p) ≡ stripped p
 stripped_twice p =
     ap₂ (λ (cs : List NumberedClass) (ms : List NumberedMethod). record p { classes = cs; methods = ms })
     (map_twice plain_class class_twice p.classes) (methods_twice p.main 0 p.methods)

@@ -7,7 +7,7 @@ use Rattle.ti_lang.specs.Program.Expressions.{NumberedExp, NumberedExps}
 use Rattle.ti_lang.specs.Program.Expressions as e
 use Rattle.ti_lang.specs.Program.Statements.{NumberedInit, NumberedStm, MaybeNumbered, NumberedStms, numbered_stms}
 use Rattle.ti_lang.specs.Program.Statements as st
-use Rattle.ti_lang.specs.Program.Classes.{NumberedParam, NumberedParams, Words, Params, NumberedResult, NumberedMethod, NumberedProgram}
+use Rattle.ti_lang.specs.Program.Classes.{NumberedParam, NumberedParams, MainArgs, Params, NumberedResult, NumberedMethod, ProgramView}
 use Rattle.ti_lang.specs.Program.Classes as c
 use Rattle.ti_lang.specs.Program.Scope.{ScopeVariable, parameters, this_of}
 use Rattle.ti_lang.specs.Typing.Called.{called_method, member_called}
@@ -16,17 +16,17 @@ use Rattle.ti_lang.specs.Typing.Effects.{doings_of_maybe}
 use Rattle.ti_rules.specs.declared.rule.Rule.{Rule}
 use Rattle.ti_rules.specs.declared.rule.Rule.TheVariants.{S1, S2, S3, S4, S5, S6, S7, S8}
 use Rattle.ti_rules.specs.Refusals.{refused_if}
-use Rattle.ti_rules.specs.Standing.{scope_of, singles_in, loop_acts, variables_inside, inside, inside_maybe, inside_all}
+use Rattle.ti_rules.specs.StmtInContext.{scope_of, singles_in, loop_acts, variables_inside, inside, inside_maybe, inside_all}
 use Rattle.ti_rules.specs.SingleRules.{is_plain_condition, argument_refusals, params_refusals, call_refusals, is_delete, whole_refusals, initial_refusals, single_refusals_at, word_refusals, result_refusals, method_single_refusals, single_refusals}
 use Rattle.ti_blame.specs.Marks.{Marks}
 use Rattle.ti_infer.specs.Marks.{marks_variable}
 use Rattle.ti_infer.specs.Marked.{marked_exp, marked_exps, marked_init, marked_stm, marked_maybe, marked_stms, marked_param, marked_params, marked_result, marked_method, marked}
 use Rattle.ti_infer.specs.Stripped.{IsPlainResult, HavePlainResults}
-use Rattle.ti_blame.specs.declared.blame.Blame.{Blame}
-use Rattle.ti_blame.specs.declared.blame.Blame.TheVariants.{OfCollective, Always, OfResult, OfVariable}
-use Rattle.ti_infer.specs.Blame.{guarded, target_reasons, result_reasons, loop_reasons, effect_reasons, blame_around, plain_here}
-use Rattle.ti_infer.specs.Blame.{arguments_blamed, params_blamed, call_blamed, whole_blamed, initial_blamed, condition_plain, own_blamed}
-use Rattle.ti_infer.specs.Blame.{blamed, blamed_of_maybe, blamed_of_all, method_blamed, program_blamed}
+use Rattle.ti_blame.specs.declared.reason.Reason.{Reason}
+use Rattle.ti_blame.specs.declared.reason.Reason.TheVariants.{OfCollective, Always, OfResult, OfVariable}
+use Rattle.ti_infer.specs.Reason.{reasons_if, target_reasons, result_reasons, loop_reasons, effect_reasons, blame_around, plain_here}
+use Rattle.ti_infer.specs.Reason.{arguments_blamed, params_blamed, call_blamed, whole_blamed, initial_blamed, condition_plain, own_blamed}
+use Rattle.ti_infer.specs.Reason.{blamed, blamed_of_maybe, blamed_of_all, method_blamed, program_blamed}
 use Rattle.ti_infer.proofs.Truths.{true_false}
 use Rattle.ti_infer.proofs.Same.{this_same, call_same, language_same}
 use Rattle.ti_infer.proofs.Beside.{around_in}
@@ -35,34 +35,34 @@ use Rattle.ti_infer.proofs.Lists.{wrong, both_wrong, flat_append}
 use Rattle.ti_infer.proofs.Reasoning.{some_held, or_false, target_held, maybe_held, has_result_held, loop_held, effects_held, method_effects_held}
 use Rattle.ti_infer.proofs.Blaming.{held_both, rule_complete}
 
-module _ (p : NumberedProgram) (m : NumberedMethod) (u : Marks) where
+module _ (p : ProgramView) (m : NumberedMethod) (u : Marks) where
   called_at : (x : NumberedExp) → called_method (marked u p) (this_of (marked_method u m)) (marked_exp (marks_variable u m) x) ≡ option_map (marked_method u) (called_method p (this_of m) x)
   called_at x = ap (λ this. called_method (marked u p) this (marked_exp (marks_variable u m) x)) (this_same u m) ∙ call_same u p (this_of m) (marks_variable u m) x
 
   delete_held : (a : NumberedExp) (name : ℕ) (at : Place) → is_delete
       (member_called (marked u p) (this_of (marked_method u m)) (marked_exp (marks_variable u m) a) name)
-      ≡ some_held u (guarded (is_delete (member_called p (this_of m) a name)) (OfCollective at ∷ []))
+      ≡ some_held u (reasons_if (is_delete (member_called p (this_of m) a name)) (OfCollective at ∷ []))
   delete_held a name at =
       ap (λ this. is_delete (member_called (marked u p) this (marked_exp (marks_variable u m) a) name)) (this_same u m)
       ∙ ap is_delete (language_same u p (this_of m) (marks_variable u m) a name) ∙ by (is_delete (member_called p (this_of m) a name))
     where
-      by : (b : Bool) → b ≡ some_held u (guarded b (OfCollective at ∷ []))
+      by : (b : Bool) → b ≡ some_held u (reasons_if b (OfCollective at ∷ []))
       by true = refl
       by false = refl
 
-  module _ (ws : List ScopeVariable) (j : Option Bool) (jumping : List Blame) (jumps : unwrap_or j false ≡ some_held u jumping) where
+  module _ (ws : List ScopeVariable) (j : Option Bool) (jumping : List Reason) (jumps : unwrap_or j false ≡ some_held u jumping) where
     arguments_complete : (params : List NumberedParam) (args : NumberedExps) → some_held u (arguments_blamed p m u ws params args) ≡ false
         → argument_refusals (marked u p) (around_in u m ws j) (map (marked_param u) params) (marked_exps (marks_variable u m) args) ≡ []
     arguments_complete [] e.NoExp h = refl
     arguments_complete [] (e.MoreExp a rest) h = refl
     arguments_complete (w ∷ params) e.NoExp h = refl
     arguments_complete (w ∷ params) (e.MoreExp a rest) h =
-        let f = held_both u (guarded (plain_here p m u ws a) (OfVariable w.place ∷ [])) (arguments_blamed p m u ws params rest) h in
+        let f = held_both u (reasons_if (plain_here p m u ws a) (OfVariable w.place ∷ [])) (arguments_blamed p m u ws params rest) h in
         both_none _ _ (rule_complete u (u.variables w.place) _ S5 _ (OfVariable w.place ∷ []) (or_false _) f.0) (arguments_complete params rest f.1)
 
     params_complete : (params : NumberedParams) (args : NumberedExps) → some_held u (params_blamed p m u ws params args) ≡ false
         → params_refusals (marked u p) (around_in u m ws j) (marked_params u params) (marked_exps (marks_variable u m) args) ≡ []
-    params_complete Words args h = refl
+    params_complete MainArgs args h = refl
     params_complete (Params params) args h = arguments_complete params args h
 
     call_complete : (o : Option NumberedMethod) (args : NumberedExps) → some_held u (call_blamed p m u ws o args) ≡ false
@@ -80,9 +80,9 @@ module _ (p : NumberedProgram) (m : NumberedMethod) (u : Marks) where
     whole_complete (e.OwnCall at method args) h = method_complete_at (e.OwnCall at method args) args h
     whole_complete (e.Member at a name args) h =
         let f = held_both u (call_blamed p m u ws (called_method p (this_of m) (e.Member at a name args)) args)
-        (guarded (plain_here p m u ws a) (guarded (is_delete (member_called p (this_of m) a name)) (OfCollective at ∷ []))) h in
+        (reasons_if (plain_here p m u ws a) (reasons_if (is_delete (member_called p (this_of m) a name)) (OfCollective at ∷ []))) h in
         both_none _ _ (method_complete_at (e.Member at a name args) args f.0)
-        (rule_complete u _ _ S8 at (guarded (is_delete (member_called p (this_of m) a name)) (OfCollective at ∷ [])) (delete_held a name at) f.1)
+        (rule_complete u _ _ S8 at (reasons_if (is_delete (member_called p (this_of m) a name)) (OfCollective at ∷ [])) (delete_held a name at) f.1)
     whole_complete _ h = refl
 
     initial_complete : (x : NumberedInit) → some_held u (initial_blamed p m u ws x) ≡ false → initial_refusals (marked u p) (around_in u m ws j) (marked_init (marks_variable u m) x) ≡ []
@@ -93,7 +93,7 @@ module _ (p : NumberedProgram) (m : NumberedMethod) (u : Marks) where
     initial_complete (st.NewGrid at region element dims_at dims) h = refl
 
     loop_complete : (r : Rule) (at : Place) (update : MaybeNumbered) (body : NumberedStm) (x : NumberedExp)
-        → some_held u (guarded (plain_here p m u ws x) (loop_reasons p m update body)) ≡ false
+        → some_held u (reasons_if (plain_here p m u ws x) (loop_reasons p m update body)) ≡ false
         → refused_if (loop_acts (marked u p) (marked_method u m) (marked_maybe (marks_variable u m) u.variables update)
         (marked_stm (marks_variable u m) u.variables body) && not
         (is_single_part (marked u p) (this_of (marked_method u m)) (singles_in (scope_of (around_in u m ws j)))
@@ -105,14 +105,14 @@ module _ (p : NumberedProgram) (m : NumberedMethod) (u : Marks) where
     and_false false = refl
 
     condition_complete : (at : Place) (update : MaybeNumbered) (body : NumberedStm) (x : Option NumberedExp)
-        → some_held u (guarded (condition_plain p m u ws x) (loop_reasons p m update body)) ≡ false
+        → some_held u (reasons_if (condition_plain p m u ws x) (loop_reasons p m update body)) ≡ false
         → refused_if (loop_acts (marked u p) (marked_method u m) (marked_maybe (marks_variable u m) u.variables update)
         (marked_stm (marks_variable u m) u.variables body) && is_plain_condition (marked u p) (around_in u m ws j)
         (option_map (marked_exp (marks_variable u m)) x)) S2 at ≡ []
     condition_complete at update body None h = none_refused _ S2 at (and_false _)
     condition_complete at update body (Some x) h = loop_complete S2 at update body x h
 
-    always_complete : (b d : Bool) (at : Place) → b ≡ d → some_held u (guarded d (Always ∷ [])) ≡ false → refused_if b S2 at ≡ []
+    always_complete : (b d : Bool) (at : Place) → b ≡ d → some_held u (reasons_if d (Always ∷ [])) ≡ false → refused_if b S2 at ≡ []
     always_complete b true at e h = absurd (true_false h)
     always_complete b false at e h = none_refused b S2 at e
 
@@ -131,7 +131,7 @@ module _ (p : NumberedProgram) (m : NumberedMethod) (u : Marks) where
     own_complete (st.IfElse at c a b) h = rule_complete u _ _ S1 at (effect_reasons p m jumping (st.IfElse at c a b)) (effects_held p m u ws j jumping (st.IfElse at c a b) jumps) h
     own_complete (st.While at c body) h = loop_complete S2 at st.NoStm body c h
     own_complete (st.For at first c update body) h =
-        let f = held_both u (guarded (condition_plain p m u ws c) (loop_reasons p m update body)) (guarded (doings_of_maybe p (this_of m) update).jumps (Always ∷ [])) h in
+        let f = held_both u (reasons_if (condition_plain p m u ws c) (loop_reasons p m update body)) (reasons_if (doings_of_maybe p (this_of m) update).jumps (Always ∷ [])) h in
         both_none _ _ (condition_complete at update body c f.0) (always_complete _ _ at (maybe_held p m u update).jumps f.1)
     own_complete (st.Foreach at variable domain body) h = loop_complete S3 at st.NoStm body domain h
     own_complete (st.Return at None) h = refl
@@ -144,7 +144,7 @@ module _ (p : NumberedProgram) (m : NumberedMethod) (u : Marks) where
   jump_in update body = Some (loop_acts (marked u p) (marked_method u m) (marked_maybe (marks_variable u m) u.variables update) (marked_stm (marks_variable u m) u.variables body))
 
   mutual
-    stm_complete : (s : NumberedStm) (ws : List ScopeVariable) (j : Option Bool) (jumping : List Blame) → unwrap_or j false ≡ some_held u jumping → some_held u (blamed p m u ws jumping s) ≡ false
+    stm_complete : (s : NumberedStm) (ws : List ScopeVariable) (j : Option Bool) (jumping : List Reason) → unwrap_or j false ≡ some_held u jumping → some_held u (blamed p m u ws jumping s) ≡ false
         → wrong (marked u p) (inside (marked u p) (around_in u m ws j) (marked_stm (marks_variable u m) u.variables s)) ≡ []
     stm_complete (st.Block body) ws j jumping k h = stms_complete body ws j jumping k h
     stm_complete (st.If at c a) ws j jumping k h =
@@ -185,13 +185,13 @@ module _ (p : NumberedProgram) (m : NumberedMethod) (u : Marks) where
     stm_complete (st.Return at value) ws j jumping k h = both_none _ _ (own_complete ws j jumping k (st.Return at value) h) refl
     stm_complete _ ws j jumping k h = refl
 
-    maybe_complete : (s : MaybeNumbered) (ws : List ScopeVariable) (j : Option Bool) (jumping : List Blame) → unwrap_or j false
+    maybe_complete : (s : MaybeNumbered) (ws : List ScopeVariable) (j : Option Bool) (jumping : List Reason) → unwrap_or j false
         ≡ some_held u jumping → some_held u (blamed_of_maybe p m u ws jumping s) ≡ false
         → wrong (marked u p) (inside_maybe (marked u p) (around_in u m ws j) (marked_maybe (marks_variable u m) u.variables s)) ≡ []
     maybe_complete st.NoStm ws j jumping k h = refl
     maybe_complete (st.SomeStm s) ws j jumping k h = stm_complete s ws j jumping k h
 
-    stms_complete : (ss : NumberedStms) (ws : List ScopeVariable) (j : Option Bool) (jumping : List Blame) → unwrap_or j false
+    stms_complete : (ss : NumberedStms) (ws : List ScopeVariable) (j : Option Bool) (jumping : List Reason) → unwrap_or j false
         ≡ some_held u jumping → some_held u (blamed_of_all p m u ws jumping ss) ≡ false
         → wrong (marked u p) (inside_all (marked u p) (around_in u m ws j) (marked_stms (marks_variable u m) u.variables ss)) ≡ []
     stms_complete st.Nil ws j jumping k h = refl
@@ -204,22 +204,22 @@ module _ (p : NumberedProgram) (m : NumberedMethod) (u : Marks) where
   -- ---- the method
 
   -- no word stands in the result but that of the mark
-  word_complete : (words : List Qualifier) (at : Place) (b t : Bool) → flat_map word_refusals words ≡ [] → some_held u (guarded (not t) (OfResult at ∷ [])) ≡ false → b ≡ u.results at
+  word_complete : (words : List Qualifier) (at : Place) (b t : Bool) → flat_map word_refusals words ≡ [] → some_held u (reasons_if (not t) (OfResult at ∷ [])) ≡ false → b ≡ u.results at
       → (if t then [] else flat_map word_refusals (words ++ (if b then record { word = Single; place = at } ∷ [] else []))) ≡ []
   word_complete words at b true plain h e = refl
   word_complete words at true false plain h e = absurd (true_false (ap (λ a. a || false) e ∙ h))
   word_complete words at false false plain h e = flat_append word_refusals words [] ∙ both_none _ _ plain refl
 
   result_complete : (r : NumberedResult) → IsPlainResult r → some_held u
-      (guarded (not (marked_method u m).is_single) (result_reasons p m r)) ≡ false
+      (reasons_if (not (marked_method u m).is_single) (result_reasons p m r)) ≡ false
       → result_refusals (marked_method u m).is_single (marked_result (u.results m.place) m.place r) ≡ []
   result_complete c.Void plain h = refl
   result_complete (c.Typed type) plain h = word_complete type.qualifiers m.place (u.results m.place) _ plain h refl
 
   pub method_complete : IsPlainResult m.result → some_held u (method_blamed p m u) ≡ false → method_single_refusals (marked u p) (marked_method u m) ≡ []
   method_complete plain h =
-      let effects = guarded (not (marked_method u m).is_single) (effect_reasons p m [] (st.Block (numbered_stms m.body))) in
-      let result = guarded (not (marked_method u m).is_single) (result_reasons p m m.result) in
+      let effects = reasons_if (not (marked_method u m).is_single) (effect_reasons p m [] (st.Block (numbered_stms m.body))) in
+      let result = reasons_if (not (marked_method u m).is_single) (result_reasons p m m.result) in
       let f = held_both u (effects ++ result) (blamed_of_all p m u (parameters (marked_params u m.params)) [] (numbered_stms m.body)) h in
       let g = held_both u effects result f.0 in
       both_none _ _
@@ -227,7 +227,7 @@ module _ (p : NumberedProgram) (m : NumberedMethod) (u : Marks) where
       (ap (λ ss. wrong (marked u p) (inside_all (marked u p) (around_in u m (parameters (marked_method u m).params) None) ss)) (stms_of_map (marks_variable u m) u.variables m.body)
       ∙ stms_complete (numbered_stms m.body) _ None [] refl f.1)
 
-methods_complete : (p : NumberedProgram) (u : Marks) (ms : List NumberedMethod) → HavePlainResults ms
+methods_complete : (p : ProgramView) (u : Marks) (ms : List NumberedMethod) → HavePlainResults ms
     → some_held u (flat_map (λ m. method_blamed p m u) ms) ≡ false
     → flat_map (method_single_refusals (marked u p)) (map (marked_method u) ms) ≡ []
 methods_complete p u [] plain h = refl
@@ -236,5 +236,5 @@ methods_complete p u (m ∷ ms) plain h =
     both_none _ _ (method_complete p m u plain.0 f.0) (methods_complete p u ms plain.1 f.1)
 
 -- where nothing is to blame, no rule of single values is broken
-pub unblamed_complete : (p : NumberedProgram) (u : Marks) → HavePlainResults p.methods → some_held u (program_blamed p u) ≡ false → single_refusals (marked u p) ≡ []
+pub unblamed_complete : (p : ProgramView) (u : Marks) → HavePlainResults p.methods → some_held u (program_blamed p u) ≡ false → single_refusals (marked u p) ≡ []
 unblamed_complete p u plain h = methods_complete p u p.methods plain h

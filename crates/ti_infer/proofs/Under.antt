@@ -3,7 +3,7 @@ use Rattle.std.proofs.Common.{◌≡◌, ℕ, Bool, not, ◌&&◌, Option, refl,
 use Rattle.ti_lang.specs.Program.Types.{Declaration, Typed, Foreach}
 use Rattle.ti_lang.specs.Program.Expressions.{NumberedExp, NumberedExps, NumberedRange, NumberedRanges}
 use Rattle.ti_lang.specs.Program.Expressions as e
-use Rattle.ti_lang.specs.Program.Classes.{NumberedMethod, NumberedProgram}
+use Rattle.ti_lang.specs.Program.Classes.{NumberedMethod, ProgramView}
 use Rattle.ti_lang.specs.Typing.Kinds.{is_local, is_point}
 use Rattle.ti_lang.specs.Typing.Singleness.{declared_single, tells_of_domain, is_single_part, are_single, is_single_range, are_single_ranges}
 use Rattle.ti_blame.specs.Marks.{Marks}
@@ -12,7 +12,7 @@ use Rattle.ti_infer.specs.Marked.{marked_declaration, marked_exp, marked_exps, m
 use Rattle.ti_infer.specs.Mirrors.SingleUnder.{variable_under, single_under, all_under, range_under, ranges_under}
 use Rattle.ti_infer.proofs.Same.{text_same, language_same}
 
-module _ (p : NumberedProgram) (this : Option ℕ) (marks : Marks) (m : NumberedMethod) (s : ℕ → Bool) where
+module _ (p : ProgramView) (this : Option ℕ) (marks : Marks) (m : NumberedMethod) (s : ℕ → Bool) where
   mutual
     pub under : (x : NumberedExp) → is_single_part (marked marks p) this s (marked_exp (marks_variable marks m) x) ≡ single_under p this (variable_under marks m s) x
     under (e.Variable at v) = by v.declared

@@ -4,12 +4,12 @@ use Rattle.ti_base.specs.declared.place.Place.{Place}
 use Rattle.ti_lang.specs.Program.Expressions.{NumberedExp, place_of_numbered}
 use Rattle.ti_lang.specs.Program.Statements.{NumberedInit, NumberedStm}
 use Rattle.ti_lang.specs.Program.Statements as st
-use Rattle.ti_lang.specs.Program.Classes.{NumberedProgram}
+use Rattle.ti_lang.specs.Program.Classes.{ProgramView}
 use Rattle.ti_lang.specs.Program.Scope.{this_of}
 use Rattle.ti_lang.specs.Typing.Effects.{is_collective_call}
-use Rattle.ti_rules.specs.Standing.{Standing, standing_in}
+use Rattle.ti_rules.specs.StmtInContext.{StmtInContext, standing_in}
 
-module _ (p : NumberedProgram) (this : Option ℕ) where
+module _ (p : ProgramView) (this : Option ℕ) where
   -- of an expression that is a whole statement or right side: an exchange, or the deletion of a region
   abbrev pub whole_collectives : NumberedExp → List Place
   whole_collectives e = if is_collective_call p this e then place_of_numbered e ∷ [] else []
@@ -31,5 +31,5 @@ module _ (p : NumberedProgram) (this : Option ℕ) where
   own_collectives s = []
 
 -- the places of the collectives of a program, in source order
-abbrev pub collectives : NumberedProgram → List Place
-collectives p = flat_map (λ (s : Standing). own_collectives p (this_of s.around.method) s.statement) (standing_in p)
+abbrev pub collectives : ProgramView → List Place
+collectives p = flat_map (λ (s : StmtInContext). own_collectives p (this_of s.around.method) s.statement) (standing_in p)

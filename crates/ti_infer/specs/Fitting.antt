@@ -3,7 +3,7 @@ use Rattle.std.specs.Prelude.{◌≡◌, Bool, true, List, [], ◌∷◌}
 use Rattle.ti_base.specs.declared.place.Place.{Place}
 use Rattle.ti_lang.specs.Program.Statements.{NumberedStm, MaybeNumbered, NumberedStms, numbered_stms}
 use Rattle.ti_lang.specs.Program.Statements as st
-use Rattle.ti_lang.specs.Program.Classes.{NumberedMethod, NumberedProgram}
+use Rattle.ti_lang.specs.Program.Classes.{NumberedMethod, ProgramView}
 use Rattle.ti_rules.specs.Broken.Words.{type_word_refusals}
 use Rattle.ti_rules.specs.TypeRules.{head_refusals}
 use Rattle.ti_blame.specs.Marks.{Marks}
@@ -31,13 +31,13 @@ module _ (declared : Place → Bool) where
     FitsAll (st.Cons x rest) = FitsIn x × FitsAll rest
 
 -- with the annotations, the modifiers and qualifiers of the head of a method and of its declarations are allowed
-abbrev pub MethodFits : Marks → NumberedMethod → Type 0
-MethodFits marks m = (head_refusals (marked_method marks m) ≡ []) × FitsAll marks.variables (numbered_stms m.body)
+abbrev pub MarksFitMethod : Marks → NumberedMethod → Type 0
+MarksFitMethod marks m = (head_refusals (marked_method marks m) ≡ []) × FitsAll marks.variables (numbered_stms m.body)
 
-abbrev pub MethodsFit : Marks → List NumberedMethod → Type 0
-MethodsFit marks [] = Unit {0}
-MethodsFit marks (m ∷ ms) = MethodFits marks m × MethodsFit marks ms
+abbrev pub MarksFitMethods : Marks → List NumberedMethod → Type 0
+MarksFitMethods marks [] = Unit {0}
+MarksFitMethods marks (m ∷ ms) = MarksFitMethod marks m × MarksFitMethods marks ms
 
 -- all annotations of a marking are allowed where they are
-abbrev pub MarksFit : Marks → NumberedProgram → Type 0
-MarksFit marks p = MethodsFit marks p.methods
+abbrev pub MarksFit : Marks → ProgramView → Type 0
+MarksFit marks p = MarksFitMethods marks p.methods

@@ -2,13 +2,13 @@ pub mod Marks
 pub mod Marked
 pub mod Stripped
 pub mod Limited
-pub mod Blame
+pub mod Reason
 pub mod Descent
 pub mod Mirrors
-pub mod Reworded
+pub mod Remarked
 pub mod Fitting
 pub mod Accepted
 pub mod Collectives
 pub mod Inferred
-pub mod Names
+pub mod Candidates
 pub mod Answer

@@ -8,9 +8,9 @@ use Rattle.ti_lang.specs.Program.Expressions.{NumberedExp, place_of_numbered}
 use Rattle.ti_lang.specs.Program.Expressions as x
 use Rattle.ti_lang.specs.Program.Statements.{NumberedInit, NumberedStm, MaybeNumbered, NumberedStms}
 use Rattle.ti_lang.specs.Program.Statements as st
-use Rattle.ti_lang.specs.Program.Classes.{NumberedMethod, NumberedProgram}
+use Rattle.ti_lang.specs.Program.Classes.{NumberedMethod, ProgramView}
 use Rattle.ti_lang.specs.Program.Scope.{this_of}
-use Rattle.ti_lang.specs.Typing.TextTypes.{type_in_text}
+use Rattle.ti_lang.specs.Typing.TextTypes.{syntactic_type}
 use Rattle.ti_lang.specs.Typing.Singleness.{is_single_sent}
 use Rattle.ti_lang.specs.Typing.Effects.{is_collective_call}
 use Rattle.ti_rules.specs.declared.refusal.Refusal.{Refusal}
@@ -34,7 +34,7 @@ abbrev pub idle : Bool → Place → NumberedExp
 idle true at = x.Int at (pos 0)
 idle false at = x.Null at
 
-module _ (counts : Place → Bool) (p : NumberedProgram) (this : Option ℕ) where
+module _ (counts : Place → Bool) (p : ProgramView) (this : Option ℕ) where
   -- of an expression that is a whole statement or right side: the values of an exchange and of a deletion aren't single
   abbrev pub limited_whole : NumberedExp → NumberedExp
   limited_whole e = if is_collective_call p this e && not (counts (place_of_numbered e)) then idle false (place_of_numbered e) else e
@@ -44,7 +44,7 @@ module _ (counts : Place → Bool) (p : NumberedProgram) (this : Option ℕ) whe
   limited_initial (st.Value e) = st.Value (limited_whole e)
   limited_initial (st.NewRegion at) = if counts at then st.NewRegion at else st.Value (idle true at)
   limited_initial (st.Broadcast at e root) =
-      if counts at then st.Broadcast at e root else st.Value (idle (is_single_sent (type_in_text p this e)) at)
+      if counts at then st.Broadcast at e root else st.Value (idle (is_single_sent (syntactic_type p this e)) at)
   limited_initial value = value
 
   abbrev mutual
@@ -74,9 +74,9 @@ module _ (counts : Place → Bool) (p : NumberedProgram) (this : Option ℕ) whe
 -- ---- the rules
 
 -- a method of a program, with only these collectives
-abbrev pub limited : (Place → Bool) → NumberedProgram → NumberedMethod → NumberedMethod
-limited counts p m = record m { body = map (limited_stm counts p (this_of m)) m.body }
+abbrev pub limited_method : (Place → Bool) → ProgramView → NumberedMethod → NumberedMethod
+limited_method counts p m = record m { body = map (limited_stm counts p (this_of m)) m.body }
 
 -- the refusals of a program by the rules of single values if only these collectives are considered
-abbrev pub limited_refusals : (Place → Bool) → NumberedProgram → List Refusal
-limited_refusals counts p = flat_map (λ m. method_single_refusals p (limited counts p m)) p.methods
+abbrev pub limited_refusals : (Place → Bool) → ProgramView → List Refusal
+limited_refusals counts p = flat_map (λ m. method_single_refusals p (limited_method counts p m)) p.methods

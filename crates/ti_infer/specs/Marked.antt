@@ -9,7 +9,7 @@ use Rattle.ti_lang.specs.Program.Expressions.{NumberedExp, NumberedExps, Numbere
 use Rattle.ti_lang.specs.Program.Expressions as x
 use Rattle.ti_lang.specs.Program.Statements.{NumberedDims, NumberedInit, NumberedPrint, NumberedStm, MaybeNumbered, NumberedStms}
 use Rattle.ti_lang.specs.Program.Statements as st
-use Rattle.ti_lang.specs.Program.Classes.{NumberedParam, NumberedParams, Words, Params, NumberedResult, NumberedMethod, NumberedProgram}
+use Rattle.ti_lang.specs.Program.Classes.{NumberedParam, NumberedParams, MainArgs, Params, NumberedResult, NumberedMethod, ProgramView}
 use Rattle.ti_lang.specs.Program.Classes as c
 use Rattle.ti_blame.specs.Marks.{Marks}
 use Rattle.ti_infer.specs.Marks.{marks_variable}
@@ -118,7 +118,7 @@ abbrev pub marked_param : Marks → NumberedParam → NumberedParam
 marked_param marks w = record w { ty = marked_type (marks.variables w.place) w.place w.ty }
 
 abbrev pub marked_params : Marks → NumberedParams → NumberedParams
-marked_params marks Words = Words
+marked_params marks MainArgs = MainArgs
 marked_params marks (Params params) = Params (map (marked_param marks) params)
 
 -- the annotation of a result has the place of the method's name
@@ -138,9 +138,9 @@ marked_method marks m = record m {
 -- ---- programs
 
 -- the program in which exactly what the marking annotates is single, except for methods that are single already
-abbrev pub marked : Marks → NumberedProgram → NumberedProgram
+abbrev pub marked : Marks → ProgramView → ProgramView
 marked marks p = record p { methods = map (marked_method marks) p.methods }
 
 -- the marking annotates `main`, which is the only method that is single without an annotation
-abbrev pub marks_main : Marks → NumberedProgram → Bool
+abbrev pub marks_main : Marks → ProgramView → Bool
 marks_main marks p = option_map_or (λ (m : NumberedMethod). marks.methods m.place) (slice_get p.methods p.main) false

@@ -4,12 +4,12 @@ use Rattle.std.specs.Option.{option_map_or, option_or}
 use Rattle.ti_base.specs.declared.place.Place.{Place}
 use Rattle.ti_lang.specs.Program.Statements.{NumberedStm, MaybeNumbered, NumberedStms, numbered_stms}
 use Rattle.ti_lang.specs.Program.Statements as st
-use Rattle.ti_lang.specs.Program.Classes.{NumberedParam, NumberedParams, Words, Params, NumberedMethod}
+use Rattle.ti_lang.specs.Program.Classes.{NumberedParam, NumberedParams, MainArgs, Params, NumberedMethod}
 use Rattle.ti_blame.specs.Marks.{Marks}
 
 -- parameters are the variables from number 0 on
 abbrev pub params_place : NumberedParams → ℕ → Option Place
-params_place Words number = None
+params_place MainArgs number = None
 params_place (Params params) number = option_map (λ (w : NumberedParam). w.place) (slice_get params number)
 
 abbrev mutual

@@ -4,15 +4,15 @@ ghost use Rattle.ti_lang.specs.Program.Views.{program_of};
 ghost use Rattle.ti_rules.specs.TypeRules.{type_refusals};
 ghost use Rattle.ti_infer.specs.Stripped.{stripped};
 ghost use Rattle.ti_infer.specs.Answer.{GivesInferred};
-ghost use Rattle.ti_infer.specs.Mirrors.Settled.{AreInferred};
+ghost use Rattle.ti_infer.specs.Mirrors.Solution.{AreInferred};
 
 use crate::methods::program_edges;
-use crate::whole::{fits, names};
+use crate::whole_program::{candidate_marks, fits};
 use std::alloc::Global;
 use std::marker::Model;
 use thiserror::Error;
 use ti_base::{Memory, Place};
-use ti_blame::{Mark, Settled, settle};
+use ti_blame::{Mark, Solution, solve};
 use ti_lang::program::Program;
 
 /// A set of `single` annotations of a program, strictly sorted by place; at one place, a method comes before its result.
@@ -63,17 +63,17 @@ impl From<Memory> for InferErr {
 }
 
 // The greatest marking, and the first collective that no marking aligns, if there is one. Errors only if it runs out of memory.
-fn settled(alloc: Global, p: &Program) -> Result<Settled, Memory>
-    requires types { type_refusals (program_of p.now.parts) ≡ [] }
-    requires stripped { stripped (program_of p.now.parts) ≡ program_of p.now.parts }
-    ensures { IfOk result (λ s. AreInferred (program_of p.now.parts) s.marks.items s.blamed) }
+fn solve_program(alloc: Global, program: &Program) -> Result<Solution, Memory>
+    requires types { type_refusals (program_of program.now.parts) ≡ [] }
+    requires stripped { stripped (program_of program.now.parts) ≡ program_of program.now.parts }
+    ensures { IfOk result (λ s. AreInferred (program_of program.now.parts) s.marks.items s.blamed) }
 {
-    let names = names(alloc, p)?;
-    let found = program_edges(alloc, p)?;
+    let candidate_marks = candidate_marks(alloc, program)?;
+    let found = program_edges(alloc, program)?;
     let items = found.items;
     let mut edges = found.edges;
-    fits(alloc, p, &mut edges)?;
-    settle(alloc, &names, &items, &edges)
+    fits(alloc, program, &mut edges)?;
+    solve(alloc, &candidate_marks, &items, &edges)
 }
 
 /// Infers the greatest marking under which the program is accepted: each accepted marking is a subset of it.
@@ -81,12 +81,12 @@ fn settled(alloc: Global, p: &Program) -> Result<Settled, Memory>
 /// The program must have no keyword `single` except at `main` and in casts, and break no rule of types and qualifiers. If no marking is
 /// accepted, the error is `NoMarking` with the place of the first collective up to which none is; the other error is running out of
 /// memory.
-pub fn infer(alloc: Global, p: &Program) -> Result<Marking, InferErr>
-    requires types { type_refusals (program_of p.now.parts) ≡ [] }
-    requires stripped { stripped (program_of p.now.parts) ≡ program_of p.now.parts }
-    ensures { GivesInferred (program_of p.now.parts) result }
+pub fn infer(alloc: Global, program: &Program) -> Result<Marking, InferErr>
+    requires types { type_refusals (program_of program.now.parts) ≡ [] }
+    requires stripped { stripped (program_of program.now.parts) ≡ program_of program.now.parts }
+    ensures { GivesInferred (program_of program.now.parts) result }
 {
-    let found = settled(alloc, p)?;
+    let found = solve_program(alloc, program)?;
     match found.blamed {
         Some(at) => Err(InferErr::NoMarking(at)),
         None => Ok(Marking { marks: found.marks }),

@@ -2,8 +2,8 @@
 ghost use Rattle.std.specs.Prelude.{◌≡◌, ◌<◌, ℕ, map, length, get_or, slice_set, is_none, Some, None, OnOk, IfOk};
 ghost use Rattle.ti_lang.specs.Program.Views.{numbered_param_of, numbered_params_of, numbered_method_of};
 ghost use Rattle.ti_infer.specs.Marks.{variable_place};
-ghost use Rattle.ti_infer.specs.Mirrors.Locals.{place_among, params_of};
-ghost use Rattle.ti_infer.specs.Mirrors.Places.{place_in, places_of_params, place_if, AreAdded};
+ghost use Rattle.ti_infer.specs.Mirrors.Locals.{place_among, declared_params};
+ghost use Rattle.ti_infer.specs.Mirrors.Places.{listed_place, places_of_params, place_if, AreAdded};
 
 use crate::local::{Local, locals};
 use std::alloc::Global;
@@ -12,10 +12,10 @@ use ti_lang::program::{Method, Param, Params};
 
 /// The declared parameters of a method; none for the form `String[] args`.
 pub fn listed_params(params: &Params) -> &[Param]
-    ensures { map numbered_param_of result.now ≡ params_of (numbered_params_of params.now) }
+    ensures { map numbered_param_of result.now ≡ declared_params (numbered_params_of params.now) }
 {
     match params {
-        Params::Words => &[],
+        Params::MainArgs => &[],
         Params::Typed(params) => params,
     }
 }
@@ -40,20 +40,20 @@ fn is_empty_at(places: &Vec<Option<Place>>, number: usize) -> bool
 }
 
 // For the prover: writes one entry of the table.
-fn set_at(places: &mut Vec<Option<Place>>, number: usize, at: Place)
+fn set_at(places: &mut Vec<Option<Place>>, number: usize, place: Place)
     requires { number < length places.old.items }
-    ensures { places.new.items ≡ slice_set places.old.items number (Some at) }
+    ensures { places.new.items ≡ slice_set places.old.items number (Some place) }
 {
-    places[number] = Some(at);
+    places[number] = Some(place);
 }
 
 // Enters a place for a number that has none yet; the first one stays.
-fn note(places: &mut Vec<Option<Place>>, number: usize, at: Place) -> Result<(), Memory>
-    ensures { OnOk result (AreAdded places.old.items places.new.items (place_if number at)) }
+fn note(places: &mut Vec<Option<Place>>, number: usize, place: Place) -> Result<(), Memory>
+    ensures { OnOk result (AreAdded places.old.items places.new.items (place_if number place)) }
 {
     make_room(places, number)?;
     if is_empty_at(places, number) {
-        set_at(places, number, at);
+        set_at(places, number, place);
     }
     Ok(())
 }
@@ -79,11 +79,11 @@ fn of_params(alloc: Global, params: &[Param]) -> Result<Vec<Option<Place>>, Memo
 
 /// The places at which the variables of a method are declared, by their numbers: its parameters, and its local variables. Errors only if
 /// it runs out of memory.
-pub fn places(alloc: Global, m: &Method) -> Result<Vec<Option<Place>>, Memory>
-    ensures { IfOk result (λ v. (number : ℕ) → place_in v.items number ≡ variable_place (numbered_method_of m.now) number) }
+pub fn places(alloc: Global, method: &Method) -> Result<Vec<Option<Place>>, Memory>
+    ensures { IfOk result (λ v. (number : ℕ) → listed_place v.items number ≡ variable_place (numbered_method_of method.now) number) }
 {
-    let mut found = of_params(alloc, listed_params(&m.params))?;
-    let declared = locals(alloc, m)?;
+    let mut found = of_params(alloc, listed_params(&method.params))?;
+    let declared = locals(alloc, method)?;
     note_all(&mut found, &declared)?;
     Ok(found)
 }

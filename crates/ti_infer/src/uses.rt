@@ -28,24 +28,24 @@ impl Singles for NoneSingle {
 
 // ---- expressions
 
-fn set_use<S: Singles>(singles: &S, v: &mut Variable)
-    ensures { variable_of v.new ≡ record (variable_of v.old) {
-      declared = marked_declaration (S.says singles.now (variable_of v.old).number)
-          (variable_of v.old).declared;
+fn set_use<S: Singles>(singles: &S, variable: &mut Variable)
+    ensures { variable_of variable.new ≡ record (variable_of variable.old) {
+      declared = marked_declaration (S.says singles.now (variable_of variable.old).number)
+          (variable_of variable.old).declared;
     } }
 {
-    let is_single = singles.is_single(v.number);
-    if let Declared::Typed { single, .. } = &mut v.declared {
+    let is_single = singles.is_single(variable.number);
+    if let Declared::Typed { single, .. } = &mut variable.declared {
         *single = is_single;
     }
 }
 
 #[cycle(set_uses)]
-fn set_in_all<S: Singles>(singles: &S, xs: &mut Vec<Expr>)
-    ensures { map expression_of xs.new.items ≡ map (marked_exp (S.says singles.now)) (map expression_of xs.old.items) }
+fn set_in_all<S: Singles>(singles: &S, exprs: &mut Vec<Expr>)
+    ensures { map expression_of exprs.new.items ≡ map (marked_exp (S.says singles.now)) (map expression_of exprs.old.items) }
 {
-    for i in 0..xs.len() {
-        set_uses(singles, &mut xs[i]);
+    for i in 0..exprs.len() {
+        set_uses(singles, &mut exprs[i]);
     }
 }
 
@@ -78,10 +78,10 @@ fn set_in_range<S: Singles>(singles: &S, range: &mut Range)
 /// Sets at each use of a variable in an expression whether it is single. Uses of foreach variables don't state this and are left as they
 /// are.
 #[cycle(set_uses)]
-pub fn set_uses<S: Singles>(singles: &S, x: &mut Expr)
-    ensures { expression_of x.new ≡ marked_exp (S.says singles.now) (expression_of x.old) }
+pub fn set_uses<S: Singles>(singles: &S, node: &mut Expr)
+    ensures { expression_of node.new ≡ marked_exp (S.says singles.now) (expression_of node.old) }
 {
-    match x {
+    match node {
         Expr::Variable(_, variable) => set_use(singles, variable),
         Expr::Call { args, .. } => set_in_all(singles, args),
         Expr::OwnCall { args, .. } => set_in_all(singles, args),
@@ -108,7 +108,7 @@ pub fn set_uses<S: Singles>(singles: &S, x: &mut Expr)
         }
         Expr::Int(_, _)
         | Expr::Long(_, _)
-        | Expr::Truth(_, _)
+        | Expr::Bool(_, _)
         | Expr::Null(_)
         | Expr::This(_)
         | Expr::OwnField(_, _)
@@ -118,11 +118,11 @@ pub fn set_uses<S: Singles>(singles: &S, x: &mut Expr)
 }
 
 /// Sets in an optional expression whether each use of a variable is single.
-pub fn set_in_maybe<S: Singles>(singles: &S, x: &mut Option<Expr>)
-    ensures { maybe_of expression_of x.new ≡ option_map (marked_exp (S.says singles.now)) (maybe_of expression_of x.old) }
+pub fn set_in_maybe<S: Singles>(singles: &S, node: &mut Option<Expr>)
+    ensures { maybe_of expression_of node.new ≡ option_map (marked_exp (S.says singles.now)) (maybe_of expression_of node.old) }
 {
-    if let Some(x) = x {
-        set_uses(singles, x);
+    if let Some(node) = node {
+        set_uses(singles, node);
     }
 }
 

@@ -5,8 +5,8 @@ use std::thread;
 
 /// What a process passes before each of its actions, without holding any lock. It may delay the process.
 pub trait Gate {
-    /// Called when process `p` passes.
-    fn pass(&self, p: u32);
+    /// Called when `process` passes.
+    fn pass(&self, process: u32);
 }
 
 /// A gate that delays no process.
@@ -14,12 +14,12 @@ pub trait Gate {
 pub struct OpenGate;
 
 impl Gate for OpenGate {
-    fn pass(&self, _p: u32) {}
+    fn pass(&self, _process: u32) {}
 }
 
 // One of the processes of a `HoldGate`, which is held at its second pass.
 #[derive(Drop)]
-struct Held {
+struct HeldProc {
     process: u32,
     // How often the process has passed.
     passes: AtomicU32,
@@ -27,10 +27,10 @@ struct Held {
     has_begun: AtomicBool,
 }
 
-impl Held {
+impl HeldProc {
     // The state before the process's first pass.
     fn new(process: u32) -> Self {
-        Held {
+        HeldProc {
             process,
             passes: AtomicU32::new(0),
             has_begun: AtomicBool::new(false),
@@ -59,8 +59,8 @@ impl Held {
 /// So a test can observe whether two processes run in parallel: if they run alternately, one of them gives up.
 #[derive(Drop)]
 pub struct HoldGate {
-    one: Held,
-    other: Held,
+    one: HeldProc,
+    other: HeldProc,
     // How often each process may poll.
     limit: u64,
     has_given_up: AtomicBool,
@@ -70,8 +70,8 @@ impl HoldGate {
     /// Holds these two processes, each for at most `limit` polls of the other.
     pub fn new(one: u32, other: u32, limit: u64) -> Self {
         HoldGate {
-            one: Held::new(one),
-            other: Held::new(other),
+            one: HeldProc::new(one),
+            other: HeldProc::new(other),
             limit,
             has_given_up: AtomicBool::new(false),
         }
@@ -83,7 +83,7 @@ impl HoldGate {
     }
 
     // Records the pass of one process, and holds it if it is its second.
-    fn hold(&self, mine: &Held, theirs: &Held) {
+    fn hold(&self, mine: &HeldProc, theirs: &HeldProc) {
         if mine.is_second() {
             mine.has_begun.store(true, Ordering::SeqCst);
             if !theirs.begins_within(self.limit) {
@@ -94,10 +94,10 @@ impl HoldGate {
 }
 
 impl Gate for HoldGate {
-    fn pass(&self, p: u32) {
-        if p == self.one.process {
+    fn pass(&self, process: u32) {
+        if process == self.one.process {
             self.hold(&self.one, &self.other);
-        } else if p == self.other.process {
+        } else if process == self.other.process {
             self.hold(&self.other, &self.one);
         }
     }

@@ -10,10 +10,10 @@ mod gate;
 mod memory_sink;
 mod memory_source;
 mod piece;
+mod schedule;
 mod sink;
 mod source;
 mod streams;
-mod turns;
 
 pub use files::FileSource;
 pub use gate::{Gate, HoldGate, OpenGate};

@@ -8,8 +8,8 @@ use Rattle.ti_lang.specs.declared.program.classes.Field.{Field}
 use Rattle.ti_lang.specs.declared.program.classes.Class.{Class}
 use Rattle.ti_lang.specs.declared.program.classes.Param.{Param}
 use Rattle.ti_lang.specs.declared.program.classes.Method.{Method}
-use Rattle.ti_lang.specs.declared.program.classes.Parts.{Parts}
-use Rattle.ti_lang.specs.Program.Classes.{NumberedProgram}
+use Rattle.ti_lang.specs.declared.program.classes.ProgramData.{ProgramData}
+use Rattle.ti_lang.specs.Program.Classes.{ProgramView}
 use Rattle.ti_lang.specs.Program.Views as view
 use Rattle.ti_lang.specs.Mirrors.Copies.{AreSame}
 
@@ -62,7 +62,7 @@ had (Ok a) P Q more holds = more a holds
 had (Err e) P Q more holds = holds
 
 -- a program whose lists are those of the parts, as slices of them
-pub same_parts : (p : NumberedProgram) (b : Parts) (cs classes : List Class) (ms methods : List Method) (ns names ls literals : List (List ℕ))
+pub same_parts : (p : ProgramView) (b : ProgramData) (cs classes : List Class) (ms methods : List Method) (ns names ls literals : List (List ℕ))
     → p ≡ record { classes = map view.numbered_class_of cs; methods = map view.numbered_method_of ms; main = b.main; names = ns; literals = ls }
     → classes ≡ b.classes.items → methods ≡ b.methods.items → names ≡ b.names.items → literals ≡ b.literals.items
     → AreSame (λ x y. view.numbered_class_of x ≡ view.numbered_class_of y) cs classes → AreSame (λ x y. view.numbered_method_of x ≡ view.numbered_method_of y) ms methods

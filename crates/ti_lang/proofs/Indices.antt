@@ -12,7 +12,7 @@ use Rattle.indexmap.proofs.CallerLemmas.{insert_entry-new}
 use Rattle.ti_lang.specs.declared.program.classes.Class.{Class}
 use Rattle.ti_lang.specs.declared.program.classes.Field.{Field}
 use Rattle.ti_lang.specs.declared.program.classes.Method.{Method}
-use Rattle.ti_lang.specs.declared.program.classes.Parts.{Parts}
+use Rattle.ti_lang.specs.declared.program.classes.ProgramData.{ProgramData}
 use Rattle.ti_lang.specs.Program.Classes.{NumberedField, NumberedClass, NumberedMethod}
 use Rattle.ti_lang.specs.Program.Views.{numbered_field_of, numbered_class_of, numbered_method_of, program_of}
 use Rattle.ti_lang.specs.Typing.Declared.{field_numbered}
@@ -147,7 +147,7 @@ fields_at m (suc i) name (c ∷ cs) =
     ∙ ap (λ k. lookup (same_key (k, name)) (field_rows (m + 1) cs)) class ∙ fields_at (m + 1) i name cs
 
 -- the first field of a class and a name is found
-pub field_told : (p : Parts) (class name : ℕ) → lookup (same_key (class, name)) (with_firsts [] (field_rows 0 p.classes.items)) ≡ field_numbered (program_of p) name class
+pub field_told : (p : ProgramData) (class name : ℕ) → lookup (same_key (class, name)) (with_firsts [] (field_rows 0 p.classes.items)) ≡ field_numbered (program_of p) name class
 field_told p class name =
     let here : 0 + class ≡ class = omega arith in
     lookup_firsts (class, name) [] (field_rows 0 p.classes.items) ∙ sym (ap (λ k. lookup (same_key (k, name)) (field_rows 0 p.classes.items)) here) ∙ fields_at 0 class name p.classes.items

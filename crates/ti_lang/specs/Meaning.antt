@@ -2,7 +2,7 @@
 -- the heap, regions and collectives as functions of a history; runs (interleavings) and their output; races, and determinacy of
 -- race-free runs.
 pub mod Held
-pub mod Asking
+pub mod Comp
 pub mod Conversions
 pub mod Operands
 pub mod Operators
@@ -11,7 +11,7 @@ pub mod Zeros
 pub mod Processes
 pub mod Turns
 pub mod Scoping
-pub mod Parts
+pub mod CellRefs
 pub mod MemberForms
 pub mod Evaluation
 pub mod Targets

@@ -11,4 +11,4 @@ pub mod TextTypes
 pub mod Called
 pub mod Singleness
 pub mod Effects
-pub mod Seen
+pub mod TyRef

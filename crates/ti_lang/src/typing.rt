@@ -1,11 +1,11 @@
 //! Static types of expressions, as views that borrow from the program, so that typing doesn't allocate.
 
-mod copied;
 mod fields;
 mod lookup;
 mod members;
-mod seen;
 mod text;
+mod ty_copy;
+mod ty_ref;
 
 pub use fields::{field_number, zero_of_type};
 pub use lookup::{
@@ -13,8 +13,8 @@ pub use lookup::{
     select_type, this_type, variable_type,
 };
 pub use members::{BuiltIn, built_in};
-pub use seen::{Seen, same_elements};
 pub use text::{
-    ForeachDims, called_method, dims_of, element_seen, field_seen, member_called, member_seen,
-    operator_type, type_in_text, type_over,
+    ForeachDims, called_method, dims_of, member_called, operator_type, static_element_type,
+    static_field_type, static_member_type, syntactic_type, syntactic_type_with,
 };
+pub use ty_ref::{TyRef, same_elements};

@@ -4,12 +4,12 @@ use Rattle.std.proofs.lemmas.Bool.{cond_both}
 use Rattle.std.proofs.lemmas.Bool.Decides.{nat_tests}
 use Rattle.std.specs.Char.{is_ascii_digit}
 use Rattle.ti_syntax.specs.Tokenizing.{is_blank, begins_name}
-use Rattle.ti_lex.specs.declared.class.Class.{Class}
-use Rattle.ti_lex.specs.declared.class.Class.TheVariants as c
-use Rattle.ti_lex.specs.Mirrors.Reading.{class_of}
+use Rattle.ti_lex.specs.declared.byte_class.ByteClass.{ByteClass}
+use Rattle.ti_lex.specs.declared.byte_class.ByteClass.TheVariants as c
+use Rattle.ti_lex.specs.Mirrors.Reading.{class_of_byte}
 
-pub class_of-blank : (b : ℕ) → is_blank b ≡ true → class_of b ≡ c.Blank
-class_of-blank b h = rw h refl
+pub class_of_byte-blank : (b : ℕ) → is_blank b ≡ true → class_of_byte b ≡ c.Blank
+class_of_byte-blank b h = rw h refl
 
 letter_no_blank : (b : ℕ) → begins_name b ≡ true → is_blank b ≡ false
 letter_no_blank b h = grind (arith, nat_tests)
@@ -20,14 +20,14 @@ digit_no_blank b h = grind (arith, nat_tests)
 digit_no_letter : (b : ℕ) → is_ascii_digit b ≡ true → begins_name b ≡ false
 digit_no_letter b h = grind (arith, nat_tests)
 
-pub class_of-letter : (b : ℕ) → begins_name b ≡ true → class_of b ≡ c.Letter
-class_of-letter b h = rw (letter_no_blank b h, h) refl
+pub class_of_byte-letter : (b : ℕ) → begins_name b ≡ true → class_of_byte b ≡ c.Letter
+class_of_byte-letter b h = rw (letter_no_blank b h, h) refl
 
-pub class_of-digit : (b : ℕ) → is_ascii_digit b ≡ true → class_of b ≡ c.Digit
-class_of-digit b h = rw (digit_no_blank b h, digit_no_letter b h, h) refl
+pub class_of_byte-digit : (b : ℕ) → is_ascii_digit b ≡ true → class_of_byte b ≡ c.Digit
+class_of_byte-digit b h = rw (digit_no_blank b h, digit_no_letter b h, h) refl
 
 -- what a class says of its bytes
-abbrev pub IsOfClass : ℕ → Class → Type 0
+abbrev pub IsOfClass : ℕ → ByteClass → Type 0
 IsOfClass b c.Blank = is_blank b ≡ true
 IsOfClass b c.Letter = begins_name b ≡ true
 IsOfClass b c.Digit = is_ascii_digit b ≡ true
@@ -41,9 +41,9 @@ equal b n h = grind (arith, nat_tests)
 apart : (b n : ℕ) → (b == n) ≡ false → b ≢ n
 apart b n h = grind (arith, nat_tests)
 
-pub class_of_is : (b : ℕ) → IsOfClass b (class_of b)
+pub class_of_is : (b : ℕ) → IsOfClass b (class_of_byte b)
 class_of_is b =
-    let P : Class → Type 0 = IsOfClass b in
+    let P : ByteClass → Type 0 = IsOfClass b in
     cond_both (is_blank b) c.Blank _ P (λ h. h) (λ _. cond_both (begins_name b) c.Letter _ P (λ h. h)
     (λ _. cond_both (is_ascii_digit b) c.Digit _ P (λ h. h) (λ digit. cond_both (b == 34) c.Quote _ P (equal b 34)
     (λ quote. cond_both (b == 47) c.Slash c.Other P (equal b 47) (λ slash. (digit, apart b 34 quote, apart b 47 slash))))))

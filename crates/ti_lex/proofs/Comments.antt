@@ -5,18 +5,18 @@ use Rattle.std.proofs.lemmas.List.Folds.{length-prefix_len}
 use Rattle.std.specs.List.{list_all}
 use Rattle.ti_syntax.specs.Tokenizing.{Space, IsPiece, ClosesAtEnd, Flaw, OpenComment, HasFlaw}
 use Rattle.ti_syntax.specs.Tokenizing as pieces
-use Rattle.ti_lex.specs.Mirrors.Reading.{Reading, Takes, Refuses, comment_from, line_left}
+use Rattle.ti_lex.specs.Mirrors.Reading.{Reading, Matches, Rejects, comment_from, line_left}
 use Rattle.ti_lex.proofs.Fronts.{Beats, IsSound, IsRefusal, beats_same}
 use Rattle.ti_lex.proofs.Runs.{run_covers, run_passes}
 
 -- the rest of a line is read as far as it goes
 pub line_beats : (at : ℕ) (inner rest : List ℕ) → list_all (λ b. not (b == 10)) inner ≡ true
-    → Beats at (length (codes "//" ++ inner)) Space (Takes Space (at + line_left (codes "//" ++ (inner ++ rest))))
+    → Beats at (length (codes "//" ++ inner)) Space (Matches Space (at + line_left (codes "//" ++ (inner ++ rest))))
 line_beats at inner rest h =
     let covers = run_covers (λ b. not (b == 10)) inner rest h in
     beats_same at (length (codes "//" ++ inner)) (at + line_left (codes "//" ++ (inner ++ rest))) Space (omega arith)
 
-pub line_sound : (at : ℕ) (l : List ℕ) → IsSound at (codes "//" ++ l) (Takes Space (at + line_left (codes "//" ++ l)))
+pub line_sound : (at : ℕ) (l : List ℕ) → IsSound at (codes "//" ++ l) (Matches Space (at + line_left (codes "//" ++ l)))
 line_sound at l =
     let n = line_left l in
     let long = length-prefix_len (λ b. not (b == 10)) l in
@@ -87,34 +87,34 @@ EndsClosed l = (inner : List ℕ) × (l ≡ inner ++ codes "*/")
 
 module _ (slash : ℕ) where
   taken_by : (star : Bool) (b : ℕ) (inner rest : List ℕ) (at : ℕ) → ClosesAtEnd (star_of star ++ (b ∷ (inner ++ codes "*/")))
-      → comment_from slash (b == 42) (at + 1) ((inner ++ codes "*/") ++ rest) ≡ Takes Space (at + 1 + (length inner + 2)) → (t : Bool)
-      → (star && (b == 47)) ≡ t → cond t (Takes Space (at + 1)) (comment_from slash (b == 42) (at + 1) ((inner ++ codes "*/") ++ rest))
-      ≡ Takes Space (at + (length (b ∷ inner) + 2))
+      → comment_from slash (b == 42) (at + 1) ((inner ++ codes "*/") ++ rest) ≡ Matches Space (at + 1 + (length inner + 2)) → (t : Bool)
+      → (star && (b == 47)) ≡ t → cond t (Matches Space (at + 1)) (comment_from slash (b == 42) (at + 1) ((inner ++ codes "*/") ++ rest))
+      ≡ Matches Space (at + (length (b ∷ inner) + 2))
   taken_by star b inner rest at closes more true h = absurd (closes_early star b inner h closes)
-  taken_by star b inner rest at closes more false h = more ∙ ap (Takes Space) (omega arith)
+  taken_by star b inner rest at closes more false h = more ∙ ap (Matches Space) (omega arith)
 
   -- a comment that closes at its end is read to its end
   pub comment_taken : (inner rest : List ℕ) (star : Bool) (at : ℕ) → ClosesAtEnd (star_of star ++ (inner ++ codes "*/"))
-      → comment_from slash star at ((inner ++ codes "*/") ++ rest) ≡ Takes Space (at + (length inner + 2))
-  comment_taken [] rest true at closes = ap (Takes Space) (omega arith)
-  comment_taken [] rest false at closes = ap (Takes Space) (omega arith)
+      → comment_from slash star at ((inner ++ codes "*/") ++ rest) ≡ Matches Space (at + (length inner + 2))
+  comment_taken [] rest true at closes = ap (Matches Space) (omega arith)
+  comment_taken [] rest false at closes = ap (Matches Space) (omega arith)
   comment_taken (b ∷ inner) rest star at closes =
       let behind = with_star b (inner ++ codes "*/") (without_star star (b ∷ (inner ++ codes "*/")) closes) (b == 42) refl in
       taken_by star b inner rest at closes (comment_taken inner rest (b == 42) (at + 1) behind) (star && (b == 47)) refl
 
   -- what is read of the rest of a comment: it closes, for the first time, at its end; or it doesn't close
   abbrev IsRest : Bool → ℕ → List ℕ → Reading → Type 0
-  IsRest star at l (Takes piece end) =
+  IsRest star at l (Matches piece end) =
       (body : List ℕ) × (rest : List ℕ) × (l ≡ body ++ rest) × (end ≡ at + length body) × (piece ≡ Space) × ClosesAtEnd (star_of star ++ body) × EndsClosed (star_of star ++ body)
-  IsRest star at l (Refuses flaw fault) = (flaw ≡ OpenComment) × (fault ≡ slash)
+  IsRest star at l (Rejects flaw fault) = (flaw ≡ OpenComment) × (fault ≡ slash)
 
-  closed_now : (star : Bool) (at b : ℕ) (l : List ℕ) → (star && (b == 47)) ≡ true → IsRest star at (b ∷ l) (Takes Space (at + 1))
+  closed_now : (star : Bool) (at b : ℕ) (l : List ℕ) → (star && (b == 47)) ≡ true → IsRest star at (b ∷ l) (Matches Space (at + 1))
   closed_now true at b l h =
       (b ∷ [], l, refl, refl, refl, subst (λ d. ClosesAtEnd (42 ∷ d ∷ [])) (sym (eqb-true b 47 h)) closes_alone, ([], ap (λ d. 42 ∷ d ∷ []) (eqb-true b 47 h)))
   closed_now false at b l h = cc
 
   goes_on : (star next : Bool) (at b : ℕ) (l : List ℕ) (r : Reading) → (b == 42) ≡ next → (star && (b == 47)) ≡ false → IsRest next (at + 1) l r → IsRest star at (b ∷ l) r
-  goes_on star next at b l (Takes piece end) h still (body, rest, is, to, space, closes, ends) =
+  goes_on star next at b l (Matches piece end) h still (body, rest, is, to, space, closes, ends) =
       (b ∷ body, rest, ap (λ t. b ∷ t) is, omega arith, space, closes_both star b body still (closes_star b body next h closes), ends_both next h ends)
     where
       ends_both : (next : Bool) → (b == 42) ≡ next → EndsClosed (star_of next ++ body) → EndsClosed (star_of star ++ (b ∷ body))
@@ -122,10 +122,10 @@ module _ (slash : ℕ) where
           (star_of star ++ inner, ap (λ d. star_of star ++ (d ∷ body)) (eqb-true b 42 h) ∙ ap (λ t. star_of star ++ t) ends ∙ sym (append_assoc (star_of star) inner (codes "*/")))
       ends_both false h (inner, ends) =
           (star_of star ++ (b ∷ inner), ap (λ t. star_of star ++ (b ∷ t)) ends ∙ sym (append_assoc (star_of star) (b ∷ inner) (codes "*/")))
-  goes_on star next at b l (Refuses flaw fault) h still rest = rest
+  goes_on star next at b l (Rejects flaw fault) h still rest = rest
 
   rest_by : (star : Bool) (at b : ℕ) (l : List ℕ) → IsRest (b == 42) (at + 1) l (comment_from slash (b == 42) (at + 1) l) → (t : Bool)
-      → (star && (b == 47)) ≡ t → IsRest star at (b ∷ l) (cond t (Takes Space (at + 1)) (comment_from slash (b == 42) (at + 1) l))
+      → (star && (b == 47)) ≡ t → IsRest star at (b ∷ l) (cond t (Matches Space (at + 1)) (comment_from slash (b == 42) (at + 1) l))
   rest_by star at b l more true h = closed_now star at b l h
   rest_by star at b l more false h =
       goes_on star (b == 42) at b l (comment_from slash (b == 42) (at + 1) l) refl h more
@@ -140,17 +140,17 @@ pub only_open : (at : ℕ) (l : List ℕ) → IsRefusal OpenComment at (comment_
 only_open at l = by (comment_from at false (at + 2) l) (rest_of at false (at + 2) l)
   where
     by : (r : Reading) → IsRest at false (at + 2) l r → IsRefusal OpenComment at r
-    by (Takes piece end) h = tt
-    by (Refuses flaw fault) h = h
+    by (Matches piece end) h = tt
+    by (Rejects flaw fault) h = h
 
 -- what is read of a comment stands at the front
 pub comment_sound : (at : ℕ) (l : List ℕ) → IsSound at (codes "/*" ++ l) (comment_from at false (at + 2) l)
 comment_sound at l = by (comment_from at false (at + 2) l) (rest_of at false (at + 2) l)
   where
     by : (r : Reading) → IsRest at false (at + 2) l r → IsSound at (codes "/*" ++ l) r
-    by (Takes piece end) (body, rest, is, to, space, closes, (inner, ends)) =
+    by (Matches piece end) (body, rest, is, to, space, closes, (inner, ends)) =
         let whole : codes "/*" ++ l ≡ (codes "/*" ++ body) ++ rest = ap (λ t. 47 ∷ 42 ∷ t) is in
         let comment : IsPiece (codes "/*" ++ (inner ++ codes "*/")) rest Space = pieces.block_comment inner (subst ClosesAtEnd ends closes) in
         (codes "/*" ++ body, rest, whole, omega arith, omega arith, subst (λ p. IsPiece (codes "/*" ++ body) rest p) (sym space) (subst (λ t. IsPiece (codes "/*" ++ t) rest Space) (sym ends) comment))
-    by (Refuses flaw fault) (unclosed, start) =
+    by (Rejects flaw fault) (unclosed, start) =
         (0, omega arith, subst (λ f. HasFlaw (codes "/*" ++ l) f 0) (sym unclosed) (pieces.open_comment l))

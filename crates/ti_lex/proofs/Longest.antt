@@ -11,10 +11,10 @@ use Rattle.ti_syntax.specs.declared.token.TokenKind.TheVariants as k
 use Rattle.ti_syntax.specs.Tokens.{word_of, sign_of}
 use Rattle.ti_syntax.specs.Tokenizing.{Piece, Space, Lexeme, StrayByte, IsPiece, IsLongest, OpensComment, BeginsNoPiece, HasFlaw, begins_name, is_name_byte, first_passes}
 use Rattle.ti_syntax.specs.Tokenizing as pieces
-use Rattle.ti_lex.specs.declared.class.Class.{Class}
-use Rattle.ti_lex.specs.declared.class.Class.TheVariants as c
-use Rattle.ti_lex.specs.Mirrors.Reading.{Reading, Takes, Refuses, class_of, comment_from, line_left, word, slash, sign, first_by, first}
-use Rattle.ti_lex.proofs.Bytes.{class_of-blank, class_of-letter, class_of-digit, IsOfClass, class_of_is}
+use Rattle.ti_lex.specs.declared.byte_class.ByteClass.{ByteClass}
+use Rattle.ti_lex.specs.declared.byte_class.ByteClass.TheVariants as c
+use Rattle.ti_lex.specs.Mirrors.Reading.{Reading, Matches, Rejects, class_of_byte, comment_from, line_left, word, slash, sign, first_by, first}
+use Rattle.ti_lex.proofs.Bytes.{class_of_byte-blank, class_of_byte-letter, class_of_byte-digit, IsOfClass, class_of_is}
 use Rattle.ti_lex.proofs.Comments.{line_beats, line_sound, comment_taken, comment_sound}
 use Rattle.ti_lex.proofs.Fronts.{Beats, IsSound}
 use Rattle.ti_lex.proofs.Numbers.{dimension_beats, number_beats, long_beats, number_sound}
@@ -22,10 +22,10 @@ use Rattle.ti_lex.proofs.Signs.{sign_beats, sign_sound}
 use Rattle.ti_lex.proofs.StringPieces.{string_beats, string_sound}
 use Rattle.ti_lex.proofs.Words.{reserved_found, name_found, word_beats, word_sound}
 
-line_longer : (at : ℕ) (l : List ℕ) → first_passes (λ b. b == 47) l ≡ true → Beats at 1 (Lexeme k.Slash) (Takes Space (at + line_left (47 ∷ l)))
+line_longer : (at : ℕ) (l : List ℕ) → first_passes (λ b. b == 47) l ≡ true → Beats at 1 (Lexeme k.Slash) (Matches Space (at + line_left (47 ∷ l)))
 line_longer at [] h = cc
 line_longer at (b ∷ l) h =
-    subst (λ d. Beats at 1 (Lexeme k.Slash) (Takes Space (at + line_left (47 ∷ d ∷ l)))) (sym (eqb-true b 47 h)) (inl (omega arith))
+    subst (λ d. Beats at 1 (Lexeme k.Slash) (Matches Space (at + line_left (47 ∷ d ∷ l)))) (sym (eqb-true b 47 h)) (inl (omega arith))
 
 pub opens : (l : List ℕ) → first_passes (λ b. b == 42) l ≡ true → OpensComment (47 ∷ l)
 opens [] h = cc
@@ -98,7 +98,7 @@ unfolding first
 reserved_beats at kind [] rest h = let (letter, all, found) = reserved_found kind [] h in cc
 reserved_beats at kind (b ∷ more) rest h =
     let (letter, all, found) = reserved_found kind (b ∷ more) h in
-    subst (λ q. Beats at (length (b ∷ more)) (Lexeme kind) (first_by q at (b ∷ (more ++ rest)))) (sym (class_of-letter b letter)) (word_beats at (b ∷ more) rest kind all found)
+    subst (λ q. Beats at (length (b ∷ more)) (Lexeme kind) (first_by q at (b ∷ (more ++ rest)))) (sym (class_of_byte-letter b letter)) (word_beats at (b ∷ more) rest kind all found)
 
 digit_of : (n : ℕ) → n ≤ 3 → is_ascii_digit (n + 48) ≡ true
 digit_of n h = grind (arith, nat_tests)
@@ -107,27 +107,27 @@ digit_of n h = grind (arith, nat_tests)
 first_beats : {front rest : List ℕ} {piece : Piece} → IsPiece front rest piece → (at : ℕ) → Beats at (length front) piece (first at (front ++ rest))
 unfolding first
 first_beats (pieces.blank b {rest = rest} h) at =
-    subst (λ q. Beats at 1 Space (first_by q at (b ∷ rest))) (sym (class_of-blank b h)) (inr (refl, refl))
+    subst (λ q. Beats at 1 Space (first_by q at (b ∷ rest))) (sym (class_of_byte-blank b h)) (inr (refl, refl))
 first_beats (pieces.line_comment inner {rest = rest} h) at = line_beats at inner rest h
 first_beats (pieces.block_comment inner {rest = rest} closes) at =
     subst (Beats at (length (codes "/*" ++ (inner ++ codes "*/"))) Space) (sym (comment_taken at inner rest false (at + 2) closes)) (inr (omega (arith, length-append inner (codes "*/")), refl))
 first_beats (pieces.name b more {rest = rest} letter all none) at =
     subst (λ q. Beats at (length (b ∷ more)) (Lexeme (k.Name (b ∷ more))) (first_by q at (b ∷ (more ++ rest))))
-    (sym (class_of-letter b letter)) (word_beats at (b ∷ more) rest (k.Name (b ∷ more))
+    (sym (class_of_byte-letter b letter)) (word_beats at (b ∷ more) rest (k.Name (b ∷ more))
     (ap (λ t. (t || is_ascii_digit b) && list_all is_name_byte more) letter ∙ all) (name_found (b ∷ more) none))
 first_beats (pieces.reserved kind {word = word} {rest = rest} h) at =
     reserved_beats at kind word rest h
 first_beats (pieces.dimension n {rest = rest} low high stop) at =
-    subst (λ q. Beats at 2 (Lexeme (k.Dim n)) (first_by q at ((n + 48) ∷ 100 ∷ rest))) (sym (class_of-digit (n + 48) (digit_of n high))) (dimension_beats at n rest low high stop)
+    subst (λ q. Beats at 2 (Lexeme (k.Dim n)) (first_by q at ((n + 48) ∷ 100 ∷ rest))) (sym (class_of_byte-digit (n + 48) (digit_of n high))) (dimension_beats at n rest low high stop)
 first_beats (pieces.number digit more {rest = rest} all stop no_zero fits) at =
     subst (λ q. Beats at (length (digit ∷ more)) (Lexeme (k.Int (pos (digits_value 10 (digit ∷ more)))))
-    (first_by q at (digit ∷ (more ++ rest)))) (sym (class_of-digit digit
+    (first_by q at (digit ∷ (more ++ rest)))) (sym (class_of_byte-digit digit
     (and_parts (is_ascii_digit digit) (list_all is_ascii_digit more) all).0))
     (number_beats at digit more rest all no_zero stop fits)
 first_beats (pieces.long_number digit more letter {rest = rest} all is no_zero fits) at =
     subst (λ q. Beats at (length ((digit ∷ more) ++ letter ∷ [])) (Lexeme (k.LongInt (pos (digits_value 10 (digit ∷ more)))))
     (first_by q at (((digit ∷ more) ++ letter ∷ []) ++ rest))) (sym
-    (class_of-digit digit (and_parts (is_ascii_digit digit) (list_all is_ascii_digit more) all).0))
+    (class_of_byte-digit digit (and_parts (is_ascii_digit digit) (list_all is_ascii_digit more) all).0))
     (long_beats at digit more rest all no_zero letter is fits)
 first_beats (pieces.string {items = items} {bytes = bytes} {rest = rest} are) at =
     string_beats at items bytes rest are
@@ -151,10 +151,10 @@ slash_sound at l =
     let P : Reading → Type 0 = IsSound at (47 ∷ l) in
     cond_both (first_passes (λ b. b == 47) l) _ _ P (line l) (λ _. cond_both (first_passes (λ b. b == 42) l) _ _ P (comment l) (λ plain. sign_sound at 47 l (star_behind l plain) (λ none. cc)))
   where
-    line : (l : List ℕ) → first_passes (λ b. b == 47) l ≡ true → IsSound at (47 ∷ l) (Takes Space (at + line_left (47 ∷ l)))
+    line : (l : List ℕ) → first_passes (λ b. b == 47) l ≡ true → IsSound at (47 ∷ l) (Matches Space (at + line_left (47 ∷ l)))
     line [] h = cc
     line (b ∷ l) h =
-        subst (λ d. IsSound at (47 ∷ d ∷ l) (Takes Space (at + line_left (47 ∷ d ∷ l)))) (sym (eqb-true b 47 h)) (line_sound at l)
+        subst (λ d. IsSound at (47 ∷ d ∷ l) (Matches Space (at + line_left (47 ∷ d ∷ l)))) (sym (eqb-true b 47 h)) (line_sound at l)
 
     comment : (l : List ℕ) → first_passes (λ b. b == 42) l ≡ true → IsSound at (47 ∷ l) (comment_from at false (at + 2) (drop 1 l))
     comment [] h = cc
@@ -164,9 +164,9 @@ slash_sound at l =
 -- what is read at the front stands there
 first_sound : (at b : ℕ) (l : List ℕ) → IsSound at (b ∷ l) (first at (b ∷ l))
 unfolding first
-first_sound at b l = by (class_of b) (class_of_is b)
+first_sound at b l = by (class_of_byte b) (class_of_is b)
   where
-    by : (q : Class) → IsOfClass b q → IsSound at (b ∷ l) (first_by q at (b ∷ l))
+    by : (q : ByteClass) → IsOfClass b q → IsSound at (b ∷ l) (first_by q at (b ∷ l))
     by c.Blank h = (b ∷ [], l, refl, omega arith, refl, pieces.blank b h)
     by c.Letter h = word_sound at b l h
     by c.Digit h = number_sound at b l h
@@ -190,8 +190,8 @@ none_empty size piece within is = sized_beats 0 [] size piece within is
 
 -- a reading of a list says that its piece is the longest, or what is wrong where there is none
 abbrev pub Tells : ℕ → List ℕ → Reading → Type 0
-Tells at l (Takes piece end) = (size : ℕ) × (end ≡ at + size) × (0 < size) × IsLongest l size piece
-Tells at l (Refuses flaw fault) =
+Tells at l (Matches piece end) = (size : ℕ) × (end ≡ at + size) × (0 < size) × IsLongest l size piece
+Tells at l (Rejects flaw fault) =
     BeginsNoPiece l × ((before : ℕ) × (fault ≡ at + before) × HasFlaw l flaw before)
 
 pub first_tells : (at : ℕ) (l : List ℕ) → 0 < length l → Tells at l (first at l)
@@ -199,7 +199,7 @@ first_tells at [] some = absurd (omega arith)
 first_tells at (b ∷ l) some = by (first at (b ∷ l)) (first_sound at b l) refl
   where
     by : (r : Reading) → IsSound at (b ∷ l) r → first at (b ∷ l) ≡ r → Tells at (b ∷ l) r
-    by (Takes piece end) (front, rest, is, some, to, stands) h =
+    by (Matches piece end) (front, rest, is, some, to, stands) h =
         let taken : take (length front) (b ∷ l) ≡ front = ap (take (length front)) is ∙ take-append_seam front rest in
         let left : drop (length front) (b ∷ l) ≡ rest = ap (drop (length front)) is ∙ drop-append_seam front rest in
         let long : length (b ∷ l) ≡ length front + length rest = ap length is ∙ length-append front rest in (
@@ -215,9 +215,9 @@ first_tells at (b ∷ l) some = by (first at (b ∷ l)) (first_sound at b l) ref
       where
         longest : (other : ℕ) (another : Piece) → other ≤ length (b ∷ l) → IsPiece (take other (b ∷ l)) (drop other (b ∷ l)) another → other ≤ length front
         longest other another within other_is =
-            let beats : Beats at other another (Takes piece end) = subst (Beats at other another) h (sized_beats at (b ∷ l) other another within other_is) in
+            let beats : Beats at other another (Matches piece end) = subst (Beats at other another) h (sized_beats at (b ∷ l) other another within other_is) in
             elim beats [ inl longer ↦ omega arith | inr same ↦ omega (arith, same.0) ]
-    by (Refuses flaw fault) flawed h =
+    by (Rejects flaw fault) flawed h =
         (λ size piece within is. subst (Beats at size piece) h (sized_beats at (b ∷ l) size piece within is), flawed)
 
 longest_some : (l : List ℕ) (size : ℕ) (piece : Piece) → IsLongest l size piece → 0 < length l
@@ -225,14 +225,14 @@ longest_some [] size piece longest = absurd (none_empty size piece longest.withi
 longest_some (b ∷ l) size piece longest = omega arith
 
 -- the longest piece at the front is read
-pub longest_read : (at : ℕ) (l : List ℕ) (size : ℕ) (piece : Piece) → IsLongest l size piece → first at l ≡ Takes piece (at + size)
+pub longest_read : (at : ℕ) (l : List ℕ) (size : ℕ) (piece : Piece) → IsLongest l size piece → first at l ≡ Matches piece (at + size)
 longest_read at l size piece longest =
     by (first at l) refl (sized_beats at l size piece longest.within longest.is_piece)
   where
-    by : (r : Reading) → first at l ≡ r → Beats at size piece r → r ≡ Takes piece (at + size)
-    by (Takes other end) h (inl longer) =
+    by : (r : Reading) → first at l ≡ r → Beats at size piece r → r ≡ Matches piece (at + size)
+    by (Matches other end) h (inl longer) =
         let (n, to, some, told) = subst (Tells at l) h (first_tells at l (longest_some l size piece longest)) in
         let le : n ≤ size = longest.longest n other told.within told.is_piece in
         absurd (omega arith)
-    by (Takes other end) h (inr (to, same)) = ap (λ q. Takes q end) same ∙ ap (Takes piece) to
-    by (Refuses flaw fault) h beats = absurd beats
+    by (Matches other end) h (inr (to, same)) = ap (λ q. Matches q end) same ∙ ap (Matches piece) to
+    by (Rejects flaw fault) h beats = absurd beats

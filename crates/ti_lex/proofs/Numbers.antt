@@ -14,7 +14,7 @@ use Rattle.std.specs.Str.Parse.{digits_value, digits_value_after}
 use Rattle.ti_syntax.specs.declared.token.TokenKind.TheVariants as k
 use Rattle.ti_syntax.specs.Tokenizing.{Piece, Lexeme, WrongNumber, IsPiece, HasFlaw, first_passes, is_name_byte, is_long_letter, goes_on_number}
 use Rattle.ti_syntax.specs.Tokenizing as pieces
-use Rattle.ti_lex.specs.Mirrors.Reading.{Takes, Refuses, dimension, too_large, value_from, most_of, kind_of_number, letters, is_number, number_of, digits, number}
+use Rattle.ti_lex.specs.Mirrors.Reading.{Matches, Rejects, dimension, too_large, value_from, most_of, kind_of_number, letters, is_number, number_reading, digits, number}
 use Rattle.ti_lex.proofs.Fronts.{Beats, IsSound}
 use Rattle.ti_lex.proofs.Runs.{run_ends, run_passes, run_stops}
 
@@ -108,17 +108,17 @@ module _ (at digit : ℕ) (more rest : List ℕ) (long : Bool) (all : list_all i
       ap (λ n. take n (digit ∷ (more ++ rest))) size_is ∙ take-append_seam (digit ∷ more) rest in
       value_is (digit ∷ (more ++ rest)) 0 ∙ ap (λ t. min (digits_value 10 t) too_large) front ∙ kept long (digits_value 10 (digit ∷ more)) fits
 
-  digits_read : digits at (digit ∷ (more ++ rest)) ≡ Takes (Lexeme (kind_of_number long (digits_value 10 (digit ∷ more)))) (at + length (digit ∷ more) + letters long)
+  digits_read : digits at (digit ∷ (more ++ rest)) ≡ Matches (Lexeme (kind_of_number long (digits_value 10 (digit ∷ more)))) (at + length (digit ∷ more) + letters long)
   digits_read =
       let whole = digit ∷ (more ++ rest) in
       let front = digit ∷ more in
       let value = digits_value 10 front in
       let passes = number_passes (digit == 48) (length front) (most_of long) value (λ h. ap (λ t. length (digit ∷ t)) (no_zero (eqb-true digit 48 h))) fits in
-      ap (λ n. number_of at (digit == 48) n (value_from 0 whole) (first_passes is_long_letter (drop n whole))) size_is
-      ∙ ap (λ v. number_of at (digit == 48) (length front) v (first_passes is_long_letter (drop (length front) whole))) whole_value
-      ∙ ap (λ r. number_of at (digit == 48) (length front) value (first_passes is_long_letter r)) (drop-append_seam front rest)
-      ∙ ap (number_of at (digit == 48) (length front) value) letter
-      ∙ ap (λ t. cond t (Takes (Lexeme (kind_of_number long value)) (at + length front + letters long)) (Refuses WrongNumber at)) passes
+      ap (λ n. number_reading at (digit == 48) n (value_from 0 whole) (first_passes is_long_letter (drop n whole))) size_is
+      ∙ ap (λ v. number_reading at (digit == 48) (length front) v (first_passes is_long_letter (drop (length front) whole))) whole_value
+      ∙ ap (λ r. number_reading at (digit == 48) (length front) value (first_passes is_long_letter r)) (drop-append_seam front rest)
+      ∙ ap (number_reading at (digit == 48) (length front) value) letter
+      ∙ ap (λ t. cond t (Matches (Lexeme (kind_of_number long value)) (at + length front + letters long)) (Rejects WrongNumber at)) passes
 
   d_behind : (l : List ℕ) → list_all is_ascii_digit l ≡ true → first_passes (λ d. d == 100) (l ++ rest) ≡ true → length l ≡ 0
   d_behind [] h i = refl
@@ -133,7 +133,7 @@ module _ (at digit : ℕ) (more rest : List ℕ) (all : list_all is_ascii_digit 
     where
       by : (found : Option ℕ) → IsDimension digit (more ++ rest) found
           → Beats at (length (digit ∷ more)) (Lexeme (k.Int (pos (digits_value 10 (digit ∷ more)))))
-          (option_map_or (λ n. Takes (Lexeme (k.Dim n)) (at + 2)) found (digits at (digit ∷ (more ++ rest))))
+          (option_map_or (λ n. Matches (Lexeme (k.Dim n)) (at + 2)) found (digits at (digit ∷ (more ++ rest))))
       by (Some n) (range, d, name, value) =
           let behind = no_more rest stop in
           let none = d_behind at digit more rest false all behind.0 behind.1 no_zero fits more (and_parts (is_ascii_digit digit) (list_all is_ascii_digit more) all).1 d in
@@ -159,7 +159,7 @@ module _ (at digit : ℕ) (more rest : List ℕ) (all : list_all is_ascii_digit 
 
       by : (found : Option ℕ) → IsDimension digit (more ++ letter ∷ rest) found
           → Beats at (length ((digit ∷ more) ++ letter ∷ [])) (Lexeme (k.LongInt (pos (digits_value 10 (digit ∷ more)))))
-          (option_map_or (λ n. Takes (Lexeme (k.Dim n)) (at + 2)) found (digits at (digit ∷ (more ++ letter ∷ rest))))
+          (option_map_or (λ n. Matches (Lexeme (k.Dim n)) (at + 2)) found (digits at (digit ∷ (more ++ letter ∷ rest))))
       by (Some n) (range, d, name, value) = absurd (none_behind more (and_parts (is_ascii_digit digit) (list_all is_ascii_digit more) all).1 d)
       by None h =
           let long : length ((digit ∷ more) ++ letter ∷ []) ≡ length (digit ∷ more) + 1 = omega (arith, length-append (digit ∷ more) (letter ∷ [])) in
@@ -170,11 +170,11 @@ module _ (at digit : ℕ) (more rest : List ℕ) (all : list_all is_ascii_digit 
 pub dimension_beats : (at n : ℕ) (rest : List ℕ) → 1 ≤ n → n ≤ 3 → first_passes is_name_byte rest ≡ false → Beats at 2 (Lexeme (k.Dim n)) (number at ((n + 48) ∷ 100 ∷ rest))
 dimension_beats at zero rest low high stop = absurd (omega arith)
 dimension_beats at (suc zero) rest low high stop =
-    subst (λ t. Beats at 2 (Lexeme (k.Dim 1)) (option_map_or (λ n. Takes (Lexeme (k.Dim n)) (at + 2)) (if not t then Some 1 else None) (digits at (49 ∷ 100 ∷ rest)))) (sym stop) (inr (refl, refl))
+    subst (λ t. Beats at 2 (Lexeme (k.Dim 1)) (option_map_or (λ n. Matches (Lexeme (k.Dim n)) (at + 2)) (if not t then Some 1 else None) (digits at (49 ∷ 100 ∷ rest)))) (sym stop) (inr (refl, refl))
 dimension_beats at (suc (suc zero)) rest low high stop =
-    subst (λ t. Beats at 2 (Lexeme (k.Dim 2)) (option_map_or (λ n. Takes (Lexeme (k.Dim n)) (at + 2)) (if not t then Some 2 else None) (digits at (50 ∷ 100 ∷ rest)))) (sym stop) (inr (refl, refl))
+    subst (λ t. Beats at 2 (Lexeme (k.Dim 2)) (option_map_or (λ n. Matches (Lexeme (k.Dim n)) (at + 2)) (if not t then Some 2 else None) (digits at (50 ∷ 100 ∷ rest)))) (sym stop) (inr (refl, refl))
 dimension_beats at (suc (suc (suc zero))) rest low high stop =
-    subst (λ t. Beats at 2 (Lexeme (k.Dim 3)) (option_map_or (λ n. Takes (Lexeme (k.Dim n)) (at + 2)) (if not t then Some 3 else None) (digits at (51 ∷ 100 ∷ rest)))) (sym stop) (inr (refl, refl))
+    subst (λ t. Beats at 2 (Lexeme (k.Dim 3)) (option_map_or (λ n. Matches (Lexeme (k.Dim n)) (at + 2)) (if not t then Some 3 else None) (digits at (51 ∷ 100 ∷ rest)))) (sym stop) (inr (refl, refl))
 dimension_beats at (suc (suc (suc (suc n)))) rest low high stop = absurd (omega arith)
 
 in_range : (b : ℕ) → is_in_range 49 51 b ≡ true → (49 ≤ b) × (b ≤ 51)
@@ -199,7 +199,7 @@ module _ (at b : ℕ) (l : List ℕ) (first : is_ascii_digit b ≡ true) where
   -- a run of digits that is a number, with what stands behind it
   sound_by : (n value : ℕ) (behind : List ℕ) (long : Bool) → first_passes is_long_letter behind ≡ long → first_passes is_ascii_digit behind ≡ false → b ∷ l ≡ (b ∷ take n l) ++ behind
       → list_all is_ascii_digit (b ∷ take n l) ≡ true → (b ≡ 48 → take n l ≡ []) → digits_value 10 (b ∷ take n l) ≡ value → value ≤ most_of long
-      → IsSound at (b ∷ l) (Takes (Lexeme (kind_of_number long value)) (at + length (b ∷ take n l) + letters long))
+      → IsSound at (b ∷ l) (Matches (Lexeme (kind_of_number long value)) (at + length (b ∷ take n l) + letters long))
   sound_by n value behind false letter stop split all no_zero same below =
       let fits : digits_value 10 (b ∷ take n l) ≤ 2147483647 = omega (arith, same) in
       let piece = pieces.number b (take n l) {rest = behind} all (no_more_from behind stop letter) no_zero fits in
@@ -220,7 +220,7 @@ module _ (at b : ℕ) (l : List ℕ) (first : is_ascii_digit b ≡ true) where
   -- the run of digits at the front, by its size and by what stands behind it
   digits_by : (n size value : ℕ) (behind : List ℕ) (long : Bool) → n ≡ prefix_len is_ascii_digit l → size ≡ suc n → value
       ≡ value_from 0 (b ∷ l) → behind ≡ drop n l → first_passes is_long_letter behind ≡ long
-      → (t : Bool) → is_number (b == 48) size (most_of long) value ≡ t → IsSound at (b ∷ l) (cond t (Takes (Lexeme (kind_of_number long value)) (at + size + letters long)) (Refuses WrongNumber at))
+      → (t : Bool) → is_number (b == 48) size (most_of long) value ≡ t → IsSound at (b ∷ l) (cond t (Matches (Lexeme (kind_of_number long value)) (at + size + letters long)) (Rejects WrongNumber at))
   digits_by n size value behind long run h is left letter false passes = (0, omega arith, pieces.wrong_number b l first)
   digits_by n size value behind long run h is left letter true passes =
       let (no_zero, small) = and_parts (not ((b == 48) && not (size == 1))) (nat_le value (most_of long)) passes in
@@ -233,11 +233,11 @@ module _ (at b : ℕ) (l : List ℕ) (first : is_ascii_digit b ≡ true) where
       let size_of : length (take n l) ≡ n = subst (λ m. length (take m l) ≡ m) (sym run) (length-prefix_len is_ascii_digit l) in
       let size_is : length (b ∷ take n l) ≡ size = omega arith in
       let split : b ∷ l ≡ (b ∷ take n l) ++ behind = ap (λ t. b ∷ t) (sym (take-append-drop n l) ∙ ap (λ r. take n l ++ r) (sym left)) in
-      subst (λ m. IsSound at (b ∷ l) (Takes (Lexeme (kind_of_number long value)) (at + m + letters long))) size_is
+      subst (λ m. IsSound at (b ∷ l) (Matches (Lexeme (kind_of_number long value)) (at + m + letters long))) size_is
       (sound_by n value behind long letter stop split (ap (λ t. t && list_all is_ascii_digit (take n l)) first ∙ all) (leads n size h no_zero) same below)
 
   dimension_piece : (n : ℕ) (l : List ℕ) → is_in_range 49 51 b ≡ true → first_passes (λ d. d == 100) l ≡ true
-      → first_passes is_name_byte (drop 1 l) ≡ false → n ≡ b - 48 → IsSound at (b ∷ l) (Takes (Lexeme (k.Dim n)) (at + 2))
+      → first_passes is_name_byte (drop 1 l) ≡ false → n ≡ b - 48 → IsSound at (b ∷ l) (Matches (Lexeme (k.Dim n)) (at + 2))
   dimension_piece n [] range d name value = cc
   dimension_piece n (e ∷ rest) range d name value =
       let (low, high) = in_range b range in
@@ -250,7 +250,7 @@ module _ (at b : ℕ) (l : List ℕ) (first : is_ascii_digit b ≡ true) where
   pub number_sound : IsSound at (b ∷ l) (number at (b ∷ l))
   number_sound = by (dimension (b ∷ l)) (dimension_is b l)
     where
-      by : (found : Option ℕ) → IsDimension b l found → IsSound at (b ∷ l) (option_map_or (λ n. Takes (Lexeme (k.Dim n)) (at + 2)) found (digits at (b ∷ l)))
+      by : (found : Option ℕ) → IsDimension b l found → IsSound at (b ∷ l) (option_map_or (λ n. Matches (Lexeme (k.Dim n)) (at + 2)) found (digits at (b ∷ l)))
       by (Some n) (range, d, name, value) = dimension_piece n l range d name value
       by None h =
           let one : prefix_len is_ascii_digit (b ∷ l) ≡ suc (prefix_len is_ascii_digit l) = ap (λ t. cond t (1 + prefix_len is_ascii_digit l) 0) first ∙ omega arith in

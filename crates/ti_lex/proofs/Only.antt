@@ -20,10 +20,10 @@ use Rattle.ti_rules.specs.LexicalRefusals as refusals
 use Rattle.ti_lex.specs.declared.error.LexErr.{LexErr}
 use Rattle.ti_lex.specs.declared.error.LexErr.TheVariants as e
 use Rattle.ti_lex.specs.Answer.{Lexes, GivesOnly, RefusesOnly}
-use Rattle.ti_lex.specs.declared.class.Class.{Class}
-use Rattle.ti_lex.specs.declared.class.Class.TheVariants as c
-use Rattle.ti_lex.specs.Mirrors.Reading.{Reading, Takes, Refuses, class_of, dimension, value_from, most_of, kind_of_number, letters, is_number, digits, number, string_from, escape_from, slash, first_by, first}
-use Rattle.ti_lex.proofs.Bytes.{IsOfClass, class_of_is, class_of-digit}
+use Rattle.ti_lex.specs.declared.byte_class.ByteClass.{ByteClass}
+use Rattle.ti_lex.specs.declared.byte_class.ByteClass.TheVariants as c
+use Rattle.ti_lex.specs.Mirrors.Reading.{Reading, Matches, Rejects, class_of_byte, dimension, value_from, most_of, kind_of_number, letters, is_number, digits, number, string_from, escape_from, slash, first_by, first}
+use Rattle.ti_lex.proofs.Bytes.{IsOfClass, class_of_is, class_of_byte-digit}
 use Rattle.ti_lex.proofs.Comments.{only_open}
 use Rattle.ti_lex.proofs.Fronts.{IsRefusal}
 use Rattle.ti_lex.proofs.Longest.{Tells, first_tells, longest_read, none_empty, opens}
@@ -33,19 +33,19 @@ use Rattle.ti_lex.proofs.StringPieces.{items_read}
 number_refusal : (at : ℕ) (l : List ℕ) → IsRefusal WrongNumber at (number at l)
 number_refusal at l = by (dimension l)
   where
-    cases : (taken : Reading) (t : Bool) → IsRefusal WrongNumber at taken → IsRefusal WrongNumber at (cond t taken (Refuses WrongNumber at))
+    cases : (taken : Reading) (t : Bool) → IsRefusal WrongNumber at taken → IsRefusal WrongNumber at (cond t taken (Rejects WrongNumber at))
     cases taken true is = is
     cases taken false is = (refl, refl)
 
-    by : (found : Option ℕ) → IsRefusal WrongNumber at (option_map_or (λ n. Takes (Lexeme (k.Dim n)) (at + 2)) found (digits at l))
+    by : (found : Option ℕ) → IsRefusal WrongNumber at (option_map_or (λ n. Matches (Lexeme (k.Dim n)) (at + 2)) found (digits at l))
     by (Some n) = tt
     by None =
         let size = prefix_len is_ascii_digit l in
         let long = first_passes is_long_letter (drop size l) in
-        cases (Takes (Lexeme (kind_of_number long (value_from 0 l))) (at + size + letters long)) (is_number (first_passes (λ b. b == 48) l) size (most_of long) (value_from 0 l)) tt
+        cases (Matches (Lexeme (kind_of_number long (value_from 0 l))) (at + size + letters long)) (is_number (first_passes (λ b. b == 48) l) size (most_of long) (value_from 0 l)) tt
 
 -- where a string breaks, it is refused at its quote
-breaks_refused : (quote : ℕ) (bytes : List ℕ) (at : ℕ) (l : List ℕ) → breaks_string l ≡ true → string_from quote bytes at l ≡ Refuses OpenString quote
+breaks_refused : (quote : ℕ) (bytes : List ℕ) (at : ℕ) (l : List ℕ) → breaks_string l ≡ true → string_from quote bytes at l ≡ Rejects OpenString quote
 breaks_refused quote bytes at [] h = refl
 breaks_refused quote bytes at (b ∷ l) h =
     let quoted : (b == 34) ≡ false = grind (arith, nat_tests) in
@@ -53,19 +53,19 @@ breaks_refused quote bytes at (b ∷ l) h =
     let plain : is_plain b ≡ false = grind (arith, nat_tests) in
     rw (plain, quoted, begins, h) refl
 
-escape_refused : (quote : ℕ) (bytes : List ℕ) (at : ℕ) (l : List ℕ) → BeginsNoItem (92 ∷ l) → escape_from quote bytes at l ≡ Refuses StrayByte at
+escape_refused : (quote : ℕ) (bytes : List ℕ) (at : ℕ) (l : List ℕ) → BeginsNoItem (92 ∷ l) → escape_from quote bytes at l ≡ Rejects StrayByte at
 escape_refused quote bytes at [] none = refl
 escape_refused quote bytes at (b ∷ l) none = by (escaped b) refl
   where
-    by : (found : Option ℕ) → escaped b ≡ found → (if is_some found then string_from quote (bytes ++ unwrap_or found 0 ∷ []) (at + 2) l else Refuses StrayByte at) ≡ Refuses StrayByte at
+    by : (found : Option ℕ) → escaped b ≡ found → (if is_some found then string_from quote (bytes ++ unwrap_or found 0 ∷ []) (at + 2) l else Rejects StrayByte at) ≡ Rejects StrayByte at
     by (Some byte) h = absurd (none.1 (92 ∷ b ∷ []) l byte (pieces.escape b h) refl)
     by None h = refl
 
 -- where no item stands, and the string doesn't break, the byte is refused
-stray_refused : (quote : ℕ) (bytes : List ℕ) (at : ℕ) (l : List ℕ) → breaks_string l ≡ false → BeginsNoItem l → string_from quote bytes at l ≡ Refuses StrayByte at
+stray_refused : (quote : ℕ) (bytes : List ℕ) (at : ℕ) (l : List ℕ) → breaks_string l ≡ false → BeginsNoItem l → string_from quote bytes at l ≡ Rejects StrayByte at
 stray_refused quote bytes at [] h none = cc
 stray_refused quote bytes at (b ∷ l) h none =
-    let P : Reading → Type 0 = λ r. r ≡ Refuses StrayByte at in
+    let P : Reading → Type 0 = λ r. r ≡ Rejects StrayByte at in
     cond_both (b == 34) _ _ P (λ quoted. let both : true ≡ false = sym quoted ∙ none.0 in cc)
     (λ _. cond_both (b == 92) _ _ P (λ begins. escape_refused quote bytes at l
     (subst (λ d. BeginsNoItem (d ∷ l)) (eqb-true b 92 begins) none))
@@ -83,9 +83,9 @@ slash_refusal at l no_comment =
 
 byte_refusal : (at b : ℕ) (l : List ℕ) → (OpensComment (b ∷ l) → ⊥) → b ≢ 34 → is_ascii_digit b ≡ false → IsRefusal StrayByte at (first at (b ∷ l))
 unfolding first
-byte_refusal at b l no_comment quote no_digit = by (class_of b) (class_of_is b)
+byte_refusal at b l no_comment quote no_digit = by (class_of_byte b) (class_of_is b)
   where
-    by : (q : Class) → IsOfClass b q → IsRefusal StrayByte at (first_by q at (b ∷ l))
+    by : (q : ByteClass) → IsOfClass b q → IsRefusal StrayByte at (first_by q at (b ∷ l))
     by c.Blank h = tt
     by c.Letter h = tt
     by c.Digit h = let both : true ≡ false = sym h ∙ no_digit in cc
@@ -97,7 +97,7 @@ byte_refusal at b l no_comment quote no_digit = by (class_of b) (class_of_is b)
 digit_refusal : (at b : ℕ) (l : List ℕ) → is_ascii_digit b ≡ true → IsRefusal WrongNumber at (first at (b ∷ l))
 unfolding first
 digit_refusal at b l h =
-    subst (λ q. IsRefusal WrongNumber at (first_by q at (b ∷ l))) (sym (class_of-digit b h)) (number_refusal at (b ∷ l))
+    subst (λ q. IsRefusal WrongNumber at (first_by q at (b ∷ l))) (sym (class_of_byte-digit b h)) (number_refusal at (b ∷ l))
 
 comment_refusal : (at : ℕ) (l : List ℕ) → IsRefusal OpenComment at (first at (codes "/*" ++ l))
 unfolding first
@@ -108,36 +108,36 @@ unfolding first
 string_read at l = refl
 
 -- a list at whose front no piece stands is refused
-stuck_refused : (at : ℕ) (l : List ℕ) → 0 < length l → BeginsNoPiece l → (flaw : Flaw) (fault : ℕ) → IsRefusal flaw fault (first at l) → first at l ≡ Refuses flaw fault
+stuck_refused : (at : ℕ) (l : List ℕ) → 0 < length l → BeginsNoPiece l → (flaw : Flaw) (fault : ℕ) → IsRefusal flaw fault (first at l) → first at l ≡ Rejects flaw fault
 stuck_refused at l some stuck flaw fault h = by (first at l) (first_tells at l some) h
   where
-    by : (r : Reading) → Tells at l r → IsRefusal flaw fault r → r ≡ Refuses flaw fault
-    by (Takes piece end) (size, to, positive, longest) h =
+    by : (r : Reading) → Tells at l r → IsRefusal flaw fault r → r ≡ Rejects flaw fault
+    by (Matches piece end) (size, to, positive, longest) h =
         absurd (stuck size piece longest.within longest.is_piece)
-    by (Refuses other x) told (same, there) =
-        ap (λ f. Refuses f x) same ∙ ap (Refuses flaw) there
+    by (Rejects other x) told (same, there) =
+        ap (λ f. Rejects f x) same ∙ ap (Rejects flaw) there
 
 -- what is wrong with a list is what is refused
-flaw_refused : {l : List ℕ} {flaw : Flaw} {before : ℕ} → HasFlaw l flaw before → BeginsNoPiece l → (at : ℕ) → first at l ≡ Refuses flaw (at + before)
+flaw_refused : {l : List ℕ} {flaw : Flaw} {before : ℕ} → HasFlaw l flaw before → BeginsNoPiece l → (at : ℕ) → first at l ≡ Rejects flaw (at + before)
 flaw_refused (pieces.open_comment rest) stuck at =
-    stuck_refused at (codes "/*" ++ rest) (omega arith) stuck OpenComment at (comment_refusal at rest) ∙ ap (Refuses OpenComment) (omega arith)
+    stuck_refused at (codes "/*" ++ rest) (omega arith) stuck OpenComment at (comment_refusal at rest) ∙ ap (Rejects OpenComment) (omega arith)
 flaw_refused (pieces.open_string {items = items} {bytes = bytes} rest are breaks) stuck at =
-    string_read at (items ++ rest) ∙ items_read are at [] (at + 1) rest ∙ breaks_refused at bytes (at + 1 + length items) rest breaks ∙ ap (Refuses OpenString) (omega arith)
+    string_read at (items ++ rest) ∙ items_read are at [] (at + 1) rest ∙ breaks_refused at bytes (at + 1 + length items) rest breaks ∙ ap (Rejects OpenString) (omega arith)
 flaw_refused (pieces.stray_in_string {items = items} {bytes = bytes} rest are breaks none) stuck at =
-    string_read at (items ++ rest) ∙ items_read are at [] (at + 1) rest ∙ stray_refused at bytes (at + 1 + length items) rest breaks none ∙ ap (Refuses StrayByte) (omega arith)
+    string_read at (items ++ rest) ∙ items_read are at [] (at + 1) rest ∙ stray_refused at bytes (at + 1 + length items) rest breaks none ∙ ap (Rejects StrayByte) (omega arith)
 flaw_refused (pieces.wrong_number digit rest h) stuck at =
-    stuck_refused at (digit ∷ rest) (omega arith) stuck WrongNumber at (digit_refusal at digit rest h) ∙ ap (Refuses WrongNumber) (omega arith)
+    stuck_refused at (digit ∷ rest) (omega arith) stuck WrongNumber at (digit_refusal at digit rest h) ∙ ap (Rejects WrongNumber) (omega arith)
 flaw_refused (pieces.stray_byte b rest no_comment quote no_digit) stuck at =
-    stuck_refused at (b ∷ rest) (omega arith) stuck StrayByte at (byte_refusal at b rest no_comment quote no_digit) ∙ ap (Refuses StrayByte) (omega arith)
+    stuck_refused at (b ∷ rest) (omega arith) stuck StrayByte at (byte_refusal at b rest no_comment quote no_digit) ∙ ap (Rejects StrayByte) (omega arith)
 
 abbrev end_of : Reading → ℕ
-end_of (Takes piece end) = end
-end_of (Refuses flaw fault) = fault
+end_of (Matches piece end) = end
+end_of (Rejects flaw fault) = fault
 
 -- two longest pieces at one place are one
 same_longest : (i : ℕ) (l : List ℕ) (n m : ℕ) (p q : Piece) → IsLongest l n p → IsLongest l m q → (i + n ≡ i + m) × (p ≡ q)
 same_longest i l n m p q one other =
-    let both : Takes p (i + n) ≡ Takes q (i + m) = sym (longest_read i l n p one) ∙ longest_read i l m q other in
+    let both : Matches p (i + n) ≡ Matches q (i + m) = sym (longest_read i l n p one) ∙ longest_read i l m q other in
     (ap end_of both, cc)
 
 -- the pieces of a text up to where they can't go on are one list
@@ -198,9 +198,9 @@ never_both text tokens refusal short this (refusals.flawed {flaw = flaw} {at = a
 one_flaw : (text : List ℕ) (flaw other : Flaw) (at place : ℕ) → IsFlawed text flaw at → IsFlawed text other place → (flaw ≡ other) × (at ≡ place)
 one_flaw text flaw other at place this that =
     let (same, to) = same_pieces this.pieces this.stuck that.pieces that.stuck in
-    let here : first this.end (drop this.end text) ≡ Refuses flaw at = flaw_refused this.flawed this.stuck this.end ∙ ap (Refuses flaw) (sym this.place) in
-    let there : first that.end (drop that.end text) ≡ Refuses other place = flaw_refused that.flawed that.stuck that.end ∙ ap (Refuses other) (sym that.place) in
-    let both : Refuses flaw at ≡ Refuses other place = sym here ∙ ap (λ x. first x (drop x text)) to ∙ there in
+    let here : first this.end (drop this.end text) ≡ Rejects flaw at = flaw_refused this.flawed this.stuck this.end ∙ ap (Rejects flaw) (sym this.place) in
+    let there : first that.end (drop that.end text) ≡ Rejects other place = flaw_refused that.flawed that.stuck that.end ∙ ap (Rejects other) (sym that.place) in
+    let both : Rejects flaw at ≡ Rejects other place = sym here ∙ ap (λ x. first x (drop x text)) to ∙ there in
     (cc, ap end_of both)
 
 -- a text has one refusal
@@ -243,11 +243,11 @@ goes_on text (suc left) i within near =
     ]
   where
     by : (r : Reading) → Tells i (drop i text) r → ((size : ℕ) → 0 < size → size ≤ length (drop i text) → GoesOn text (i + size)) → GoesOn text i
-    by (Takes Space end) (size, to, some, longest) more =
+    by (Matches Space end) (size, to, some, longest) more =
         go_space text i size longest (more size some longest.within)
-    by (Takes (Lexeme kind) end) (size, to, some, longest) more =
+    by (Matches (Lexeme kind) end) (size, to, some, longest) more =
         go_token text i size kind longest (more size some longest.within)
-    by (Refuses flaw fault) (stuck, (before, to, flawed)) more =
+    by (Rejects flaw fault) (stuck, (before, to, flawed)) more =
         inr ([], i, flaw, before, pieces.no_piece, stuck, flawed)
 
 -- a text has tokens or a refusal

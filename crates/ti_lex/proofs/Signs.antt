@@ -9,28 +9,28 @@ use Rattle.ti_syntax.specs.declared.token.TokenKind.TheVariants as k
 use Rattle.ti_syntax.specs.Tokens.{sign_of}
 use Rattle.ti_syntax.specs.Tokenizing.{Piece, Lexeme, IsPiece, OpensComment}
 use Rattle.ti_syntax.specs.Tokenizing as pieces
-use Rattle.ti_lex.specs.Mirrors.Reading.{Reading, Takes, Refuses, first_signs, first_sign, longer_sign, sign_from, sign}
+use Rattle.ti_lex.specs.Mirrors.Reading.{Reading, Matches, Rejects, first_signs, first_sign, longer_sign, sign_from, sign}
 use Rattle.ti_lex.proofs.Fronts.{Beats, IsSound, IsRefusal}
 
 -- an operator or a longer one is read behind it
 from_by : (at size : ℕ) (kind : TokenKind) (rest : List ℕ) (b : ℕ)
     → ((p : ℕ) (longer : TokenKind) → p ≡ at + size + 1 → Beats (at + 1) size (Lexeme longer) (sign_from longer p rest))
     → (longer : Option TokenKind) → Beats at size (Lexeme kind) (if is_some longer then sign_from (unwrap_or longer kind)
-    (at + size + 1) rest else Takes (Lexeme kind) (at + size))
+    (at + size + 1) rest else Matches (Lexeme kind) (at + size))
 from_by at size kind rest b more (Some longer) =
     further (sign_from longer (at + size + 1) rest) (more (at + size + 1) longer refl)
   where
     further : (r : Reading) → Beats (at + 1) size (Lexeme longer) r → Beats at size (Lexeme kind) r
-    further (Takes piece end) (inl far) = inl (omega arith)
-    further (Takes piece end) (inr (near, same)) = inl (omega arith)
-    further (Refuses flaw fault) h = absurd h
+    further (Matches piece end) (inl far) = inl (omega arith)
+    further (Matches piece end) (inr (near, same)) = inl (omega arith)
+    further (Rejects flaw fault) h = absurd h
 from_by at size kind rest b more None = inr (refl, refl)
 
 from_beats : (rest : List ℕ) (at size : ℕ) (kind : TokenKind) (p : ℕ) → p ≡ at + size → Beats at size (Lexeme kind) (sign_from kind p rest)
 from_beats [] at size kind p h = inr (h, refl)
 from_beats (b ∷ rest) at size kind p h =
     subst (λ q. Beats at size (Lexeme kind) (if is_some (longer_sign kind b) then sign_from (unwrap_or (longer_sign kind b) kind)
-    (q + 1) rest else Takes (Lexeme kind) q)) (sym h) (from_by at size kind rest b
+    (q + 1) rest else Matches (Lexeme kind) q)) (sym h) (from_by at size kind rest b
     (λ q longer e. from_beats rest (at + 1) size longer q (e ∙ omega arith)) (longer_sign kind b))
 
 -- a sign is read byte by byte, from `at` on
@@ -164,22 +164,22 @@ first_of b (row ∷ rows) (this, others) =
 
 -- what is read behind a sign spells one with it
 abbrev IsRest : ℕ → List ℕ → List ℕ → Reading → Type 0
-IsRest p spelling l (Takes piece end) =
+IsRest p spelling l (Matches piece end) =
     (kind : TokenKind) × (whole : List ℕ) × (more : List ℕ) × (rest : List ℕ) × (piece ≡ Lexeme kind) × (sign_of kind ≡ Some whole)
     × (whole ≡ spelling ++ more) × (l ≡ more ++ rest) × (end ≡ p + length more)
-IsRest p spelling l (Refuses flaw fault) = ⊥
+IsRest p spelling l (Rejects flaw fault) = ⊥
 
 rest_by : (p b : ℕ) (spelling l : List ℕ) (kind : TokenKind) → sign_of kind ≡ Some spelling
     → ((longer : TokenKind) → sign_of longer ≡ Some (spelling ++ b ∷ [])
     → IsRest (p + 1) (spelling ++ b ∷ []) l (sign_from longer (p + 1) l)) → (longer : Option TokenKind) → IsLonger kind b longer
-    → IsRest p spelling (b ∷ l) (if is_some longer then sign_from (unwrap_or longer kind) (p + 1) l else Takes (Lexeme kind) p)
+    → IsRest p spelling (b ∷ l) (if is_some longer then sign_from (unwrap_or longer kind) (p + 1) l else Matches (Lexeme kind) p)
 rest_by p b spelling l kind this more (Some longer) is =
     further (sign_from longer (p + 1) l) (more longer (is spelling this))
   where
     further : (r : Reading) → IsRest (p + 1) (spelling ++ b ∷ []) l r → IsRest p spelling (b ∷ l) r
-    further (Takes piece end) (kind, whole, others, rest, piece_is, spelled, whole_is, l_is, to) =
+    further (Matches piece end) (kind, whole, others, rest, piece_is, spelled, whole_is, l_is, to) =
         (kind, whole, b ∷ others, rest, piece_is, spelled, whole_is ∙ append_assoc spelling (b ∷ []) others, ap (λ t. b ∷ t) l_is, omega arith)
-    further (Refuses flaw fault) h = absurd h
+    further (Rejects flaw fault) h = absurd h
 rest_by p b spelling l kind this more None is =
     (kind, spelling, [], b ∷ l, refl, this, sym (append-nil spelling), refl, omega arith)
 
@@ -189,17 +189,17 @@ rest_of (b ∷ l) p spelling kind this =
     rest_by p b spelling l kind this (λ longer h. rest_of l (p + 1) (spelling ++ b ∷ []) longer h) (longer_sign kind b) (all_longer kind b)
 
 -- a sign that is read stands at the front, and where none is read there is a stray byte
-pub sign_sound : (at b : ℕ) (l : List ℕ) → (OpensComment (b ∷ l) → ⊥) → ((first_sign b ≡ None) → IsSound at (b ∷ l) (Refuses pieces.StrayByte at)) → IsSound at (b ∷ l) (sign at (b ∷ l))
+pub sign_sound : (at b : ℕ) (l : List ℕ) → (OpensComment (b ∷ l) → ⊥) → ((first_sign b ≡ None) → IsSound at (b ∷ l) (Rejects pieces.StrayByte at)) → IsSound at (b ∷ l) (sign at (b ∷ l))
 sign_sound at b l no_comment stray = by (first_sign b) refl (first_of b first_signs all_spelled)
   where
     whole : (r : Reading) → IsRest (at + 1) (b ∷ []) l r → IsSound at (b ∷ l) r
-    whole (Takes piece end) (kind, spelling, more, rest, piece_is, spelled, spelling_is, l_is, to) =
+    whole (Matches piece end) (kind, spelling, more, rest, piece_is, spelled, spelling_is, l_is, to) =
         let all : b ∷ l ≡ spelling ++ rest = ap (λ t. b ∷ t) l_is ∙ ap (λ t. t ++ rest) (sym spelling_is) in
         let long : length spelling ≡ 1 + length more = ap length spelling_is ∙ omega arith in
         (spelling, rest, all, omega arith, omega arith, subst (IsPiece spelling rest) (sym piece_is) (pieces.sign kind spelled (λ opens. no_comment (subst OpensComment (sym all) opens))))
-    whole (Refuses flaw fault) h = absurd h
+    whole (Rejects flaw fault) h = absurd h
 
-    by : (first : Option TokenKind) → first_sign b ≡ first → IsFirst b first → IsSound at (b ∷ l) (option_map_or (λ kind. sign_from kind (at + 1) l) first (Refuses pieces.StrayByte at))
+    by : (first : Option TokenKind) → first_sign b ≡ first → IsFirst b first → IsSound at (b ∷ l) (option_map_or (λ kind. sign_from kind (at + 1) l) first (Rejects pieces.StrayByte at))
     by (Some kind) h is = whole (sign_from kind (at + 1) l) (rest_of l (at + 1) (b ∷ []) kind is)
     by None h is = stray h
 
@@ -208,9 +208,9 @@ pub sign_refusal : (at b : ℕ) (l : List ℕ) → IsRefusal pieces.StrayByte at
 sign_refusal at b l = by (first_sign b)
   where
     taken : (kind : TokenKind) (r : Reading) → Beats at 1 (Lexeme kind) r → IsRefusal pieces.StrayByte at r
-    taken kind (Takes piece end) h = tt
-    taken kind (Refuses flaw fault) h = absurd h
+    taken kind (Matches piece end) h = tt
+    taken kind (Rejects flaw fault) h = absurd h
 
-    by : (found : Option TokenKind) → IsRefusal pieces.StrayByte at (option_map_or (λ kind. sign_from kind (at + 1) l) found (Refuses pieces.StrayByte at))
+    by : (found : Option TokenKind) → IsRefusal pieces.StrayByte at (option_map_or (λ kind. sign_from kind (at + 1) l) found (Rejects pieces.StrayByte at))
     by (Some kind) = taken kind (sign_from kind (at + 1) l) (from_beats l at 1 kind (at + 1) refl)
     by None = (refl, refl)

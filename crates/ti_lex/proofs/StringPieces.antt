@@ -6,7 +6,7 @@ use Rattle.std.proofs.lemmas.List.{append-nil}
 use Rattle.ti_syntax.specs.declared.token.TokenKind.TheVariants as k
 use Rattle.ti_syntax.specs.Tokenizing.{Piece, Lexeme, Flaw, StrayByte, OpenString, IsPiece, HasFlaw, IsItem, AreItems, BeginsNoItem, breaks_string, first_passes, is_plain, escaped}
 use Rattle.ti_syntax.specs.Tokenizing as pieces
-use Rattle.ti_lex.specs.Mirrors.Reading.{Reading, Takes, Refuses, string_from, escape_from}
+use Rattle.ti_lex.specs.Mirrors.Reading.{Reading, Matches, Rejects, string_from, escape_from}
 use Rattle.ti_lex.proofs.Fronts.{Beats, IsSound}
 
 plain_apart : (b : ℕ) → is_plain b ≡ true → ((b == 34) ≡ false) × ((b == 92) ≡ false)
@@ -17,7 +17,7 @@ plain_read quote before at b l h = let (quoted, begins) = plain_apart b h in rw 
 
 escape_read : (quote : ℕ) (before : List ℕ) (at b byte : ℕ) (l : List ℕ) → escaped b ≡ Some byte → string_from quote before at (92 ∷ b ∷ l) ≡ string_from quote (before ++ byte ∷ []) (at + 2) l
 escape_read quote before at b byte l h =
-    ap (λ o. if is_some o then string_from quote (before ++ unwrap_or o 0 ∷ []) (at + 2) l else Refuses StrayByte at) h
+    ap (λ o. if is_some o then string_from quote (before ++ unwrap_or o 0 ∷ []) (at + 2) l else Rejects StrayByte at) h
 
 -- items are read one after the other
 pub items_read : {items bytes : List ℕ} → AreItems items bytes → (quote : ℕ) (before : List ℕ) (at : ℕ) (rest : List ℕ)
@@ -37,21 +37,21 @@ items_read (pieces.more_items {items = items} {bytes = bytes} (pieces.escape b {
 pub string_beats : (at : ℕ) (items bytes rest : List ℕ) → AreItems items bytes
     → Beats at (length (34 ∷ (items ++ 34 ∷ []))) (Lexeme (k.Str bytes)) (string_from at [] (at + 1) ((items ++ 34 ∷ []) ++ rest))
 string_beats at items bytes rest are =
-    let whole : string_from at [] (at + 1) ((items ++ 34 ∷ []) ++ rest) ≡ Takes (Lexeme (k.Str bytes)) (at + 1 + length items + 1) =
+    let whole : string_from at [] (at + 1) ((items ++ 34 ∷ []) ++ rest) ≡ Matches (Lexeme (k.Str bytes)) (at + 1 + length items + 1) =
     ap (string_from at [] (at + 1)) (append_assoc items (34 ∷ []) rest) ∙ items_read are at [] (at + 1) (34 ∷ rest) in
     subst (Beats at (length (34 ∷ (items ++ 34 ∷ []))) (Lexeme (k.Str bytes))) (sym whole) (inr (omega (arith, length-append items (34 ∷ [])), refl))
 
 module _ (quote : ℕ) where
   -- what is read of the rest of a string: items and the quote, or items up to a fault
   abbrev IsRest : List ℕ → ℕ → List ℕ → Reading → Type 0
-  IsRest before at l (Takes piece end) =
+  IsRest before at l (Matches piece end) =
       (items : List ℕ) × (bytes : List ℕ) × (rest : List ℕ) × AreItems items bytes × (l ≡ items ++ (34 ∷ rest)) × (piece ≡ Lexeme (k.Str (before ++ bytes))) × (end ≡ at + length items + 1)
-  IsRest before at l (Refuses flaw fault) =
+  IsRest before at l (Rejects flaw fault) =
       (items : List ℕ) × (bytes : List ℕ) × (rest : List ℕ) × AreItems items bytes × (l ≡ items ++ rest)
       × (((flaw ≡ OpenString) × (fault ≡ quote) × (breaks_string rest ≡ true)) ⊎ ((flaw ≡ StrayByte) × (fault ≡ at + length items) × (breaks_string rest ≡ false) × BeginsNoItem rest))
 
   item_more : (item : List ℕ) (byte : ℕ) (before : List ℕ) (at : ℕ) (l : List ℕ) (r : Reading) → IsItem item byte → IsRest (before ++ byte ∷ []) (at + length item) l r → IsRest before at (item ++ l) r
-  item_more item byte before at l (Takes piece end) is (items, bytes, rest, are, l_is, piece_is, to) = (
+  item_more item byte before at l (Matches piece end) is (items, bytes, rest, are, l_is, piece_is, to) = (
     item ++ items,
     byte ∷ bytes,
     rest,
@@ -60,7 +60,7 @@ module _ (quote : ℕ) where
     piece_is ∙ ap (λ t. Lexeme (k.Str t)) (append_assoc before (byte ∷ []) bytes),
     omega (arith, length-append item items),
   )
-  item_more item byte before at l (Refuses flaw fault) is (items, bytes, rest, are, l_is, why) = (
+  item_more item byte before at l (Rejects flaw fault) is (items, bytes, rest, are, l_is, why) = (
     item ++ items,
     byte ∷ bytes,
     rest,
@@ -78,7 +78,7 @@ module _ (quote : ℕ) where
   )
 
   stray_here : (before : List ℕ) (at b : ℕ) (l : List ℕ) → (b == 34) ≡ false → (b == 10 || b == 13) ≡ false
-      → ((item back : List ℕ) (byte : ℕ) → IsItem item byte → b ∷ l ≢ item ++ back) → IsRest before at (b ∷ l) (Refuses StrayByte at)
+      → ((item back : List ℕ) (byte : ℕ) → IsItem item byte → b ∷ l ≢ item ++ back) → IsRest before at (b ∷ l) (Rejects StrayByte at)
   stray_here before at b l quoted breaks none =
       ([], [], b ∷ l, pieces.no_items, refl, inr (refl, omega arith, breaks, (quoted, none)))
 
@@ -106,7 +106,7 @@ module _ (quote : ℕ) where
   escaped_by : (before : List ℕ) (at b : ℕ) (l : List ℕ) → ((byte : ℕ)
       → IsRest (before ++ byte ∷ []) (at + 2) l (string_from quote (before ++ byte ∷ []) (at + 2) l)) → (found : Option ℕ) → escaped b
       ≡ found → IsRest before at (92 ∷ b ∷ l) (if is_some found then string_from quote (before ++ unwrap_or found 0 ∷ [])
-      (at + 2) l else Refuses StrayByte at)
+      (at + 2) l else Rejects StrayByte at)
   escaped_by before at b l more (Some byte) h =
       item_more (92 ∷ b ∷ []) byte before at l (string_from quote (before ++ byte ∷ []) (at + 2) l) (pieces.escape b h) (more byte)
   escaped_by before at b l more None h =
@@ -143,7 +143,7 @@ pub string_sound : (at : ℕ) (l : List ℕ) → IsSound at (34 ∷ l) (string_f
 string_sound at l = by (string_from at [] (at + 1) l) (rest_of at [] (at + 1) l)
   where
     by : (r : Reading) → IsRest at [] (at + 1) l r → IsSound at (34 ∷ l) r
-    by (Takes piece end) (items, bytes, rest, are, l_is, piece_is, to) = (
+    by (Matches piece end) (items, bytes, rest, are, l_is, piece_is, to) = (
       34 ∷ (items ++ 34 ∷ []),
       rest,
       ap (λ t. 34 ∷ t) (l_is ∙ sym (append_assoc items (34 ∷ []) rest)),
@@ -152,9 +152,9 @@ string_sound at l = by (string_from at [] (at + 1) l) (rest_of at [] (at + 1) l)
       subst (IsPiece (34 ∷ (items ++ 34 ∷ [])) rest) (sym piece_is)
           (pieces.string are),
     )
-    by (Refuses flaw fault) (items, bytes, rest, are, l_is, inl (open_is, fault_is, breaks)) =
+    by (Rejects flaw fault) (items, bytes, rest, are, l_is, inl (open_is, fault_is, breaks)) =
         (0, fault_is ∙ omega arith, subst (λ f. HasFlaw (34 ∷ l) f 0) (sym open_is) (subst (λ t. HasFlaw (34 ∷ t) OpenString 0) (sym l_is) (pieces.open_string rest are breaks)))
-    by (Refuses flaw fault) (items, bytes, rest, are, l_is, inr (stray_is, fault_is, breaks, none)) = (
+    by (Rejects flaw fault) (items, bytes, rest, are, l_is, inr (stray_is, fault_is, breaks, none)) = (
       1 + length items,
       omega arith,
       subst (λ f. HasFlaw (34 ∷ l) f (1 + length items)) (sym stray_is)

@@ -8,16 +8,16 @@ use Rattle.ti_syntax.specs.declared.token.TokenKind.TheVariants as k
 use Rattle.ti_syntax.specs.Tokenizing.{Lexeme, StrayByte, OpenString, escaped, is_plain}
 use Rattle.ti_lex.specs.declared.error.LexErr.{LexErr}
 use Rattle.ti_rules.specs.declared.rule.Rule.TheVariants.{X1}
-use Rattle.ti_lex.specs.Mirrors.Cursor.{Spot, rest, moved}
-use Rattle.ti_lex.specs.Mirrors.Reading.{Reading, Takes, Refuses, Item, Gives, Closes, Breaks, Strays, item, escape, string_from, escape_from}
-use Rattle.ti_lex.specs.Mirrors.Answers.{Reads, ReadsItem}
+use Rattle.ti_lex.specs.Mirrors.Cursor.{CursorView, rest, skip_bytes}
+use Rattle.ti_lex.specs.Mirrors.Reading.{Reading, Matches, Rejects, Item, Gives, Closes, Breaks, Strays, item, escape, string_from, escape_from}
+use Rattle.ti_lex.specs.Mirrors.Answers.{Scans, ReadsItem}
 
 -- what an item makes of the rest of a string
 abbrev pub behind : ℕ → List ℕ → ℕ → List ℕ → Item → Reading
 behind quote bytes at l (Gives byte size) = string_from quote (bytes ++ byte ∷ []) (at + size) (drop size l)
-behind quote bytes at l Closes = Takes (Lexeme (k.Str bytes)) (at + 1)
-behind quote bytes at l Breaks = Refuses OpenString quote
-behind quote bytes at l Strays = Refuses StrayByte at
+behind quote bytes at l Closes = Matches (Lexeme (k.Str bytes)) (at + 1)
+behind quote bytes at l Breaks = Rejects OpenString quote
+behind quote bytes at l Strays = Rejects StrayByte at
 
 module _ (quote : ℕ) (bytes : List ℕ) (at : ℕ) where
   escape_from-item : (b : ℕ) (l : List ℕ) → escape_from quote bytes at l ≡ behind quote bytes at (b ∷ l) (escape l)
@@ -25,14 +25,14 @@ module _ (quote : ℕ) (bytes : List ℕ) (at : ℕ) where
   escape_from-item b (c ∷ l) = by (escaped c)
     where
       by : (found : Option ℕ) → (if is_some found then string_from quote (bytes ++ unwrap_or found 0 ∷ [])
-          (at + 2) l else Refuses StrayByte at) ≡ behind quote bytes at (b ∷ c ∷ l) (option_map_or (λ byte. Gives byte 2) found Strays)
+          (at + 2) l else Rejects StrayByte at) ≡ behind quote bytes at (b ∷ c ∷ l) (option_map_or (λ byte. Gives byte 2) found Strays)
       by (Some byte) = refl
       by None = refl
 
   chosen : (l : List ℕ) (b : ℕ) (closes begins plain breaks : Bool) (from : Reading) (e : Item) → from ≡ behind quote bytes at (b ∷ l) e
-      → (if closes then Takes (Lexeme (k.Str bytes)) (at + 1) else (if begins then from
+      → (if closes then Matches (Lexeme (k.Str bytes)) (at + 1) else (if begins then from
       else (if plain then string_from quote (bytes ++ b ∷ []) (at + 1) l
-      else (if breaks then Refuses OpenString quote else Refuses StrayByte at))))
+      else (if breaks then Rejects OpenString quote else Rejects StrayByte at))))
       ≡ behind quote bytes at (b ∷ l) (if closes then Closes else (if begins then e else (if plain then Gives b 1 else (if breaks then Breaks else Strays))))
   chosen l b true begins plain breaks from e h = refl
   chosen l b false true plain breaks from e h = h
@@ -45,16 +45,16 @@ module _ (quote : ℕ) (bytes : List ℕ) (at : ℕ) where
   string_from-item (b ∷ l) =
       chosen l b (b == 34) (b == 92) (is_plain b) (b == 10 || b == 13) (escape_from quote bytes at l) (escape l) (escape_from-item b l)
 
-module _ (quote : ℕ) (bytes : List ℕ) (spot after : Spot) where
+module _ (quote : ℕ) (bytes : List ℕ) (spot after : CursorView) where
   given : (place : Place) (byte : ℕ) (i : Item) → ReadsItem i place spot after (Ok (Some byte)) → (after.text ≡ spot.text)
       × (string_from quote (bytes ++ byte ∷ []) after.at (rest after) ≡ behind quote bytes spot.at (rest spot) i)
   given place byte (Gives b size) (same, to) =
       let x : byte ≡ b = ap (λ o. unwrap_or o byte) same in
-      let further = moved size spot in
+      let further = skip_bytes size spot in
       let here : string_from quote (bytes ++ b ∷ []) further.at (rest further)
       ≡ string_from quote (bytes ++ b ∷ []) (spot.at + size) (drop size (rest spot)) =
       ap (string_from quote (bytes ++ b ∷ []) (spot.at + size)) (sym (drop-drop size spot.at spot.text)) in
-      (ap (λ (z : Spot). z.text) to, ap (λ z. string_from quote (bytes ++ z ∷ []) after.at (rest after)) x ∙ ap (λ (z : Spot). string_from quote (bytes ++ b ∷ []) z.at (rest z)) to ∙ here)
+      (ap (λ (z : CursorView). z.text) to, ap (λ z. string_from quote (bytes ++ z ∷ []) after.at (rest after)) x ∙ ap (λ (z : CursorView). string_from quote (bytes ++ b ∷ []) z.at (rest z)) to ∙ here)
   given place byte Closes (same, to) = cc
   given place byte Breaks h = absurd h
   given place byte Strays h = absurd h
@@ -66,18 +66,18 @@ module _ (quote : ℕ) (bytes : List ℕ) (spot after : Spot) where
       let (same, reads) = given place byte (item (rest spot)) h in
       (same, reads ∙ sym (string_from-item quote bytes spot.at (rest spot)))
 
-  refused : (old new : Spot) (e : LexErr) → old.text ≡ spot.text → (i : Item) → ReadsItem i (place_of old.text quote) spot after (Err e)
-      → Reads (behind quote bytes spot.at (rest spot) i) old new (Err e)
+  refused : (old new : CursorView) (e : LexErr) → old.text ≡ spot.text → (i : Item) → ReadsItem i (place_of old.text quote) spot after (Err e)
+      → Scans (behind quote bytes spot.at (rest spot) i) old new (Err e)
   refused old new e same (Gives b size) h = absurd h
   refused old new e same Closes h = absurd h
   refused old new e same Breaks h =
-      subst (λ z. Reads (Refuses OpenString quote) old new (Err z)) (sym h) refl
+      subst (λ z. Scans (Rejects OpenString quote) old new (Err z)) (sym h) refl
   refused old new e same Strays h =
-      subst (λ z. Reads (Refuses StrayByte spot.at) old new (Err z)) (sym h) (ap (λ t. record { rule = X1; place = place_of t spot.at }) (sym same))
+      subst (λ z. Scans (Rejects StrayByte spot.at) old new (Err z)) (sym h) (ap (λ t. record { rule = X1; place = place_of t spot.at }) (sym same))
 
   -- where an item is refused, so is the string
-  pub item_refused : (old new : Spot) (e : LexErr) → old.text ≡ spot.text
+  pub item_refused : (old new : CursorView) (e : LexErr) → old.text ≡ spot.text
       → ReadsItem (item (rest spot)) (place_of old.text quote) spot after (Err e)
-      → Reads (string_from quote bytes spot.at (rest spot)) old new (Err e)
+      → Scans (string_from quote bytes spot.at (rest spot)) old new (Err e)
   item_refused old new e same h =
-      subst (λ z. Reads z old new (Err e)) (sym (string_from-item quote bytes spot.at (rest spot))) (refused old new e same (item (rest spot)) h)
+      subst (λ z. Scans z old new (Err e)) (sym (string_from-item quote bytes spot.at (rest spot))) (refused old new e same (item (rest spot)) h)

@@ -12,12 +12,12 @@ use Rattle.ti_rules.specs.LexicalRefusals.{most_bytes, rule_of, IsLexicalRefusal
 use Rattle.ti_rules.specs.LexicalRefusals as refusals
 use Rattle.ti_lex.specs.declared.error.LexErr.{LexErr}
 use Rattle.ti_lex.specs.declared.error.LexErr.TheVariants as e
-use Rattle.ti_lex.specs.declared.piece.Piece as read
-use Rattle.ti_lex.specs.declared.piece.Piece.TheVariants as p
+use Rattle.ti_lex.specs.declared.input_element.InputElement as read
+use Rattle.ti_lex.specs.declared.input_element.InputElement.TheVariants as p
 use Rattle.ti_lex.specs.Answer.{Lexes}
-use Rattle.ti_lex.specs.Mirrors.Answers.{Reads}
-use Rattle.ti_lex.specs.Mirrors.Cursor.{Spot, rest}
-use Rattle.ti_lex.specs.Mirrors.Reading.{Reading, Takes, Refuses, first}
+use Rattle.ti_lex.specs.Mirrors.Answers.{Scans}
+use Rattle.ti_lex.specs.Mirrors.Cursor.{CursorView, rest}
+use Rattle.ti_lex.specs.Mirrors.Reading.{Reading, Matches, Rejects, first}
 use Rattle.ti_lex.proofs.Longest.{Tells, first_tells}
 
 -- one more piece behind others
@@ -37,19 +37,19 @@ more_token (pieces.token_and first others) size kind longest =
     pieces.token_and first (more_token others size kind longest)
 
 -- what a loop over the pieces keeps
-pub record IsReadTo (text : List ℕ) (tokens : List Token) (spot : Spot) : Type 0 where
+pub record IsReadTo (text : List ℕ) (tokens : List Token) (spot : CursorView) : Type 0 where
   pub same : spot.text ≡ text
   pub within : spot.at ≤ length text
   pub pieces : Pieces text 0 tokens spot.at
 
-pub some : (spot : Spot) (b : ℕ) (l : List ℕ) → rest spot ≡ b ∷ l → 0 < length (rest spot)
+pub some : (spot : CursorView) (b : ℕ) (l : List ℕ) → rest spot ≡ b ∷ l → 0 < length (rest spot)
 some spot b l h = let long = ap length h in omega arith
 
-pub nothing_read : (spot : Spot) → spot.at ≡ 0 → IsReadTo spot.text [] spot
+pub nothing_read : (spot : CursorView) → spot.at ≡ 0 → IsReadTo spot.text [] spot
 nothing_read spot h = record { same = refl; within = omega arith; pieces = subst (Pieces spot.text 0 []) (sym h) pieces.no_piece }
 
 -- where nothing is left, the tokens and the end are those of the text
-pub all_read : (text : List ℕ) (tokens : List Token) (spot : Spot) → IsReadTo text tokens spot → rest spot ≡ []
+pub all_read : (text : List ℕ) (tokens : List Token) (spot : CursorView) → IsReadTo text tokens spot → rest spot ≡ []
     → IsTokenized text (tokens ++ record { kind = k.End; place = place_of spot.text spot.at } ∷ [])
 all_read text tokens spot before none =
     let left : length (drop spot.at spot.text) ≡ 0 = ap length none in
@@ -59,7 +59,7 @@ all_read text tokens spot before none =
     let end : place_of spot.text spot.at ≡ end_place text = ap (λ t. place_of t spot.at) before.same ∙ ap (place_of text) done in
     record { spelled = tokens; pieces = subst (Pieces text 0 tokens) done before.pieces; ended = ap (λ (p : Place). tokens ++ record { kind = k.End; place = p } ∷ []) end }
 
-module _ (text : List ℕ) (tokens : List Token) (spot new : Spot) (before : IsReadTo text tokens spot) (more : 0 < length (rest spot)) where
+module _ (text : List ℕ) (tokens : List Token) (spot new : CursorView) (before : IsReadTo text tokens spot) (more : 0 < length (rest spot)) where
   abbrev front : List ℕ
   front = drop spot.at text
 
@@ -72,28 +72,28 @@ module _ (text : List ℕ) (tokens : List Token) (spot new : Spot) (before : IsR
 
   moves : (end size : ℕ) → end ≡ spot.at + size → size ≤ length front → new ≡ record spot { at = end } → (new.text ≡ text) × (new.at ≤ length text) × (spot.at + size ≡ new.at)
   moves end size to within h =
-      let there : new.at ≡ end = ap (λ (z : Spot). z.at) h in
+      let there : new.at ≡ end = ap (λ (z : CursorView). z.at) h in
       let far = before.within in
-      (ap (λ (z : Spot). z.text) h ∙ before.same, omega (arith, length-drop spot.at text), sym to ∙ sym there)
+      (ap (λ (z : CursorView). z.text) h ∙ before.same, omega (arith, length-drop spot.at text), sym to ∙ sym there)
 
   -- a blank or a comment is passed over
-  pub space_read : Reads (first spot.at (rest spot)) spot new (Ok p.Space) → IsReadTo text tokens new
+  pub space_read : Scans (first spot.at (rest spot)) spot new (Ok p.Space) → IsReadTo text tokens new
   space_read h = by (first spot.at (rest spot)) refl h
     where
-      by : (r : Reading) → first spot.at (rest spot) ≡ r → Reads r spot new (Ok p.Space) → IsReadTo text tokens new
-      by (Takes piece end) is (found, to_new) =
-          let (size, to, positive, longest) = told (Takes piece end) is in
+      by : (r : Reading) → first spot.at (rest spot) ≡ r → Scans r spot new (Ok p.Space) → IsReadTo text tokens new
+      by (Matches piece end) is (found, to_new) =
+          let (size, to, positive, longest) = told (Matches piece end) is in
           let (same, within, there) = moves end size to longest.within to_new in
           record { same = same; within = within; pieces = subst (Pieces text 0 tokens) there (more_space before.pieces size (subst (IsLongest front size) (sym found) longest)) }
-      by (Refuses flaw fault) is h = absurd h
+      by (Rejects flaw fault) is h = absurd h
 
   -- a token is added
-  pub token_read : (kind : TokenKind) → Reads (first spot.at (rest spot)) spot new (Ok (p.Token kind)) → IsReadTo text (tokens ++ record { kind = kind; place = place_of text spot.at } ∷ []) new
+  pub token_read : (kind : TokenKind) → Scans (first spot.at (rest spot)) spot new (Ok (p.Token kind)) → IsReadTo text (tokens ++ record { kind = kind; place = place_of text spot.at } ∷ []) new
   token_read kind h = by (first spot.at (rest spot)) refl h
     where
-      by : (r : Reading) → first spot.at (rest spot) ≡ r → Reads r spot new (Ok (p.Token kind)) → IsReadTo text (tokens ++ record { kind = kind; place = place_of text spot.at } ∷ []) new
-      by (Takes piece end) is (found, to_new) =
-          let (size, to, positive, longest) = told (Takes piece end) is in
+      by : (r : Reading) → first spot.at (rest spot) ≡ r → Scans r spot new (Ok (p.Token kind)) → IsReadTo text (tokens ++ record { kind = kind; place = place_of text spot.at } ∷ []) new
+      by (Matches piece end) is (found, to_new) =
+          let (size, to, positive, longest) = told (Matches piece end) is in
           let (same, within, there) = moves end size to longest.within to_new in
           record {
             same = same;
@@ -102,16 +102,16 @@ module _ (text : List ℕ) (tokens : List Token) (spot new : Spot) (before : IsR
                 ++ record { kind = kind; place = place_of text spot.at } ∷ [])) there
                 (more_token before.pieces size kind (subst (IsLongest front size) (sym found) longest));
           }
-      by (Refuses flaw fault) is h = absurd h
+      by (Rejects flaw fault) is h = absurd h
 
   -- a refusal is that of the text
-  pub refusal_read : length text ≤ most_bytes → (refusal : Refusal) → Reads (first spot.at (rest spot)) spot new (Err (e.Refused refusal)) → IsLexicalRefusal text refusal
+  pub refusal_read : length text ≤ most_bytes → (refusal : Refusal) → Scans (first spot.at (rest spot)) spot new (Err (e.Refused refusal)) → IsLexicalRefusal text refusal
   refusal_read short refusal h = by (first spot.at (rest spot)) refl h
     where
-      by : (r : Reading) → first spot.at (rest spot) ≡ r → Reads r spot new (Err (e.Refused refusal)) → IsLexicalRefusal text refusal
-      by (Takes piece end) is h = absurd h
-      by (Refuses flaw fault) is refused =
-          let (stuck, (back, to, flawed)) = told (Refuses flaw fault) is in
+      by : (r : Reading) → first spot.at (rest spot) ≡ r → Scans r spot new (Err (e.Refused refusal)) → IsLexicalRefusal text refusal
+      by (Matches piece end) is h = absurd h
+      by (Rejects flaw fault) is refused =
+          let (stuck, (back, to, flawed)) = told (Rejects flaw fault) is in
           let here : refusal ≡ record { rule = rule_of flaw; place = place_of text fault } = refused ∙ ap (λ t. record { rule = rule_of flaw; place = place_of t fault }) before.same in
           subst (IsLexicalRefusal text) (sym here) (refusals.flawed short
           (record {
@@ -125,19 +125,19 @@ module _ (text : List ℕ) (tokens : List Token) (spot new : Spot) (before : IsR
           }))
 
   -- so is any error that isn't want of memory
-  pub error_read : length text ≤ most_bytes → (error : LexErr) → Reads (first spot.at (rest spot)) spot new (Err error) → Lexes text (Err error)
+  pub error_read : length text ≤ most_bytes → (error : LexErr) → Scans (first spot.at (rest spot)) spot new (Err error) → Lexes text (Err error)
   error_read short (e.Refused refusal) h = refusal_read short refusal h
   error_read short e.Memory h = tt
 
   -- what is read makes the rest shorter
-  pub reads_further : (found : read.Piece) → Reads (first spot.at (rest spot)) spot new (Ok found) → length (rest new) < length (rest spot)
+  pub reads_further : (found : read.InputElement) → Scans (first spot.at (rest spot)) spot new (Ok found) → length (rest new) < length (rest spot)
   reads_further found h = by (first spot.at (rest spot)) refl h
     where
-      by : (r : Reading) → first spot.at (rest spot) ≡ r → Reads r spot new (Ok found) → length (rest new) < length (rest spot)
-      by (Takes piece end) is (found, to_new) =
-          let (size, to, positive, longest) = told (Takes piece end) is in
+      by : (r : Reading) → first spot.at (rest spot) ≡ r → Scans r spot new (Ok found) → length (rest new) < length (rest spot)
+      by (Matches piece end) is (found, to_new) =
+          let (size, to, positive, longest) = told (Matches piece end) is in
           let there : rest new ≡ drop end spot.text = ap rest to_new in
           let here : length (rest spot) ≡ length spot.text - spot.at = length-drop spot.at spot.text in
           let further : length (rest new) ≡ length spot.text - end = ap length there ∙ length-drop end spot.text in
           omega arith
-      by (Refuses flaw fault) is h = absurd h
+      by (Rejects flaw fault) is h = absurd h

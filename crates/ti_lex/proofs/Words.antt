@@ -13,7 +13,7 @@ use Rattle.ti_syntax.specs.declared.token.TokenKind.TheVariants as k
 use Rattle.ti_syntax.specs.Tokens.{word_of}
 use Rattle.ti_syntax.specs.Tokenizing.{Lexeme, IsPiece, first_passes, begins_name, is_name_byte}
 use Rattle.ti_syntax.specs.Tokenizing as pieces
-use Rattle.ti_lex.specs.Mirrors.Reading.{Takes, reserved, kind_of_word, word}
+use Rattle.ti_lex.specs.Mirrors.Reading.{Matches, reserved_words, kind_of_word, word}
 use Rattle.ti_lex.proofs.Fronts.{Beats, IsSound}
 use Rattle.ti_lex.proofs.Runs.{run_covers, run_passes}
 
@@ -24,7 +24,7 @@ IsFound kind (Some word) =
     (first_passes begins_name word ≡ true) × (list_all is_name_byte word ≡ true) × (kind_of_word word ≡ kind)
 
 all_found : (kind : TokenKind) → IsFound kind (word_of kind)
-unfolding reserved
+unfolding reserved_words
 all_found k.KeywordBoolean = (refl, refl, refl)
 all_found k.KeywordBreak = (refl, refl, refl)
 all_found k.KeywordBroadcast = (refl, refl, refl)
@@ -69,8 +69,8 @@ abbrev AreSpelled : List (List ℕ × TokenKind) → Type 0
 AreSpelled [] = Unit {0}
 AreSpelled (row ∷ rows) = (word_of row.1 ≡ Some row.0) × AreSpelled rows
 
-all_spelled : AreSpelled reserved
-unfolding reserved
+all_spelled : AreSpelled reserved_words
+unfolding reserved_words
 all_spelled = (
   refl,
   (
@@ -155,7 +155,7 @@ spelled word (row ∷ rows) (this, others) =
     spelled_by word row (lookup (bytes_eq word) rows) this (spelled word rows others) (bytes_eq word row.0) refl
 
 -- a word that isn't found is no reserved word
-not_reserved : (word : List ℕ) → lookup (bytes_eq word) reserved ≡ None → (kind : TokenKind) → word_of kind ≢ Some word
+not_reserved : (word : List ℕ) → lookup (bytes_eq word) reserved_words ≡ None → (kind : TokenKind) → word_of kind ≢ Some word
 not_reserved word none kind h =
     let (first, all, found) = reserved_found kind word h in
     let same : k.Name word ≡ kind = sym (ap (λ o. unwrap_or o (k.Name word)) none) ∙ found in
@@ -164,19 +164,19 @@ not_reserved word none kind h =
 
 -- what a word that looks like a name is
 word_piece : (b : ℕ) (more rest : List ℕ) → begins_name b ≡ true → list_all is_name_byte more ≡ true → (found : Option TokenKind)
-    → lookup (bytes_eq (b ∷ more)) reserved ≡ found → IsPiece (b ∷ more) rest (Lexeme (unwrap_or found (k.Name (b ∷ more))))
+    → lookup (bytes_eq (b ∷ more)) reserved_words ≡ found → IsPiece (b ∷ more) rest (Lexeme (unwrap_or found (k.Name (b ∷ more))))
 word_piece b more rest first others None h =
     pieces.name b more first others (not_reserved (b ∷ more) h)
 word_piece b more rest first others (Some kind) h =
-    pieces.reserved kind (subst (IsSpelling (b ∷ more)) h (spelled (b ∷ more) reserved all_spelled))
+    pieces.reserved kind (subst (IsSpelling (b ∷ more)) h (spelled (b ∷ more) reserved_words all_spelled))
 
 -- a word that is no reserved word is a name
 pub name_found : (word : List ℕ) → ((kind : TokenKind) → word_of kind ≢ Some word) → kind_of_word word ≡ k.Name word
-name_found word none = by (lookup (bytes_eq word) reserved) refl
+name_found word none = by (lookup (bytes_eq word) reserved_words) refl
   where
-    by : (found : Option TokenKind) → lookup (bytes_eq word) reserved ≡ found → unwrap_or found (k.Name word) ≡ k.Name word
+    by : (found : Option TokenKind) → lookup (bytes_eq word) reserved_words ≡ found → unwrap_or found (k.Name word) ≡ k.Name word
     by None h = refl
-    by (Some kind) h = absurd (none kind (subst (IsSpelling word) h (spelled word reserved all_spelled)))
+    by (Some kind) h = absurd (none kind (subst (IsSpelling word) h (spelled word reserved_words all_spelled)))
 
 -- where a list begins with a word, that word or a longer one is read
 pub word_beats : (at : ℕ) (name rest : List ℕ) (kind : TokenKind) → list_all is_name_byte name ≡ true → kind_of_word name ≡ kind → Beats at (length name) (Lexeme kind) (word at (name ++ rest))
@@ -193,18 +193,18 @@ word_beats at name rest kind all found =
     ]
 
 sized : (at b : ℕ) (l : List ℕ) (n : ℕ) → begins_name b ≡ true → n ≡ prefix_len is_name_byte l → (size : ℕ) → size ≡ suc n
-    → IsSound at (b ∷ l) (Takes (Lexeme (kind_of_word (take size (b ∷ l)))) (at + size))
+    → IsSound at (b ∷ l) (Matches (Lexeme (kind_of_word (take size (b ∷ l)))) (at + size))
 sized at b l n first is size h =
     let all : list_all is_name_byte (take n l) ≡ true = subst (λ m. list_all is_name_byte (take m l) ≡ true) (sym is) (run_passes is_name_byte l) in
     let long : length (take n l) ≡ n = subst (λ m. length (take m l) ≡ m) (sym is) (length-prefix_len is_name_byte l) in
     let name = b ∷ take n l in
-    subst (λ m. IsSound at (b ∷ l) (Takes (Lexeme (kind_of_word (take m (b ∷ l)))) (at + m))) (sym h) (
+    subst (λ m. IsSound at (b ∷ l) (Matches (Lexeme (kind_of_word (take m (b ∷ l)))) (at + m))) (sym h) (
       name,
       drop n l,
       ap (λ t. b ∷ t) (sym (take-append-drop n l)),
       omega arith,
       omega arith,
-      word_piece b (take n l) (drop n l) first all (lookup (bytes_eq name) reserved) refl,
+      word_piece b (take n l) (drop n l) first all (lookup (bytes_eq name) reserved_words) refl,
     )
 
 -- a word that is read stands at the front

@@ -1,19 +1,19 @@
 // Comments and operators that begin with a slash.
 ghost use Rattle.std.specs.Prelude.{◌≡◌, ◌+◌, ◌≤◌, ◌<◌, ◌++◌, List, ℕ, codes, length, drop, false};
 ghost use Rattle.ti_syntax.specs.Tokenizing.{Space};
-ghost use Rattle.ti_lex.specs.Mirrors.Answers.{Reads};
+ghost use Rattle.ti_lex.specs.Mirrors.Answers.{Scans};
 ghost use Rattle.ti_lex.specs.Mirrors.Cursor.{rest};
-ghost use Rattle.ti_lex.specs.Mirrors.Reading.{Takes, comment_from, line_left, slash};
+ghost use Rattle.ti_lex.specs.Mirrors.Reading.{Matches, comment_from, line_left, slash};
 
 use crate::cursor::Cursor;
-use crate::error::{LexErr, refused};
-use crate::piece::Piece;
+use crate::error::{LexErr, lex_error};
+use crate::input_element::InputElement;
 use ti_rules::Rule;
 
 impl Cursor<'_> {
     /// Skips the rest of the line, up to its line feed.
-    fn line(&mut self) -> Result<Piece, LexErr>
-        ensures { Reads (Takes Space (self.old.at + line_left (rest self.old))) self.old self.new result }
+    fn line(&mut self) -> Result<InputElement, LexErr>
+        ensures { Scans (Matches Space (self.old.at + line_left (rest self.old))) self.old self.new result }
     {
         while let Some(byte) = self.peek() {
             if byte == b'\n' {
@@ -21,13 +21,13 @@ impl Cursor<'_> {
             }
             self.advance();
         }
-        Ok(Piece::Space)
+        Ok(InputElement::Space)
     }
 
     /// Skips a comment from its `/*` to its `*/`. Error: X2 at the `/*` if it isn't closed.
-    fn block_comment(&mut self) -> Result<Piece, LexErr>
+    fn block_comment(&mut self) -> Result<InputElement, LexErr>
         requires { 2 ≤ length (rest self.old) }
-        ensures { Reads (comment_from self.old.at false (self.old.at + 2) (drop 1 (drop 1 (rest self.old)))) self.old self.new result }
+        ensures { Scans (comment_from self.old.at false (self.old.at + 2) (drop 1 (drop 1 (rest self.old)))) self.old self.new result }
     {
         let slash = self.place();
         self.advance();
@@ -36,22 +36,22 @@ impl Cursor<'_> {
         while let Some(byte) = self.peek() {
             self.advance();
             if star && byte == b'/' {
-                return Ok(Piece::Space);
+                return Ok(InputElement::Space);
             }
             star = byte == b'*';
         }
-        Err(refused(Rule::X2, slash))
+        Err(lex_error(Rule::X2, slash))
     }
 
     /// Reads the comment or the operator that begins with a slash.
-    pub fn slash(&mut self) -> Result<Piece, LexErr>
+    pub fn slash(&mut self) -> Result<InputElement, LexErr>
         requires { 0 < length (rest self.old) }
-        ensures { Reads (slash self.old.at (rest self.old)) self.old self.new result }
+        ensures { Scans (slash self.old.at (rest self.old)) self.old self.new result }
     {
-        match self.rest() {
+        match self.unread() {
             [_, b'/', ..] => self.line(),
             [_, b'*', ..] => self.block_comment(),
-            _ => self.sign(),
+            _ => self.operator(),
         }
     }
 }

@@ -2,7 +2,7 @@
 ghost use Rattle.std.specs.Prelude.{◌≡◌, ◌≤◌, ◌<◌, ◌∷◌, [], length, drop, MatchOption};
 ghost use Rattle.ti_base.specs.Places.{place_of};
 ghost use Rattle.ti_rules.specs.LexicalRefusals.{most_bytes};
-ghost use Rattle.ti_lex.specs.Mirrors.Cursor.{rest, moved};
+ghost use Rattle.ti_lex.specs.Mirrors.Cursor.{rest, skip_bytes};
 
 use std::marker::Model;
 use ti_base::Place;
@@ -22,9 +22,9 @@ impl<'a> Model for Cursor<'a> {
     ghost use Rattle.std.specs.Prelude.{◌≡◌, ◌≤◌, length};
     ghost use Rattle.ti_base.specs.Places.{place_of};
     ghost use Rattle.ti_rules.specs.LexicalRefusals.{most_bytes};
-    ghost use Rattle.ti_lex.specs.Mirrors.Cursor.{Spot};
+    ghost use Rattle.ti_lex.specs.Mirrors.Cursor.{CursorView};
 
-    ghost Value = { Spot };
+    ghost Value = { CursorView };
 
     ghost view = { λ c. record { text = c.text.now; at = c.at } };
 
@@ -52,7 +52,7 @@ impl<'a> Cursor<'a> {
     }
 
     /// The bytes that aren't read yet.
-    pub fn rest(&self) -> &'a [u8]
+    pub fn unread(&self) -> &'a [u8]
         ensures { result.now ≡ rest self.now }
     {
         &self.text[self.at..]
@@ -62,13 +62,13 @@ impl<'a> Cursor<'a> {
     pub fn peek(&self) -> Option<u8>
         ensures { MatchOption result (rest self.now ≡ []) (λ byte. rest self.now ≡ byte ∷ drop 1 (rest self.now)) }
     {
-        self.rest().first().copied()
+        self.unread().first().copied()
     }
 
     /// Skips the next byte.
     pub fn advance(&mut self)
         requires { 0 < length (rest self.old) }
-        ensures moves { self.new ≡ moved 1 self.old }
+        ensures moves { self.new ≡ skip_bytes 1 self.old }
         ensures left { rest self.new ≡ drop 1 (rest self.old) }
     {
         self.place = self.place.after(self.text[self.at]);

@@ -40,7 +40,7 @@ impl<T: Drop> From<AllocFailed<T>> for LexErr {
 }
 
 /// A lexical error of this rule at this position.
-pub fn refused(rule: Rule, place: Place) -> LexErr
+pub fn lex_error(rule: Rule, place: Place) -> LexErr
     ensures { result ≡ LexErr.Refused (record { rule = rule; place = place }) }
 {
     LexErr::Refused(Refusal { rule, place })

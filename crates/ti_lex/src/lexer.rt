@@ -5,14 +5,14 @@ ghost use Rattle.ti_syntax.specs.Tokenizing.{IsTokenized};
 ghost use Rattle.ti_rules.specs.declared.refusal.Refusal.{Refusal};
 ghost use Rattle.ti_rules.specs.LexicalRefusals.{most_bytes, IsLexicalRefusal};
 ghost use Rattle.ti_lex.specs.Answer.{Lexes, GivesOnly, RefusesOnly};
-ghost use Rattle.ti_lex.specs.Mirrors.Answers.{Reads};
+ghost use Rattle.ti_lex.specs.Mirrors.Answers.{Scans};
 ghost use Rattle.ti_lex.specs.Mirrors.Cursor.{rest};
 ghost use Rattle.ti_lex.specs.Mirrors.Reading.{first};
 
-use crate::class::{Class, class_of};
+use crate::byte_class::{ByteClass, class_of_byte};
 use crate::cursor::Cursor;
-use crate::error::{LexErr, refused};
-use crate::piece::Piece;
+use crate::error::{LexErr, lex_error};
+use crate::input_element::InputElement;
 use std::alloc::Global;
 use ti_base::Place;
 use ti_rules::Rule;
@@ -24,20 +24,20 @@ const MOST_BYTES: usize = 1048576;
 impl Cursor<'_> {
     /// Reads the lexical element that begins with `byte`, the next byte.
     #[tactic(auto, unfolding(crate::specs::Mirrors::Reading::first))]
-    fn piece(&mut self, alloc: Global, byte: u8) -> Result<Piece, LexErr>
+    fn input_element(&mut self, alloc: Global, byte: u8) -> Result<InputElement, LexErr>
         requires { rest self.old ≡ byte ∷ drop 1 (rest self.old) }
-        ensures { Reads (first self.old.at (rest self.old)) self.old self.new result }
+        ensures { Scans (first self.old.at (rest self.old)) self.old self.new result }
     {
-        match class_of(byte) {
-            Class::Blank => {
+        match class_of_byte(byte) {
+            ByteClass::Blank => {
                 self.advance();
-                Ok(Piece::Space)
+                Ok(InputElement::Space)
             }
-            Class::Letter => self.word(alloc),
-            Class::Digit => self.number(),
-            Class::Quote => self.string(alloc),
-            Class::Slash => self.slash(),
-            Class::Other => self.sign(),
+            ByteClass::Letter => self.word(alloc),
+            ByteClass::Digit => self.number(),
+            ByteClass::Quote => self.string(alloc),
+            ByteClass::Slash => self.slash(),
+            ByteClass::Other => self.operator(),
         }
     }
 
@@ -50,9 +50,9 @@ impl Cursor<'_> {
         let mut tokens = Vec::new(alloc);
         while let Some(byte) = self.peek() {
             let place = self.place();
-            match self.piece(alloc, byte)? {
-                Piece::Space => {}
-                Piece::Token(kind) => tokens.push(Token { kind, place })?,
+            match self.input_element(alloc, byte)? {
+                InputElement::Space => {}
+                InputElement::Token(kind) => tokens.push(Token { kind, place })?,
             }
         }
         let place = self.place();
@@ -74,7 +74,7 @@ pub fn lex(alloc: Global, text: &[u8]) -> Result<Vec<Token>, LexErr>
     ensures only_refusal { (refusal : Refusal) → IsLexicalRefusal text.now refusal → RefusesOnly result refusal }
 {
     if text.len() > MOST_BYTES {
-        return Err(refused(Rule::X5, Place::first()));
+        return Err(lex_error(Rule::X5, Place::first()));
     }
     Cursor::new(text).tokens(alloc)
 }

@@ -1,14 +1,14 @@
 //! The lexer: splits the bytes of a source into tokens, by longest match.
 #![tactic(auto)]
 
-mod class;
+mod byte_class;
 mod comment;
 mod cursor;
 mod error;
+mod input_element;
 mod lexer;
 mod number;
 mod operator;
-mod piece;
 mod string;
 mod word;
 

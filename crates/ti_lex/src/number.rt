@@ -2,15 +2,15 @@
 ghost use Rattle.std.specs.Prelude.{◌≡◌, ◌+◌, ◌≤◌, length};
 ghost use Rattle.std.specs.List.{prefix_len};
 ghost use Rattle.std.specs.Char.{is_ascii_digit};
-ghost use Rattle.ti_lex.specs.Mirrors.Answers.{Reads};
-ghost use Rattle.ti_lex.specs.Mirrors.Cursor.{rest, moved};
+ghost use Rattle.ti_lex.specs.Mirrors.Answers.{Scans};
+ghost use Rattle.ti_lex.specs.Mirrors.Cursor.{rest, skip_bytes};
 ghost use Rattle.ti_syntax.specs.Tokenizing.{first_passes, is_long_letter};
 ghost use Rattle.ti_lex.specs.Mirrors.Reading.{dimension, digits, number, value_from, too_large, most_of, kind_of_number, letters};
 
-use crate::class::{is_long_letter, is_name_byte};
+use crate::byte_class::{is_long_letter, is_name_byte};
 use crate::cursor::Cursor;
-use crate::error::{LexErr, refused};
-use crate::piece::Piece;
+use crate::error::{LexErr, lex_error};
+use crate::input_element::InputElement;
 use ti_rules::Rule;
 use ti_syntax::TokenKind;
 
@@ -58,7 +58,7 @@ impl Cursor<'_> {
     fn value(&mut self) -> u64
         ensures value { result ≡ value_from 0 (rest self.old) }
         ensures fits { result ≤ too_large }
-        ensures moves { self.new ≡ moved (prefix_len is_ascii_digit (rest self.old)) self.old }
+        ensures moves { self.new ≡ skip_bytes (prefix_len is_ascii_digit (rest self.old)) self.old }
     {
         let mut value: u128 = 0;
         while let Some(byte) = self.peek() {
@@ -74,7 +74,7 @@ impl Cursor<'_> {
     /// Reads the suffix of a long literal, if it is next, and returns whether it was.
     fn letter(&mut self) -> bool
         ensures letter { result ≡ first_passes is_long_letter (rest self.old) }
-        ensures moves { self.new ≡ moved (letters result) self.old }
+        ensures moves { self.new ≡ skip_bytes (letters result) self.old }
     {
         match self.peek() {
             Some(byte) => {
@@ -89,30 +89,30 @@ impl Cursor<'_> {
     }
 
     /// Reads a number literal. Error: X4 at its first digit if it has a leading 0 or is too large.
-    fn digits(&mut self) -> Result<Piece, LexErr>
-        ensures { Reads (digits self.old.at (rest self.old)) self.old self.new result }
+    fn digits(&mut self) -> Result<InputElement, LexErr>
+        ensures { Scans (digits self.old.at (rest self.old)) self.old self.new result }
     {
         let place = self.place();
         let leads_with_zero = self.peek() == Some(b'0');
-        let before = self.rest().len();
+        let before = self.unread().len();
         let value = self.value();
-        let size = before - self.rest().len();
+        let size = before - self.unread().len();
         let long = self.letter();
         if leads_with_zero && size != 1 || value > most_of(long) {
-            return Err(refused(Rule::X4, place));
+            return Err(lex_error(Rule::X4, place));
         }
-        Ok(Piece::Token(kind_of_number(long, value)))
+        Ok(InputElement::Token(kind_of_number(long, value)))
     }
 
     /// Reads a dimension or a number literal.
-    pub fn number(&mut self) -> Result<Piece, LexErr>
-        ensures { Reads (number self.old.at (rest self.old)) self.old self.new result }
+    pub fn number(&mut self) -> Result<InputElement, LexErr>
+        ensures { Scans (number self.old.at (rest self.old)) self.old self.new result }
     {
-        match dimension(self.rest()) {
+        match dimension(self.unread()) {
             Some(number) => {
                 self.advance();
                 self.advance();
-                Ok(Piece::Token(TokenKind::Dim(number)))
+                Ok(InputElement::Token(TokenKind::Dim(number)))
             }
             None => self.digits(),
         }

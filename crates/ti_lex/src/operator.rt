@@ -2,11 +2,11 @@
 ghost use Rattle.std.specs.Prelude.{◌≡◌, ◌<◌, length};
 ghost use Rattle.ti_lex.specs.Mirrors.Cursor.{rest};
 ghost use Rattle.ti_lex.specs.Mirrors.Reading.{first_sign, longer_sign, sign};
-ghost use Rattle.ti_lex.specs.Mirrors.Answers.{Reads};
+ghost use Rattle.ti_lex.specs.Mirrors.Answers.{Scans};
 
 use crate::cursor::Cursor;
-use crate::error::{LexErr, refused};
-use crate::piece::Piece;
+use crate::error::{LexErr, lex_error};
+use crate::input_element::InputElement;
 use ti_rules::Rule;
 use ti_syntax::TokenKind;
 
@@ -75,13 +75,13 @@ fn longer_sign(kind: &TokenKind, byte: u8) -> Option<TokenKind>
 
 impl Cursor<'_> {
     /// Reads the longest operator or punctuation mark here. Error: X1 if the byte begins none.
-    pub fn sign(&mut self) -> Result<Piece, LexErr>
+    pub fn operator(&mut self) -> Result<InputElement, LexErr>
         requires { 0 < length (rest self.old) }
-        ensures { Reads (sign self.old.at (rest self.old)) self.old self.new result }
+        ensures { Scans (sign self.old.at (rest self.old)) self.old self.new result }
     {
         let place = self.place();
         let Some(mut kind) = self.peek().and_then(first_sign) else {
-            return Err(refused(Rule::X1, place));
+            return Err(lex_error(Rule::X1, place));
         };
         self.advance();
         while let Some(byte) = self.peek() {
@@ -91,6 +91,6 @@ impl Cursor<'_> {
             kind = longer;
             self.advance();
         }
-        Ok(Piece::Token(kind))
+        Ok(InputElement::Token(kind))
     }
 }

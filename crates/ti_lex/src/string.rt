@@ -1,13 +1,13 @@
 // String literals.
 ghost use Rattle.std.specs.Prelude.{◌≡◌, ◌+◌, [], ◌<◌, length, drop};
-ghost use Rattle.ti_lex.specs.Mirrors.Answers.{Reads, ReadsItem};
+ghost use Rattle.ti_lex.specs.Mirrors.Answers.{Scans, ReadsItem};
 ghost use Rattle.ti_lex.specs.Mirrors.Cursor.{rest};
 ghost use Rattle.ti_lex.specs.Mirrors.Reading.{item, string_from};
 
-use crate::class::{escaped, is_plain};
+use crate::byte_class::{escape_value, is_plain};
 use crate::cursor::Cursor;
-use crate::error::{LexErr, refused};
-use crate::piece::Piece;
+use crate::error::{LexErr, lex_error};
+use crate::input_element::InputElement;
 use std::alloc::Global;
 use ti_base::Place;
 use ti_rules::Rule;
@@ -21,33 +21,33 @@ impl Cursor<'_> {
         ensures { ReadsItem (item (rest self.old)) quote self.old self.new result }
     {
         let place = self.place();
-        match self.rest() {
+        match self.unread() {
             [b'"', ..] => {
                 self.advance();
                 Ok(None)
             }
-            [b'\\', next, ..] => match escaped(*next) {
+            [b'\\', next, ..] => match escape_value(*next) {
                 Some(byte) => {
                     self.advance();
                     self.advance();
                     Ok(Some(byte))
                 }
-                None => Err(refused(Rule::X1, place)),
+                None => Err(lex_error(Rule::X1, place)),
             },
             [byte, ..] if is_plain(*byte) => {
                 let byte = *byte;
                 self.advance();
                 Ok(Some(byte))
             }
-            [] | [b'\n' | b'\r', ..] => Err(refused(Rule::X3, quote)),
-            _ => Err(refused(Rule::X1, place)),
+            [] | [b'\n' | b'\r', ..] => Err(lex_error(Rule::X3, quote)),
+            _ => Err(lex_error(Rule::X1, place)),
         }
     }
 
     /// Reads the string literal here, from its opening quote.
-    pub fn string(&mut self, alloc: Global) -> Result<Piece, LexErr>
+    pub fn string(&mut self, alloc: Global) -> Result<InputElement, LexErr>
         requires { 0 < length (rest self.old) }
-        ensures { Reads (string_from self.old.at [] (self.old.at + 1) (drop 1 (rest self.old))) self.old self.new result }
+        ensures { Scans (string_from self.old.at [] (self.old.at + 1) (drop 1 (rest self.old))) self.old self.new result }
     {
         let quote = self.place();
         self.advance();
@@ -55,6 +55,6 @@ impl Cursor<'_> {
         while let Some(byte) = self.item(quote)? {
             bytes.push(byte)?;
         }
-        Ok(Piece::Token(TokenKind::Str(Spelled::new(bytes))))
+        Ok(InputElement::Token(TokenKind::Str(Spelled::new(bytes))))
     }
 }

@@ -4,14 +4,14 @@ ghost use Rattle.std.specs.List.{prefix_len};
 ghost use Rattle.std.specs.Map.{lookup};
 ghost use Rattle.std.specs.Str.{bytes_eq};
 ghost use Rattle.ti_syntax.specs.Tokenizing.{is_name_byte};
-ghost use Rattle.ti_lex.specs.Mirrors.Answers.{Reads};
-ghost use Rattle.ti_lex.specs.Mirrors.Cursor.{rest, moved};
-ghost use Rattle.ti_lex.specs.Mirrors.Reading.{reserved, word};
+ghost use Rattle.ti_lex.specs.Mirrors.Answers.{Scans};
+ghost use Rattle.ti_lex.specs.Mirrors.Cursor.{rest, skip_bytes};
+ghost use Rattle.ti_lex.specs.Mirrors.Reading.{reserved_words, word};
 
-use crate::class::is_name_byte;
+use crate::byte_class::is_name_byte;
 use crate::cursor::Cursor;
 use crate::error::LexErr;
-use crate::piece::Piece;
+use crate::input_element::InputElement;
 use std::alloc::Global;
 use ti_syntax::{Spelled, TokenKind};
 
@@ -19,10 +19,10 @@ use ti_syntax::{Spelled, TokenKind};
 const RESERVED: usize = 34;
 
 /// An entry of the table of reserved words: the spelling and the token kind.
-#[tactic(auto, unfolding(crate::specs::Mirrors::Reading::reserved))]
+#[tactic(auto, unfolding(crate::specs::Mirrors::Reading::reserved_words))]
 fn reserved_at(number: usize) -> (&'static [u8], TokenKind)
     requires { number < RESERVED }
-    ensures { slice_get reserved number ≡ Some (result.0.now, result.1) }
+    ensures { slice_get reserved_words number ≡ Some (result.0.now, result.1) }
 {
     match number {
         0 => (b"boolean", TokenKind::KeywordBoolean),
@@ -63,13 +63,13 @@ fn reserved_at(number: usize) -> (&'static [u8], TokenKind)
 }
 
 /// The range of table indices, end exclusive, that has all reserved words that begin with `first`.
-#[tactic(auto, unfolding(crate::specs::Mirrors::Reading::reserved))]
+#[tactic(auto, unfolding(crate::specs::Mirrors::Reading::reserved_words))]
 fn reserved_with(first: u8) -> (usize, usize)
     ensures order { result.0 ≤ result.1 }
     ensures within { result.1 ≤ 34 }
-    ensures before { (rest : List ℕ) → lookup (bytes_eq (first ∷ rest)) (drop result.0 reserved)
-        ≡ lookup (bytes_eq (first ∷ rest)) reserved }
-    ensures behind { (rest : List ℕ) → lookup (bytes_eq (first ∷ rest)) (drop result.1 reserved) ≡ None }
+    ensures before { (rest : List ℕ) → lookup (bytes_eq (first ∷ rest)) (drop result.0 reserved_words)
+        ≡ lookup (bytes_eq (first ∷ rest)) reserved_words }
+    ensures behind { (rest : List ℕ) → lookup (bytes_eq (first ∷ rest)) (drop result.1 reserved_words) ≡ None }
 {
     match first {
         b'b' => (0, 3),
@@ -96,7 +96,7 @@ fn reserved_with(first: u8) -> (usize, usize)
 
 /// The token kind of a reserved word, or None if the word isn't reserved.
 fn reserved_word(word: &[u8]) -> Option<TokenKind>
-    ensures { result ≡ lookup (bytes_eq word.now) reserved }
+    ensures { result ≡ lookup (bytes_eq word.now) reserved_words }
 {
     let [first, ..] = word else {
         return None;
@@ -115,9 +115,9 @@ impl<'a> Cursor<'a> {
     /// Reads all bytes here that can continue a name.
     fn name(&mut self) -> &'a [u8]
         ensures bytes { result.now ≡ take (prefix_len is_name_byte (rest self.old)) (rest self.old) }
-        ensures moves { self.new ≡ moved (prefix_len is_name_byte (rest self.old)) self.old }
+        ensures moves { self.new ≡ skip_bytes (prefix_len is_name_byte (rest self.old)) self.old }
     {
-        let rest = self.rest();
+        let rest = self.unread();
         let mut size = 0;
         while let Some(byte) = self.peek() {
             if !is_name_byte(byte) {
@@ -130,14 +130,14 @@ impl<'a> Cursor<'a> {
     }
 
     /// Reads a name or a reserved word.
-    pub fn word(&mut self, alloc: Global) -> Result<Piece, LexErr>
-        ensures { Reads (word self.old.at (rest self.old)) self.old self.new result }
+    pub fn word(&mut self, alloc: Global) -> Result<InputElement, LexErr>
+        ensures { Scans (word self.old.at (rest self.old)) self.old self.new result }
     {
         let word = self.name();
         if let Some(kind) = reserved_word(word) {
-            return Ok(Piece::Token(kind));
+            return Ok(InputElement::Token(kind));
         }
         let word = Spelled::new(word.to_vec(alloc)?);
-        Ok(Piece::Token(TokenKind::Name(word)))
+        Ok(InputElement::Token(TokenKind::Name(word)))
     }
 }

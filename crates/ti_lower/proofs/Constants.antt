@@ -8,14 +8,14 @@ use Rattle.ti_lang.specs.Program.Expressions.{NumberedExp, NumberedExps, numbere
 use Rattle.ti_lang.specs.Program.Expressions as e
 use Rattle.ti_lang.specs.Program.Statements.{NumberedDims, NumberedInit, NumberedPrint, NumberedStm, MaybeNumbered, NoStm, SomeStm, NumberedStms, Nil, Cons, numbered_stms}
 use Rattle.ti_lang.specs.Program.Statements as s
-use Rattle.ti_lang.specs.Program.Classes.{NumberedMethod, NumberedProgram}
+use Rattle.ti_lang.specs.Program.Classes.{NumberedMethod, ProgramView}
 use Rattle.ti_lang.specs.Program.Scope.{this_of}
 use Rattle.ti_lang.specs.Program.Types as t
 use Rattle.ti_lang.specs.Typing.BuiltIn.{BuiltIn, Copy, Exchange, Delete}
 use Rattle.ti_lang.specs.Typing.Called.{called_method, member_called}
 use Rattle.ti_lang.specs.Typing.Declared.{result_type}
 use Rattle.ti_lang.specs.Typing.Kinds.{element_of}
-use Rattle.ti_lang.specs.Typing.TextTypes.{type_in_text, how_many}
+use Rattle.ti_lang.specs.Typing.TextTypes.{syntactic_type, how_many}
 use Rattle.ti_lang.specs.Meaning.Held.{Held, Plain, Dm}
 use Rattle.ti_lang.specs.Meaning.Calls.{Call, call_by, parameters_of}
 use Rattle.ti_lang.specs.Meaning.Processes.{Receiver, Nowhere, Declared, Assigned, Updated}
@@ -27,26 +27,26 @@ use Rattle.ti_code.specs.declared.instr.Operation.{Operation}
 use Rattle.ti_code.specs.Forms.{IsFormedInstr, IsFormedMethod, AreFormed}
 use Rattle.ti_lower_expr.specs.Slots.{Name, Hidden, Point, has_this}
 use Rattle.ti_lower_expr.specs.Methods.{names_of}
-use Rattle.ti_lower_expr.specs.declared.kinds.Kind.{Kind}
-use Rattle.ti_lower_expr.specs.declared.kinds.Kind.TheVariants.{Numbers}
-use Rattle.ti_lower_expr.specs.declared.kinds.Known.{Known}
-use Rattle.ti_lower_expr.specs.declared.kinds.Known.TheVariants as known
+use Rattle.ti_lower_expr.specs.declared.kinds.OperandClass.{OperandClass}
+use Rattle.ti_lower_expr.specs.declared.kinds.OperandClass.TheVariants.{Numbers}
+use Rattle.ti_lower_expr.specs.declared.kinds.StaticRepr.{StaticRepr}
+use Rattle.ti_lower_expr.specs.declared.kinds.StaticRepr.TheVariants as known
 use Rattle.ti_lower_expr.specs.Knowing.{known_of}
 use Rattle.ti_lower_expr.specs.Coding.{constant, kind_in, code_of}
 use Rattle.ti_lower_expr.proofs.Lemmas.{is_simple, IsLowered, AllCome, formed_from_comes, simple_come, both_come, next_comes, then_come}
 use Rattle.ti_lower_expr.proofs.Lemmas.{loaded_comes, own_simple, conversion_comes, pops_come, code_comes, all_come}
 use Rattle.ti_lower.specs.Calling.{number_called, args_code, call_code}
 use Rattle.ti_lower.specs.Calling as calling
-use Rattle.ti_lower.specs.Receivers.{written_slot, kept, TargetKind, InSlot, InField, InElement, store_code, update_code, kind_of_target, place_code, into_code, waiting_code, late_code}
-use Rattle.ti_lower.specs.Laying.{Labels, names_after, as_element, dropped, break_code, continue_code, first_code, print_code}
-use Rattle.ti_lower.specs.Laying.{condition_code, loop_code, walk_code, root_code, broadcast_code, region_code, spread_code, object_code}
-use Rattle.ti_lower.specs.Laying.{grid_code, valued_code, init_code, both_code, copy_code, exchange_code, form_code, other_code, alone_code}
-use Rattle.ti_lower.specs.Laying.{gives_nothing, stm_code, stms_code, maybe_code}
+use Rattle.ti_lower.specs.Receivers.{written_slot, keep_code, TargetKind, InSlot, InField, InElement, store_code, update_code, kind_of_target, place_code, into_code, waiting_code, late_code}
+use Rattle.ti_lower.specs.StmtCode.{LoopTargets, names_after, as_element, pop_domain, break_code, continue_code, first_code, print_code}
+use Rattle.ti_lower.specs.StmtCode.{condition_code, loop_code, walk_code, root_code, broadcast_code, region_code, spread_code, object_code}
+use Rattle.ti_lower.specs.StmtCode.{grid_code, valued_code, init_code, both_code, copy_code, exchange_code, form_code, other_code, alone_code}
+use Rattle.ti_lower.specs.StmtCode.{gives_nothing, stm_code, stms_code, maybe_code}
 use Rattle.ti_lower.specs.Programs.{in_main, body_code, instrs_in, method_code, end_in, methods_code}
 
 -- ---- the way of a value
 
-kept_simple : (o : Option ℕ) → is_simple (kept o) ≡ true
+kept_simple : (o : Option ℕ) → is_simple (keep_code o) ≡ true
 kept_simple (Some k) = refl
 kept_simple None = refl
 
@@ -59,7 +59,7 @@ store_comes names p InElement = simple_come refl
 abbrev AnywhereCome : (List Name → ℕ → List Instr) → Type 0
 AnywhereCome right = (names : List Name) (from : ℕ) → AllCome (right names from)
 
-update_comes : (names : List Name) (p q : Place) (name : Operation) (k : Known) (type : ValueType) (target : TargetKind) (right : List Name → ℕ → List Instr) (at : ℕ)
+update_comes : (names : List Name) (p q : Place) (name : Operation) (k : StaticRepr) (type : ValueType) (target : TargetKind) (right : List Name → ℕ → List Instr) (at : ℕ)
     → AnywhereCome right → AllCome (update_code names p q name k type target right at)
 update_comes names p q name k type (InSlot x) right at f =
     next_comes (loaded_comes (written_slot x names) x) (both_come (f names _) (then_come refl (both_come (conversion_comes p type k) (store_comes names p (InSlot x)))))
@@ -69,7 +69,7 @@ update_comes names p q name k type InElement right at f =
     then_come refl (then_come refl (then_come refl (then_come refl
     (both_come (f (Hidden ∷ names) _) (then_come refl (both_come (conversion_comes p type k) (simple_come refl)))))))
 
-module _ (program : NumberedProgram) (this : Option ℕ) where
+module _ (program : ProgramView) (this : Option ℕ) where
   place_comes : (names : List Name) (x : NumberedExp) (at : ℕ) → AllCome (place_code program this names x at)
   place_comes names (e.Variable q x) at = simple_come refl
   place_comes names (e.OwnField q field) at = then_come (own_simple (has_this names)) (simple_come refl)
@@ -77,23 +77,23 @@ module _ (program : NumberedProgram) (this : Option ℕ) where
   place_comes names (e.Index q x parts) at = both_come (code_comes program this names x at) (both_come (all_come program this names parts _) (simple_come refl))
   place_comes names other at = simple_come refl
 
-  into_comes : (r : Receiver) (kind : Kind) (k : Known) (right : List Name → ℕ → List Instr) (names : List Name) (at : ℕ) → AnywhereCome right
+  into_comes : (r : Receiver) (kind : OperandClass) (k : StaticRepr) (right : List Name → ℕ → List Instr) (names : List Name) (at : ℕ) → AnywhereCome right
       → AllCome (into_code program this r kind k right names at)
   into_comes Nowhere kind k right names at f = both_come (f names at) (simple_come refl)
   into_comes (Declared p x) kind k right names at f = both_come (f names at) (both_come (conversion_comes p (declared_type x.declared) k) (simple_come refl))
   into_comes (Assigned p target) kind k right names at f =
-      both_come (place_comes names target at) (both_come (f names _) (both_come (conversion_comes p (type_in_text program this target) k) (store_comes names p (kind_of_target program this target))))
+      both_come (place_comes names target at) (both_come (f names _) (both_come (conversion_comes p (syntactic_type program this target) k) (store_comes names p (kind_of_target program this target))))
   into_comes (Updated p op target) kind k right names at f = both_come (place_comes names target at) (update_comes names p _ _ _ _ _ right _ f)
 
-  waiting_comes : (r : Receiver) (kind : Kind) (k : Known) (names : List Name) (at : ℕ) → AllCome (waiting_code program this r kind k names at)
+  waiting_comes : (r : Receiver) (kind : OperandClass) (k : StaticRepr) (names : List Name) (at : ℕ) → AllCome (waiting_code program this r kind k names at)
   waiting_comes r kind k names at =
       then_come refl (both_come (into_comes r kind k (λ ns from. i.Load (length names) ∷ []) (Hidden ∷ names) (at + 1) (λ ns from. simple_come refl)) (simple_come refl))
 
-  late_comes : (r : Receiver) (kind : Kind) (k : Known) (names : List Name) (at : ℕ) → AllCome (late_code program this r kind k names at)
+  late_comes : (r : Receiver) (kind : OperandClass) (k : StaticRepr) (names : List Name) (at : ℕ) → AllCome (late_code program this r kind k names at)
   late_comes Nowhere kind k names at = simple_come refl
   late_comes (Declared p x) kind k names at = both_come (conversion_comes p (declared_type x.declared) k) (simple_come refl)
   late_comes (Assigned p (e.Variable q x)) kind k names at =
-      both_come (conversion_comes p (type_in_text program this (e.Variable q x)) k) (then_come (kept_simple (written_slot x names)) (simple_come refl))
+      both_come (conversion_comes p (syntactic_type program this (e.Variable q x)) k) (then_come (kept_simple (written_slot x names)) (simple_come refl))
   late_comes r kind k names at = waiting_comes r kind k names at
 
   -- ---- calls
@@ -123,7 +123,7 @@ first_comes : (n : ℕ) → AllCome (first_code n)
 first_comes zero = simple_come refl
 first_comes (suc n) = pops_come n
 
-module _ (program : NumberedProgram) (this : Option ℕ) (names : List Name) where
+module _ (program : ProgramView) (this : Option ℕ) (names : List Name) where
   abbrev of_comes : (x : NumberedExp) (at : ℕ) → AllCome (code_of program this names x at)
   of_comes = code_comes program this names
 
@@ -135,7 +135,7 @@ module _ (program : NumberedProgram) (this : Option ℕ) (names : List Name) whe
 
   exchange_comes : (p : Place) (x : NumberedExp) (args : NumberedExps) (at : ℕ) → AllCome (exchange_code program this p names x args at)
   exchange_comes p x args at =
-      both_come (both_come (both_sides_come x args at) (element_comes (element_of (type_in_text program this x)))) (simple_come refl)
+      both_come (both_come (both_sides_come x args at) (element_comes (element_of (syntactic_type program this x)))) (simple_come refl)
 
   -- ---- simple statements
 
@@ -170,9 +170,9 @@ module _ (program : NumberedProgram) (this : Option ℕ) (names : List Name) whe
       → AllCome (grid_code program this names p region element q dims at)
   grid_comes p region element q dims at = both_come (region_comes region at) (both_come (spread_comes q dims _) (simple_come refl))
 
-module _ (program : NumberedProgram) (this : Option ℕ) where
+module _ (program : ProgramView) (this : Option ℕ) where
   -- an expression whose value goes to a receiver
-  value_comes : (r : Receiver) (kind : Kind) (k : Known) (x : NumberedExp) (names : List Name) (at : ℕ) → AllCome (into_code program this r kind k (λ ns from. code_of program this ns x from) names at)
+  value_comes : (r : Receiver) (kind : OperandClass) (k : StaticRepr) (x : NumberedExp) (names : List Name) (at : ℕ) → AllCome (into_code program this r kind k (λ ns from. code_of program this ns x from) names at)
   value_comes r kind k x names at = into_comes program this r kind k _ names at (λ ns from. code_comes program this ns x from)
 
   valued_comes : (r : Receiver) (x : NumberedExp) (o : Option Call) (names : List Name) (at : ℕ) → AllCome (valued_code program this r x o names at)
@@ -205,32 +205,32 @@ module _ (program : NumberedProgram) (this : Option ℕ) where
 
 -- ---- jumps out of blocks, and loops
 
-drop_comes : (walks : Bool) (target : ℕ) → AllCome (dropped walks ++ i.Jump target ∷ [])
+drop_comes : (walks : Bool) (target : ℕ) → AllCome (pop_domain walks ++ i.Jump target ∷ [])
 drop_comes true target = simple_come refl
 drop_comes false target = simple_come refl
 
-break_comes : (l : Option Labels) (names : List Name) (at : ℕ) → AllCome (break_code l names at)
+break_comes : (l : Option LoopTargets) (names : List Name) (at : ℕ) → AllCome (break_code l names at)
 break_comes None names at = simple_come refl
 break_comes (Some l) names at = then_come refl (drop_comes l.walks l.exit)
 
-continue_comes : (l : Option Labels) (names : List Name) (at : ℕ) → AllCome (continue_code l names at)
+continue_comes : (l : Option LoopTargets) (names : List Name) (at : ℕ) → AllCome (continue_code l names at)
 continue_comes None names at = simple_come refl
 continue_comes (Some l) names at = simple_come refl
 
-loop_comes : (program : NumberedProgram) (this : Option ℕ) (p : Place) (names : List Name) (c : Option NumberedExp) (body : Option Labels → ℕ → List Instr) (update : ℕ → List Instr) (at : ℕ)
-    → ((l : Option Labels) (from : ℕ) → AllCome (body l from)) → ((from : ℕ) → AllCome (update from)) → AllCome (loop_code program this p names c body update at)
+loop_comes : (program : ProgramView) (this : Option ℕ) (p : Place) (names : List Name) (c : Option NumberedExp) (body : Option LoopTargets → ℕ → List Instr) (update : ℕ → List Instr) (at : ℕ)
+    → ((l : Option LoopTargets) (from : ℕ) → AllCome (body l from)) → ((from : ℕ) → AllCome (update from)) → AllCome (loop_code program this p names c body update at)
 loop_comes program this p names c body update at f g =
     then_come refl (then_come refl (both_come (f _ _) (both_come (g _) (both_come (condition_comes program this names c _) (simple_come refl)))))
 
-walk_comes : (program : NumberedProgram) (this : Option ℕ) (p : Place) (names : List Name) (body : Option Labels → ℕ → List Instr) (at : ℕ)
-    → ((l : Option Labels) (from : ℕ) → AllCome (body l from)) → AllCome (walk_code program this p names body at)
+walk_comes : (program : ProgramView) (this : Option ℕ) (p : Place) (names : List Name) (body : Option LoopTargets → ℕ → List Instr) (at : ℕ)
+    → ((l : Option LoopTargets) (from : ℕ) → AllCome (body l from)) → AllCome (walk_code program this p names body at)
 walk_comes program this p names body at f = then_come refl (then_come refl (both_come (f _ _) (simple_come refl)))
 
 -- ---- statements
 
-module _ (program : NumberedProgram) (this : Option ℕ) (result : ValueType) where
+module _ (program : ProgramView) (this : Option ℕ) (result : ValueType) where
   mutual
-    stm_comes : (x : NumberedStm) (l : Option Labels) (names : List Name) (at : ℕ) → AllCome (stm_code program this result x l names at)
+    stm_comes : (x : NumberedStm) (l : Option LoopTargets) (names : List Name) (at : ℕ) → AllCome (stm_code program this result x l names at)
     stm_comes s.Empty l names at = simple_come refl
     stm_comes (s.Declare p type variable value) l names at = init_comes program this (Declared p (declared_as type variable)) value names at
     stm_comes (s.Assign p target value) l names at = init_comes program this (Assigned p target) value names at
@@ -260,11 +260,11 @@ module _ (program : NumberedProgram) (this : Option ℕ) (result : ValueType) wh
         let c = call_by x (called_method program this x) in
         alone_comes program this (gives_nothing program this c) x c names at
 
-    stms_come : (xs : NumberedStms) (l : Option Labels) (names : List Name) (at : ℕ) → AllCome (stms_code program this result xs l names at)
+    stms_come : (xs : NumberedStms) (l : Option LoopTargets) (names : List Name) (at : ℕ) → AllCome (stms_code program this result xs l names at)
     stms_come Nil l names at = simple_come refl
     stms_come (Cons x rest) l names at = both_come (stm_comes x l names at) (stms_come rest l (names_after x names) _)
 
-    maybe_comes : (x : MaybeNumbered) (l : Option Labels) (names : List Name) (at : ℕ) → AllCome (maybe_code program this result x l names at)
+    maybe_comes : (x : MaybeNumbered) (l : Option LoopTargets) (names : List Name) (at : ℕ) → AllCome (maybe_code program this result x l names at)
     maybe_comes NoStm l names at = simple_come refl
     maybe_comes (SomeStm x) l names at = stm_comes x l names at
 
@@ -283,24 +283,24 @@ main_comes : (end : Place) (x : Instr) → IsLowered x → IsLowered (in_main en
 main_comes end x (inl e) = inl (main_simple end x e)
 main_comes end x (inr z) = inr (z.0, ap (in_main end) z.1 ∙ main_constant end (zero_declared z.0))
 
-body_comes : (program : NumberedProgram) (m : NumberedMethod) → AllCome (body_code program m)
+body_comes : (program : ProgramView) (m : NumberedMethod) → AllCome (body_code program m)
 body_comes program m = both_come (stms_come program (this_of m) (result_type m) (numbered_stms m.body) None (names_of m) 0) (simple_come refl)
 
 instrs_come : (end : Option Place) (is : List Instr) → All IsLowered is → All IsLowered (instrs_in end is)
 instrs_come None is f = f
 instrs_come (Some end) is f = All-map IsLowered (in_main end) is (All-weaker IsLowered (λ x. IsLowered (in_main end x)) (main_comes end) is f)
 
-method_formed : (program : NumberedProgram) (end : Option Place) (m : NumberedMethod) → IsFormedMethod (method_code program end m)
+method_formed : (program : ProgramView) (end : Option Place) (m : NumberedMethod) → IsFormedMethod (method_code program end m)
 method_formed program end m =
     let is = body_code program m in
     All-weaker IsLowered IsFormedInstr formed_from_comes (instrs_in end is) (instrs_come end is (body_comes program m).each)
 
-methods_formed : (program : NumberedProgram) (n : ℕ) (ms : List NumberedMethod) → AreFormed (methods_code program n ms)
+methods_formed : (program : ProgramView) (n : ℕ) (ms : List NumberedMethod) → AreFormed (methods_code program n ms)
 methods_formed program n [] = All-nil IsFormedMethod
 methods_formed program n (m ∷ ms) =
     let end = end_in (n == program.main) m in
     All-cons IsFormedMethod (method_code program end m) (methods_code program (n + 1) ms) (method_formed program end m) (methods_formed program (n + 1) ms)
 
 -- the instructions of the code of every program are in their form
-pub program_formed : (program : NumberedProgram) → AreFormed (methods_code program 0 program.methods)
+pub program_formed : (program : ProgramView) → AreFormed (methods_code program 0 program.methods)
 program_formed program = methods_formed program 0 program.methods

@@ -2,11 +2,11 @@
 use Rattle.std.proofs.Common.{◌≡◌, ℕ, ◌+◌, Bool, true, false, if◌then◌else◌, cond, List, [], ◌∷◌, count_by, Option, Some, None, refl, ap, sym, ◌∙◌, arith}
 use Rattle.std.proofs.lemmas.List.Recursion.{is_count_by}
 use Rattle.ti_base.specs.declared.value.Id.{Id}
-use Rattle.ti_lang.specs.Meaning.Held.{Held, thing_of}
+use Rattle.ti_lang.specs.Meaning.Held.{Held, referent_of}
 use Rattle.ti_lang.specs.Meaning.Processes.{Variable}
 use Rattle.ti_lang.specs.Meaning.Turns.{Turn}
 use Rattle.ti_lang.specs.Meaning.Steps.{lies_in}
-use Rattle.ti_lower_expr.specs.Slots.{Name, Holds, none, object, variable, turn, hidden}
+use Rattle.ti_lower_expr.specs.Slots.{Name, SlotsHold, none, object, variable, turn, hidden}
 use Rattle.ti_lower.proofs.Cutting.{Bare}
 
 -- the same count by recursion
@@ -19,10 +19,10 @@ many_is p xs = is_count_by (many p) p refl (λ x xs. refl) xs
 
 module _ (region : ℕ) where
   abbrev pub held_there : Held → Bool
-  held_there h = lies_in region (thing_of h)
+  held_there h = lies_in region (referent_of h)
 
   abbrev pub variable_there : Variable → Bool
-  variable_there x = lies_in region (thing_of x.held)
+  variable_there x = lies_in region (referent_of x.held)
 
   none_there : (this : Option Id) → this ≡ None → ◌≡◌ {A = ℕ} 0 (0 + (if lies_in region this then 1 else 0))
   none_there None e = refl
@@ -38,7 +38,7 @@ module _ (region : ℕ) where
   both_more true n m k e = omega (arith, e)
   both_more false n m k e = e
 
-  many_count : (this : Option Id) (ns : List Name) (vs : List Variable) (ts : List Turn) (hs : List Held) → Bare ns → Holds this ns vs ts hs
+  many_count : (this : Option Id) (ns : List Name) (vs : List Variable) (ts : List Turn) (hs : List Held) → Bare ns → SlotsHold this ns vs ts hs
       → many held_there hs ≡ many variable_there vs + own_count this
   many_count this ns vs ts hs z (none e) = none_there this e
   many_count this ns vs ts hs z object = own_one (lies_in region this)
@@ -51,6 +51,6 @@ module _ (region : ℕ) where
   many_count this ns vs ts hs z (turn {ns = ms} {vs = us} {ts = rs} {hs = gs} h) = many_count this ms us rs gs z h
   many_count this ns vs ts hs z (hidden h) = elim z [ ]
 
-  pub slots_count : (this : Option Id) (ns : List Name) (vs : List Variable) (ts : List Turn) (hs : List Held) → Bare ns → Holds this ns vs ts hs
+  pub slots_count : (this : Option Id) (ns : List Name) (vs : List Variable) (ts : List Turn) (hs : List Held) → Bare ns → SlotsHold this ns vs ts hs
       → count_by held_there hs ≡ count_by variable_there vs + (if lies_in region this then 1 else 0)
   slots_count this ns vs ts hs z h = sym (many_is held_there hs) ∙ (many_count this ns vs ts hs z h ∙ ap (λ n. n + own_count this) (many_is variable_there vs))

@@ -10,9 +10,9 @@ use Rattle.ti_lang.specs.Typing.Kinds.{same_truth, same_type}
 use Rattle.ti_lang.specs.Meaning.Processes.{Variable}
 use Rattle.ti_lang.specs.Meaning.Held.{Held}
 use Rattle.ti_lang.specs.Meaning.Turns.{Turn}
-use Rattle.ti_lang.specs.Meaning.Scoping.{same_variable, same_declaration, without}
-use Rattle.ti_code.specs.Effects.{trimmed}
-use Rattle.ti_lower_expr.specs.Slots.{Name, Of, Hidden, Holds, none, object, variable, turn, hidden}
+use Rattle.ti_lang.specs.Meaning.Scoping.{same_variable, same_declaration, without_variables}
+use Rattle.ti_code.specs.Effects.{oldest_slots}
+use Rattle.ti_lower_expr.specs.Slots.{Name, Of, Hidden, SlotsHold, none, object, variable, turn, hidden}
 use Rattle.ti_lower_expr.proofs.Lemmas.{as_many, same_number}
 
 -- one of these is the variable
@@ -40,7 +40,7 @@ pub cut_bare : (xs : List VariableUse) (ns before : List Name) → Cut xs ns bef
 cut_bare xs ns before (whole s) z = z
 cut_bare xs ns before (newest {ns = ms} e k) z = cut_bare xs ms before k z
 
-stay : (this : Option Id) (xs : List VariableUse) (ns : List Name) (vs : List Variable) (ts : List Turn) (hs : List Held) → Stay xs ns → Holds this ns vs ts hs → without xs vs ≡ vs
+stay : (this : Option Id) (xs : List VariableUse) (ns : List Name) (vs : List Variable) (ts : List Turn) (hs : List Held) → Stay xs ns → SlotsHold this ns vs ts hs → without_variables xs vs ≡ vs
 stay this xs ns vs ts hs s (none z) = refl
 stay this xs ns vs ts hs s object = refl
 stay this xs ns vs ts hs s (variable {ns = ms} {vs = us} {ts = rs} {hs = gs} {x = y} {h = g} k h) =
@@ -57,27 +57,27 @@ drop_none k n hs e =
     let none : n - k ≡ 0 = omega (arith, e) in
     ap (λ m. drop m hs) none
 
-drop_one : (k : ℕ) (h : Held) (hs : List Held) → k ≤ length hs → trimmed k (h ∷ hs) ≡ trimmed k hs
+drop_one : (k : ℕ) (h : Held) (hs : List Held) → k ≤ length hs → oldest_slots k (h ∷ hs) ≡ oldest_slots k hs
 drop_one k h hs l =
     let one : suc (length hs) - k ≡ suc (length hs - k) = omega (arith, l) in
     ap (λ m. drop m (h ∷ hs)) one
 
-pub trimmed_holds : (this : Option Id) (xs : List VariableUse) (ns before : List Name) (vs : List Variable) (ts : List Turn) (hs : List Held) → Cut xs ns before → Holds this ns vs ts hs
-    → Holds this before (without xs vs) ts (trimmed (length before) hs)
+pub trimmed_holds : (this : Option Id) (xs : List VariableUse) (ns before : List Name) (vs : List Variable) (ts : List Turn) (hs : List Held) → Cut xs ns before → SlotsHold this ns vs ts hs
+    → SlotsHold this before (without_variables xs vs) ts (oldest_slots (length before) hs)
 trimmed_holds this xs ns before vs ts hs (whole s) h =
-    subst (λ ws. Holds this ns ws ts (trimmed (length ns) hs)) (sym (stay this xs ns vs ts hs s h))
-    (subst (λ gs. Holds this ns vs ts gs) (sym (drop_none (length ns) (length hs) hs (as_many this ns vs ts hs h))) h)
+    subst (λ ws. SlotsHold this ns ws ts (oldest_slots (length ns) hs)) (sym (stay this xs ns vs ts hs s h))
+    (subst (λ gs. SlotsHold this ns vs ts gs) (sym (drop_none (length ns) (length hs) hs (as_many this ns vs ts hs h))) h)
 trimmed_holds this xs ns before vs ts hs (newest {ns = ms} {y = y} e k) (variable {vs = us} {hs = gs} {h = g} z h) =
     let few : length before ≤ length gs = omega (arith, cut_less xs ms before k, as_many this ms us ts gs h) in
-    subst (λ ws. Holds this before ws ts (trimmed (length before) (g ∷ gs))) (sym (ap (λ b. if not b then record { named = y; held = g } ∷ without xs us else without xs us) e))
-    (subst (λ fs. Holds this before (without xs us) ts fs) (sym (drop_one (length before) g gs few)) (trimmed_holds this xs ms before us ts gs k h))
+    subst (λ ws. SlotsHold this before ws ts (oldest_slots (length before) (g ∷ gs))) (sym (ap (λ b. if not b then record { named = y; held = g } ∷ without_variables xs us else without_variables xs us) e))
+    (subst (λ fs. SlotsHold this before (without_variables xs us) ts fs) (sym (drop_one (length before) g gs few)) (trimmed_holds this xs ms before us ts gs k h))
 
 -- a slot that no name means is dropped
-pub hidden_dropped : (this : Option Id) (ns : List Name) (vs : List Variable) (ts : List Turn) (hs : List Held) → Holds this (Hidden ∷ ns) vs ts hs → Holds this ns vs ts (trimmed (length ns) hs)
+pub hidden_dropped : (this : Option Id) (ns : List Name) (vs : List Variable) (ts : List Turn) (hs : List Held) → SlotsHold this (Hidden ∷ ns) vs ts hs → SlotsHold this ns vs ts (oldest_slots (length ns) hs)
 hidden_dropped this ns vs ts hs (hidden {hs = gs} {h = g} k) =
     let same = as_many this ns vs ts gs k in
     let few : length ns ≤ length gs = omega (arith, same) in
-    subst (λ fs. Holds this ns vs ts fs) (sym (drop_one (length ns) g gs few ∙ drop_none (length ns) (length gs) gs same)) k
+    subst (λ fs. SlotsHold this ns vs ts fs) (sym (drop_one (length ns) g gs few ∙ drop_none (length ns) (length gs) gs same)) k
 
 -- the same names below so many that mean nothing
 abbrev pub hide : List Held → List Name → List Name
@@ -89,39 +89,39 @@ hidden_more [] ns = omega arith
 hidden_more (x ∷ more) ns = omega (arith, hidden_more more ns)
 
 -- the newest slot is dropped among others
-pub trimmed_more : (k : ℕ) (h : Held) (hs : List Held) → k ≤ length hs → trimmed k (h ∷ hs) ≡ trimmed k hs
+pub trimmed_more : (k : ℕ) (h : Held) (hs : List Held) → k ≤ length hs → oldest_slots k (h ∷ hs) ≡ oldest_slots k hs
 trimmed_more k h hs l = drop_one k h hs l
 
 -- the newest slot is dropped
-pub trimmed_newest : (k : ℕ) (h : Held) (hs : List Held) → k ≡ length hs → trimmed k (h ∷ hs) ≡ hs
+pub trimmed_newest : (k : ℕ) (h : Held) (hs : List Held) → k ≡ length hs → oldest_slots k (h ∷ hs) ≡ hs
 trimmed_newest k h hs e = drop_one k h hs (omega (arith, e)) ∙ drop_none k (length hs) hs e
 
 -- slots that no name means are dropped
 pub all_dropped : (this : Option Id) (more : List Held) (ns : List Name) (vs : List Variable) (ts : List Turn) (hs : List Held)
-    → Holds this (hide more ns) vs ts hs → Holds this ns vs ts (trimmed (length ns) hs)
-all_dropped this [] ns vs ts hs h = subst (λ gs. Holds this ns vs ts gs) (sym (drop_none (length ns) (length hs) hs (as_many this ns vs ts hs h))) h
+    → SlotsHold this (hide more ns) vs ts hs → SlotsHold this ns vs ts (oldest_slots (length ns) hs)
+all_dropped this [] ns vs ts hs h = subst (λ gs. SlotsHold this ns vs ts gs) (sym (drop_none (length ns) (length hs) hs (as_many this ns vs ts hs h))) h
 all_dropped this (x ∷ more) ns vs ts hs (hidden {hs = gs} {h = g} k) =
     let few : length ns ≤ length gs = omega (arith, as_many this (hide more ns) vs ts gs k, hidden_more more ns) in
-    subst (λ fs. Holds this ns vs ts fs) (sym (drop_one (length ns) g gs few)) (all_dropped this more ns vs ts gs k)
+    subst (λ fs. SlotsHold this ns vs ts fs) (sym (drop_one (length ns) g gs few)) (all_dropped this more ns vs ts gs k)
 
-trimmed_by : (b : Bool) (k m : ℕ) (h : Held) (hs : List Held) → ltb (length hs) m ≡ b → k ≤ m → trimmed k (trimmed m hs) ≡ trimmed k hs → trimmed k (trimmed m (h ∷ hs)) ≡ trimmed k (h ∷ hs)
+trimmed_by : (b : Bool) (k m : ℕ) (h : Held) (hs : List Held) → ltb (length hs) m ≡ b → k ≤ m → oldest_slots k (oldest_slots m hs) ≡ oldest_slots k hs → oldest_slots k (oldest_slots m (h ∷ hs)) ≡ oldest_slots k (h ∷ hs)
 trimmed_by true k m h hs e l f =
     let many : length hs < m = ltb-true (length hs) m e in
     let none : suc (length hs) - m ≡ 0 = omega (arith, many) in
-    ap (λ n. trimmed k (drop n (h ∷ hs))) none
+    ap (λ n. oldest_slots k (drop n (h ∷ hs))) none
 trimmed_by false k m h hs e l f =
     let few : m ≤ length hs = ltb-false (length hs) m e in
     let less : k ≤ length hs = omega (arith, few, l) in
-    ap (trimmed k) (drop_one m h hs few) ∙ (f ∙ sym (drop_one k h hs less))
+    ap (oldest_slots k) (drop_one m h hs few) ∙ (f ∙ sym (drop_one k h hs less))
 
 -- what is trimmed twice is trimmed once
-pub trimmed_twice : (k m : ℕ) (hs : List Held) → k ≤ m → trimmed k (trimmed m hs) ≡ trimmed k hs
+pub trimmed_twice : (k m : ℕ) (hs : List Held) → k ≤ m → oldest_slots k (oldest_slots m hs) ≡ oldest_slots k hs
 trimmed_twice k m [] l =
     let none : 0 - m ≡ 0 = omega arith in
-    ap (λ n. trimmed k (drop n [])) none
+    ap (λ n. oldest_slots k (drop n [])) none
 trimmed_twice k m (h ∷ hs) l = trimmed_by (ltb (length hs) m) k m h hs refl l (trimmed_twice k m hs l)
 
-pub trimmed_all : (k : ℕ) (hs : List Held) → k ≡ length hs → trimmed k hs ≡ hs
+pub trimmed_all : (k : ℕ) (hs : List Held) → k ≡ length hs → oldest_slots k hs ≡ hs
 trimmed_all k hs e = drop_none k (length hs) hs e
 
 -- ---- a variable leaves with its own declaration

@@ -5,7 +5,7 @@ use Rattle.std.proofs.lemmas.List.{length-append, append-nil, drop_at}
 use Rattle.ti_base.specs.declared.place.Place.{Place}
 use Rattle.ti_base.specs.declared.action.CollKind.TheVariants as coll
 use Rattle.ti_lang.specs.Program.Types.{ValueType}
-use Rattle.ti_lang.specs.Program.Classes.{NumberedProgram, NumberedMethod}
+use Rattle.ti_lang.specs.Program.Classes.{ProgramView, NumberedMethod}
 use Rattle.ti_lang.specs.Program.Scope.{this_of}
 use Rattle.ti_lang.specs.Program.Expressions.{NumberedExp}
 use Rattle.ti_lang.specs.Program.Expressions as exp
@@ -16,14 +16,14 @@ use Rattle.ti_lang.specs.Meaning.Processes.{Declared, Assigned, Updated}
 use Rattle.ti_lang.specs.Meaning.Statements.{declared_as, one_more}
 use Rattle.ti_code.specs.declared.instr.Instr.{Instr}
 use Rattle.ti_code.specs.declared.instr.Instr.TheVariants as i
-use Rattle.ti_code.specs.Leading.{behind}
+use Rattle.ti_code.specs.Leading.{pc_after}
 use Rattle.ti_lower_expr.specs.Slots.{Name, Of, Point}
 use Rattle.ti_lower_expr.specs.Methods.{names_of}
 use Rattle.ti_lower_expr.specs.Coding.{code_of}
 use Rattle.ti_lower_expr.proofs.Lemmas.{behind_both, length_behind}
-use Rattle.ti_lower.specs.Laying.{Labels, unknown, names_after, break_code, continue_code, condition_code, loop_code, walk_code, stm_code, stms_code, maybe_code}
+use Rattle.ti_lower.specs.StmtCode.{LoopTargets, unknown, names_after, break_code, continue_code, condition_code, loop_code, walk_code, stm_code, stms_code, maybe_code}
 use Rattle.ti_lower.specs.Programs.{body_code}
-use Rattle.ti_lower.specs.Mirrors.Statements.{Written, coded, reserved, cut, trimming, closed, where_in, condition_on, loop_labels, walk_labels, loop_begun, walk_begun, tested, otherwise, branch_on, branches_on, turns_on, walked_on, stm_on, stms_on, maybe_on}
+use Rattle.ti_lower.specs.Mirrors.Statements.{CodeBuilder, with_code, with_label, cut, trim_slots, close_branch, where_in, condition_on, loop_labels, walk_labels, loop_begun, walk_begun, branch_test, otherwise, branch_on, branches_on, turns_on, walked_on, stm_on, stms_on, maybe_on}
 use Rattle.ti_lower.specs.Mirrors.Positions.{Where}
 use Rattle.ti_lower.specs.Mirrors.Values.{value_on, init_on, stands_on, print_on, returned_on}
 use Rattle.ti_lower.specs.Mirrors.Methods.{body_on}
@@ -67,46 +67,46 @@ longer_maybe (SomeStm x) names = longer_after x names
 
 -- ---- targets
 
-module _ (program : NumberedProgram) (this : Option ℕ) (result : ValueType) where
+module _ (program : ProgramView) (this : Option ℕ) (result : ValueType) where
   abbrev S : NumberedStm → Bool → List Name → ℕ → List Instr
   S x b = stm_code program this result x (unknown b)
 
-  abbrev body_in : NumberedStm → List Name → Option Labels → ℕ → List Instr
+  abbrev body_in : NumberedStm → List Name → Option LoopTargets → ℕ → List Instr
   body_in body names l from = stm_code program this result body l names from
 
   abbrev mutual
     -- where the forward jumps of a statement lead, in the order in which they are noted, within a loop that walks over a domain or not
     targets_of : NumberedStm → Bool → List Name → ℕ → List ℕ
     targets_of (s.If p c x) b names at =
-        let start = behind at (code_of program this names c at) + 1 in
-        behind start (S x b names start) ∷ targets_of x b names start
+        let start = pc_after at (code_of program this names c at) + 1 in
+        pc_after start (S x b names start) ∷ targets_of x b names start
     targets_of (s.IfElse p c x y) b names at =
-        let start = behind at (code_of program this names c at) + 1 in
-        let else_at = behind start (S x b names start) + 1 in
-        else_at ∷ behind else_at (S y b names else_at) ∷ targets_of x b names start ++ targets_of y b names else_at
+        let start = pc_after at (code_of program this names c at) + 1 in
+        let else_at = pc_after start (S x b names start) + 1 in
+        else_at ∷ pc_after else_at (S y b names else_at) ∷ targets_of x b names start ++ targets_of y b names else_at
     targets_of (s.While p c body) b names at =
-        let again = behind (at + 1 + 1) (S body false names (at + 1 + 1)) in
-        again ∷ again ∷ (behind again (condition_code program this names (Some c) again) + 1) ∷ targets_of body false names (at + 1 + 1) ++ []
+        let again = pc_after (at + 1 + 1) (S body false names (at + 1 + 1)) in
+        again ∷ again ∷ (pc_after again (condition_code program this names (Some c) again) + 1) ∷ targets_of body false names (at + 1 + 1) ++ []
     targets_of (s.For p NoStm c update body) b names at =
-        let again = behind (at + 1 + 1) (S body false names (at + 1 + 1)) in
-        let test = behind again (maybe_code program this result update (unknown b) names again) in
-        again ∷ test ∷ (behind test (condition_code program this names c test) + 1) ∷ targets_of body false names (at + 1 + 1) ++ targets_maybe update b names again
+        let again = pc_after (at + 1 + 1) (S body false names (at + 1 + 1)) in
+        let test = pc_after again (maybe_code program this result update (unknown b) names again) in
+        again ∷ test ∷ (pc_after test (condition_code program this names c test) + 1) ∷ targets_of body false names (at + 1 + 1) ++ targets_maybe update b names again
     targets_of (s.For p (SomeStm first) c update body) b names at =
-        let from = behind at (S first b names at) in
+        let from = pc_after at (S first b names at) in
         let inner = names_after first names in
-        let again = behind (from + 1 + 1) (S body false inner (from + 1 + 1)) in
-        let test = behind again (maybe_code program this result update (unknown b) inner again) in
+        let again = pc_after (from + 1 + 1) (S body false inner (from + 1 + 1)) in
+        let test = pc_after again (maybe_code program this result update (unknown b) inner again) in
         targets_of first b names at
-        ++ (again ∷ test ∷ (behind test (condition_code program this inner c test) + 1) ∷ targets_of body false inner (from + 1 + 1) ++ targets_maybe update b inner again)
+        ++ (again ∷ test ∷ (pc_after test (condition_code program this inner c test) + 1) ∷ targets_of body false inner (from + 1 + 1) ++ targets_maybe update b inner again)
     targets_of (s.Foreach p x domain body) b names at =
-        let from = behind at (code_of program this names domain at) in
-        behind (from + 1 + 1) (S body true (Point x ∷ names) (from + 1 + 1)) ∷ targets_of body true (Point x ∷ names) (from + 1 + 1)
+        let from = pc_after at (code_of program this names domain at) in
+        pc_after (from + 1 + 1) (S body true (Point x ∷ names) (from + 1 + 1)) ∷ targets_of body true (Point x ∷ names) (from + 1 + 1)
     targets_of (s.Block body) b names at = targets_all body b names at
     targets_of other b names at = []
 
     targets_all : NumberedStms → Bool → List Name → ℕ → List ℕ
     targets_all Nil b names at = []
-    targets_all (Cons x rest) b names at = targets_of x b names at ++ targets_all rest b (names_after x names) (behind at (S x b names at))
+    targets_all (Cons x rest) b names at = targets_of x b names at ++ targets_all rest b (names_after x names) (pc_after at (S x b names at))
 
     targets_maybe : MaybeNumbered → Bool → List Name → ℕ → List ℕ
     targets_maybe NoStm b names at = []
@@ -114,7 +114,7 @@ module _ (program : NumberedProgram) (this : Option ℕ) (result : ValueType) wh
 
 -- ---- what is known
 
-module _ (program : NumberedProgram) (this : Option ℕ) (result : ValueType) (known : List ℕ) where
+module _ (program : ProgramView) (this : Option ℕ) (result : ValueType) (known : List ℕ) where
   -- these targets are known, from a number on
   abbrev Known : ℕ → List ℕ → Type 0
   Known n [] = Unit {0}
@@ -130,28 +130,28 @@ module _ (program : NumberedProgram) (this : Option ℕ) (result : ValueType) (k
 
   -- what is written makes of the first code the second one, with these slots, up to this instruction, with these targets more, and where they
   -- are known this code more
-  record Drafts (w v : Written) (names : List Name) (size : ℕ) (ts : List ℕ) (code : List Instr) : Type 0 where
+  record Drafts (w v : CodeBuilder) (names : List Name) (size : ℕ) (ts : List ℕ) (code : List Instr) : Type 0 where
     names_are : v.names ≡ names
     size_is : length v.code ≡ size
     targets_are : v.targets ≡ w.targets ++ ts
     code_is : Known (length w.targets) ts → v.code ≡ w.code ++ code
 
-  sized : (w v : Written) (names : List Name) (m n : ℕ) (ts : List ℕ) (code : List Instr) → m ≡ n → Drafts w v names m ts code → Drafts w v names n ts code
+  sized : (w v : CodeBuilder) (names : List Name) (m n : ℕ) (ts : List ℕ) (code : List Instr) → m ≡ n → Drafts w v names m ts code → Drafts w v names n ts code
   sized w v names m n ts code e d = record { names_are = d.names_are; size_is = d.size_is ∙ e; targets_are = d.targets_are; code_is = d.code_is }
 
-  leaf : (w : Written) (names : List Name) (at : ℕ) (f : List Name → ℕ → List Instr) (c : List Instr) → w.names ≡ names → length w.code ≡ at
-      → c ≡ w.code ++ f w.names (length w.code) → Drafts w (coded w c) names (behind at (f names at)) [] (f names at)
+  leaf : (w : CodeBuilder) (names : List Name) (at : ℕ) (f : List Name → ℕ → List Instr) (c : List Instr) → w.names ≡ names → length w.code ≡ at
+      → c ≡ w.code ++ f w.names (length w.code) → Drafts w (with_code w c) names (pc_after at (f names at)) [] (f names at)
   leaf w names at f c e h p =
       let is : c ≡ w.code ++ f names at = p ∙ ap (λ ns. w.code ++ f ns (length w.code)) e ∙ ap (λ k. w.code ++ f names k) h in
       record {
         names_are = e;
-        size_is = ap length is ∙ length_behind w.code (f names at) ∙ ap (λ k. behind k (f names at)) h;
+        size_is = ap length is ∙ length_behind w.code (f names at) ∙ ap (λ k. pc_after k (f names at)) h;
         targets_are = sym (append-nil w.targets);
         code_is = λ k. is;
       }
 
   -- one after the other
-  both : (w v u : Written) (names1 names2 : List Name) (size1 size2 : ℕ) (ts us : List ℕ) (a b : List Instr) → Drafts w v names1 size1 ts a → Drafts v u names2 size2 us b
+  both : (w v u : CodeBuilder) (names1 names2 : List Name) (size1 size2 : ℕ) (ts us : List ℕ) (a b : List Instr) → Drafts w v names1 size1 ts a → Drafts v u names2 size2 us b
       → Drafts w u names2 size2 (ts ++ us) (a ++ b)
   both w v u names1 names2 size1 size2 ts us a b d f = record {
     names_are = f.names_are;
@@ -163,7 +163,7 @@ module _ (program : NumberedProgram) (this : Option ℕ) (result : ValueType) (k
   }
 
   -- slots that go again
-  fewer : (w v : Written) (more names : List Name) (n size : ℕ) (ts : List ℕ) (code : List Instr) → length names ≡ n → Longer more names → Drafts w v more size ts code
+  fewer : (w v : CodeBuilder) (more names : List Name) (n size : ℕ) (ts : List ℕ) (code : List Instr) → length names ≡ n → Longer more names → Drafts w v more size ts code
       → Drafts w (cut n v) names size ts code
   fewer w v more names n size ts code e l d = record {
     names_are = ap (λ z. drop (length z - n) z) d.names_are ∙ ap (λ k. drop (length more - k) more) (sym e) ∙ cut_longer more names l;
@@ -172,11 +172,11 @@ module _ (program : NumberedProgram) (this : Option ℕ) (result : ValueType) (k
     code_is = d.code_is;
   }
 
-  recoded : (w v : Written) (names : List Name) (size : ℕ) (ts : List ℕ) (a b : List Instr) → a ≡ b → Drafts w v names size ts a → Drafts w v names size ts b
+  recoded : (w v : CodeBuilder) (names : List Name) (size : ℕ) (ts : List ℕ) (a b : List Instr) → a ≡ b → Drafts w v names size ts a → Drafts w v names size ts b
   recoded w v names size ts a b e d =
       record { names_are = d.names_are; size_is = d.size_is; targets_are = d.targets_are; code_is = λ k. d.code_is k ∙ ap (λ z. w.code ++ z) e }
 
-  retold : (w v : Written) (names : List Name) (size : ℕ) (ts us : List ℕ) (code : List Instr) → ts ≡ us → Drafts w v names size ts code → Drafts w v names size us code
+  retold : (w v : CodeBuilder) (names : List Name) (size : ℕ) (ts us : List ℕ) (code : List Instr) → ts ≡ us → Drafts w v names size ts code → Drafts w v names size us code
   retold w v names size ts us code e d = subst (λ z. Drafts w v names size z code) e d
 
   -- ---- lists
@@ -208,24 +208,24 @@ module _ (program : NumberedProgram) (this : Option ℕ) (result : ValueType) (k
   -- ---- branches
 
   -- an expression behind what is written
-  moved : (w : Written) (names : List Name) (at : ℕ) (c : NumberedExp) → w.names ≡ names → length w.code ≡ at
+  moved : (w : CodeBuilder) (names : List Name) (at : ℕ) (c : NumberedExp) → w.names ≡ names → length w.code ≡ at
       → w.code ++ code_of program this w.names c (length w.code) ≡ w.code ++ code_of program this names c at
   moved w names at c e h = ap (λ ns. w.code ++ code_of program this ns c (length w.code)) e ∙ ap (λ k. w.code ++ code_of program this names c k) h
 
-  moved_long : (w : Written) (names : List Name) (at : ℕ) (c : NumberedExp) → w.names ≡ names → length w.code ≡ at
-      → length (w.code ++ code_of program this w.names c (length w.code)) ≡ behind at (code_of program this names c at)
+  moved_long : (w : CodeBuilder) (names : List Name) (at : ℕ) (c : NumberedExp) → w.names ≡ names → length w.code ≡ at
+      → length (w.code ++ code_of program this w.names c (length w.code)) ≡ pc_after at (code_of program this names c at)
   moved_long w names at c e h =
-      ap length (moved w names at c e h) ∙ length_behind w.code (code_of program this names c at) ∙ ap (λ k. behind k (code_of program this names c at)) h
+      ap length (moved w names at c e h) ∙ length_behind w.code (code_of program this names c at) ∙ ap (λ k. pc_after k (code_of program this names c at)) h
 
-  abbrev test_on : NumberedExp → Written → Written
-  test_on = tested program this result known
+  abbrev test_on : NumberedExp → CodeBuilder → CodeBuilder
+  test_on = branch_test program this result known
 
-  tested_long : (w : Written) (names : List Name) (at : ℕ) (c : NumberedExp) → w.names ≡ names → length w.code ≡ at
-      → length (test_on c w).code ≡ behind at (code_of program this names c at) + 1
+  tested_long : (w : CodeBuilder) (names : List Name) (at : ℕ) (c : NumberedExp) → w.names ≡ names → length w.code ≡ at
+      → length (test_on c w).code ≡ pc_after at (code_of program this names c at) + 1
   tested_long w names at c e h =
       longer_code (w.code ++ code_of program this w.names c (length w.code)) (i.JumpIfNot (get_or known (length w.targets) 0)) ∙ ap (λ k. k + 1) (moved_long w names at c e h)
 
-  branch_drafts : (c : NumberedExp) (f : Written → Written) (w : Written) (names more : List Name) (at size : ℕ) (ts : List ℕ) (inner : List Instr)
+  branch_drafts : (c : NumberedExp) (f : CodeBuilder → CodeBuilder) (w : CodeBuilder) (names more : List Name) (at size : ℕ) (ts : List ℕ) (inner : List Instr)
       → w.names ≡ names → length w.code ≡ at → Longer more names → Drafts (test_on c w) (f (test_on c w)) more size ts inner
       → Drafts w (branch_on program this result known c f w) names size (size ∷ ts) (code_of program this names c at ++ i.JumpIfNot size ∷ inner)
   branch_drafts c f w names more at size ts inner e h l d =
@@ -242,13 +242,13 @@ module _ (program : NumberedProgram) (this : Option ℕ) (result : ValueType) (k
             ∙ ap (λ t. w.code ++ (first ++ i.JumpIfNot t ∷ inner)) is;
       }
 
-  abbrev both_tested : NumberedExp → Written → Written
-  both_tested c w = reserved (test_on c w)
+  abbrev both_tested : NumberedExp → CodeBuilder → CodeBuilder
+  both_tested c w = with_label (test_on c w)
 
-  abbrev between : Written → Written → Written
+  abbrev between : CodeBuilder → CodeBuilder → CodeBuilder
   between w v = otherwise program this result known (length w.targets) (length w.names) v
 
-  branches_drafts : (c : NumberedExp) (f g : Written → Written) (w : Written) (names more others : List Name) (at size end : ℕ) (ts us : List ℕ) (inner other : List Instr)
+  branches_drafts : (c : NumberedExp) (f g : CodeBuilder → CodeBuilder) (w : CodeBuilder) (names more others : List Name) (at size end : ℕ) (ts us : List ℕ) (inner other : List Instr)
       → w.names ≡ names → length w.code ≡ at → Longer more names → Longer others names → Drafts (both_tested c w) (f (both_tested c w)) more size ts inner
       → Drafts (between w (f (both_tested c w))) (g (between w (f (both_tested c w)))) others end us other
       → Drafts w (branches_on program this result known c f g w) names end ((size + 1) ∷ end ∷ ts ++ us)
@@ -285,53 +285,53 @@ module _ (program : NumberedProgram) (this : Option ℕ) (result : ValueType) (k
 
   -- ---- loops
 
-  condition_is : (c : Option NumberedExp) (w : Written) (names : List Name) (at : ℕ) → w.names ≡ names → length w.code ≡ at
+  condition_is : (c : Option NumberedExp) (w : CodeBuilder) (names : List Name) (at : ℕ) → w.names ≡ names → length w.code ≡ at
       → condition_on program this result known c w ≡ w.code ++ condition_code program this names c at
   condition_is None w names at e h = refl
   condition_is (Some c) w names at e h = moved w names at c e h
 
-  abbrev loop_label : (again kept exit : ℕ) → Option Labels
+  abbrev loop_label : (again kept exit : ℕ) → Option LoopTargets
   loop_label again kept exit = Some (record { again = again; kept = kept; exit = exit; left = kept; walks = false })
 
-  abbrev walk_label : (again kept exit left : ℕ) → Option Labels
+  abbrev walk_label : (again kept exit left : ℕ) → Option LoopTargets
   walk_label again kept exit left = Some (record { again = again; kept = kept; exit = exit; left = left; walks = true })
 
-  abbrev begun : Place → Written → Written
+  abbrev begun : Place → CodeBuilder → CodeBuilder
   begun = loop_begun program this result known
 
-  abbrev guessed : Written → Option Labels
+  abbrev guessed : CodeBuilder → Option LoopTargets
   guessed w = loop_labels program this result known (length w.targets) (length w.names)
 
-  abbrev turned : Place → (Option Labels → Written → Written) → Written → Written
-  turned p B w = closed (length w.targets) (length w.names) (B (guessed w) (begun p w))
+  abbrev turned : Place → (Option LoopTargets → CodeBuilder → CodeBuilder) → CodeBuilder → CodeBuilder
+  turned p B w = close_branch (length w.targets) (length w.names) (B (guessed w) (begun p w))
 
-  turns_drafts : (p : Place) (c : Option NumberedExp) (B : Option Labels → Written → Written) (U : Written → Written) (w : Written) (names more others : List Name)
-      (at again test : ℕ) (tb tu : List ℕ) (body : Option Labels → List Instr) (update : List Instr)
+  turns_drafts : (p : Place) (c : Option NumberedExp) (B : Option LoopTargets → CodeBuilder → CodeBuilder) (U : CodeBuilder → CodeBuilder) (w : CodeBuilder) (names more others : List Name)
+      (at again test : ℕ) (tb tu : List ℕ) (body : Option LoopTargets → List Instr) (update : List Instr)
       → w.names ≡ names → length w.code ≡ at → Longer more names → Longer others names
       → Drafts (begun p w) (B (guessed w) (begun p w)) more again tb (body (guessed w))
-      → ((v : Written) → v.names ≡ names → length v.code ≡ again → Drafts v (U v) others test tu update)
-      → Drafts w (turns_on program this result known p c B U w) names (behind test (condition_code program this names c test) + 1)
-      (again ∷ test ∷ (behind test (condition_code program this names c test) + 1) ∷ tb ++ tu)
-      (i.Jump test ∷ i.Tick p ∷ body (loop_label again (length names) (behind test (condition_code program this names c test) + 1))
+      → ((v : CodeBuilder) → v.names ≡ names → length v.code ≡ again → Drafts v (U v) others test tu update)
+      → Drafts w (turns_on program this result known p c B U w) names (pc_after test (condition_code program this names c test) + 1)
+      (again ∷ test ∷ (pc_after test (condition_code program this names c test) + 1) ∷ tb ++ tu)
+      (i.Jump test ∷ i.Tick p ∷ body (loop_label again (length names) (pc_after test (condition_code program this names c test) + 1))
       ++ (update ++ (condition_code program this names c test ++ i.JumpIf (at + 1) ∷ [])))
   turns_drafts p c B U w names more others at again test tb tu body update e h l m d du =
       let k = length w.targets in
       let n = length w.names in
       let a = begun p w in
       let v = B (guessed w) a in
-      let v1 = closed k n v in
+      let v1 = close_branch k n v in
       let dv = fewer a v more names n again tb (body (guessed w)) (sym (ap length e)) l d in
       let b = du v1 dv.names_are dv.size_is in
       let u = U v1 in
-      let u1 = closed (k + 1) n u in
+      let u1 = close_branch (k + 1) n u in
       let bu = fewer v1 u others names n test tu update (sym (ap length e)) m b in
       let cond = condition_code program this names c test in
-      let exit = behind test cond + 1 in
+      let exit = pc_after test cond + 1 in
       let last = condition_on program this result known c u1 ++ i.JumpIf (length w.code + 1) ∷ [] in
       let jt = i.Jump (get_or known (k + 1) 0) ∷ i.Tick p ∷ [] in
       let long : length last ≡ exit =
       longer_code (condition_on program this result known c u1) (i.JumpIf (length w.code + 1))
-      ∙ ap (λ j. j + 1) (ap length (condition_is c u1 names test bu.names_are bu.size_is) ∙ length_behind u1.code cond ∙ ap (λ j. behind j cond) bu.size_is) in
+      ∙ ap (λ j. j + 1) (ap length (condition_is c u1 names test bu.names_are bu.size_is) ∙ length_behind u1.code cond ∙ ap (λ j. pc_after j cond) bu.size_is) in
       let told : v.targets ≡ (w.targets ++ 0 ∷ []) ++ 0 ∷ 0 ∷ tb = d.targets_are ∙ four (w.targets ++ 0 ∷ []) (0 ∷ []) (0 ∷ []) tb in
       let first : v1.targets ≡ w.targets ++ again ∷ 0 ∷ 0 ∷ tb =
       ap (λ z. set z k (length v.code)) told ∙ set_first w.targets (0 ∷ 0 ∷ tb) (length v.code) ∙ ap (λ j. w.targets ++ j ∷ 0 ∷ 0 ∷ tb) d.size_is in
@@ -364,13 +364,13 @@ module _ (program : NumberedProgram) (this : Option ℕ) (result : ValueType) (k
             ∙ ap (λ j. w.code ++ (i.Jump test ∷ i.Tick p ∷ body real ++ (update ++ (cond ++ i.JumpIf (j + 1) ∷ [])))) h;
       }
 
-  abbrev walk_guessed : Written → Option Labels
+  abbrev walk_guessed : CodeBuilder → Option LoopTargets
   walk_guessed w = walk_labels program this result known (length w.targets) (length w.names)
 
-  abbrev walk_start : Place → ℕ → Written → Written
+  abbrev walk_start : Place → ℕ → CodeBuilder → CodeBuilder
   walk_start = walk_begun program this result known
 
-  walk_drafts : (p : Place) (x : ℕ) (B : Option Labels → Written → Written) (w : Written) (names more : List Name) (at again : ℕ) (tb : List ℕ) (body : Option Labels → List Instr)
+  walk_drafts : (p : Place) (x : ℕ) (B : Option LoopTargets → CodeBuilder → CodeBuilder) (w : CodeBuilder) (names more : List Name) (at again : ℕ) (tb : List ℕ) (body : Option LoopTargets → List Instr)
       → w.names ≡ names → length w.code ≡ at → Longer more names
       → Drafts (walk_start p x w) (B (walk_guessed w) (walk_start p x w)) more again tb (body (walk_guessed w))
       → Drafts w (walked_on program this result known p x B w) names (again + 1 + 1 + 1 + 1) (again ∷ tb)
@@ -381,7 +381,7 @@ module _ (program : NumberedProgram) (this : Option ℕ) (result : ValueType) (k
       let n = length w.names in
       let a = walk_start p x w in
       let v = B (walk_guessed w) a in
-      let v1 = closed k n v in
+      let v1 = close_branch k n v in
       let dv = fewer a v more names n again tb (body (walk_guessed w)) (sym (ap length e)) l d in
       let jt = i.Jump (get_or known k 0 + 1) ∷ i.Tick p ∷ [] in
       let tail = λ (m t s : ℕ). i.Trim m ∷ i.Next m t ∷ i.Jump (s + 1) ∷ i.Pop ∷ [] in
@@ -408,8 +408,8 @@ module _ (program : NumberedProgram) (this : Option ℕ) (result : ValueType) (k
       }
 
   -- the end of a scope
-  trim_drafts : (w v : Written) (names more : List Name) (size : ℕ) (ts : List ℕ) (code : List Instr) → w.names ≡ names → Longer more names → Drafts w v more size ts code
-      → Drafts w (trimming (length w.names) v) names (size + 1) ts (code ++ i.Trim (length names) ∷ [])
+  trim_drafts : (w v : CodeBuilder) (names more : List Name) (size : ℕ) (ts : List ℕ) (code : List Instr) → w.names ≡ names → Longer more names → Drafts w v more size ts code
+      → Drafts w (trim_slots (length w.names) v) names (size + 1) ts (code ++ i.Trim (length names) ∷ [])
   trim_drafts w v names more size ts code e l d = record {
     names_are = (fewer w v more names (length w.names) size ts code (sym (ap length e)) l d).names_are;
     size_is = longer_code v.code (i.Trim (length w.names)) ∙ ap (λ j. j + 1) d.size_is;
@@ -421,13 +421,13 @@ module _ (program : NumberedProgram) (this : Option ℕ) (result : ValueType) (k
 
   -- ---- statements
 
-  abbrev on : NumberedStm → Option Labels → Written → Written
+  abbrev on : NumberedStm → Option LoopTargets → CodeBuilder → CodeBuilder
   on = stm_on program this result known
 
-  abbrev of : NumberedStm → Option Labels → List Name → ℕ → List Instr
+  abbrev of : NumberedStm → Option LoopTargets → List Name → ℕ → List Instr
   of = stm_code program this result
 
-  abbrev W : Written → Where
+  abbrev W : CodeBuilder → Where
   W = where_in program this result known
 
   abbrev plain : NumberedStm → Bool → List Name → ℕ → List Instr
@@ -436,57 +436,57 @@ module _ (program : NumberedProgram) (this : Option ℕ) (result : ValueType) (k
   abbrev T : NumberedStm → Bool → List Name → ℕ → List ℕ
   T = targets_of program this result
 
-  abbrev all_of : NumberedStms → Option Labels → List Name → ℕ → List Instr
+  abbrev all_of : NumberedStms → Option LoopTargets → List Name → ℕ → List Instr
   all_of = stms_code program this result
 
-  abbrev maybe_of : MaybeNumbered → Option Labels → List Name → ℕ → List Instr
+  abbrev maybe_of : MaybeNumbered → Option LoopTargets → List Name → ℕ → List Instr
   maybe_of = maybe_code program this result
 
-  same_size : (x : NumberedStm) (l : Option Labels) (b : Bool) (names : List Name) (at : ℕ) → walks_in l ≡ b → behind at (of x l names at) ≡ behind at (plain x b names at)
+  same_size : (x : NumberedStm) (l : Option LoopTargets) (b : Bool) (names : List Name) (at : ℕ) → walks_in l ≡ b → pc_after at (of x l names at) ≡ pc_after at (plain x b names at)
   same_size x l b names at e = same_length program this result x l (unknown b) names at e
 
-  leafwise : (x : NumberedStm) (l : Option Labels) (b : Bool) (w : Written) (names : List Name) (at : ℕ) (c : List Instr) → walks_in l ≡ b → w.names ≡ names → length w.code ≡ at
-      → c ≡ w.code ++ of x l w.names (length w.code) → Drafts w (coded w c) names (behind at (plain x b names at)) [] (of x l names at)
+  leafwise : (x : NumberedStm) (l : Option LoopTargets) (b : Bool) (w : CodeBuilder) (names : List Name) (at : ℕ) (c : List Instr) → walks_in l ≡ b → w.names ≡ names → length w.code ≡ at
+      → c ≡ w.code ++ of x l w.names (length w.code) → Drafts w (with_code w c) names (pc_after at (plain x b names at)) [] (of x l names at)
   leafwise x l b w names at c eb e h p =
-      sized w (coded w c) names (behind at (of x l names at)) (behind at (plain x b names at)) [] (of x l names at) (same_size x l b names at eb)
+      sized w (with_code w c) names (pc_after at (of x l names at)) (pc_after at (plain x b names at)) [] (of x l names at) (same_size x l b names at eb)
       (leaf w names at (λ ns from. of x l ns from) c e h p)
 
-  still : (w : Written) (names : List Name) (at : ℕ) → w.names ≡ names → length w.code ≡ at → Drafts w w names at [] []
+  still : (w : CodeBuilder) (names : List Name) (at : ℕ) → w.names ≡ names → length w.code ≡ at → Drafts w w names at [] []
   still w names at e h = record { names_are = e; size_is = h; targets_are = sym (append-nil w.targets); code_is = λ k. sym (append-nil w.code) }
 
   two_long : (xs : List Instr) (a b : Instr) (at : ℕ) → length xs ≡ at → length (xs ++ a ∷ b ∷ []) ≡ at + 1 + 1
   two_long xs a b at h = let t = length-append xs (a ∷ b ∷ []) in omega (arith, t, h)
 
-  abbrev loop_of : Place → List Name → Option NumberedExp → NumberedStm → MaybeNumbered → Option Labels → ℕ → List Instr
+  abbrev loop_of : Place → List Name → Option NumberedExp → NumberedStm → MaybeNumbered → Option LoopTargets → ℕ → List Instr
   loop_of p names c body update l at = loop_code program this p names c (λ m from. of body m names from) (λ from. maybe_of update l names from) at
 
   -- the targets of a loop
   abbrev loop_targets : List Name → Option NumberedExp → NumberedStm → MaybeNumbered → Bool → ℕ → List ℕ
   loop_targets names c body update b at =
-      let again = behind (at + 1 + 1) (plain body false names (at + 1 + 1)) in
-      let test = behind again (maybe_of update (unknown b) names again) in
-      again ∷ test ∷ (behind test (condition_code program this names c test) + 1) ∷ T body false names (at + 1 + 1) ++ targets_maybe program this result update b names again
+      let again = pc_after (at + 1 + 1) (plain body false names (at + 1 + 1)) in
+      let test = pc_after again (maybe_of update (unknown b) names again) in
+      again ∷ test ∷ (pc_after test (condition_code program this names c test) + 1) ∷ T body false names (at + 1 + 1) ++ targets_maybe program this result update b names again
 
   -- a loop with its update
-  for_drafts : (p : Place) (c : Option NumberedExp) (update : MaybeNumbered) (body : NumberedStm) (l : Option Labels) (b : Bool) (w : Written) (names : List Name) (at : ℕ)
+  for_drafts : (p : Place) (c : Option NumberedExp) (update : MaybeNumbered) (body : NumberedStm) (l : Option LoopTargets) (b : Bool) (w : CodeBuilder) (names : List Name) (at : ℕ)
       → walks_in l ≡ b → w.names ≡ names → length w.code ≡ at
-      → Drafts (begun p w) (on body (guessed w) (begun p w)) (names_after body names) (behind (at + 1 + 1) (plain body false names (at + 1 + 1))) (T body false names (at + 1 + 1))
+      → Drafts (begun p w) (on body (guessed w) (begun p w)) (names_after body names) (pc_after (at + 1 + 1) (plain body false names (at + 1 + 1))) (T body false names (at + 1 + 1))
       (of body (guessed w) names (at + 1 + 1))
-      → ((v : Written) (from : ℕ) → v.names ≡ names → length v.code ≡ from
-      → Drafts v (maybe_on program this result known update l v) (names_maybe update names) (behind from (maybe_of update (unknown b) names from))
+      → ((v : CodeBuilder) (from : ℕ) → v.names ≡ names → length v.code ≡ from
+      → Drafts v (maybe_on program this result known update l v) (names_maybe update names) (pc_after from (maybe_of update (unknown b) names from))
       (targets_maybe program this result update b names from) (maybe_of update l names from))
-      → Drafts w (turns_on program this result known p c (on body) (maybe_on program this result known update l) w) names (behind at (loop_of p names c body update (unknown b) at))
+      → Drafts w (turns_on program this result known p c (on body) (maybe_on program this result known update l) w) names (pc_after at (loop_of p names c body update (unknown b) at))
       (loop_targets names c body update b at) (loop_of p names c body update l at)
   for_drafts p c update body l b w names at eb e h db du =
-      let again = behind (at + 1 + 1) (plain body false names (at + 1 + 1)) in
-      let test = behind again (maybe_of update (unknown b) names again) in
+      let again = pc_after (at + 1 + 1) (plain body false names (at + 1 + 1)) in
+      let test = pc_after again (maybe_of update (unknown b) names again) in
       let cond = λ (t : ℕ). condition_code program this names c t in
-      let exit = behind test (cond test) + 1 in
+      let exit = pc_after test (cond test) + 1 in
       let u = turns_on program this result known p c (on body) (maybe_on program this result known update l) w in
       let changes = maybe_of update l names again in
-      let form = λ (t : ℕ). i.Jump t ∷ i.Tick p ∷ of body (loop_label again (length names) (behind t (cond t) + 1)) names (at + 1 + 1)
+      let form = λ (t : ℕ). i.Jump t ∷ i.Tick p ∷ of body (loop_label again (length names) (pc_after t (cond t) + 1)) names (at + 1 + 1)
       ++ (changes ++ (cond t ++ i.JumpIf (at + 1) ∷ [])) in
-      sized w u names exit (behind at (loop_of p names c body update (unknown b) at)) (loop_targets names c body update b at) (loop_of p names c body update l at)
+      sized w u names exit (pc_after at (loop_of p names c body update (unknown b) at)) (loop_targets names c body update b at) (loop_of p names c body update l at)
       (sym (loop_length program this result p names c (λ m from. of body m names from) (λ from. maybe_of update (unknown b) names from) at (body_steady program this result body names false)))
       (recoded w u names exit (loop_targets names c body update b at) (form test) (loop_of p names c body update l at)
       (ap form (sym (maybe_length program this result update l (unknown b) names again eb)))
@@ -494,12 +494,12 @@ module _ (program : NumberedProgram) (this : Option ℕ) (result : ValueType) (k
       (targets_maybe program this result update b names again) (λ ls. of body ls names (at + 1 + 1)) changes e h (longer_after body names) (longer_maybe update names) db
       (λ v n m. du v again n m)))
 
-  begun_long : (p : Place) (w : Written) (at : ℕ) → length w.code ≡ at → length (begun p w).code ≡ at + 1 + 1
+  begun_long : (p : Place) (w : CodeBuilder) (at : ℕ) → length w.code ≡ at → length (begun p w).code ≡ at + 1 + 1
   begun_long p w at h = two_long w.code (i.Jump (get_or known (length w.targets + 1) 0)) (i.Tick p) at h
 
   mutual
-    stm_drafts : (x : NumberedStm) (l : Option Labels) (b : Bool) (w : Written) (names : List Name) (at : ℕ) → walks_in l ≡ b → w.names ≡ names → length w.code ≡ at
-        → Drafts w (on x l w) (names_after x names) (behind at (plain x b names at)) (T x b names at) (of x l names at)
+    stm_drafts : (x : NumberedStm) (l : Option LoopTargets) (b : Bool) (w : CodeBuilder) (names : List Name) (at : ℕ) → walks_in l ≡ b → w.names ≡ names → length w.code ≡ at
+        → Drafts w (on x l w) (names_after x names) (pc_after at (plain x b names at)) (T x b names at) (of x l names at)
     stm_drafts s.Empty l b w names at eb e h = still w names at e h
     stm_drafts (s.Declare p type variable value) l b w names at eb e h =
         let r = Declared p (declared_as type variable) in
@@ -523,17 +523,17 @@ module _ (program : NumberedProgram) (this : Option ℕ) (result : ValueType) (k
     stm_drafts (s.Block body) l b w names at eb e h =
         let all = all_of body (unknown b) names at in
         let v = stms_on program this result known body l w in
-        sized w (trimming (length w.names) v) names (behind at all + 1) (behind at (plain (s.Block body) b names at)) (targets_all program this result body b names at)
+        sized w (trim_slots (length w.names) v) names (pc_after at all + 1) (pc_after at (plain (s.Block body) b names at)) (targets_all program this result body b names at)
         (of (s.Block body) l names at) (sym (behind_both at all (i.Trim (length names) ∷ [])))
-        (trim_drafts w v names (names_behind body names) (behind at all) (targets_all program this result body b names at) (all_of body l names at) e (longer_behind body names)
+        (trim_drafts w v names (names_behind body names) (pc_after at all) (targets_all program this result body b names at) (all_of body l names at) e (longer_behind body names)
         (stms_drafts body l b w names at eb e h))
     stm_drafts (s.If p c x) l b w names at eb e h =
         let first = code_of program this names c at in
-        let start = behind at first + 1 in
+        let start = pc_after at first + 1 in
         let inner = of x l names start in
-        let size = behind start (plain x b names start) in
+        let size = pc_after start (plain x b names start) in
         let v = branch_on program this result known c (on x l) w in
-        sized w v names size (behind at (plain (s.If p c x) b names at)) (size ∷ T x b names start) (of (s.If p c x) l names at)
+        sized w v names size (pc_after at (plain (s.If p c x) b names at)) (size ∷ T x b names start) (of (s.If p c x) l names at)
         (sym (behind_both at first (i.JumpIfNot size ∷ plain x b names start)))
         (recoded w v names size (size ∷ T x b names start) (first ++ i.JumpIfNot size ∷ inner) (of (s.If p c x) l names at)
         (ap (λ t. first ++ i.JumpIfNot t ∷ inner) (sym (same_size x l b names start eb)))
@@ -541,12 +541,12 @@ module _ (program : NumberedProgram) (this : Option ℕ) (result : ValueType) (k
         (stm_drafts x l b (test_on c w) names start eb e (tested_long w names at c e h))))
     stm_drafts (s.IfElse p c x y) l b w names at eb e h =
         let first = code_of program this names c at in
-        let start = behind at first + 1 in
+        let start = pc_after at first + 1 in
         let inner = of x l names start in
-        let size = behind start (plain x b names start) in
+        let size = pc_after start (plain x b names start) in
         let else_at = size + 1 in
         let other = of y l names else_at in
-        let end = behind else_at (plain y b names else_at) in
+        let end = pc_after else_at (plain y b names else_at) in
         let a = both_tested c w in
         let v = on x l a in
         let o = between w v in
@@ -556,19 +556,19 @@ module _ (program : NumberedProgram) (this : Option ℕ) (result : ValueType) (k
         let long : length o.code ≡ else_at = longer_code v.code (i.Jump (get_or known (length w.targets + 1) 0)) ∙ ap (λ n. n + 1) dx.size_is in
         let dy = stm_drafts y l b o names else_at eb named long in
         let ts = else_at ∷ end ∷ T x b names start ++ T y b names else_at in
-        sized w u names end (behind at (plain (s.IfElse p c x y) b names at)) ts (of (s.IfElse p c x y) l names at)
+        sized w u names end (pc_after at (plain (s.IfElse p c x y) b names at)) ts (of (s.IfElse p c x y) l names at)
         (sym (behind_both at first (i.JumpIfNot else_at ∷ (plain x b names start ++ i.Jump end ∷ plain y b names else_at))
         ∙ behind_both start (plain x b names start) (i.Jump end ∷ plain y b names else_at)))
         (recoded w u names end ts (first ++ i.JumpIfNot else_at ∷ (inner ++ i.Jump end ∷ other)) (of (s.IfElse p c x y) l names at)
         (ap (λ t. first ++ i.JumpIfNot else_at ∷ (inner ++ i.Jump t ∷ other)) (sym (same_size y l b names else_at eb))
-        ∙ ap (λ j. first ++ i.JumpIfNot (j + 1) ∷ (inner ++ i.Jump (behind (j + 1) (of y l names (j + 1))) ∷ of y l names (j + 1))) (sym (same_size x l b names start eb)))
+        ∙ ap (λ j. first ++ i.JumpIfNot (j + 1) ∷ (inner ++ i.Jump (pc_after (j + 1) (of y l names (j + 1))) ∷ of y l names (j + 1))) (sym (same_size x l b names start eb)))
         (branches_drafts c (on x l) (on y l) w names (names_after x names) (names_after y names) at size end (T x b names start) (T y b names else_at) inner other e h
         (longer_after x names) (longer_after y names) dx dy))
     stm_drafts (s.While p c body) l b w names at eb e h =
-        let again = behind (at + 1 + 1) (plain body false names (at + 1 + 1)) in
+        let again = pc_after (at + 1 + 1) (plain body false names (at + 1 + 1)) in
         let cond = condition_code program this names (Some c) again in
-        let ts = again ∷ again ∷ (behind again cond + 1) ∷ T body false names (at + 1 + 1) ++ [] in
-        sized w (on (s.While p c body) l w) names (behind again cond + 1) (behind at (plain (s.While p c body) b names at)) ts (of (s.While p c body) l names at)
+        let ts = again ∷ again ∷ (pc_after again cond + 1) ∷ T body false names (at + 1 + 1) ++ [] in
+        sized w (on (s.While p c body) l w) names (pc_after again cond + 1) (pc_after at (plain (s.While p c body) b names at)) ts (of (s.While p c body) l names at)
         (sym (loop_length program this result p names (Some c) (λ m from. of body m names from) (λ from. []) at (body_steady program this result body names false)))
         (turns_drafts p (Some c) (on body) (λ v. v) w names (names_after body names) names at again again (T body false names (at + 1 + 1)) [] (λ ls. of body ls names (at + 1 + 1)) []
         e h (longer_after body names) ([], refl)
@@ -576,14 +576,14 @@ module _ (program : NumberedProgram) (this : Option ℕ) (result : ValueType) (k
     stm_drafts (s.For p NoStm c update body) l b w names at eb e h =
         let loop = loop_of p names c body update (unknown b) at in
         let u = turns_on program this result known p c (on body) (maybe_on program this result known update l) w in
-        sized w (trimming (length w.names) u) names (behind at loop + 1) (behind at (plain (s.For p NoStm c update body) b names at)) (loop_targets names c body update b at)
+        sized w (trim_slots (length w.names) u) names (pc_after at loop + 1) (pc_after at (plain (s.For p NoStm c update body) b names at)) (loop_targets names c body update b at)
         (of (s.For p NoStm c update body) l names at) (sym (behind_both at loop (i.Trim (length names) ∷ [])))
-        (trim_drafts w u names names (behind at loop) (loop_targets names c body update b at) (loop_of p names c body update l at) e ([], refl)
+        (trim_drafts w u names names (pc_after at loop) (loop_targets names c body update b at) (loop_of p names c body update l at) e ([], refl)
         (for_drafts p c update body l b w names at eb e h
         (stm_drafts body (guessed w) false (begun p w) names (at + 1 + 1) refl e (begun_long p w at h)) (λ z from n m. maybe_drafts update l b z names from eb n m)))
     stm_drafts (s.For p (SomeStm first) c update body) l b w names at eb e h =
         let before = of first l names at in
-        let from = behind at (plain first b names at) in
+        let from = pc_after at (plain first b names at) in
         let inner = names_after first names in
         let loop = loop_of p inner c body update (unknown b) from in
         let v = on first l w in
@@ -593,55 +593,55 @@ module _ (program : NumberedProgram) (this : Option ℕ) (result : ValueType) (k
         let df = stm_drafts first l b w names at eb e h in
         let dt = for_drafts p c update body l b v inner from eb df.names_are df.size_is
         (stm_drafts body (guessed v) false (begun p v) inner (from + 1 + 1) refl df.names_are (begun_long p v from df.size_is)) (λ z k n m. maybe_drafts update l b z inner k eb n m) in
-        sized w (trimming (length w.names) u) names (behind from loop + 1) (behind at (plain (s.For p (SomeStm first) c update body) b names at)) ts
+        sized w (trim_slots (length w.names) u) names (pc_after from loop + 1) (pc_after at (plain (s.For p (SomeStm first) c update body) b names at)) ts
         (of (s.For p (SomeStm first) c update body) l names at)
         (sym (behind_both at (plain first b names at) (loop ++ trim) ∙ behind_both from loop trim))
-        (recoded w (trimming (length w.names) u) names (behind from loop + 1) ts ((before ++ loop_of p inner c body update l from) ++ trim) (of (s.For p (SomeStm first) c update body) l names at)
+        (recoded w (trim_slots (length w.names) u) names (pc_after from loop + 1) ts ((before ++ loop_of p inner c body update l from) ++ trim) (of (s.For p (SomeStm first) c update body) l names at)
         (append_assoc before (loop_of p inner c body update l from) trim
         ∙ ap (λ k. before ++ (loop_of p inner c body update l k ++ trim)) (sym (same_size first l b names at eb)))
-        (trim_drafts w u names inner (behind from loop) ts (before ++ loop_of p inner c body update l from) e (longer_after first names)
-        (both w v u inner inner from (behind from loop) (T first b names at) (loop_targets inner c body update b from) before (loop_of p inner c body update l from) df dt)))
+        (trim_drafts w u names inner (pc_after from loop) ts (before ++ loop_of p inner c body update l from) e (longer_after first names)
+        (both w v u inner inner from (pc_after from loop) (T first b names at) (loop_targets inner c body update b from) before (loop_of p inner c body update l from) df dt)))
     stm_drafts (s.Foreach p x domain body) l b w names at eb e h =
         let first = code_of program this names domain at in
-        let from = behind at first in
+        let from = pc_after at first in
         let inner = Point x ∷ names in
-        let again = behind (from + 1 + 1) (plain body true inner (from + 1 + 1)) in
-        let o = coded w (value_on (W w) domain w.code) in
+        let again = pc_after (from + 1 + 1) (plain body true inner (from + 1 + 1)) in
+        let o = with_code w (value_on (W w) domain w.code) in
         let u = walked_on program this result known p x (on body) o in
         let walk = walk_code program this p names (λ m z. of body m inner z) from in
         let d = leaf w names at (λ ns z. code_of program this ns domain z) (value_on (W w) domain w.code) e h refl in
         let db = stm_drafts body (walk_guessed o) true (walk_start p x o) inner (from + 1 + 1) refl (ap (λ z. Point x ∷ z) d.names_are)
         (two_long o.code (i.Jump (get_or known (length o.targets) 0 + 1)) (i.Tick p) from d.size_is) in
-        sized w u names (again + 1 + 1 + 1 + 1) (behind at (plain (s.Foreach p x domain body) b names at)) (again ∷ T body true inner (from + 1 + 1))
+        sized w u names (again + 1 + 1 + 1 + 1) (pc_after at (plain (s.Foreach p x domain body) b names at)) (again ∷ T body true inner (from + 1 + 1))
         (of (s.Foreach p x domain body) l names at)
         (sym (behind_both at first walk ∙ walk_length program this result p names (λ m z. of body m inner z) from (body_steady program this result body inner true)))
         (both w o u names names from (again + 1 + 1 + 1 + 1) [] (again ∷ T body true inner (from + 1 + 1)) first walk d
         (walk_drafts p x (on body) o names (names_after body inner) from again (T body true inner (from + 1 + 1)) (λ ls. of body ls inner (from + 1 + 1)) d.names_are d.size_is
         (longer_both (names_after body inner) inner names (longer_after body inner) (Point x ∷ [], refl)) db))
 
-    maybe_drafts : (x : MaybeNumbered) (l : Option Labels) (b : Bool) (w : Written) (names : List Name) (at : ℕ) → walks_in l ≡ b → w.names ≡ names → length w.code ≡ at
-        → Drafts w (maybe_on program this result known x l w) (names_maybe x names) (behind at (maybe_of x (unknown b) names at)) (targets_maybe program this result x b names at)
+    maybe_drafts : (x : MaybeNumbered) (l : Option LoopTargets) (b : Bool) (w : CodeBuilder) (names : List Name) (at : ℕ) → walks_in l ≡ b → w.names ≡ names → length w.code ≡ at
+        → Drafts w (maybe_on program this result known x l w) (names_maybe x names) (pc_after at (maybe_of x (unknown b) names at)) (targets_maybe program this result x b names at)
         (maybe_of x l names at)
     maybe_drafts NoStm l b w names at eb e h = still w names at e h
     maybe_drafts (SomeStm x) l b w names at eb e h = stm_drafts x l b w names at eb e h
 
-    stms_drafts : (xs : NumberedStms) (l : Option Labels) (b : Bool) (w : Written) (names : List Name) (at : ℕ) → walks_in l ≡ b → w.names ≡ names → length w.code ≡ at
-        → Drafts w (stms_on program this result known xs l w) (names_behind xs names) (behind at (all_of xs (unknown b) names at)) (targets_all program this result xs b names at)
+    stms_drafts : (xs : NumberedStms) (l : Option LoopTargets) (b : Bool) (w : CodeBuilder) (names : List Name) (at : ℕ) → walks_in l ≡ b → w.names ≡ names → length w.code ≡ at
+        → Drafts w (stms_on program this result known xs l w) (names_behind xs names) (pc_after at (all_of xs (unknown b) names at)) (targets_all program this result xs b names at)
         (all_of xs l names at)
     stms_drafts Nil l b w names at eb e h = still w names at e h
     stms_drafts (Cons x rest) l b w names at eb e h =
-        let from = behind at (plain x b names at) in
+        let from = pc_after at (plain x b names at) in
         let ns = names_after x names in
         let v = on x l w in
         let u = stms_on program this result known rest l v in
         let dx = stm_drafts x l b w names at eb e h in
         let dr = stms_drafts rest l b v ns from eb dx.names_are dx.size_is in
         let ts = T x b names at ++ targets_all program this result rest b ns from in
-        sized w u (names_behind rest ns) (behind from (all_of rest (unknown b) ns from)) (behind at (all_of (Cons x rest) (unknown b) names at)) ts (all_of (Cons x rest) l names at)
+        sized w u (names_behind rest ns) (pc_after from (all_of rest (unknown b) ns from)) (pc_after at (all_of (Cons x rest) (unknown b) names at)) ts (all_of (Cons x rest) l names at)
         (sym (behind_both at (plain x b names at) (all_of rest (unknown b) ns from)))
-        (recoded w u (names_behind rest ns) (behind from (all_of rest (unknown b) ns from)) ts (of x l names at ++ all_of rest l ns from) (all_of (Cons x rest) l names at)
+        (recoded w u (names_behind rest ns) (pc_after from (all_of rest (unknown b) ns from)) ts (of x l names at ++ all_of rest l ns from) (all_of (Cons x rest) l names at)
         (ap (λ k. of x l names at ++ all_of rest l ns k) (sym (same_size x l b names at eb)))
-        (both w v u ns (names_behind rest ns) from (behind from (all_of rest (unknown b) ns from)) (T x b names at) (targets_all program this result rest b ns from)
+        (both w v u ns (names_behind rest ns) from (pc_after from (all_of rest (unknown b) ns from)) (T x b names at) (targets_all program this result rest b ns from)
         (of x l names at) (all_of rest l ns from) dx dr))
 
   -- what was noted is known
@@ -655,12 +655,12 @@ module _ (program : NumberedProgram) (this : Option ℕ) (result : ValueType) (k
 -- ---- methods
 
 -- the code of a method's body, written with the targets that were noted without any
-pub written_twice : (program : NumberedProgram) (m : NumberedMethod) → (body_on program m (body_on program m []).targets).code ++ i.Return ∷ [] ≡ body_code program m
+pub written_twice : (program : ProgramView) (m : NumberedMethod) → (body_on program m (body_on program m []).targets).code ++ i.Return ∷ [] ≡ body_code program m
 written_twice program m =
     let this = this_of m in
     let result = result_type m in
     let xs = numbered_stms m.body in
-    let w : Written = record { names = names_of m; code = []; targets = [] } in
+    let w : CodeBuilder = record { names = names_of m; code = []; targets = [] } in
     let first = stms_drafts program this result [] xs None false w (names_of m) 0 refl refl refl in
     let known = (body_on program m []).targets in
     let second = stms_drafts program this result known xs None false w (names_of m) 0 refl refl refl in

@@ -3,7 +3,7 @@ use Rattle.std.proofs.Common.{◌≡◌, refl, ℕ, ◌+◌, List, [], ◌∷◌
 use Rattle.ti_base.specs.declared.place.Place.{Place}
 use Rattle.ti_code.specs.declared.instr.Instr.{Instr}
 use Rattle.ti_code.specs.declared.instr.Instr.TheVariants as i
-use Rattle.ti_lower.specs.Laying.{elements_code, copied_code}
+use Rattle.ti_lower.specs.StmtCode.{elements_code, copied_code}
 
 abbrev pub copied : Place → (r w q a b d : ℕ) → List Instr
 copied p r w q a b d =

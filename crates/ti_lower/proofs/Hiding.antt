@@ -5,32 +5,32 @@ use Rattle.ti_lang.specs.Program.Types as t
 use Rattle.ti_lang.specs.Program.Expressions.{NumberedExp, NumberedExps, NumberedRange, NumberedRanges}
 use Rattle.ti_lang.specs.Program.Expressions as e
 use Rattle.ti_lang.specs.declared.program.classes.Param.{Param}
-use Rattle.ti_lang.specs.Program.Classes.{NumberedProgram}
+use Rattle.ti_lang.specs.Program.Classes.{ProgramView}
 use Rattle.ti_lang.specs.Program.Views.{numbered_param_of}
 use Rattle.ti_lang.specs.Typing.Kinds.{is_point}
 use Rattle.ti_lang.specs.Typing.Called.{member_called}
-use Rattle.ti_lang.specs.Typing.TextTypes.{type_in_text, how_many}
+use Rattle.ti_lang.specs.Typing.TextTypes.{syntactic_type, how_many}
 use Rattle.ti_lang.specs.Meaning.Calls.{parameters_from}
 use Rattle.ti_code.specs.declared.instr.Instr.{Instr}
 use Rattle.ti_code.specs.declared.instr.Instr.TheVariants as i
 use Rattle.ti_code.specs.declared.instr.Operation.{Operation}
 use Rattle.ti_base.specs.declared.place.Place.{Place}
-use Rattle.ti_code.specs.Leading.{behind}
+use Rattle.ti_code.specs.Leading.{pc_after}
 use Rattle.ti_lower_expr.specs.declared.slots.SlotName.{SlotName}
 use Rattle.ti_lower_expr.specs.declared.slots.SlotName.TheVariants as slot
-use Rattle.ti_lower_expr.specs.Views.{name_of, names_of}
+use Rattle.ti_lower_expr.specs.Views.{slot_name_of, names_of}
 use Rattle.ti_lower_expr.specs.Slots.{Name, This, Of, Point, Hidden, is_meant, find_by, find_slot, has_this}
-use Rattle.ti_lower_expr.specs.declared.kinds.Laziness.{Laziness}
-use Rattle.ti_lower_expr.specs.declared.kinds.Laziness.TheVariants.{Never, Where}
-use Rattle.ti_lower_expr.specs.Coding.{loaded, operator_code, laziness, operation_in, lazy_code, member_code, index_code, code_of, code_of_all, code_of_range, code_of_ranges}
+use Rattle.ti_lower_expr.specs.declared.kinds.ShortCircuit.{ShortCircuit}
+use Rattle.ti_lower_expr.specs.declared.kinds.ShortCircuit.TheVariants.{Never, Where}
+use Rattle.ti_lower_expr.specs.Coding.{load_variable, operator_code, short_circuit, operation_in, lazy_code, member_code, index_code, code_of, code_of_all, code_of_range, code_of_ranges}
 use Rattle.ti_lower.specs.Receivers.{written_slot}
-use Rattle.ti_lower.specs.Mirrors.Positions.{hidden}
+use Rattle.ti_lower.specs.Mirrors.Positions.{with_temporaries}
 
-pub length_hidden : (n : ℕ) (names : List Name) → length (hidden n names) ≡ length names + n
+pub length_hidden : (n : ℕ) (names : List Name) → length (with_temporaries n names) ≡ length names + n
 length_hidden zero names = omega arith
 length_hidden (suc n) names = let others = length_hidden n names in omega (arith, others)
 
-pub this_hidden : (n : ℕ) (names : List Name) → has_this (hidden n names) ≡ has_this names
+pub this_hidden : (n : ℕ) (names : List Name) → has_this (with_temporaries n names) ≡ has_this names
 this_hidden zero names = refl
 this_hidden (suc n) names = this_hidden n names
 
@@ -40,9 +40,9 @@ found_one : (d : Declaration) (x : VariableUse) (names : List Name) → find_by 
 found_one (Typed is_single type) x names = refl
 found_one Foreach x names = refl
 
-pub found_hidden : (n : ℕ) (d : Declaration) (x : VariableUse) (names : List Name) → find_by d x (hidden n names) ≡ find_by d x names
+pub found_hidden : (n : ℕ) (d : Declaration) (x : VariableUse) (names : List Name) → find_by d x (with_temporaries n names) ≡ find_by d x names
 found_hidden zero d x names = refl
-found_hidden (suc n) d x names = found_one d x (hidden n names) ∙ found_hidden n d x names
+found_hidden (suc n) d x names = found_one d x (with_temporaries n names) ∙ found_hidden n d x names
 
 -- for a variable of a type it is the same which type
 meant_typed : (a b : Bool) (t u : ValueType) (x : VariableUse) (n : Name) → is_meant (Typed a t) x n ≡ is_meant (Typed b u) x n
@@ -59,7 +59,7 @@ found_typed a b t u x (n ∷ ns) =
 
 -- the slot of a variable of a type that is written is that which is found
 pub written_typed : (w number : ℕ) (single : Bool) (type : ValueType) (names : List Name)
-    → written_slot (record { number = number; declared = Typed single type }) (hidden w names) ≡ find_slot (record { number = number; declared = Typed single type }) names
+    → written_slot (record { number = number; declared = Typed single type }) (with_temporaries w names) ≡ find_slot (record { number = number; declared = Typed single type }) names
 written_typed w number single type names =
     let x : VariableUse = record { number = number; declared = Typed single type } in
     found_hidden w (Typed false t.Void) x names ∙ found_typed false single t.Void type x names
@@ -69,32 +69,32 @@ and_false true = refl
 and_false false = refl
 
 -- a foreach variable has no slot that is written: slots of variables have types
-foreach_absent : (number : ℕ) (xs : List SlotName) → find_by (Typed false t.Void) (record { number = number; declared = Foreach }) (map name_of xs) ≡ None
+foreach_absent : (number : ℕ) (xs : List SlotName) → find_by (Typed false t.Void) (record { number = number; declared = Foreach }) (map slot_name_of xs) ≡ None
 foreach_absent number [] = refl
 foreach_absent number (slot.This ∷ xs) = foreach_absent number xs
 foreach_absent number (slot.Of k single ty ∷ xs) =
-    ap (λ c. if c then Some (length (map name_of xs)) else find_by (Typed false t.Void) (record { number = number; declared = Foreach })
-    (map name_of xs)) (and_false (number == k)) ∙ foreach_absent number xs
+    ap (λ c. if c then Some (length (map slot_name_of xs)) else find_by (Typed false t.Void) (record { number = number; declared = Foreach })
+    (map slot_name_of xs)) (and_false (number == k)) ∙ foreach_absent number xs
 foreach_absent number (slot.Point k ∷ xs) = foreach_absent number xs
 foreach_absent number (slot.Hidden ∷ xs) = foreach_absent number xs
 
-pub written_foreach : (w number : ℕ) (xs : List SlotName) → written_slot (record { number = number; declared = Foreach }) (hidden w (names_of xs)) ≡ None
+pub written_foreach : (w number : ℕ) (xs : List SlotName) → written_slot (record { number = number; declared = Foreach }) (with_temporaries w (names_of xs)) ≡ None
 written_foreach w number xs = found_hidden w (Typed false t.Void) (record { number = number; declared = Foreach }) (names_of xs) ∙ foreach_absent number (reverse xs)
 
 -- ---- expressions
 
-both_same : (at : ℕ) (a b : List Instr) (f g : ℕ → List Instr) → a ≡ b → ((n : ℕ) → f n ≡ g n) → a ++ f (behind at a) ≡ b ++ g (behind at b)
-both_same at a b f g p q = ap (λ z. z ++ f (behind at z)) p ∙ ap (λ z. b ++ z) (q (behind at b))
+both_same : (at : ℕ) (a b : List Instr) (f g : ℕ → List Instr) → a ≡ b → ((n : ℕ) → f n ≡ g n) → a ++ f (pc_after at a) ≡ b ++ g (pc_after at b)
+both_same at a b f g p q = ap (λ z. z ++ f (pc_after at z)) p ∙ ap (λ z. b ++ z) (q (pc_after at b))
 
 front_same : (a b c : List Instr) → a ≡ b → a ++ c ≡ b ++ c
 front_same a b c p = ap (λ z. z ++ c) p
 
-operators_same : (l : Laziness) (name : Operation) (p : Place) (at : ℕ) (f g : ℕ → List Instr) → ((n : ℕ) → f n ≡ g n) → operator_code l name p at f ≡ operator_code l name p at g
+operators_same : (l : ShortCircuit) (name : Operation) (p : Place) (at : ℕ) (f g : ℕ → List Instr) → ((n : ℕ) → f n ≡ g n) → operator_code l name p at f ≡ operator_code l name p at g
 operators_same Never name p at f g h = ap (λ z. z ++ i.Operate name p ∷ []) (h at)
 operators_same (Where left) name p at f g h =
     ap (λ z. lazy_code left at (λ n. z)) (h (at + 1))
 
-module _ (program : NumberedProgram) (this : Option ℕ) (names : List Name) where
+module _ (program : ProgramView) (this : Option ℕ) (names : List Name) where
   abbrev one : NumberedExp → ℕ → List Instr
   one = code_of program this (Hidden ∷ names)
 
@@ -103,14 +103,14 @@ module _ (program : NumberedProgram) (this : Option ℕ) (names : List Name) whe
 
   mutual
     same : (x : NumberedExp) (at : ℕ) → one x at ≡ none x at
-    same (e.Variable p x) at = ap (λ k. loaded k x ∷ []) (found_one x.declared x names)
+    same (e.Variable p x) at = ap (λ k. load_variable k x ∷ []) (found_one x.declared x names)
     same (e.Point p parts) at = front_same _ _ _ (all_same parts at)
     same (e.Rect p ranges) at = front_same _ _ _ (ranges_same ranges at)
     same (e.Unary p op x) at = front_same _ _ _ (same x at)
     same (e.Binary p op x y) at =
-        both_same at (one x at) (none x at) (λ j. operator_code (laziness op) (operation_in program this op x y) p j (one y))
-        (λ j. operator_code (laziness op) (operation_in program this op x y) p j (none y)) (same x at)
-        (λ j. operators_same (laziness op) (operation_in program this op x y) p j (one y) (none y) (λ n. same y n))
+        both_same at (one x at) (none x at) (λ j. operator_code (short_circuit op) (operation_in program this op x y) p j (one y))
+        (λ j. operator_code (short_circuit op) (operation_in program this op x y) p j (none y)) (same x at)
+        (λ j. operators_same (short_circuit op) (operation_in program this op x y) p j (one y) (none y) (λ n. same y n))
     same (e.Cast p type x) at = front_same _ _ _ (same x at)
     same (e.Select p x name) at = front_same _ _ _ (same x at)
     same (e.Member p x name args) at =
@@ -118,7 +118,7 @@ module _ (program : NumberedProgram) (this : Option ℕ) (names : List Name) whe
         both_same at (one x at) (none x at) (λ j. code_of_all program this (Hidden ∷ names) args j ++ last) (λ j. code_of_all program this names args j ++ last) (same x at)
         (λ j. front_same (code_of_all program this (Hidden ∷ names) args j) (code_of_all program this names args j) last (all_same args j))
     same (e.Index p x parts) at =
-        let last = index_code (is_point (type_in_text program this x)) (how_many parts) p in
+        let last = index_code (is_point (syntactic_type program this x)) (how_many parts) p in
         both_same at (one x at) (none x at) (λ j. code_of_all program this (Hidden ∷ names) parts j ++ last) (λ j. code_of_all program this names parts j ++ last) (same x at)
         (λ j. front_same (code_of_all program this (Hidden ∷ names) parts j) (code_of_all program this names parts j) last (all_same parts j))
     same _ at = refl
@@ -132,7 +132,7 @@ module _ (program : NumberedProgram) (this : Option ℕ) (names : List Name) whe
     range_same (e.Plain low high) at =
         both_same at (one low at) (none low at) (λ j. one high j ++ i.Step ∷ []) (λ j. none high j ++ i.Step ∷ []) (same low at) (λ j. front_same _ _ _ (same high j))
     range_same (e.Stepped low high step) at =
-        both_same at (one low at) (none low at) (λ j. one high j ++ one step (behind j (one high j))) (λ j. none high j ++ none step (behind j (none high j))) (same low at)
+        both_same at (one low at) (none low at) (λ j. one high j ++ one step (pc_after j (one high j))) (λ j. none high j ++ none step (pc_after j (none high j))) (same low at)
         (λ j. both_same j (one high j) (none high j) (one step) (none step) (same high j) (λ n. same step n))
 
     ranges_same : (rs : NumberedRanges) (at : ℕ) → code_of_ranges program this (Hidden ∷ names) rs at ≡ code_of_ranges program this names rs at
@@ -141,10 +141,10 @@ module _ (program : NumberedProgram) (this : Option ℕ) (names : List Name) whe
         both_same at (code_of_range program this (Hidden ∷ names) r at) (code_of_range program this names r at) (code_of_ranges program this (Hidden ∷ names) rs)
         (code_of_ranges program this names rs) (range_same r at) (λ j. ranges_same rs j)
 
-pub code_hidden : (program : NumberedProgram) (this : Option ℕ) (w : ℕ) (names : List Name) (x : NumberedExp) (at : ℕ)
-    → code_of program this (hidden w names) x at ≡ code_of program this names x at
+pub code_hidden : (program : ProgramView) (this : Option ℕ) (w : ℕ) (names : List Name) (x : NumberedExp) (at : ℕ)
+    → code_of program this (with_temporaries w names) x at ≡ code_of program this names x at
 code_hidden program this zero names x at = refl
-code_hidden program this (suc w) names x at = same program this (hidden w names) x at ∙ code_hidden program this w names x at
+code_hidden program this (suc w) names x at = same program this (with_temporaries w names) x at ∙ code_hidden program this w names x at
 
 -- ---- parameters
 

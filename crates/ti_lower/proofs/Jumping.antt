@@ -8,14 +8,14 @@ use Rattle.ti_lang.specs.Program.Expressions.{NumberedExp, NumberedExps, numbere
 use Rattle.ti_lang.specs.Program.Expressions as e
 use Rattle.ti_lang.specs.Program.Statements.{NumberedDims, NumberedInit, NumberedPrint, NumberedStm, MaybeNumbered, NoStm, SomeStm, NumberedStms, Nil, Cons, numbered_stms}
 use Rattle.ti_lang.specs.Program.Statements as s
-use Rattle.ti_lang.specs.Program.Classes.{NumberedMethod, NumberedProgram}
+use Rattle.ti_lang.specs.Program.Classes.{NumberedMethod, ProgramView}
 use Rattle.ti_lang.specs.Program.Scope.{this_of}
 use Rattle.ti_lang.specs.Program.Types as t
 use Rattle.ti_lang.specs.Typing.BuiltIn.{BuiltIn, Copy, Exchange, Delete}
 use Rattle.ti_lang.specs.Typing.Called.{called_method, member_called}
 use Rattle.ti_lang.specs.Typing.Declared.{result_type}
 use Rattle.ti_lang.specs.Typing.Kinds.{element_of}
-use Rattle.ti_lang.specs.Typing.TextTypes.{type_in_text, how_many}
+use Rattle.ti_lang.specs.Typing.TextTypes.{syntactic_type, how_many}
 use Rattle.ti_lang.specs.Meaning.Calls.{Call, call_by, parameters_of}
 use Rattle.ti_lang.specs.Meaning.Processes.{Receiver, Nowhere, Declared, Assigned, Updated}
 use Rattle.ti_lang.specs.Meaning.Scoping.{declared_type}
@@ -23,14 +23,14 @@ use Rattle.ti_lang.specs.Meaning.Statements.{declared_as, one_more}
 use Rattle.ti_code.specs.declared.instr.Instr.{Instr}
 use Rattle.ti_code.specs.declared.instr.Instr.TheVariants as i
 use Rattle.ti_code.specs.declared.instr.Operation.{Operation}
-use Rattle.ti_code.specs.Leading.{behind}
-use Rattle.ti_code.specs.JumpRule.{target_of, takes_tick, no_jump_and, leads_to_tick, jump_fits, jumps_fit_from, jumps_fit, keep_jump_rule}
+use Rattle.ti_code.specs.Leading.{pc_after}
+use Rattle.ti_code.specs.JumpRule.{jump_target_of, takes_tick, no_jump_and, leads_to_tick, jump_fits, jumps_fit_from, jumps_fit, keep_jump_rule}
 use Rattle.ti_lower_expr.specs.Slots.{Name, Hidden, Point, has_this}
 use Rattle.ti_lower_expr.specs.Methods.{names_of}
-use Rattle.ti_lower_expr.specs.declared.kinds.Kind.{Kind}
-use Rattle.ti_lower_expr.specs.declared.kinds.Kind.TheVariants.{Numbers}
-use Rattle.ti_lower_expr.specs.declared.kinds.Known.{Known}
-use Rattle.ti_lower_expr.specs.declared.kinds.Known.TheVariants as known
+use Rattle.ti_lower_expr.specs.declared.kinds.OperandClass.{OperandClass}
+use Rattle.ti_lower_expr.specs.declared.kinds.OperandClass.TheVariants.{Numbers}
+use Rattle.ti_lower_expr.specs.declared.kinds.StaticRepr.{StaticRepr}
+use Rattle.ti_lower_expr.specs.declared.kinds.StaticRepr.TheVariants as known
 use Rattle.ti_lower_expr.specs.Knowing.{known_of}
 use Rattle.ti_lower_expr.specs.Coding.{kind_in, code_of}
 use Rattle.ti_lower_expr.proofs.Lemmas.{front_stands, behind_both, behind_more, Fits, fits_jumpless, fits_both, fits_next, fits_forward}
@@ -38,19 +38,19 @@ use Rattle.ti_lower_expr.proofs.Lemmas.{fits_back, fits_standing, jumpless, tick
 use Rattle.ti_lower_expr.proofs.Lemmas.{pops_fit, code_fits, all_fit}
 use Rattle.ti_lower.specs.Calling.{number_called, args_code, call_code}
 use Rattle.ti_lower.specs.Calling as calling
-use Rattle.ti_lower.specs.Receivers.{written_slot, kept, TargetKind, InSlot, InField, InElement, store_code, update_code, kind_of_target, place_code, into_code, waiting_code, late_code}
-use Rattle.ti_lower.specs.Laying.{Labels, unknown, names_after, as_element, dropped, break_code, continue_code, first_code, elements_code}
-use Rattle.ti_lower.specs.Laying.{copied_code, taken_code, grids_code, team_code, print_code, condition_code, loop_code, walk_code}
-use Rattle.ti_lower.specs.Laying.{root_code, broadcast_code, region_code, spread_code, object_code, grid_code, valued_code, init_code}
-use Rattle.ti_lower.specs.Laying.{both_code, copy_code, exchange_code, form_code, other_code, alone_code, gives_nothing, stm_code}
-use Rattle.ti_lower.specs.Laying.{stms_code, maybe_code}
+use Rattle.ti_lower.specs.Receivers.{written_slot, keep_code, TargetKind, InSlot, InField, InElement, store_code, update_code, kind_of_target, place_code, into_code, waiting_code, late_code}
+use Rattle.ti_lower.specs.StmtCode.{LoopTargets, unknown, names_after, as_element, pop_domain, break_code, continue_code, first_code, elements_code}
+use Rattle.ti_lower.specs.StmtCode.{copied_code, taken_code, grids_code, team_code, print_code, condition_code, loop_code, walk_code}
+use Rattle.ti_lower.specs.StmtCode.{root_code, broadcast_code, region_code, spread_code, object_code, grid_code, valued_code, init_code}
+use Rattle.ti_lower.specs.StmtCode.{both_code, copy_code, exchange_code, form_code, other_code, alone_code, gives_nothing, stm_code}
+use Rattle.ti_lower.specs.StmtCode.{stms_code, maybe_code}
 use Rattle.ti_lower.specs.Programs.{in_main, body_code, method_code, end_in, methods_code}
 use Rattle.ti_lower.proofs.Bodies.{stands_behind}
 use Rattle.ti_lower.proofs.Lengths.{again_at, test_at, exit_at, IsSteady, loop_length, body_steady}
 
 -- ---- the way of a value
 
-kept_stays : (o : Option ℕ) → target_of (kept o) ≡ None
+kept_stays : (o : Option ℕ) → jump_target_of (keep_code o) ≡ None
 kept_stays (Some k) = refl
 kept_stays None = refl
 
@@ -64,7 +64,7 @@ abbrev AnywhereFits : List Instr → (List Name → ℕ → List Instr) → Type
 AnywhereFits all right = (names : List Name) (from : ℕ) → Fits all from (right names from)
 
 module _ {all : List Instr} where
-  update_fits : (names : List Name) (p q : Place) (name : Operation) (k : Known) (type : ValueType) (target : TargetKind) (right : List Name → ℕ → List Instr) (at : ℕ)
+  update_fits : (names : List Name) (p q : Place) (name : Operation) (k : StaticRepr) (type : ValueType) (target : TargetKind) (right : List Name → ℕ → List Instr) (at : ℕ)
       → AnywhereFits all right → Fits all at (update_code names p q name k type target right at)
   update_fits names p q name k type (InSlot x) right at f =
       fits_next (loaded_stays (written_slot x names) x) (fits_both (f names _) (fits_next refl (fits_both (conversion_fits p type k) (store_fits names p (InSlot x)))))
@@ -74,7 +74,7 @@ module _ {all : List Instr} where
       fits_next refl (fits_next refl (fits_next refl (fits_next refl
       (fits_both (f (Hidden ∷ names) _) (fits_next refl (fits_both (conversion_fits p type k) (fits_jumpless refl)))))))
 
-module _ {all : List Instr} (program : NumberedProgram) (this : Option ℕ) where
+module _ {all : List Instr} (program : ProgramView) (this : Option ℕ) where
   place_fits : (names : List Name) (x : NumberedExp) (at : ℕ) → Fits all at (place_code program this names x at)
   place_fits names (e.Variable q x) at = fits_jumpless refl
   place_fits names (e.OwnField q field) at = fits_next (own_stays (has_this names)) (fits_jumpless refl)
@@ -82,23 +82,23 @@ module _ {all : List Instr} (program : NumberedProgram) (this : Option ℕ) wher
   place_fits names (e.Index q x parts) at = fits_both (code_fits program this names x at) (fits_both (all_fit program this names parts _) (fits_jumpless refl))
   place_fits names other at = fits_jumpless refl
 
-  into_fits : (r : Receiver) (kind : Kind) (k : Known) (right : List Name → ℕ → List Instr) (names : List Name) (at : ℕ) → AnywhereFits all right
+  into_fits : (r : Receiver) (kind : OperandClass) (k : StaticRepr) (right : List Name → ℕ → List Instr) (names : List Name) (at : ℕ) → AnywhereFits all right
       → Fits all at (into_code program this r kind k right names at)
   into_fits Nowhere kind k right names at f = fits_both (f names at) (fits_jumpless refl)
   into_fits (Declared p x) kind k right names at f = fits_both (f names at) (fits_both (conversion_fits p (declared_type x.declared) k) (fits_jumpless refl))
   into_fits (Assigned p target) kind k right names at f =
-      fits_both (place_fits names target at) (fits_both (f names _) (fits_both (conversion_fits p (type_in_text program this target) k) (store_fits names p (kind_of_target program this target))))
+      fits_both (place_fits names target at) (fits_both (f names _) (fits_both (conversion_fits p (syntactic_type program this target) k) (store_fits names p (kind_of_target program this target))))
   into_fits (Updated p op target) kind k right names at f = fits_both (place_fits names target at) (update_fits names p _ _ _ _ _ right _ f)
 
-  waiting_fits : (r : Receiver) (kind : Kind) (k : Known) (names : List Name) (at : ℕ) → Fits all at (waiting_code program this r kind k names at)
+  waiting_fits : (r : Receiver) (kind : OperandClass) (k : StaticRepr) (names : List Name) (at : ℕ) → Fits all at (waiting_code program this r kind k names at)
   waiting_fits r kind k names at =
       fits_next refl (fits_both (into_fits r kind k (λ ns from. i.Load (length names) ∷ []) (Hidden ∷ names) (at + 1) (λ ns from. fits_jumpless refl)) (fits_jumpless refl))
 
-  late_fits : (r : Receiver) (kind : Kind) (k : Known) (names : List Name) (at : ℕ) → Fits all at (late_code program this r kind k names at)
+  late_fits : (r : Receiver) (kind : OperandClass) (k : StaticRepr) (names : List Name) (at : ℕ) → Fits all at (late_code program this r kind k names at)
   late_fits Nowhere kind k names at = fits_jumpless refl
   late_fits (Declared p x) kind k names at = fits_both (conversion_fits p (declared_type x.declared) k) (fits_jumpless refl)
   late_fits (Assigned p (e.Variable q x)) kind k names at =
-      fits_both (conversion_fits p (type_in_text program this (e.Variable q x)) k) (fits_next (kept_stays (written_slot x names)) (fits_jumpless refl))
+      fits_both (conversion_fits p (syntactic_type program this (e.Variable q x)) k) (fits_next (kept_stays (written_slot x names)) (fits_jumpless refl))
   late_fits r kind k names at = waiting_fits r kind k names at
 
   -- ---- calls
@@ -144,7 +144,7 @@ module _ {all : List Instr} where
       fits_next refl (fits_next refl (fits_next refl (fits_next refl (fits_next refl (fits_next refl (fits_next refl
       (fits_forward refl (omega arith) (fits_jumpless refl))))))))
 
-module _ {all : List Instr} (program : NumberedProgram) (this : Option ℕ) (names : List Name) where
+module _ {all : List Instr} (program : ProgramView) (this : Option ℕ) (names : List Name) where
   abbrev of_fits : (x : NumberedExp) (at : ℕ) → Fits all at (code_of program this names x at)
   of_fits = code_fits program this names
 
@@ -156,7 +156,7 @@ module _ {all : List Instr} (program : NumberedProgram) (this : Option ℕ) (nam
 
   exchange_fits : (p : Place) (x : NumberedExp) (args : NumberedExps) (at : ℕ) → Fits all at (exchange_code program this p names x args at)
   exchange_fits p x args at =
-      fits_both (fits_both (both_fit x args at) (element_fits (element_of (type_in_text program this x))))
+      fits_both (fits_both (both_fit x args at) (element_fits (element_of (syntactic_type program this x))))
       (fits_both {xs = team_code p (length names)} (fits_jumpless refl) (elements_fit p (length names) (taken_code p (length names)) _ refl refl))
 
   -- ---- simple statements
@@ -195,9 +195,9 @@ module _ {all : List Instr} (program : NumberedProgram) (this : Option ℕ) (nam
       → Fits all at (grid_code program this names p region element q dims at)
   grid_fits p region element q dims at = fits_both (region_fits region at) (fits_both (spread_fits q dims _) (fits_jumpless refl))
 
-module _ {all : List Instr} (program : NumberedProgram) (this : Option ℕ) where
+module _ {all : List Instr} (program : ProgramView) (this : Option ℕ) where
   -- an expression whose value goes to a receiver
-  value_fits : (r : Receiver) (kind : Kind) (k : Known) (x : NumberedExp) (names : List Name) (at : ℕ)
+  value_fits : (r : Receiver) (kind : OperandClass) (k : StaticRepr) (x : NumberedExp) (names : List Name) (at : ℕ)
       → Fits all at (into_code program this r kind k (λ ns from. code_of program this ns x from) names at)
   value_fits r kind k x names at = into_fits program this r kind k _ names at (λ ns from. code_fits program this ns x from)
 
@@ -232,39 +232,39 @@ module _ {all : List Instr} (program : NumberedProgram) (this : Option ℕ) wher
 -- ---- jumps out of blocks
 
 -- both labels lie there or behind
-abbrev Beyond : ℕ → Option Labels → Type 0
+abbrev Beyond : ℕ → Option LoopTargets → Type 0
 Beyond n None = Unit {0}
 Beyond n (Some l) = (n ≤ l.again) × (n ≤ l.exit)
 
-beyond_less : (n m : ℕ) (l : Option Labels) → n ≤ m → Beyond m l → Beyond n l
+beyond_less : (n m : ℕ) (l : Option LoopTargets) → n ≤ m → Beyond m l → Beyond n l
 beyond_less n m None less z = tt
 beyond_less n m (Some l) less z = (omega (arith, less, z.0), omega (arith, less, z.1))
 
-beyond_rest : (at : ℕ) (xs ys : List Instr) (l : Option Labels) → Beyond (behind at (xs ++ ys)) l → Beyond (behind (behind at xs) ys) l
+beyond_rest : (at : ℕ) (xs ys : List Instr) (l : Option LoopTargets) → Beyond (pc_after at (xs ++ ys)) l → Beyond (pc_after (pc_after at xs) ys) l
 beyond_rest at xs ys l z = subst (λ n. Beyond n l) (behind_both at xs ys) z
 
-beyond_front : (at : ℕ) (xs ys : List Instr) (l : Option Labels) → Beyond (behind at (xs ++ ys)) l → Beyond (behind at xs) l
-beyond_front at xs ys l z = beyond_less (behind at xs) (behind (behind at xs) ys) l (behind_more (behind at xs) ys) (beyond_rest at xs ys l z)
+beyond_front : (at : ℕ) (xs ys : List Instr) (l : Option LoopTargets) → Beyond (pc_after at (xs ++ ys)) l → Beyond (pc_after at xs) l
+beyond_front at xs ys l z = beyond_less (pc_after at xs) (pc_after (pc_after at xs) ys) l (behind_more (pc_after at xs) ys) (beyond_rest at xs ys l z)
 
 module _ {all : List Instr} where
-  drop_fits : (walks : Bool) (target at : ℕ) → behind at (dropped walks ++ i.Jump target ∷ []) ≤ target → Fits all at (dropped walks ++ i.Jump target ∷ [])
+  drop_fits : (walks : Bool) (target at : ℕ) → pc_after at (pop_domain walks ++ i.Jump target ∷ []) ≤ target → Fits all at (pop_domain walks ++ i.Jump target ∷ [])
   drop_fits true target at l = fits_next refl (fits_forward refl l (fits_jumpless refl))
   drop_fits false target at l = fits_forward refl l (fits_jumpless refl)
 
-  break_fits : (l : Option Labels) (names : List Name) (at : ℕ) → Beyond (behind at (break_code l names at)) l → Fits all at (break_code l names at)
+  break_fits : (l : Option LoopTargets) (names : List Name) (at : ℕ) → Beyond (pc_after at (break_code l names at)) l → Fits all at (break_code l names at)
   break_fits None names at z = fits_next refl (fits_forward refl (omega arith) (fits_jumpless refl))
   break_fits (Some l) names at z = fits_next refl (drop_fits l.walks l.exit (at + 1) z.1)
 
-  continue_fits : (l : Option Labels) (names : List Name) (at : ℕ) → Beyond (behind at (continue_code l names at)) l → Fits all at (continue_code l names at)
+  continue_fits : (l : Option LoopTargets) (names : List Name) (at : ℕ) → Beyond (pc_after at (continue_code l names at)) l → Fits all at (continue_code l names at)
   continue_fits None names at z = fits_next refl (fits_forward refl (omega arith) (fits_jumpless refl))
   continue_fits (Some l) names at z = fits_next refl (fits_forward refl z.0 (fits_jumpless refl))
 
 -- ---- loops
 
-module _ (program : NumberedProgram) (this : Option ℕ) (result : ValueType) where
+module _ (program : ProgramView) (this : Option ℕ) (result : ValueType) where
   -- labels behind a loop lie behind its update
-  update_beyond : (p : Place) (names : List Name) (c : Option NumberedExp) (body : Option Labels → ℕ → List Instr) (update : ℕ → List Instr) (at : ℕ) (l : Option Labels)
-      → IsSteady program this result false body → Beyond (behind at (loop_code program this p names c body update at)) l → Beyond (test_at body update at) l
+  update_beyond : (p : Place) (names : List Name) (c : Option NumberedExp) (body : Option LoopTargets → ℕ → List Instr) (update : ℕ → List Instr) (at : ℕ) (l : Option LoopTargets)
+      → IsSteady program this result false body → Beyond (pc_after at (loop_code program this p names c body update at)) l → Beyond (test_at body update at) l
   update_beyond p names c body update at l steady z =
       let test = test_at body update at in
       let exit = exit_at program this result names c body update at in
@@ -272,39 +272,39 @@ module _ (program : NumberedProgram) (this : Option ℕ) (result : ValueType) wh
       beyond_less test exit l further (subst (λ n. Beyond n l) (loop_length program this result p names c body update at steady) z)
 
 -- a body fits wherever its labels lie behind it
-abbrev BodyFits : List Instr → (Option Labels → ℕ → List Instr) → Type 0
-BodyFits all body = (l : Labels) (from : ℕ) → Beyond (behind from (body (Some l) from)) (Some l) → Fits all from (body (Some l) from)
+abbrev BodyFits : List Instr → (Option LoopTargets → ℕ → List Instr) → Type 0
+BodyFits all body = (l : LoopTargets) (from : ℕ) → Beyond (pc_after from (body (Some l) from)) (Some l) → Fits all from (body (Some l) from)
 
-module _ {all : List Instr} (program : NumberedProgram) (this : Option ℕ) (result : ValueType) where
-  loop_fits : (p : Place) (names : List Name) (c : Option NumberedExp) (body : Option Labels → ℕ → List Instr) (update : ℕ → List Instr) (at : ℕ) → IsSteady program this result false body
+module _ {all : List Instr} (program : ProgramView) (this : Option ℕ) (result : ValueType) where
+  loop_fits : (p : Place) (names : List Name) (c : Option NumberedExp) (body : Option LoopTargets → ℕ → List Instr) (update : ℕ → List Instr) (at : ℕ) → IsSteady program this result false body
       → BodyFits all body → Fits all (again_at body false at) (update (again_at body false at)) → Fits all at (loop_code program this p names c body update at)
   loop_fits p names c body update at steady f g =
       let again = again_at body false at in
       let test = test_at body update at in
       let tests = condition_code program this names c test in
-      let exit = behind test tests + 1 in
-      let labels : Labels = record { again = again; kept = length names; exit = exit; left = length names; walks = false } in
+      let exit = pc_after test tests + 1 in
+      let labels : LoopTargets = record { again = again; kept = length names; exit = exit; left = length names; walks = false } in
       let inner = body (Some labels) (at + 1 + 1) in
       let rest = update again ++ (tests ++ i.JumpIf (at + 1) ∷ []) in
-      let same : behind (at + 1 + 1) inner ≡ again = steady labels (at + 1 + 1) refl in
+      let same : pc_after (at + 1 + 1) inner ≡ again = steady labels (at + 1 + 1) refl in
       let before : again ≤ test = behind_more again (update again) in
-      let beyond : Beyond (behind (at + 1 + 1) inner) (Some labels) = (omega (arith, same), omega (arith, same, before, behind_more test tests)) in
+      let beyond : Beyond (pc_after (at + 1 + 1) inner) (Some labels) = (omega (arith, same), omega (arith, same, before, behind_more test tests)) in
       fits_standing (λ st.
       let back : IsTrue (leads_to_tick (drop (at + 1) all)) = tick_follows all (at + 1) (i.Tick p ∷ []) refl (st.1.0, tt) in
       let ends : Fits all again rest = fits_both g (fits_both (condition_fits program this names c test) (fits_back refl back (fits_jumpless refl))) in
       fits_forward refl (omega (arith, behind_more (at + 1 + 1) (body (unknown false) (at + 1 + 1)), before))
       (fits_next refl (fits_both (f labels (at + 1 + 1) beyond) (subst (λ n. Fits all n rest) (sym same) ends))))
 
-  walk_fits : (p : Place) (names : List Name) (body : Option Labels → ℕ → List Instr) (at : ℕ) → IsSteady program this result true body → BodyFits all body
+  walk_fits : (p : Place) (names : List Name) (body : Option LoopTargets → ℕ → List Instr) (at : ℕ) → IsSteady program this result true body → BodyFits all body
       → Fits all at (walk_code program this p names body at)
   walk_fits p names body at steady f =
       let n = length names in
       let again = again_at body true at in
-      let labels : Labels = record { again = again; kept = n + 1; exit = again + 1 + 1 + 1 + 1; left = n; walks = true } in
+      let labels : LoopTargets = record { again = again; kept = n + 1; exit = again + 1 + 1 + 1 + 1; left = n; walks = true } in
       let inner = body (Some labels) (at + 1 + 1) in
       let rest = i.Trim n ∷ i.Next n (again + 1 + 1 + 1) ∷ i.Jump (at + 1) ∷ i.Pop ∷ [] in
-      let same : behind (at + 1 + 1) inner ≡ again = steady labels (at + 1 + 1) refl in
-      let beyond : Beyond (behind (at + 1 + 1) inner) (Some labels) = (omega (arith, same), omega (arith, same)) in
+      let same : pc_after (at + 1 + 1) inner ≡ again = steady labels (at + 1 + 1) refl in
+      let beyond : Beyond (pc_after (at + 1 + 1) inner) (Some labels) = (omega (arith, same), omega (arith, same)) in
       fits_standing (λ st.
       let back : IsTrue (leads_to_tick (drop (at + 1) all)) = tick_follows all (at + 1) (i.Tick p ∷ []) refl (st.1.0, tt) in
       let ends : Fits all again rest = fits_next refl (fits_forward refl (omega arith) (fits_back refl back (fits_jumpless refl))) in
@@ -314,7 +314,7 @@ module _ {all : List Instr} (program : NumberedProgram) (this : Option ℕ) (res
   -- ---- statements
 
   mutual
-    stm_fits : (x : NumberedStm) (l : Option Labels) (names : List Name) (at : ℕ) → Beyond (behind at (stm_code program this result x l names at)) l
+    stm_fits : (x : NumberedStm) (l : Option LoopTargets) (names : List Name) (at : ℕ) → Beyond (pc_after at (stm_code program this result x l names at)) l
         → Fits all at (stm_code program this result x l names at)
     stm_fits s.Empty l names at z = fits_jumpless refl
     stm_fits (s.Declare p type variable value) l names at z = init_fits program this (Declared p (declared_as type variable)) value names at
@@ -327,18 +327,18 @@ module _ {all : List Instr} (program : NumberedProgram) (this : Option ℕ) (res
         fits_both (stms_fit body l names at (beyond_front at (stms_code program this result body l names at) (i.Trim (length names) ∷ []) l z)) (fits_jumpless refl)
     stm_fits (s.If p c x) l names at z =
         let first = code_of program this names c at in
-        let start = behind at first + 1 in
+        let start = pc_after at first + 1 in
         let inner = stm_code program this result x l names start in
         fits_both (code_fits program this names c at) (fits_forward refl (omega (arith, behind_more start inner))
-        (stm_fits x l names start (beyond_rest at first (i.JumpIfNot (behind start inner) ∷ inner) l z)))
+        (stm_fits x l names start (beyond_rest at first (i.JumpIfNot (pc_after start inner) ∷ inner) l z)))
     stm_fits (s.IfElse p c x y) l names at z =
         let first = code_of program this names c at in
-        let start = behind at first + 1 in
+        let start = pc_after at first + 1 in
         let inner = stm_code program this result x l names start in
-        let last = behind start inner in
+        let last = pc_after start inner in
         let other = stm_code program this result y l names (last + 1) in
-        let tail = i.Jump (behind (last + 1) other) ∷ other in
-        let inside : Beyond (behind start (inner ++ tail)) l = beyond_rest at first (i.JumpIfNot (last + 1) ∷ (inner ++ tail)) l z in
+        let tail = i.Jump (pc_after (last + 1) other) ∷ other in
+        let inside : Beyond (pc_after start (inner ++ tail)) l = beyond_rest at first (i.JumpIfNot (last + 1) ∷ (inner ++ tail)) l z in
         fits_both (code_fits program this names c at) (fits_forward refl (omega (arith, behind_more start inner))
         (fits_both (stm_fits x l names start (beyond_front start inner tail l inside)) (fits_forward refl (omega (arith, behind_more (last + 1) other))
         (stm_fits y l names (last + 1) (beyond_rest start inner tail l inside)))))
@@ -346,7 +346,7 @@ module _ {all : List Instr} (program : NumberedProgram) (this : Option ℕ) (res
         loop_fits p names (Some c) (λ m from. stm_code program this result body m names from) (λ from. []) at (body_steady program this result body names false)
         (λ k from w. stm_fits body (Some k) names from w) (fits_jumpless refl)
     stm_fits (s.For p NoStm c update body) l names at z =
-        let inner : Option Labels → ℕ → List Instr = λ m from. stm_code program this result body m names from in
+        let inner : Option LoopTargets → ℕ → List Instr = λ m from. stm_code program this result body m names from in
         let changes : ℕ → List Instr = λ from. maybe_code program this result update l names from in
         let steady = body_steady program this result body names false in
         let inside = beyond_front at (loop_code program this p names c inner changes at) (i.Trim (length names) ∷ []) l z in
@@ -354,9 +354,9 @@ module _ {all : List Instr} (program : NumberedProgram) (this : Option ℕ) (res
         (maybe_fits update l names (again_at inner false at) (update_beyond program this result p names c inner changes at l steady inside))) (fits_jumpless refl)
     stm_fits (s.For p (SomeStm first) c update body) l names at z =
         let before = stm_code program this result first l names at in
-        let start = behind at before in
+        let start = pc_after at before in
         let more = names_after first names in
-        let inner : Option Labels → ℕ → List Instr = λ m from. stm_code program this result body m more from in
+        let inner : Option LoopTargets → ℕ → List Instr = λ m from. stm_code program this result body m more from in
         let changes : ℕ → List Instr = λ from. maybe_code program this result update l more from in
         let loop = loop_code program this p more c inner changes start in
         let trim = i.Trim (length names) ∷ [] in
@@ -377,15 +377,15 @@ module _ {all : List Instr} (program : NumberedProgram) (this : Option ℕ) (res
         let c = call_by x (called_method program this x) in
         alone_fits program this (gives_nothing program this c) x c names at
 
-    stms_fit : (xs : NumberedStms) (l : Option Labels) (names : List Name) (at : ℕ) → Beyond (behind at (stms_code program this result xs l names at)) l
+    stms_fit : (xs : NumberedStms) (l : Option LoopTargets) (names : List Name) (at : ℕ) → Beyond (pc_after at (stms_code program this result xs l names at)) l
         → Fits all at (stms_code program this result xs l names at)
     stms_fit Nil l names at z = fits_jumpless refl
     stms_fit (Cons x rest) l names at z =
         let first = stm_code program this result x l names at in
-        let more = stms_code program this result rest l (names_after x names) (behind at first) in
-        fits_both (stm_fits x l names at (beyond_front at first more l z)) (stms_fit rest l (names_after x names) (behind at first) (beyond_rest at first more l z))
+        let more = stms_code program this result rest l (names_after x names) (pc_after at first) in
+        fits_both (stm_fits x l names at (beyond_front at first more l z)) (stms_fit rest l (names_after x names) (pc_after at first) (beyond_rest at first more l z))
 
-    maybe_fits : (x : MaybeNumbered) (l : Option Labels) (names : List Name) (at : ℕ) → Beyond (behind at (maybe_code program this result x l names at)) l
+    maybe_fits : (x : MaybeNumbered) (l : Option LoopTargets) (names : List Name) (at : ℕ) → Beyond (pc_after at (maybe_code program this result x l names at)) l
         → Fits all at (maybe_code program this result x l names at)
     maybe_fits NoStm l names at z = fits_jumpless refl
     maybe_fits (SomeStm x) l names at z = stm_fits x l names at z
@@ -393,7 +393,7 @@ module _ {all : List Instr} (program : NumberedProgram) (this : Option ℕ) (res
 -- ---- in `main` an instruction that returns is the end of the run, which changes no jump and no tick
 
 module _ (end : Place) where
-  main_target : (x : Instr) → target_of (in_main end x) ≡ target_of x
+  main_target : (x : Instr) → jump_target_of (in_main end x) ≡ jump_target_of x
   main_target i.Return = refl
   main_target x = refl
 
@@ -404,7 +404,7 @@ module _ (end : Place) where
   main_leads : (xs : List Instr) → leads_to_tick (map (in_main end) xs) ≡ leads_to_tick xs
   main_leads [] = refl
   main_leads (x ∷ xs) =
-      ap₂ (λ tick more. if tick then true else no_jump_and (target_of (in_main end x)) more) (main_tick x) (main_leads xs)
+      ap₂ (λ tick more. if tick then true else no_jump_and (jump_target_of (in_main end x)) more) (main_tick x) (main_leads xs)
       ∙ ap (λ o. if takes_tick x then true else no_jump_and o (leads_to_tick xs)) (main_target x)
 
   main_jump : (all : List Instr) (at : ℕ) (o : Option ℕ) → jump_fits (map (in_main end) all) at o ≡ jump_fits all at o
@@ -415,26 +415,26 @@ module _ (end : Place) where
 
   main_jumps : (all : List Instr) (at : ℕ) (xs : List Instr) → jumps_fit_from (map (in_main end) all) at (map (in_main end) xs) ≡ jumps_fit_from all at xs
   main_jumps all at [] = refl
-  main_jumps all at (x ∷ xs) = ap₂ (λ a b. a && b) (ap (jump_fits (map (in_main end) all) at) (main_target x) ∙ main_jump all at (target_of x)) (main_jumps all (at + 1) xs)
+  main_jumps all at (x ∷ xs) = ap₂ (λ a b. a && b) (ap (jump_fits (map (in_main end) all) at) (main_target x) ∙ main_jump all at (jump_target_of x)) (main_jumps all (at + 1) xs)
 
 -- ---- methods and programs
 
-body_fits : (program : NumberedProgram) (m : NumberedMethod) → IsTrue (jumps_fit_from (body_code program m) 0 (body_code program m))
+body_fits : (program : ProgramView) (m : NumberedMethod) → IsTrue (jumps_fit_from (body_code program m) 0 (body_code program m))
 body_fits program m =
     let all = body_code program m in
     let fit : Fits all 0 all = fits_both (stms_fit program (this_of m) (result_type m) (numbered_stms m.body) None (names_of m) 0 tt) (fits_jumpless refl) in
     fit.keeps (stands_behind all [] all 0 refl refl)
 
-method_fits : (program : NumberedProgram) (end : Option Place) (m : NumberedMethod) → IsTrue (jumps_fit (method_code program end m))
+method_fits : (program : ProgramView) (end : Option Place) (m : NumberedMethod) → IsTrue (jumps_fit (method_code program end m))
 method_fits program None m = body_fits program m
 method_fits program (Some end) m = main_jumps end (body_code program m) 0 (body_code program m) ∙ body_fits program m
 
-methods_keep : (program : NumberedProgram) (n : ℕ) (ms : List NumberedMethod) → IsTrue (keep_jump_rule (methods_code program n ms))
+methods_keep : (program : ProgramView) (n : ℕ) (ms : List NumberedMethod) → IsTrue (keep_jump_rule (methods_code program n ms))
 methods_keep program n [] = refl
 methods_keep program n (m ∷ ms) =
     let end = end_in (n == program.main) m in
     and_from (jumps_fit (method_code program end m)) (keep_jump_rule (methods_code program (n + 1) ms)) (method_fits program end m) (methods_keep program (n + 1) ms)
 
 -- the code of every program keeps the rule on jumps
-pub program_keeps_rule : (program : NumberedProgram) → IsTrue (keep_jump_rule (methods_code program 0 program.methods))
+pub program_keeps_rule : (program : ProgramView) → IsTrue (keep_jump_rule (methods_code program 0 program.methods))
 program_keeps_rule program = methods_keep program 0 program.methods

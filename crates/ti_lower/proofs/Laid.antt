@@ -10,11 +10,11 @@ use Rattle.ti_lang.specs.Program.Expressions.{NumberedExp, NumberedExps, numbere
 use Rattle.ti_lang.specs.Program.Expressions as e
 use Rattle.ti_lang.specs.Program.Statements.{NumberedDims, NumberedInit, NumberedPrint}
 use Rattle.ti_lang.specs.Program.Statements as s
-use Rattle.ti_lang.specs.Program.Classes.{NumberedProgram}
+use Rattle.ti_lang.specs.Program.Classes.{ProgramView}
 use Rattle.ti_lang.specs.Typing.BuiltIn.{BuiltIn, Copy, Exchange, Delete}
 use Rattle.ti_lang.specs.Typing.Called.{called_method, member_called}
 use Rattle.ti_lang.specs.Typing.Kinds.{element_of}
-use Rattle.ti_lang.specs.Typing.TextTypes.{type_in_text, how_many}
+use Rattle.ti_lang.specs.Typing.TextTypes.{syntactic_type, how_many}
 use Rattle.ti_lang.specs.Meaning.Calls.{Call, call_by, parameters_of}
 use Rattle.ti_lang.specs.Meaning.Processes.{Receiver, Nowhere, Declared, Assigned, Updated}
 use Rattle.ti_lang.specs.Meaning.Scoping.{declared_type}
@@ -23,20 +23,20 @@ use Rattle.ti_code.specs.declared.instr.Instr.{Instr}
 use Rattle.ti_code.specs.declared.instr.Instr.TheVariants as i
 use Rattle.ti_code.specs.declared.instr.Operation.{Operation}
 use Rattle.ti_code.specs.declared.instr.Operation.TheVariants as o
-use Rattle.ti_code.specs.Leading.{behind}
+use Rattle.ti_code.specs.Leading.{pc_after}
 use Rattle.ti_lower_expr.specs.Slots.{Name, has_this}
-use Rattle.ti_lower_expr.specs.declared.kinds.Kind.{Kind}
-use Rattle.ti_lower_expr.specs.declared.kinds.Kind.TheVariants.{Numbers}
-use Rattle.ti_lower_expr.specs.declared.kinds.Known.{Known}
-use Rattle.ti_lower_expr.specs.declared.kinds.Known.TheVariants as known
+use Rattle.ti_lower_expr.specs.declared.kinds.OperandClass.{OperandClass}
+use Rattle.ti_lower_expr.specs.declared.kinds.OperandClass.TheVariants.{Numbers}
+use Rattle.ti_lower_expr.specs.declared.kinds.StaticRepr.{StaticRepr}
+use Rattle.ti_lower_expr.specs.declared.kinds.StaticRepr.TheVariants as known
 use Rattle.ti_lower_expr.specs.Knowing.{known_of, operated_known}
-use Rattle.ti_lower_expr.specs.Coding.{kind_in, code_of, code_of_all, conversion, loaded, own}
+use Rattle.ti_lower_expr.specs.Coding.{kind_in, code_of, code_of_all, conversion, load_variable, load_this}
 use Rattle.ti_lower_expr.proofs.Lemmas.{behind_counts, two}
 use Rattle.ti_lower.specs.Calling.{number_called, args_code, object_code, call_code}
-use Rattle.ti_lower.specs.Receivers.{TargetKind, InSlot, InField, InElement, written_slot, kept, store_code, update_code, held_known, updating, kind_of_target, place_code, into_code, waiting_code, late_code}
-use Rattle.ti_lower.specs.Laying.{Labels, first_code, as_element, elements_code, copied_code, taken_code, grids_code, team_code, print_code, root_code, region_code, spread_code, valued_code, init_code, both_code, copy_code, exchange_code, form_code, other_code, alone_code, gives_nothing, stm_code}
-use Rattle.ti_lower.specs.Mirrors.Positions.{Where, Source, Computed, Kept, one_waits}
-use Rattle.ti_lower.specs.Mirrors.Values.{value_on, values_on, source_on, place_on, update_on, into_on, waiting_on, late_on, args_on}
+use Rattle.ti_lower.specs.Receivers.{TargetKind, InSlot, InField, InElement, written_slot, keep_code, store_code, update_code, held_known, updating, kind_of_target, place_code, into_code, waiting_code, late_code}
+use Rattle.ti_lower.specs.StmtCode.{LoopTargets, first_code, as_element, elements_code, copied_code, taken_code, grids_code, team_code, print_code, root_code, region_code, spread_code, valued_code, init_code, both_code, copy_code, exchange_code, form_code, other_code, alone_code, gives_nothing, stm_code}
+use Rattle.ti_lower.specs.Mirrors.Positions.{Where, Source, Computed, Kept, with_temporary}
+use Rattle.ti_lower.specs.Mirrors.Values.{value_on, values_on, source_on, place_on, update_on, into_on, spill_on, store_result_on, args_on}
 use Rattle.ti_lower.specs.Mirrors.Values.{object_on, call_on, valued_on, region_on, spread_on, root_on, init_on, both_on, elements_on}
 use Rattle.ti_lower.specs.Mirrors.Values.{grids_on, copy_on, exchange_on, form_on, other_on, alone_on, stands_on, print_on, returned_on}
 
@@ -47,7 +47,7 @@ pub record Laid (written : List Instr → List Instr) (laid : ℕ → List Instr
   pub is : (code : List Instr) → written code ≡ code ++ laid (length code)
 
 -- one behind the other
-pub after : {a b : List Instr → List Instr} {f g : ℕ → List Instr} → Laid a f → Laid b g → Laid (λ code. b (a code)) (λ at. f at ++ g (behind at (f at)))
+pub after : {a b : List Instr → List Instr} {f g : ℕ → List Instr} → Laid a f → Laid b g → Laid (λ code. b (a code)) (λ at. f at ++ g (pc_after at (f at)))
 after {a = a} {b = b} {f = f} {g = g} p q = record { is = λ code. q.is (a code) ∙ two code (a code) (f (length code)) g (p.is code) }
 
 pub fixed : (xs : List Instr) → Laid (λ code. code ++ xs) (λ at. xs)
@@ -57,7 +57,7 @@ pub nothing : Laid (λ code. code) (λ at. [])
 nothing = record { is = λ code. sym (append-nil code) }
 
 -- the code of a right side, from an instruction on, where slots have these names
-abbrev pub right_code : NumberedProgram → Option ℕ → Source → List Name → ℕ → List Instr
+abbrev pub right_code : ProgramView → Option ℕ → Source → List Name → ℕ → List Instr
 right_code program this (Computed x) = λ ns from. code_of program this ns x from
 right_code program this (Kept k) = λ ns from. i.Load k ∷ []
 
@@ -78,48 +78,48 @@ source w (Kept k) = fixed (i.Load k ∷ [])
 
 pub place : (w : Where) (x : NumberedExp) → Laid (place_on w x) (place_code w.program w.this w.names x)
 place w (e.Variable q x) = nothing
-place w (e.OwnField q field) = fixed (own (has_this w.names) ∷ [])
+place w (e.OwnField q field) = fixed (load_this (has_this w.names) ∷ [])
 place w (e.Select q x name) = value w x
 place w (e.Index q x parts) = after (value w x) (after (values w parts) (fixed (i.MakePt (how_many parts) ∷ [])))
 place w other = fixed (i.Const (v.Bool false) ∷ [])
 
-pub update : (w : Where) (p q : Place) (name : Operation) (k : Known) (type : ValueType) (target : TargetKind) (right : Source)
+pub update : (w : Where) (p q : Place) (name : Operation) (k : StaticRepr) (type : ValueType) (target : TargetKind) (right : Source)
     → Laid (update_on w p q name k type target right) (update_code w.names p q name k type target (right_code w.program w.this right))
 update w p q name k type (InSlot x) right =
-    after (fixed (loaded (written_slot x w.names) x ∷ [])) (after (source w right) (after (fixed (i.Operate name p ∷ []))
+    after (fixed (load_variable (written_slot x w.names) x ∷ [])) (after (source w right) (after (fixed (i.Operate name p ∷ []))
     (after (fixed (conversion p type k)) (fixed (store_code w.names p (InSlot x))))))
 update w p q name k type (InField field) right =
     after (fixed (i.Dup ∷ i.GetField field q ∷ [])) (after (source w right) (after (fixed (i.Operate name p ∷ []))
     (after (fixed (conversion p type k)) (fixed (store_code w.names p (InField field))))))
 update w p q name k type InElement right =
     let n = length w.names in
-    after (fixed (i.Keep n ∷ i.Dup ∷ i.Load n ∷ i.GetElem q ∷ [])) (after (source (one_waits w) right) (after (fixed (i.Operate name p ∷ []))
+    after (fixed (i.Keep n ∷ i.Dup ∷ i.Load n ∷ i.GetElem q ∷ [])) (after (source (with_temporary w) right) (after (fixed (i.Operate name p ∷ []))
     (after (fixed (conversion p type k)) (fixed (i.Keep (n + 1) ∷ i.Load n ∷ i.Load (n + 1) ∷ i.PutElem p ∷ i.Trim n ∷ [])))))
 
 -- ---- ways of values
 
-pub into : (w : Where) (r : Receiver) (kind : Kind) (k : Known) (right : Source)
+pub into : (w : Where) (r : Receiver) (kind : OperandClass) (k : StaticRepr) (right : Source)
     → Laid (into_on w r kind k right) (into_code w.program w.this r kind k (right_code w.program w.this right) w.names)
 into w Nowhere kind k right = after (source w right) (fixed (i.Pop ∷ []))
 into w (Declared p x) kind k right =
     after (source w right) (after (fixed (conversion p (declared_type x.declared) k)) (fixed (i.Keep (length w.names) ∷ [])))
 into w (Assigned p target) kind k right =
     after (place w target) (after (source w right)
-    (after (fixed (conversion p (type_in_text w.program w.this target) k)) (fixed (store_code w.names p (kind_of_target w.program w.this target)))))
+    (after (fixed (conversion p (syntactic_type w.program w.this target) k)) (fixed (store_code w.names p (kind_of_target w.program w.this target)))))
 into w (Updated p op target) kind k right =
     after (place w target) (update w p (place_of_numbered target) (updating w.program w.this op target kind)
-    (operated_known op (held_known (kind_of_target w.program w.this target)) k) (type_in_text w.program w.this target)
+    (operated_known op (held_known (kind_of_target w.program w.this target)) k) (syntactic_type w.program w.this target)
     (kind_of_target w.program w.this target) right)
 
-pub waiting : (w : Where) (r : Receiver) (kind : Kind) (k : Known) → Laid (waiting_on w r kind k) (waiting_code w.program w.this r kind k w.names)
+pub waiting : (w : Where) (r : Receiver) (kind : OperandClass) (k : StaticRepr) → Laid (spill_on w r kind k) (waiting_code w.program w.this r kind k w.names)
 waiting w r kind k =
-    after (fixed (i.Keep (length w.names) ∷ [])) (after (into (one_waits w) r kind k (Kept (length w.names))) (fixed (i.Trim (length w.names) ∷ [])))
+    after (fixed (i.Keep (length w.names) ∷ [])) (after (into (with_temporary w) r kind k (Kept (length w.names))) (fixed (i.Trim (length w.names) ∷ [])))
 
-pub late : (w : Where) (r : Receiver) (kind : Kind) (k : Known) → Laid (late_on w r kind k) (late_code w.program w.this r kind k w.names)
+pub late : (w : Where) (r : Receiver) (kind : OperandClass) (k : StaticRepr) → Laid (store_result_on w r kind k) (late_code w.program w.this r kind k w.names)
 late w Nowhere kind k = fixed (i.Pop ∷ [])
 late w (Declared p x) kind k = after (fixed (conversion p (declared_type x.declared) k)) (fixed (i.Keep (length w.names) ∷ []))
 late w (Assigned p (e.Variable q x)) kind k =
-    after (fixed (conversion p (type_in_text w.program w.this (e.Variable q x)) k)) (fixed (kept (written_slot x w.names) ∷ []))
+    after (fixed (conversion p (syntactic_type w.program w.this (e.Variable q x)) k)) (fixed (keep_code (written_slot x w.names) ∷ []))
 late w r kind k = waiting w r kind k
 
 -- ---- calls
@@ -166,15 +166,15 @@ root_is w p x code =
     let at = length code + 1 + 1 + 1 + 1 + 1 in
     let here : length (before ++ i.JumpIfNot 0 ∷ []) ≡ at =
     length-append before (i.JumpIfNot 0 ∷ []) ∙ ap (λ n. n + 1) (length-append code first ∙ omega arith) in
-    let long : length (before ++ i.JumpIfNot 0 ∷ [] ++ of at) ≡ behind at (of at) =
+    let long : length (before ++ i.JumpIfNot 0 ∷ [] ++ of at) ≡ pc_after at (of at) =
     length-append (before ++ i.JumpIfNot 0 ∷ []) (of at) ∙ ap (λ n. n + length (of at)) here ∙ sym (behind_counts at (of at)) in
-    let further : behind at (of at) + 2 ≡ behind at (of at) + 1 + 1 = omega arith in
+    let further : pc_after at (of at) + 2 ≡ pc_after at (of at) + 1 + 1 = omega arith in
     ap (λ n. set (before ++ i.JumpIfNot 0 ∷ [] ++ of n) (length before) (i.JumpIfNot (length (before ++ i.JumpIfNot 0 ∷ [] ++ of n) + 1))
     ++ i.Jump (length (before ++ i.JumpIfNot 0 ∷ [] ++ of n) + 2) ∷ last) here
     ∙ ap (λ n. set (before ++ i.JumpIfNot 0 ∷ [] ++ of at) (length before) (i.JumpIfNot (n + 1)) ++ i.Jump (n + 2) ∷ last) long
-    ∙ changed before (of at) (i.Jump (behind at (of at) + 2) ∷ last) (i.JumpIfNot 0) (i.JumpIfNot (behind at (of at) + 1))
-    ∙ append_assoc code first (i.JumpIfNot (behind at (of at) + 1) ∷ of at ++ i.Jump (behind at (of at) + 2) ∷ last)
-    ∙ ap (λ n. code ++ (first ++ (i.JumpIfNot (behind at (of at) + 1) ∷ of at ++ i.Jump n ∷ last))) further
+    ∙ changed before (of at) (i.Jump (pc_after at (of at) + 2) ∷ last) (i.JumpIfNot 0) (i.JumpIfNot (pc_after at (of at) + 1))
+    ∙ append_assoc code first (i.JumpIfNot (pc_after at (of at) + 1) ∷ of at ++ i.Jump (pc_after at (of at) + 2) ∷ last)
+    ∙ ap (λ n. code ++ (first ++ (i.JumpIfNot (pc_after at (of at) + 1) ∷ of at ++ i.Jump n ∷ last))) further
 
 pub root : (w : Where) (p : Place) (x : NumberedExp) → Laid (root_on w p x) (root_code w.program w.this p w.names x)
 root w p x = record { is = root_is w p x }
@@ -203,7 +203,7 @@ copy w p x xs = after (both w x xs) (after (grids p (length w.names)) (elements 
 
 pub exchange : (w : Where) (p : Place) (x : NumberedExp) (xs : NumberedExps) → Laid (exchange_on w p x xs) (exchange_code w.program w.this p w.names x xs)
 exchange w p x xs =
-    after (after (both w x xs) (fixed (as_element (element_of (type_in_text w.program w.this x)))))
+    after (after (both w x xs) (fixed (as_element (element_of (syntactic_type w.program w.this x)))))
     (after (fixed (team_code p (length w.names))) (elements p (length w.names) (taken_code p (length w.names))))
 
 pub dropped_value : (w : Where) (x : NumberedExp)
@@ -238,7 +238,7 @@ print w p (s.TextAndExpression literal x) = after (value w x) (fixed (i.Print (S
 
 -- ---- returns
 
-pub returned : (w : Where) (p : Place) (result : ValueType) (x : Option NumberedExp) (l : Option Labels)
+pub returned : (w : Where) (p : Place) (result : ValueType) (x : Option NumberedExp) (l : Option LoopTargets)
     → Laid (returned_on w p result x) (stm_code w.program w.this result (s.Return p x) l w.names)
 returned w p result None l = fixed (i.Return ∷ [])
 returned w p result (Some x) l = after (value w x) (after (fixed (conversion p result (known_of w.program w.this x))) (fixed (i.ReturnValue ∷ [])))
@@ -256,21 +256,21 @@ source_is w right code = (source w right).is code
 pub place_is : (w : Where) (x : NumberedExp) (code : List Instr) → place_on w x code ≡ code ++ place_code w.program w.this w.names x (length code)
 place_is w x code = (place w x).is code
 
-pub update_is : (w : Where) (p q : Place) (name : Operation) (k : Known) (type : ValueType) (target : TargetKind) (right : Source) (code : List Instr)
+pub update_is : (w : Where) (p q : Place) (name : Operation) (k : StaticRepr) (type : ValueType) (target : TargetKind) (right : Source) (code : List Instr)
     → update_on w p q name k type target right code
     ≡ code ++ update_code w.names p q name k type target (right_code w.program w.this right) (length code)
 update_is w p q name k type target right code = (update w p q name k type target right).is code
 
-pub into_is : (w : Where) (r : Receiver) (kind : Kind) (k : Known) (right : Source) (code : List Instr)
+pub into_is : (w : Where) (r : Receiver) (kind : OperandClass) (k : StaticRepr) (right : Source) (code : List Instr)
     → into_on w r kind k right code ≡ code ++ into_code w.program w.this r kind k (right_code w.program w.this right) w.names (length code)
 into_is w r kind k right code = (into w r kind k right).is code
 
-pub waiting_is : (w : Where) (r : Receiver) (kind : Kind) (k : Known) (code : List Instr)
-    → waiting_on w r kind k code ≡ code ++ waiting_code w.program w.this r kind k w.names (length code)
+pub waiting_is : (w : Where) (r : Receiver) (kind : OperandClass) (k : StaticRepr) (code : List Instr)
+    → spill_on w r kind k code ≡ code ++ waiting_code w.program w.this r kind k w.names (length code)
 waiting_is w r kind k code = (waiting w r kind k).is code
 
-pub late_is : (w : Where) (r : Receiver) (kind : Kind) (k : Known) (code : List Instr)
-    → late_on w r kind k code ≡ code ++ late_code w.program w.this r kind k w.names (length code)
+pub late_is : (w : Where) (r : Receiver) (kind : OperandClass) (k : StaticRepr) (code : List Instr)
+    → store_result_on w r kind k code ≡ code ++ late_code w.program w.this r kind k w.names (length code)
 late_is w r kind k code = (late w r kind k).is code
 
 pub args_is : (w : Where) (ps : List VariableUse) (xs : NumberedExps) (code : List Instr)
@@ -324,6 +324,6 @@ pub print_is : (w : Where) (p : Place) (x : NumberedPrint) (code : List Instr)
     → print_on w p x code ≡ code ++ print_code w.program w.this p w.names x (length code)
 print_is w p x code = (print w p x).is code
 
-pub returned_is : (w : Where) (p : Place) (result : ValueType) (x : Option NumberedExp) (l : Option Labels) (code : List Instr)
+pub returned_is : (w : Where) (p : Place) (result : ValueType) (x : Option NumberedExp) (l : Option LoopTargets) (code : List Instr)
     → returned_on w p result x code ≡ code ++ stm_code w.program w.this result (s.Return p x) l w.names (length code)
 returned_is w p result x l code = (returned w p result x l).is code

@@ -2,7 +2,7 @@
 use Rattle.std.proofs.Common.{◌≡◌, Bool, true, false, slice_get, [], Some, None}
 use Rattle.ti_lang.specs.Program.Statements.{NumberedStm, NumberedStms, Nil, Cons, numbered_stms}
 use Rattle.ti_lang.specs.Program.Statements as s
-use Rattle.ti_lang.specs.Program.Classes.{NumberedMethod, NumberedProgram}
+use Rattle.ti_lang.specs.Program.Classes.{NumberedMethod, ProgramView}
 use Rattle.ti_lang.specs.Program.Scope.{this_of}
 use Rattle.ti_lang.specs.Typing.Declared.{result_type}
 use Rattle.ti_lang.specs.Typing.Kinds.{is_void}
@@ -27,12 +27,12 @@ IsEnded false Nil = ⊥
 IsEnded false (Cons x xs) = EndOf x xs
 
 -- the statements of a method are fine where the slots have the names of its parameters, and a method with a result ends with a return
-pub record MethodFine (program : NumberedProgram) (m : NumberedMethod) : Type 0 where
+pub record MethodFine (program : ProgramView) (m : NumberedMethod) : Type 0 where
   pub stms : StmsFine program (this_of m) (result_type m) (numbered_stms m.body) (names_of m)
   pub ended : IsEnded (is_void (result_type m)) (numbered_stms m.body)
 
 -- `main` is there, has no `this` and no parameters, and gives nothing back
-pub record MainFine (program : NumberedProgram) : Type 0 where
+pub record MainFine (program : ProgramView) : Type 0 where
   pub main : NumberedMethod
   pub is_there : slice_get program.methods program.main ≡ Some main
   pub is_static : this_of main ≡ None

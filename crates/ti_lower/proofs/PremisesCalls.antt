@@ -7,7 +7,7 @@ use Rattle.ti_lang.specs.Program.Types.{ValueType, VariableUse}
 use Rattle.ti_lang.specs.Program.Types as t
 use Rattle.ti_lang.specs.Program.Expressions.{NumberedExp, NumberedExps, place_of_numbered}
 use Rattle.ti_lang.specs.Program.Expressions as e
-use Rattle.ti_lang.specs.Program.Classes.{NumberedParam, NumberedParams, Words, Params, NumberedMethod, NumberedProgram}
+use Rattle.ti_lang.specs.Program.Classes.{NumberedParam, NumberedParams, MainArgs, Params, NumberedMethod, ProgramView}
 use Rattle.ti_lang.specs.Program.Scope.{ScopeContents, this_of}
 use Rattle.ti_lang.specs.Members.{only_if}
 use Rattle.ti_lang.specs.Scopes.{Site}
@@ -17,8 +17,8 @@ use Rattle.ti_lang.specs.Typing.Kinds.{where_true, is_void, class_of_type}
 use Rattle.ti_lang.specs.Typing.Fits.{fits}
 use Rattle.ti_lang.specs.Typing.Declared.{instance_method, is_static_method, result_type, types_of}
 use Rattle.ti_lang.specs.Typing.Called.{called_method, method_behind}
-use Rattle.ti_lang.specs.Typing.TextTypes.{how_many, type_in_text}
-use Rattle.ti_lang.specs.Typing.Expressions.{operand, all_fit, takes, called, member, member_given, known, operands, typed, operand_type}
+use Rattle.ti_lang.specs.Typing.TextTypes.{how_many, syntactic_type}
+use Rattle.ti_lang.specs.Typing.Expressions.{operand, all_fit, takes, called, member, member_given, type_result, operands, expr_type, operand_type}
 use Rattle.ti_lang.specs.Meaning.Calls.{call_of, call_by, parameters_from, parameters_of}
 use Rattle.ti_lang.proofs.Lemmas.{agrees, how_many_is, class_told}
 use Rattle.ti_rules.specs.Known.{IsThere}
@@ -41,7 +41,7 @@ where_some false x y e = absurd (none_some y e)
 
 -- it has parameters, and not the words of `main`
 abbrev pub HasParams : NumberedParams → Type 0
-HasParams Words = ⊥
+HasParams MainArgs = ⊥
 HasParams (Params params) = Unit {0}
 
 as_many_args : (n : ℕ) (ps : List NumberedParam) (xs : NumberedExps) → how_many xs ≡ length ps → AreArgs (parameters_from n ps) xs
@@ -57,7 +57,7 @@ fit_count (t ∷ ts) [] h = absurd (true≢false (sym h))
 fit_count (t ∷ ts) (p ∷ ps) h = ap suc (fit_count ts ps (and_right (fits t p.ty.type) (all_fit ts (types_of ps)) h))
 
 takes_args : (params : NumberedParams) (ts : List ValueType) (xs : NumberedExps) → length ts ≡ how_many xs → takes params ts ≡ true → AreArgs (parameters_of params) xs × HasParams params
-takes_args Words ts xs n h = absurd (true≢false (sym h))
+takes_args MainArgs ts xs n h = absurd (true≢false (sym h))
 takes_args (Params ps) ts xs n h = (as_many_args 0 ps xs (sym n ∙ fit_count ts ps h), tt)
 
 -- what a call of a method says of it, where it has a type
@@ -92,7 +92,7 @@ not_is : (b : Bool) → not b ≡ true → b ≡ false
 not_is true h = absurd (true≢false (sym h))
 not_is false h = refl
 
-instance_is : (p : NumberedProgram) (class name : ℕ) (m : NumberedMethod) → instance_method p class name ≡ Some m → is_static_method m ≡ false
+instance_is : (p : ProgramView) (class name : ℕ) (m : NumberedMethod) → instance_method p class name ≡ Some m → is_static_method m ≡ false
 unfolding instance_method
 instance_is p class name m h = not_is (is_static_method m) (only_if_passes (λ (m : NumberedMethod). not (is_static_method m))
     (find (λ (m : NumberedMethod). (m.class == class) && (m.name == name)) p.methods) m h)
@@ -100,12 +100,12 @@ instance_is p class name m h = not_is (is_static_method m) (only_if_passes (λ (
 -- ---- calls
 
 -- the method where a run begins takes its words alone
-pub record MainWords (p : NumberedProgram) : Type 0 where
+pub record MainWords (p : ProgramView) : Type 0 where
   pub main : NumberedMethod
   pub is_there : slice_get p.methods p.main ≡ Some main
-  pub words : main.params ≡ Words
+  pub words : main.params ≡ MainArgs
 
-not_main : (p : NumberedProgram) (w : MainWords p) (k : ℕ) (m : NumberedMethod) → slice_get p.methods k ≡ Some m → HasParams m.params → (k == p.main) ≡ false
+not_main : (p : ProgramView) (w : MainWords p) (k : ℕ) (m : NumberedMethod) → slice_get p.methods k ≡ Some m → HasParams m.params → (k == p.main) ≡ false
 not_main p w k m i h = by (k == p.main) refl
   where
     by : (b : Bool) → (k == p.main) ≡ b → b ≡ false
@@ -114,7 +114,7 @@ not_main p w k m i h = by (k == p.main) refl
         absurd (subst HasParams (ap (λ (n : NumberedMethod). n.params) same ∙ w.words) h)
     by false e = refl
 
-module _ (p : NumberedProgram) (words : MainWords p) (s : ScopeContents) (result : ValueType) (site : Site) (k : SiteFits p s site) where
+module _ (p : ProgramView) (words : MainWords p) (s : ScopeContents) (result : ValueType) (site : Site) (k : SiteFits p s site) where
   -- a call that gives this type
   abbrev Gives : NumberedExp → ValueType → Type 0
   Gives y type = (z : IsCalled p s.this_class result y) × (result_type z.call.method ≡ type)
@@ -133,7 +133,7 @@ module _ (p : NumberedProgram) (words : MainWords p) (s : ScopeContents) (result
       )
 
   static_call : (at : Place) (method : ℕ) (xs : NumberedExps) (m : NumberedMethod) (type : ValueType) → slice_get p.methods method ≡ Some m → is_static_method m ≡ true
-      → typed p s (e.Call at method xs) ≡ Some type → CallOrNot (e.Call at method xs) type
+      → expr_type p s (e.Call at method xs) ≡ Some type → CallOrNot (e.Call at method xs) type
   static_call at method xs m type i z h =
       inr (gives_call (e.Call at method xs) at None xs m type (ap (option_map (call_of at None xs)) i) (static_object m z)
       (call_taken (slice_get p.methods method) (operands p s xs) m xs type (how_many_is p s xs) i h))
@@ -141,7 +141,7 @@ module _ (p : NumberedProgram) (words : MainWords p) (s : ScopeContents) (result
   -- behind an object of a class
   object_call : (at : Place) (a : NumberedExp) (name : ℕ) (xs : NumberedExps) (class : ℕ) (q : Option (List ValueType)) (type : ValueType)
       → ((ts : List ValueType) → q ≡ Some ts → length ts ≡ how_many xs)
-      → method_behind p (type_in_text p s.this_class a) name ≡ instance_method p class name → (called (instance_method p class name) q).type ≡ Some type → CallOrNot (e.Member at a name xs) type
+      → method_behind p (syntactic_type p s.this_class a) name ≡ instance_method p class name → (called (instance_method p class name) q).type ≡ Some type → CallOrNot (e.Member at a name xs) type
   object_call at a name xs class q type n behind h = by (instance_method p class name) refl h
     where
       by : (o : Option NumberedMethod) → instance_method p class name ≡ o → (called o q).type ≡ Some type → CallOrNot (e.Member at a name xs) type
@@ -164,18 +164,18 @@ module _ (p : NumberedProgram) (words : MainWords p) (s : ScopeContents) (result
   operand_typed (Some a) false u h = let w = where_some (not (is_void a)) a u h in ap Some w.1
 
   -- the class of an expression is that of its type in the text
-  class_in_text : (x : Exp) (a : NumberedExp) → NumbersExp site x a → (u : ValueType) → operand_type p s a ≡ Some u → class_of_type (type_in_text p s.this_class a) ≡ class_of_type u
+  class_in_text : (x : Exp) (a : NumberedExp) → NumbersExp site x a → (u : ValueType) → operand_type p s a ≡ Some u → class_of_type (syntactic_type p s.this_class a) ≡ class_of_type u
   class_in_text x a number u h =
-      class_told p s.this_class (λ i. 1) (dims_in s) a ∙ ap class_of_type (agrees p s (dims_in s) a (exp_dims p s site k x a number) u (operand_typed (known p s a).type (known p s a).is_call u h))
+      class_told p s.this_class (λ i. 1) (dims_in s) a ∙ ap class_of_type (agrees p s (dims_in s) a (exp_dims p s site k x a number) u (operand_typed (type_result p s a).type (type_result p s a).is_call u h))
 
   member_call : (at : Place) (x : Exp) (a : NumberedExp) (name : ℕ) (xs : NumberedExps) (type : ValueType) → NumbersExp site x a
-      → typed p s (e.Member at a name xs) ≡ Some type → CallOrNot (e.Member at a name xs) type
+      → expr_type p s (e.Member at a name xs) ≡ Some type → CallOrNot (e.Member at a name xs) type
   member_call at x a name xs type number h = by (operand_type p s a) (operands p s xs) refl refl h
     where
       of : (u : ValueType) (ts : List ValueType) → operand_type p s a ≡ Some u → operands p s xs ≡ Some ts → (member_given p u name ts).type ≡ Some type → CallOrNot (e.Member at a name xs) type
       of (t.Class c l) ts i j h =
-          object_call at a name xs c (Some ts) type (λ us z. how_many_is p s xs us (j ∙ z)) (behind_class (type_in_text p s.this_class a) c name (class_in_text x a number (t.Class c l) i)) h
-      of u ts i j h = inl (ap (option_map (call_of at (Some a) xs)) (behind_other (type_in_text p s.this_class a) name (class_in_text x a number u i)))
+          object_call at a name xs c (Some ts) type (λ us z. how_many_is p s xs us (j ∙ z)) (behind_class (syntactic_type p s.this_class a) c name (class_in_text x a number (t.Class c l) i)) h
+      of u ts i j h = inl (ap (option_map (call_of at (Some a) xs)) (behind_other (syntactic_type p s.this_class a) name (class_in_text x a number u i)))
 
       by : (o : Option ValueType) (q : Option (List ValueType)) → operand_type p s a ≡ o → operands p s xs ≡ q → (member p o name q).type ≡ Some type → CallOrNot (e.Member at a name xs) type
       by None q i j h = absurd (none_some type h)
@@ -183,7 +183,7 @@ module _ (p : NumberedProgram) (words : MainWords p) (s : ScopeContents) (result
       by (Some u) (Some ts) i j h = of u ts i j h
 
   -- an expression with a type
-  call_or_not : (x : Exp) (y : NumberedExp) → NumbersExp site x y → (type : ValueType) → typed p s y ≡ Some type → CallOrNot y type
+  call_or_not : (x : Exp) (y : NumberedExp) → NumbersExp site x y → (type : ValueType) → expr_type p s y ≡ Some type → CallOrNot y type
   call_or_not x y (number.call {at = at} {name = name} {method = method} {ys = ys} n z xs) type h =
       let c = own_there p s site k name method n in static_call at method ys c.0 type c.1 (c.2 ∙ z) h
   call_or_not x y (number.class_call {at = at} {name = name} {class = class} {method = method} {ys = ys} n i xs) type h =
@@ -197,7 +197,7 @@ module _ (p : NumberedProgram) (words : MainWords p) (s : ScopeContents) (result
 
   -- ---- where no rule is broken
 
-  exp_there : (x : Exp) (y : NumberedExp) → NumbersExp site x y → exp_refusals p s y ≡ [] → IsThere (typed p s y)
+  exp_there : (x : Exp) (y : NumberedExp) → NumbersExp site x y → exp_refusals p s y ≡ [] → IsThere (expr_type p s y)
   exp_there x y n h = has_type p s y (exp_known p s site k x y n) h
 
   -- a call as a statement
@@ -211,9 +211,9 @@ module _ (p : NumberedProgram) (words : MainWords p) (s : ScopeContents) (result
   -- a right side
   pub right_fine : (x : Exp) (y : NumberedExp) → NumbersExp site x y → value_refusals p s y ≡ [] → IsRight p s.this_class result y
   right_fine x y n h =
-      let nothing = refused_if (gives_nothing (typed p s y)) Y6 (place_of_numbered y) in
+      let nothing = refused_if (gives_nothing (expr_type p s y)) Y6 (place_of_numbered y) in
       let type = exp_there x y n (nil_left (exp_refusals p s y) nothing h) in
-      by type.0 (sym (ap gives_nothing type.1) ∙ not_refused (gives_nothing (typed p s y)) Y6 (place_of_numbered y) (nil_right (exp_refusals p s y) nothing h)) (call_or_not x y n type.0 type.1)
+      by type.0 (sym (ap gives_nothing type.1) ∙ not_refused (gives_nothing (expr_type p s y)) Y6 (place_of_numbered y) (nil_right (exp_refusals p s y) nothing h)) (call_or_not x y n type.0 type.1)
     where
       by : (type : ValueType) → is_void type ≡ false → CallOrNot y type → IsRight p s.this_class result y
       by type v (inl z) = inl z
@@ -222,4 +222,4 @@ module _ (p : NumberedProgram) (words : MainWords p) (s : ScopeContents) (result
   -- an expression inside a statement has a type
   pub inner_there : (x : Exp) (y : NumberedExp) → NumbersExp site x y → inner_refusals p s y ≡ [] → IsThere (operand_type p s y)
   inner_there x y n h =
-      operand_there (known p s y) (place_of_numbered y) (exp_there x y n (nil_left (exp_refusals p s y) (misplaced p s y) h)) (nil_right (exp_refusals p s y) (misplaced p s y) h)
+      operand_there (type_result p s y) (place_of_numbered y) (exp_there x y n (nil_left (exp_refusals p s y) (misplaced p s y) h)) (nil_right (exp_refusals p s y) (misplaced p s y) h)

@@ -9,7 +9,7 @@ use Rattle.ti_lang.specs.Program.Expressions.{NumberedExp, NumberedExps}
 use Rattle.ti_lang.specs.Program.Expressions as e
 use Rattle.ti_lang.specs.Program.Statements.{NumberedInit, NumberedStm, MaybeNumbered, NoStm, SomeStm, NumberedStms, Nil, Cons, numbered_stms}
 use Rattle.ti_lang.specs.Program.Statements as s
-use Rattle.ti_lang.specs.Program.Classes.{NumberedMethod, NumberedProgram}
+use Rattle.ti_lang.specs.Program.Classes.{NumberedMethod, ProgramView}
 use Rattle.ti_lang.specs.Program.Scope.{this_of}
 use Rattle.ti_lang.specs.Typing.Called.{called_method}
 use Rattle.ti_lang.specs.Typing.Declared.{result_type}
@@ -22,7 +22,7 @@ use Rattle.ti_lower_expr.specs.Slots.{Name, This, Of, Hidden}
 use Rattle.ti_lower_expr.specs.Slots as slot_of
 use Rattle.ti_lower_expr.specs.Methods.{names_of}
 use Rattle.ti_lower.specs.Calling.{number_called}
-use Rattle.ti_lower.specs.Laying.{names_after}
+use Rattle.ti_lower.specs.StmtCode.{names_after}
 use Rattle.ti_lower.proofs.Arguments.{AreArgs, IsObject}
 use Rattle.ti_lower.proofs.Cutting.{Stay}
 use Rattle.ti_lower.proofs.Working.{IsCalled, IsNoCall, IsRight, InitFine, IsClosed, StmFine, MaybeFine, StmsFine}
@@ -98,7 +98,7 @@ object_prop None (Some class) = hlevel
 object_prop (Some x) None = hlevel
 object_prop (Some x) (Some class) = hlevel
 
-module _ (program : NumberedProgram) (this : Option ℕ) (result : ValueType) where
+module _ (program : ProgramView) (this : Option ℕ) (result : ValueType) where
   -- what is said of a call that is found
   abbrev FitsCall : NumberedExp → Call → Type 0
   FitsCall x c = IsObject c.object (this_of c.method) × AreArgs (parameters_of c.method.params) c.args × ((number_called program this x == program.main) ≡ false)
@@ -183,7 +183,7 @@ ended_prop true xs = hlevel
 ended_prop false Nil = hlevel
 ended_prop false (Cons x xs) = end_prop x xs
 
-method_prop : (program : NumberedProgram) (m : NumberedMethod) → IsProp (MethodFine program m)
+method_prop : (program : ProgramView) (m : NumberedMethod) → IsProp (MethodFine program m)
 method_prop program m = hlevel (stms_prop program (this_of m) (result_type m) (numbered_stms m.body) (names_of m), ended_prop (is_void (result_type m)) (numbered_stms m.body))
 
 -- ---- main
@@ -200,7 +200,7 @@ abbrev is_main_there : Option NumberedMethod → Bool
 is_main_there None = false
 is_main_there (Some m) = is_main m
 
-main_told : (program : NumberedProgram) → MainFine program → is_main_there (slice_get program.methods program.main) ≡ true
+main_told : (program : ProgramView) → MainFine program → is_main_there (slice_get program.methods program.main) ≡ true
 main_told program f =
     ap is_main_there f.is_there ∙ ap (λ b. b && (is_bare (parameters_of f.main.params) && is_void (result_type f.main))) (ap is_none f.is_static)
     ∙ ap (λ b. b && is_void (result_type f.main)) (ap is_bare f.is_bare) ∙ f.gives_nothing
@@ -213,7 +213,7 @@ bare_is : (xs : List VariableUse) → is_bare xs ≡ true → xs ≡ []
 bare_is [] h = refl
 bare_is (x ∷ xs) h = cc
 
-main_is : (program : NumberedProgram) → is_main_there (slice_get program.methods program.main) ≡ true → MainFine program
+main_is : (program : ProgramView) → is_main_there (slice_get program.methods program.main) ≡ true → MainFine program
 main_is program h = by (slice_get program.methods program.main) refl h
   where
     by : (o : Option NumberedMethod) → slice_get program.methods program.main ≡ o → is_main_there o ≡ true → MainFine program
@@ -231,7 +231,7 @@ main_is program h = by (slice_get program.methods program.main) refl h
 -- ---- programs
 
 -- every program of a text that breaks no rule meets the premises
-pub checked_fine : (program : NumberedProgram) → IsChecked program → ((k : ℕ) (m : NumberedMethod) → slice_get program.methods k ≡ Some m → MethodFine program m) × MainFine program
+pub checked_fine : (program : ProgramView) → IsChecked program → ((k : ℕ) (m : NumberedMethod) → slice_get program.methods k ≡ Some m → MethodFine program m) × MainFine program
 checked_fine program c = (
   λ k m e. ∥∥₁_elim c.numbered (method_prop program m) (λ n. (program_fine program n c.unbroken).0 k m e),
   main_is program (∥∥₁_elim c.numbered (Bool-set _ _) (λ n. main_told program (program_fine program n c.unbroken).1)),

@@ -5,7 +5,7 @@ use Rattle.ti_syntax.specs.Trees.Classes.{ParamsTree, ResultTree, TextTree}
 use Rattle.ti_lang.specs.Program.Types as t
 use Rattle.ti_lang.specs.Program.Statements.{NumberedStm, numbered_stms}
 use Rattle.ti_lang.specs.Program.Statements as s
-use Rattle.ti_lang.specs.Program.Classes.{NumberedParam, NumberedParams, Words, Params, NumberedResult, NumberedMethod, NumberedProgram}
+use Rattle.ti_lang.specs.Program.Classes.{NumberedParam, NumberedParams, MainArgs, Params, NumberedResult, NumberedMethod, ProgramView}
 use Rattle.ti_lang.specs.Program.Scope.{ScopeContents, parameters_from, parameters, this_of}
 use Rattle.ti_lang.specs.MainForm as form
 use Rattle.ti_lang.specs.MainForm.{is_words, is_public, has_main_modifiers, has_main_form}
@@ -18,14 +18,14 @@ use Rattle.ti_lang.specs.Typing.Declared.{type_of_result, result_type}
 use Rattle.ti_lang.specs.Meaning.Calls as calls
 use Rattle.ti_lang.specs.Meaning.Calls.{parameters_of}
 use Rattle.ti_rules.specs.declared.rule.Rule.TheVariants.{Y6}
-use Rattle.ti_rules.specs.Standing.{standing_in_method}
+use Rattle.ti_rules.specs.StmtInContext.{standing_in_method}
 use Rattle.ti_rules.specs.Broken.Statements.{standing_refusals}
 use Rattle.ti_rules.specs.TypeRules.{class_refusals, head_refusals, is_return, ends_with_return, end_refusals, method_refusals}
 use Rattle.ti_rules.specs.ProgramRefusals.{BreaksNothing}
 use Rattle.ti_rules.proofs.Lemmas.{nil_left, nil_right, not_refused, and_left, and_right, none_some, some_same, TextFits, text_fits}
 use Rattle.ti_rules.proofs.Lemmas.{AllVariables, params_behind, body_fits}
 use Rattle.ti_lower_expr.specs.Slots.{Name, Of}
-use Rattle.ti_lower_expr.specs.Methods.{this_names, param_names, names_of}
+use Rattle.ti_lower_expr.specs.Methods.{this_names, push_param_names, names_of}
 use Rattle.ti_lower.proofs.Working.{StmFine, StmsFine}
 use Rattle.ti_lower.proofs.Premises.{IsReturn, EndOf, IsEnded, MethodFine, MainFine}
 use Rattle.ti_lower.proofs.PremisesSpelled.{AllBranched, MethodsBranched, spelled_branched}
@@ -38,11 +38,11 @@ this_below : (n : ℕ) (o : Option ℕ) → Below n (this_names o)
 this_below n None = tt
 this_below n (Some class) = tt
 
-params_below : (n : ℕ) (ys : List NumberedParam) (ns : List Name) → Below n ns → Below (n + length ys) (param_names (calls.parameters_from n ys) ns)
+params_below : (n : ℕ) (ys : List NumberedParam) (ns : List Name) → Below n ns → Below (n + length ys) (push_param_names (calls.parameters_from n ys) ns)
 params_below n [] ns b = below_more n (n + 0) ns (omega arith) b
 params_below n (y ∷ ys) ns b =
     let more : (n + 1) + length ys ≡ n + suc (length ys) = omega arith in
-    subst (λ k. Below k (param_names (calls.parameters_from (n + 1) ys) (Of (record { number = n; declared = t.Typed y.ty.is_single y.ty.type }) ∷ ns))) more
+    subst (λ k. Below k (push_param_names (calls.parameters_from (n + 1) ys) (Of (record { number = n; declared = t.Typed y.ty.is_single y.ty.type }) ∷ ns))) more
     (params_below (n + 1) ys (Of (record { number = n; declared = t.Typed y.ty.is_single y.ty.type }) ∷ ns) (omega arith, below_more n (n + 1) ns (omega arith) b))
 
 -- the scope and the names of a method with these parameters
@@ -50,7 +50,7 @@ abbrev scope_with : Option ℕ → NumberedParams → ScopeContents
 scope_with this params = record { this_class = this; variables = parameters params }
 
 abbrev names_with : Option ℕ → NumberedParams → List Name
-names_with this params = param_names (parameters_of params) (this_names this)
+names_with this params = push_param_names (parameters_of params) (this_names this)
 
 body_below : (s : ScopeContents) (this : Option ℕ) (site : Site) (ps : ParamsTree) (params : NumberedParams) → NumbersParams site ps params
     → AllVariables s site.scope → site.variables ≡ 0 → Below (body_site site ps).variables (names_with this params)
@@ -62,7 +62,7 @@ body_below s this site ps params (number.params {params = trees} {ys = ys} n) a 
 
 -- ---- the end of a body
 
-module _ (p : NumberedProgram) (this : Option ℕ) (result : t.ValueType) where
+module _ (p : ProgramView) (this : Option ℕ) (result : t.ValueType) where
   last_return : (x : NumberedStm) (ns : List Name) → is_void result ≡ false → is_return x ≡ true → StmFine p this result x ns → IsReturn x
   last_return (s.Return at (Some x)) ns v e f = tt
   last_return (s.Return at None) ns v e f = absurd (true≢false (sym f ∙ v))
@@ -92,7 +92,7 @@ module _ (p : NumberedProgram) (this : Option ℕ) (result : t.ValueType) where
 
 -- ---- methods
 
-method_fine : (p : NumberedProgram) (words : MainWords p) (text : TextTree) (before : ℕ) (own : OwnMethod) (m : NumberedMethod) → TextFits p text → NumbersMethod (method_site text own before) own m
+method_fine : (p : ProgramView) (words : MainWords p) (text : TextTree) (before : ℕ) (own : OwnMethod) (m : NumberedMethod) → TextFits p text → NumbersMethod (method_site text own before) own m
     → AllBranched (stms own.method.body) → method_refusals p m ≡ [] → MethodFine p m
 method_fine p words text before own m k (number.method {result = result} {params = params} {body = body} r ps h) b e =
     let m : NumberedMethod = record {
@@ -115,7 +115,7 @@ method_fine p words text before own m k (number.method {result = result} {params
     let ends = not_refused (not (is_void (result_type m)) && not (ends_with_return body)) Y6 m.place (nil_right (head_refusals m) (end_refusals m) (nil_left heads inner e)) in
     record { stms = fine; ended = ended_fine p (this_of m) (result_type m) body (names_of m) ends fine }
 
-methods_fine : (p : NumberedProgram) (words : MainWords p) (text : TextTree) (n before : ℕ) (owns : List OwnMethod) (ms : List NumberedMethod) → TextFits p text → NumbersMethods text n before owns ms
+methods_fine : (p : ProgramView) (words : MainWords p) (text : TextTree) (n before : ℕ) (owns : List OwnMethod) (ms : List NumberedMethod) → TextFits p text → NumbersMethods text n before owns ms
     → MethodsBranched owns → flat_map (method_refusals p) ms ≡ [] → (k : ℕ) (m : NumberedMethod) → slice_get ms k ≡ Some m → MethodFine p m
 methods_fine p words text n before owns ms f number.none b e k m i = absurd (none_some m i)
 methods_fine p words text n before owns ms f (number.more {own = own} {method = x} {methods = rest} named h others) b e zero m i =
@@ -125,7 +125,7 @@ methods_fine p words text n before owns ms f (number.more {method = x} {methods 
 
 -- ---- main
 
-words_alone : (site : Site) (ps : ParamsTree) (q : NumberedParams) → NumbersParams site ps q → is_words ps ≡ true → q ≡ Words
+words_alone : (site : Site) (ps : ParamsTree) (q : NumberedParams) → NumbersParams site ps q → is_words ps ≡ true → q ≡ MainArgs
 words_alone site ps q number.words e = refl
 words_alone site ps q (number.params h) e = absurd (true≢false (sym e))
 
@@ -136,7 +136,7 @@ nothing_given text r q (number.typed h) e = absurd (true≢false (sym e))
 -- a method in the form of `main`
 record MainLike (m : NumberedMethod) : Type 0 where
   static : this_of m ≡ None
-  words : m.params ≡ Words
+  words : m.params ≡ MainArgs
   nothing : is_void (result_type m) ≡ true
 
 main_like : (site : Site) (own : OwnMethod) (m : NumberedMethod) → NumbersMethod site own m → has_main_form own.method ≡ true → MainLike m
@@ -161,7 +161,7 @@ main_at text n before owns ms (number.more named h rest) (suc k) own i e = main_
 -- ---- programs
 
 -- a program of a text that breaks no rule meets the premises
-pub program_fine : (program : NumberedProgram) → IsNumbered program → BreaksNothing program
+pub program_fine : (program : ProgramView) → IsNumbered program → BreaksNothing program
     → ((k : ℕ) (m : NumberedMethod) → slice_get program.methods k ≡ Some m → MethodFine program m) × MainFine program
 program_fine program numbered unbroken =
     let text = numbered.0 in

@@ -8,9 +8,9 @@ use Rattle.ti_lang.specs.Program.Types as t
 use Rattle.ti_lang.specs.Program.Expressions.{NumberedExp}
 use Rattle.ti_lang.specs.Program.Statements.{NumberedInit, NumberedStm, MaybeNumbered, NumberedStms}
 use Rattle.ti_lang.specs.Program.Statements as s
-use Rattle.ti_lang.specs.Program.Classes.{NumberedMethod, NumberedProgram}
+use Rattle.ti_lang.specs.Program.Classes.{NumberedMethod, ProgramView}
 use Rattle.ti_lang.specs.Program.Scope.{ScopeVariable, ScopeContents, this_of}
-use Rattle.ti_lang.specs.Scopes.{Site, declares, past, past_maybe, behind}
+use Rattle.ti_lang.specs.Scopes.{Site, declares, past, past_maybe, site_after}
 use Rattle.ti_lang.specs.Numbering as number
 use Rattle.ti_lang.specs.Numbering.{NumbersInit, NumbersMaybe, NumbersStm, NumbersMaybeStm, NumbersStms}
 use Rattle.ti_lang.specs.Typing.Kinds.{is_void, domain_dim}
@@ -22,9 +22,9 @@ use Rattle.ti_rules.specs.Known.{IsThere}
 use Rattle.ti_rules.specs.declared.rule.Rule.TheVariants.{Y6}
 use Rattle.ti_rules.specs.declared.refusal.Refusal.{Refusal}
 use Rattle.ti_rules.specs.Refusals.{refused_if}
-use Rattle.ti_rules.specs.InitialTypes.{value_type, initial_type}
-use Rattle.ti_rules.specs.Standing.{Around, Standing, stands, with_point, variables_inside, loop_acts, inside, inside_maybe, inside_all}
-use Rattle.ti_rules.specs.Broken.Refused.{refused, judged, both_judged, mistaken, misfit}
+use Rattle.ti_rules.specs.InitialTypes.{right_side_type, initial_type}
+use Rattle.ti_rules.specs.StmtInContext.{StmtContext, StmtInContext, stands, with_point, variables_inside, loop_acts, inside, inside_maybe, inside_all}
+use Rattle.ti_rules.specs.Broken.Refused.{refusal_at, judged, both_judged, operand_refusal, misfit}
 use Rattle.ti_rules.specs.Broken.Words.{type_word_refusals}
 use Rattle.ti_rules.specs.Broken.Expressions.{exp_refusals}
 use Rattle.ti_rules.specs.Broken.RightSides.{inner_refusals, value_refusals, initial_refusals}
@@ -34,7 +34,7 @@ use Rattle.ti_rules.proofs.Lemmas.{nil_left, nil_right, each_left, each_right, n
 use Rattle.ti_rules.proofs.Lemmas.{past_maybe_keeps, behind_more, past_fits, past_maybe_fits, behind_fits, point_fits}
 use Rattle.ti_lower_expr.specs.Slots.{Name, This, Of, Hidden}
 use Rattle.ti_lower_expr.specs.Slots as slot_of
-use Rattle.ti_lower.specs.Laying.{names_after}
+use Rattle.ti_lower.specs.StmtCode.{names_after}
 use Rattle.ti_lower.proofs.Cutting.{leaves, Stay}
 use Rattle.ti_lower.proofs.Working.{InitFine, IsClosed, StmFine, MaybeFine, StmsFine}
 use Rattle.ti_lower.proofs.PremisesSpelled.{IsPlain, IsPlainMaybe, Branched, MaybeBranched, AllBranched}
@@ -94,16 +94,16 @@ among_from : (site : Site) (xs : Stms) (ys : NumberedStms) → NumbersStms site 
 among_from site xs ys number.nil = tt
 among_from site xs ys (number.cons {x = x} {y = y} {ys = rest} h more) =
     both_from site.variables (declared_alone y) (declared_among rest) (alone_from site x y h)
-    (from_less site.variables (behind site x).variables (declared_among rest) (behind_more site x) (among_from (behind site x) _ rest more))
+    (from_less site.variables (site_after site x).variables (declared_among rest) (behind_more site x) (among_from (site_after site x) _ rest more))
 
 -- the names behind a statement
-below_behind : (site : Site) (x : Stm) (y : NumberedStm) (ns : List Name) → NumbersStm site x y → Below site.variables ns → Below (behind site x).variables (names_after y ns)
+below_behind : (site : Site) (x : Stm) (y : NumberedStm) (ns : List Name) → NumbersStm site x y → Below site.variables ns → Below (site_after site x).variables (names_after y ns)
 below_behind site x y ns (number.declare b fresh room h) z = (omega arith, below_more site.variables (site.variables + 1) ns (omega arith) z)
-below_behind site x y ns h z = below_more site.variables (behind site x).variables ns (behind_more site x) z
+below_behind site x y ns h z = below_more site.variables (site_after site x).variables ns (behind_more site x) z
 
 -- ---- statements that declare nothing themselves
 
-closed : (p : NumberedProgram) (this : Option ℕ) (result : ValueType) (site : Site) (x : Stm) (y : NumberedStm) → NumbersStm site x y → IsPlain x → IsClosed p this result y
+closed : (p : ProgramView) (this : Option ℕ) (result : ValueType) (site : Site) (x : Stm) (y : NumberedStm) → NumbersStm site x y → IsPlain x → IsClosed p this result y
 closed p this result site x y (number.declare b fresh room h) z = elim z [ ]
 closed p this result site x y _ z = tt
 
@@ -115,7 +115,7 @@ some_rule o rule a e h = sym (ap (λ q. judged q rule) e) ∙ h
 not_void : (result type : ValueType) (at : Place) → given_back at result type ≡ [] → is_void result ≡ false
 not_void result type at h = by (is_void result) h
   where
-    by : (b : Bool) → (if b then refused Y6 at else misfit at type result) ≡ [] → b ≡ false
+    by : (b : Bool) → (if b then refusal_at Y6 at else misfit at type result) ≡ [] → b ≡ false
     by true h = cc
     by false h = refl
 
@@ -123,14 +123,14 @@ is_it : (b : Bool) → not b ≡ false → b ≡ true
 is_it true h = refl
 is_it false h = cc
 
-module _ (p : NumberedProgram) (words : MainWords p) (m : NumberedMethod) where
-  abbrev here : List ScopeVariable → Option Bool → Around
+module _ (p : ProgramView) (words : MainWords p) (m : NumberedMethod) where
+  abbrev here : List ScopeVariable → Option Bool → StmtContext
   here vs j = record { method = m; variables = vs; jump_has = j }
 
   abbrev scope : List ScopeVariable → ScopeContents
   scope vs = record { this_class = this_of m; variables = vs }
 
-  abbrev refusals_in : List Standing → List Refusal
+  abbrev refusals_in : List StmtInContext → List Refusal
   refusals_in xs = flat_map (standing_refusals p) xs
 
   abbrev result : ValueType
@@ -173,7 +173,7 @@ module _ (p : NumberedProgram) (words : MainWords p) (m : NumberedMethod) where
         init_fine vs site k value v h (nil_right (exp_refusals p (scope vs) target) (initial_refusals p (scope vs) v) (nil_left wrong misfits (nil_left (wrong ++ misfits) [] r)))
     stm_fine vs j site ns k b x y (number.update {at = at} {op = op} {b = a} {x = target} {y = c} g h) z r =
         let wrong = exp_refusals p (scope vs) target ++ value_refusals p (scope vs) c in
-        let misfits = both_judged (operand_type p (scope vs) target) (value_type p (scope vs) c) (λ (t u : ValueType). write_refusals p (scope vs) at target (update_refusals at op t u)) in
+        let misfits = both_judged (operand_type p (scope vs) target) (right_side_type p (scope vs) c) (λ (t u : ValueType). write_refusals p (scope vs) at target (update_refusals at op t u)) in
         right_fine p words (scope vs) result site k a c h (nil_right (exp_refusals p (scope vs) target) (value_refusals p (scope vs) c) (nil_left wrong misfits (nil_left (wrong ++ misfits) [] r)))
     stm_fine vs j site ns k b x y (number.step h) z r = tt
     stm_fine vs j site ns k b x y (number.call {a = a} {x = c} h) z r = call_fine p words (scope vs) result site k a c h (nil_left (exp_refusals p (scope vs) c) [] r)
@@ -217,7 +217,7 @@ module _ (p : NumberedProgram) (words : MainWords p) (m : NumberedMethod) where
         let before = inside_maybe p (here vs j) u in
         let inner = nil_right (standing_refusals p (stands (here vs j) (s.For at (s.SomeStm f) d u c))) (refusals_in (first ++ (before ++ inside p (here vs l) c))) r in
         let others = each_right (standing_refusals p) first (before ++ inside p (here vs l) c) inner in
-        let next = behind site e in
+        let next = site_after site e in
         let names = names_after f ns in
         let fits = behind_fits p (scope vs) site e k in
         let low = below_behind site e f ns w b in (
@@ -230,7 +230,7 @@ module _ (p : NumberedProgram) (words : MainWords p) (m : NumberedMethod) where
               (each_right (standing_refusals p) before (inside p (here vs l) c) others),
         )
     stm_fine vs j site ns k b x y (number.foreach {at = at} {name = name} {c = a} {d = d} {x = e} {y = c} fresh room g h) z r =
-        let rule = λ (type : ValueType). mistaken at (is_some (domain_dim type)) false in
+        let rule = λ (type : ValueType). operand_refusal at (is_some (domain_dim type)) false in
         let l = Some (loop_acts p m s.NoStm c) in
         let vars = variables_inside p (scope vs) site.variables d in
         let own = standing_refusals p (stands (here vs j) (s.Foreach at site.variables d c)) in
@@ -257,6 +257,6 @@ module _ (p : NumberedProgram) (words : MainWords p) (m : NumberedMethod) where
     stms_fine vs j site ns k b xs ys number.nil z r = tt
     stms_fine vs j site ns k b xs ys (number.cons {x = x} {y = y} {ys = rest} h more) z r = (
       stm_fine vs j site ns k b x y h z.0 (each_left (standing_refusals p) (inside p (here vs j) y) (inside_all p (here vs j) rest) r),
-      stms_fine vs j (behind site x) (names_after y ns) (behind_fits p (scope vs) site x k) (below_behind site x y ns h b) _ rest more z.1
+      stms_fine vs j (site_after site x) (names_after y ns) (behind_fits p (scope vs) site x k) (below_behind site x y ns h b) _ rest more z.1
           (each_right (standing_refusals p) (inside p (here vs j) y) (inside_all p (here vs j) rest) r),
     )

@@ -4,23 +4,23 @@ use Rattle.std.specs.Option.{option_map_or}
 use Rattle.ti_base.specs.declared.place.Place.{Place}
 use Rattle.ti_base.specs.Rects.{points_of}
 use Rattle.ti_lang.specs.Meaning.Collectives.{team}
-use Rattle.ti_lang.specs.Meaning.Copies.{counted, element_at}
+use Rattle.ti_lang.specs.Meaning.Copies.{count_up, element_at}
 use Rattle.ti_base.specs.declared.entry.Answer.{Answer}
 use Rattle.ti_base.specs.declared.entry.Next.{Next}
 use Rattle.ti_lang.specs.Program.Statements.{numbered_stms}
-use Rattle.ti_lang.specs.Program.Classes.{NumberedMethod, NumberedProgram}
+use Rattle.ti_lang.specs.Program.Classes.{NumberedMethod, ProgramView}
 use Rattle.ti_lang.specs.Program.Scope.{this_of}
-use Rattle.ti_lang.specs.Meaning.Processes.{Setting, Process, Nowhere, begin, frame_of, all_before}
+use Rattle.ti_lang.specs.Meaning.Processes.{RunConfig, Process, Nowhere, begin, frame_of, all_before}
 use Rattle.ti_lang.specs.Meaning.Steps.{end_of}
 use Rattle.ti_lang.specs.Meaning.NextStep.{After, IsNext}
-use Rattle.ti_code.specs.Effects.{Spot}
+use Rattle.ti_code.specs.Effects.{LocalState}
 use Rattle.ti_code.specs.declared.code.MethodCode.{MethodCode}
 use Rattle.ti_code.specs.Programs.{Code}
-use Rattle.ti_code.specs.Machine.{Machine, receiver_of, first}
+use Rattle.ti_code.specs.Machine.{Machine, receiver_depth, first}
 use Rattle.ti_rules.specs.ProgramRefusals.{IsChecked}
 use Rattle.ti_code.specs.Follows.{Runs, here, Fit, HasNext, Follows}
-use Rattle.ti_lower_expr.specs.Slots.{Holds, none}
-use Rattle.ti_lower_expr.specs.Methods.{receiver_in, receivers_of, this_names, param_names, names_of}
+use Rattle.ti_lower_expr.specs.Slots.{SlotsHold, none}
+use Rattle.ti_lower_expr.specs.Methods.{receiver_in, receivers_of, this_names, push_param_names, names_of}
 use Rattle.ti_lower.specs.Programs.{method_code, end_in, methods_code, program_code}
 use Rattle.ti_lower_expr.proofs.Lemmas.{same_number}
 use Rattle.ti_lower.proofs.Bodies.{begins_at}
@@ -31,7 +31,7 @@ use Rattle.ti_lower.proofs.Following.{Top, Below, bottom, Result, proc, machine,
 
 -- ---- the methods of the code
 
-method_there : (program : NumberedProgram) (n k : ℕ) (ms : List NumberedMethod) (m : NumberedMethod) → slice_get ms k ≡ Some m
+method_there : (program : ProgramView) (n k : ℕ) (ms : List NumberedMethod) (m : NumberedMethod) → slice_get ms k ≡ Some m
     → slice_get (methods_code program n ms) k ≡ Some (method_code program (end_in (n + k == program.main) m) m)
 method_there program n k [] m e = absurd (never e)
   where
@@ -48,19 +48,19 @@ method_there program n (suc k) (x ∷ ms) m e =
     let number : (n + 1) + k ≡ n + suc k = omega arith in
     method_there program (n + 1) k ms m e ∙ ap (λ k. Some (method_code program (end_in (k == program.main) m) m)) number
 
-receivers_there : (program : NumberedProgram) (n : ℕ) (ms : List NumberedMethod) → map receiver_of (methods_code program n ms) ≡ map receiver_in ms
+receivers_there : (program : ProgramView) (n : ℕ) (ms : List NumberedMethod) → map receiver_depth (methods_code program n ms) ≡ map receiver_in ms
 receivers_there program n [] = refl
 receivers_there program n (m ∷ ms) = ap (λ l. receiver_in m ∷ l) (receivers_there program (n + 1) ms)
 
 -- ---- programs
 
 -- all methods are fine, and `main` among them
-pub record IsProgramFine (program : NumberedProgram) : Type 0 where
+pub record IsProgramFine (program : ProgramView) : Type 0 where
   pub main_fine : MainFine program
   pub methods : (k : ℕ) (m : NumberedMethod) → slice_get program.methods k ≡ Some m → MethodFine program m
 
-module _ (program : NumberedProgram) (z : IsProgramFine program) (procs fuel number : ℕ) (some : 1 ≤ procs) where
-  abbrev s : Setting
+module _ (program : ProgramView) (z : IsProgramFine program) (procs fuel number : ℕ) (some : 1 ≤ procs) where
+  abbrev s : RunConfig
   s = record { program = program; procs = procs; fuel = fuel }
 
   abbrev code : Code
@@ -72,10 +72,10 @@ module _ (program : NumberedProgram) (z : IsProgramFine program) (procs fuel num
   abbrev end : Place
   end = z.main_fine.main.end
 
-  team_is : points_of (team procs) ≡ map element_at (counted 0 procs)
+  team_is : points_of (team procs) ≡ map element_at (count_up 0 procs)
   team_is = team_points procs some
 
-  receivers_same : map receiver_of code.methods ≡ receivers_of program
+  receivers_same : map receiver_depth code.methods ≡ receivers_of program
   receivers_same = receivers_there program 0 program.methods
 
   bodies : (k : ℕ) (m : NumberedMethod) → slice_get program.methods k ≡ Some m → (k == program.main) ≡ false → slice_get code.methods k ≡ Some (method_code program None m)
@@ -90,7 +90,7 @@ module _ (program : NumberedProgram) (z : IsProgramFine program) (procs fuel num
       ∙ ap (λ j. Some (method_code program (end_in (j == program.main) z.main_fine.main) z.main_fine.main)) number
       ∙ ap (λ b. Some (method_code program (end_in b z.main_fine.main) z.main_fine.main)) (same_number program.main program.main refl)
 
-  abbrev origin : Spot
+  abbrev origin : LocalState
   origin = record { at = 0; slots = []; stack = [] }
 
   abbrev outermost : Top code s number end m0 receivers_same bodies z.methods team_is
@@ -111,11 +111,11 @@ module _ (program : NumberedProgram) (z : IsProgramFine program) (procs fuel num
       z.main_fine.is_there
 
   starts : m0 ≡ machine code s number end m0 receivers_same bodies z.methods team_is outermost 0 origin
-  starts = ap (λ o. record { procs = procs; fuel = fuel; number = number; spent = 0; frames = option_map_or (λ (m : MethodCode). record { instrs = m.instrs; spot = origin } ∷ []) o [] }) main_code
+  starts = ap (λ o. record { procs = procs; fuel = fuel; number = number; spent = 0; frames = option_map_or (λ (m : MethodCode). record { instrs = m.instrs; state = origin } ∷ []) o [] }) main_code
 
-  no_names : Holds None (names_of z.main_fine.main) [] [] []
-  no_names = subst (λ ps. Holds None (param_names ps (this_names (this_of z.main_fine.main))) [] [] []) (sym z.main_fine.is_bare)
-      (subst (λ t. Holds None (this_names t) [] [] []) (sym z.main_fine.is_static) (none refl))
+  no_names : SlotsHold None (names_of z.main_fine.main) [] [] []
+  no_names = subst (λ ps. SlotsHold None (push_param_names ps (this_names (this_of z.main_fine.main))) [] [] []) (sym z.main_fine.is_bare)
+      (subst (λ t. SlotsHold None (this_names t) [] [] []) (sym z.main_fine.is_static) (none refl))
 
   alike : Result code s number end m0 receivers_same bodies z.methods team_is [] p0
   alike = inl (
@@ -127,7 +127,7 @@ module _ (program : NumberedProgram) (z : IsProgramFine program) (procs fuel num
     refl,
     record {
       before = 0;
-      spot = origin;
+      state = origin;
       at = begins_at program z.main_fine.main None number procs [] [] (z.methods program.main z.main_fine.main z.main_fine.is_there) no_names;
       paid = refl;
       fed = omega arith;
@@ -146,11 +146,11 @@ module _ (program : NumberedProgram) (z : IsProgramFine program) (procs fuel num
       follows_from code s number end m0 receivers_same bodies z.methods team_is ends p0 rs q n alike (subst (λ p. Fit p rs) begins fit) (subst (λ p. After p rs q) begins a) is
 
 -- for each number of processes, all ticks, each process and all answers
-pub program_follows : (program : NumberedProgram) → IsProgramFine program → Follows (program_code program) program
+pub program_follows : (program : ProgramView) → IsProgramFine program → Follows (program_code program) program
 program_follows program z procs fuel number a b c d e rs q n fit after is = has_next program z procs fuel number a rs q n fit after is
 
 -- the code of a program that breaks no rule follows it
-pub checked_follows : (program : NumberedProgram) → IsChecked program → Follows (program_code program) program
+pub checked_follows : (program : ProgramView) → IsChecked program → Follows (program_code program) program
 checked_follows program c =
     let fine = checked_fine program c in
     program_follows program (record { main_fine = fine.1; methods = fine.0 })

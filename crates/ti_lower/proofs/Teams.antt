@@ -4,15 +4,15 @@ use Rattle.std.specs.Int.RustNames.{int_lt}
 use Rattle.std.proofs.lemmas.Int.{ints}
 use Rattle.ti_base.specs.declared.point.Point.{Point}
 use Rattle.ti_base.specs.declared.point.Rect.{Rect}
-use Rattle.ti_base.specs.Ranges.{Range, natural, count_on, numbers_from, last_of, range_of, tidy, unused}
+use Rattle.ti_base.specs.Ranges.{Range, natural, count_on, numbers_from, last_of, range_of, tidy, unused_range}
 use Rattle.ti_base.specs.Rects.{points_of, empty_rect, of_ranges}
-use Rattle.ti_lang.specs.Meaning.Copies.{element_at, counted}
+use Rattle.ti_lang.specs.Meaning.Copies.{element_at, count_up}
 use Rattle.ti_lang.specs.Meaning.Collectives.{team}
 
 -- ---- its range
 
 -- so many numbers from one on
-numbers_counted : (i n : ℕ) → numbers_from (pos i) 1 n ≡ map pos (counted i n)
+numbers_counted : (i n : ℕ) → numbers_from (pos i) 1 n ≡ map pos (count_up i n)
 numbers_counted i zero = refl
 numbers_counted i (suc n) =
     let next : pos i +ℤ pos 1 ≡ pos (i + 1) = omega (arith, ints) in
@@ -53,7 +53,7 @@ of_first x = record { dim = 1; x1 = x; x2 = pos 0; x3 = pos 0 }
 abbrev row : ℤ → Rect
 row high = record { dim = 1; lo = of_first (pos 0); hi = of_first high; step = 1 ∷ 1 ∷ 1 ∷ [] }
 
-row_made : (m : ℕ) → of_ranges 1 (up_to (pos m)) unused unused ≡ row (pos m)
+row_made : (m : ℕ) → of_ranges 1 (up_to (pos m)) unused_range unused_range ≡ row (pos m)
 row_made m = ap (λ b. if (b || false) || false then empty_rect 1 else row (pos m)) some
   where
     some : int_lt (pos m) (pos 0) ≡ false
@@ -67,11 +67,11 @@ each_alone : (xs : List ℕ) → flat_map (λ x. of_first x ∷ []) (map pos xs)
 each_alone [] = refl
 each_alone (x ∷ xs) = ap (λ l. element_at x ∷ l) (each_alone xs)
 
-row_points : (m : ℕ) → points_of (row (pos m)) ≡ map element_at (counted 0 (suc m))
+row_points : (m : ℕ) → points_of (row (pos m)) ≡ map element_at (count_up 0 (suc m))
 row_points m = ap (λ n. flat_map (λ x. of_first x ∷ []) (numbers_from (pos 0) 1 n)) (how_many m (pos m) refl)
-    ∙ ap (λ l. flat_map (λ x. of_first x ∷ []) l) (numbers_counted 0 (suc m)) ∙ each_alone (counted 0 (suc m))
+    ∙ ap (λ l. flat_map (λ x. of_first x ∷ []) l) (numbers_counted 0 (suc m)) ∙ each_alone (count_up 0 (suc m))
 
 -- the points of the team are the elements of its processes, in order
-pub team_points : (n : ℕ) → 1 ≤ n → points_of (team n) ≡ map element_at (counted 0 n)
+pub team_points : (n : ℕ) → 1 ≤ n → points_of (team n) ≡ map element_at (count_up 0 n)
 team_points zero few = absurd (omega (arith, few))
-team_points (suc m) few = ap (λ r. points_of (of_ranges 1 r unused unused)) (tidied m) ∙ ap points_of (row_made m) ∙ row_points m
+team_points (suc m) few = ap (λ r. points_of (of_ranges 1 r unused_range unused_range)) (tidied m) ∙ ap points_of (row_made m) ∙ row_points m

@@ -1,5 +1,5 @@
 pub mod Calling
 pub mod Receivers
-pub mod Laying
+pub mod StmtCode
 pub mod Programs
 pub mod Mirrors

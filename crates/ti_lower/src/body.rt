@@ -3,122 +3,129 @@
 ghost use Rattle.std.specs.Prelude.{◌≡◌, ◌+◌, ◌^◌, ◌≤◌, OnOk, IfOk, IfErr};
 ghost use Rattle.ti_lang.specs.Program.Views.{program_of};
 ghost use Rattle.ti_lower_expr.specs.Contents.{names_in};
-ghost use Rattle.ti_lower.specs.Mirrors.Bodies.{written_of, target_in};
+ghost use Rattle.ti_lower.specs.Mirrors.Bodies.{builder_of, target_in};
 ghost use Rattle.ti_lower.specs.Mirrors.Positions.{where_of};
 ghost use Rattle.ti_lower.specs.Mirrors.Statements as on;
 
-use crate::position::Position;
+use crate::emit_context::EmitContext;
 use ti_base::Memory;
 use ti_code::Instr;
-use ti_lang::program::Parts;
-use ti_lang::typing::Seen;
-use ti_lower_expr::{Site, Slots, add, number_behind};
+use ti_lang::program::ProgramData;
+use ti_lang::typing::TyRef;
+use ti_lower_expr::{LoweringContext, Slots, emit, u32_sum};
 
 /// The context of a method's body: the program, the class of `this`, if there is one, the type of its result, and the targets of its
 /// forward jumps as far as the first pass has found them (none in that pass).
 #[derive(Clone, Copy)]
-pub struct Body<'a> {
-    pub program: &'a Parts,
+pub struct MethodEmitContext<'a> {
+    pub program: &'a ProgramData,
     pub this: Option<u32>,
-    pub result: Seen<'a>,
-    pub known: &'a [u32],
+    pub result: TyRef<'a>,
+    pub label_targets: &'a [u32],
 }
 
 /// The jump targets of the innermost loop, and what a jump leaves on the frame.
 #[derive(Clone, Copy)]
-pub struct Labels {
+pub struct LoopTargets {
     /// The target of continue.
-    pub again: u32,
+    pub continue_to: u32,
     /// How many slots continue keeps.
-    pub kept: u32,
+    pub continue_slots: u32,
     /// The target of break.
-    pub exit: u32,
+    pub break_to: u32,
     /// How many slots break keeps.
-    pub left: u32,
+    pub break_slots: u32,
     /// The loop is a foreach: its domain is on the operand stack and is popped at break.
-    pub walks: bool,
+    pub over_points: bool,
 }
 
 /// The code of a method as far as it is generated: its slots, its instructions, and the targets of the forward jumps of its statements in
 /// source order. A target is 0 until it is reached.
 #[derive(Drop)]
-pub struct Written<'p> {
+pub struct CodeBuilder<'p> {
     pub slots: Slots<'p>,
     pub code: Vec<Instr>,
     pub targets: Vec<u32>,
 }
 
 /// The context in which the next instruction is generated.
-pub fn position<'s, 'p>(b: &Body<'p>, slots: &'s Slots<'p>) -> Position<'s, 'p>
-    ensures { where_of result ≡ record { program = program_of b.now.program.now; this = b.now.this; names = names_in slots.now } }
+pub fn context_of<'s, 'p>(
+    method: &MethodEmitContext<'p>,
+    slots: &'s Slots<'p>,
+) -> EmitContext<'s, 'p>
+    ensures { where_of result ≡ record { program = program_of method.now.program.now; this = method.now.this; names = names_in slots.now } }
 {
-    Position {
-        site: Site {
-            program: b.program,
-            this: b.this,
+    EmitContext {
+        site: LoweringContext {
+            program: method.program,
+            this: method.this,
             slots,
         },
-        waiting: 0,
+        temporaries: 0,
     }
 }
 
-impl<'p> Written<'p> {
+impl<'p> CodeBuilder<'p> {
     /// Reserves an entry for a target that isn't reached yet.
-    pub fn reserve(&mut self) -> Result<(), Memory>
-        ensures { OnOk result (written_of self.new ≡ on.reserved (written_of self.old)) }
+    pub fn new_label(&mut self) -> Result<(), Memory>
+        ensures { OnOk result (builder_of self.new ≡ on.with_label (builder_of self.old)) }
     {
         self.targets.push(0)?;
         Ok(())
     }
 
-    /// Sets target `k` to the position of the next instruction.
-    pub fn land(&mut self, k: usize) -> Result<(), Memory>
-        ensures { OnOk result (written_of self.new ≡ on.landed k (written_of self.old)) }
+    /// Sets target `label` to the position of the next instruction.
+    pub fn bind_label(&mut self, label: usize) -> Result<(), Memory>
+        ensures { OnOk result (builder_of self.new ≡ on.bind_label label (builder_of self.old)) }
     {
-        let here = number_behind(self.code.len(), 0)?;
-        if k < self.targets.len() {
-            self.targets[k] = here;
+        let here = u32_sum(self.code.len(), 0)?;
+        if label < self.targets.len() {
+            self.targets[label] = here;
         }
         Ok(())
     }
 
-    /// Keeps the `n` oldest slots.
-    pub fn cut(&mut self, n: usize)
-        ensures { written_of self.new ≡ on.cut n (written_of self.old) }
+    /// Keeps the `count` oldest slots.
+    pub fn cut(&mut self, count: usize)
+        ensures { builder_of self.new ≡ on.cut count (builder_of self.old) }
     {
-        self.slots.cut(n);
+        self.slots.cut(count);
     }
 
-    /// Keeps the `n` oldest slots, and emits the instruction for it.
-    pub fn trim(&mut self, n: usize) -> Result<(), Memory>
-        ensures { OnOk result (written_of self.new ≡ on.trimming n (written_of self.old)) }
+    /// Keeps the `count` oldest slots, and emits the instruction for it.
+    pub fn trim(&mut self, count: usize) -> Result<(), Memory>
+        ensures { OnOk result (builder_of self.new ≡ on.trim_slots count (builder_of self.old)) }
     {
-        self.slots.cut(n);
-        add(Instr::Trim(number_behind(n, 0)?), &mut self.code)
+        self.slots.cut(count);
+        emit(Instr::Trim(u32_sum(count, 0)?), &mut self.code)
     }
 
-    /// Ends what a jump jumps over: keeps the `n` oldest slots and sets target `k` to the position of the next instruction.
-    pub fn close(&mut self, k: usize, n: usize) -> Result<(), Memory>
-        ensures { OnOk result (written_of self.new ≡ on.closed k n (written_of self.old)) }
+    /// Ends what a jump jumps over: keeps the `count` oldest slots and sets target `label` to the position of the next instruction.
+    pub fn close(&mut self, label: usize, count: usize) -> Result<(), Memory>
+        ensures { OnOk result (builder_of self.new ≡ on.close_branch label count (builder_of self.old)) }
     {
-        self.cut(n);
-        self.land(k)
+        self.cut(count);
+        self.bind_label(label)
     }
 }
 
-/// Target `k`, or 0 if it isn't known yet.
-pub fn target(b: &Body, k: usize) -> u32
-    ensures { result ≡ target_in b.now k }
+/// Target `label`, or 0 if it isn't known yet.
+pub fn target(method: &MethodEmitContext, label: usize) -> u32
+    ensures { result ≡ target_in method.now label }
 {
-    if k < b.known.len() { b.known[k] } else { 0 }
+    if label < method.label_targets.len() {
+        method.label_targets[label]
+    } else {
+        0
+    }
 }
 
 /// The sum; out of memory iff it doesn't fit.
-pub fn later(k: usize, more: usize) -> Result<usize, Memory>
-    ensures value { IfOk result (λ n. n ≡ k + more) }
-    ensures large { IfErr result (λ _. 2 ^ 64 ≤ k + more) }
+pub fn usize_sum(first: usize, more: usize) -> Result<usize, Memory>
+    ensures value { IfOk result (λ n. n ≡ first + more) }
+    ensures large { IfErr result (λ _. 2 ^ 64 ≤ first + more) }
 {
-    match k.checked_add(more) {
+    match first.checked_add(more) {
         Some(n) => Ok(n),
         None => Err(Memory),
     }

@@ -9,20 +9,20 @@ ghost use Rattle.ti_lang.specs.Program.Views.{program_of, expression_of, numbere
 ghost use Rattle.ti_lang.specs.Meaning.Calls.{call_by, parameters_of, parameters_from};
 ghost use Rattle.ti_lang.specs.Typing.Called.{called_method as called_method_spec};
 ghost use Rattle.ti_lower.specs.Calling.{number_called as number_spec};
-ghost use Rattle.ti_lower.specs.Mirrors.Positions.{where_of, object_of, call_of};
+ghost use Rattle.ti_lower.specs.Mirrors.Positions.{where_of, object_of, call_site_of};
 ghost use Rattle.ti_lower.specs.Mirrors.Values.{arg_on, args_on, object_on, call_on};
 
-use crate::position::Position;
+use crate::emit_context::EmitContext;
 use crate::values::value;
 use ti_base::{Memory, Place};
 use ti_code::Instr;
-use ti_lang::program::{Expr, Method, Param, Params, Parts};
-use ti_lang::typing::{Seen, called_method, type_in_text};
-use ti_lower_expr::{add, add_conversion, counted, known_of, own};
+use ti_lang::program::{Expr, Method, Param, Params, ProgramData};
+use ti_lang::typing::{TyRef, called_method, syntactic_type};
+use ti_lower_expr::{add_conversion, emit, known_of, load_this, to_u32};
 
 /// The object of a call: none, `this`, or an expression.
 #[derive(Clone, Copy)]
-pub enum Object<'a> {
+pub enum CallObject<'a> {
     None,
     This,
     Of(&'a Expr),
@@ -33,7 +33,7 @@ pub enum Object<'a> {
 pub struct CallSite<'a> {
     pub place: Place,
     pub method: &'a Method,
-    pub object: Object<'a>,
+    pub object: CallObject<'a>,
     pub args: &'a [Expr],
 }
 
@@ -41,10 +41,10 @@ pub struct CallSite<'a> {
 
 /// The call that an expression is, given the method that it calls; `None` if it isn't a call.
 #[tactic(auto, using(ti_lang::proofs::Lemmas::program_bridges))]
-fn call_in<'a>(x: &'a Expr, method: &'a Method) -> Option<CallSite<'a>>
-    ensures { option_map call_of result ≡ call_by (expression_of x.now) (Some (numbered_method_of method.now)) }
+fn call_site_in<'a>(expr: &'a Expr, method: &'a Method) -> Option<CallSite<'a>>
+    ensures { option_map call_site_of result ≡ call_by (expression_of expr.now) (Some (numbered_method_of method.now)) }
 {
-    match x {
+    match expr {
         Expr::Call {
             place,
             method: _,
@@ -52,7 +52,7 @@ fn call_in<'a>(x: &'a Expr, method: &'a Method) -> Option<CallSite<'a>>
         } => Some(CallSite {
             place: *place,
             method,
-            object: Object::None,
+            object: CallObject::None,
             args,
         }),
         Expr::OwnCall {
@@ -62,7 +62,7 @@ fn call_in<'a>(x: &'a Expr, method: &'a Method) -> Option<CallSite<'a>>
         } => Some(CallSite {
             place: *place,
             method,
-            object: Object::This,
+            object: CallObject::This,
             args,
         }),
         Expr::Member {
@@ -73,7 +73,7 @@ fn call_in<'a>(x: &'a Expr, method: &'a Method) -> Option<CallSite<'a>>
         } => Some(CallSite {
             place: *place,
             method,
-            object: Object::Of(receiver),
+            object: CallObject::Of(receiver),
             args,
         }),
         _ => None,
@@ -81,12 +81,16 @@ fn call_in<'a>(x: &'a Expr, method: &'a Method) -> Option<CallSite<'a>>
 }
 
 /// The call that an expression is, if it calls a declared method.
-pub fn call_at<'a>(program: &'a Parts, this: Option<u32>, x: &'a Expr) -> Option<CallSite<'a>>
-    ensures { option_map call_of result ≡ call_by (expression_of x.now)
-        (called_method_spec (program_of program.now) this (expression_of x.now)) }
+pub fn call_site<'a>(
+    program: &'a ProgramData,
+    this: Option<u32>,
+    expr: &'a Expr,
+) -> Option<CallSite<'a>>
+    ensures { option_map call_site_of result ≡ call_by (expression_of expr.now)
+        (called_method_spec (program_of program.now) this (expression_of expr.now)) }
 {
-    match called_method(program, this, x) {
-        Some(method) => call_in(x, method),
+    match called_method(program, this, expr) {
+        Some(method) => call_site_in(expr, method),
         None => None,
     }
 }
@@ -99,7 +103,7 @@ fn how_many(methods: &[Method]) -> usize
 }
 
 // The number of the first method of a class and a name, or the number of methods if no method has them.
-fn position_of(program: &Parts, class: u32, name: u32) -> usize
+fn position_of(program: &ProgramData, class: u32, name: u32) -> usize
     ensures { result ≡ position_or_len (λ (m : NumberedMethod). (m.class == class) && (m.name == name)) (program_of program.now).methods }
 {
     match program.first_method(class, name) {
@@ -109,10 +113,10 @@ fn position_of(program: &Parts, class: u32, name: u32) -> usize
 }
 
 /// The number of the method that an expression calls; of no meaning if it isn't a call.
-pub fn number_called(program: &Parts, this: Option<u32>, x: &Expr) -> Result<u32, Memory>
-    ensures { IfOk result (λ n. n ≡ number_spec (program_of program.now) this (expression_of x.now)) }
+pub fn number_called(program: &ProgramData, this: Option<u32>, expr: &Expr) -> Result<u32, Memory>
+    ensures { IfOk result (λ n. n ≡ number_spec (program_of program.now) this (expression_of expr.now)) }
 {
-    match x {
+    match expr {
         Expr::Call {
             place: _,
             method,
@@ -128,8 +132,8 @@ pub fn number_called(program: &Parts, this: Option<u32>, x: &Expr) -> Result<u32
             receiver,
             name,
             args: _,
-        } => match type_in_text(program, this, receiver) {
-            Seen::Class { class, local: _ } => counted(position_of(program, class, *name)),
+        } => match syntactic_type(program, this, receiver) {
+            TyRef::Class { class, local: _ } => to_u32(position_of(program, class, *name)),
             _ => Ok(0),
         },
         _ => Ok(0),
@@ -139,61 +143,76 @@ pub fn number_called(program: &Parts, this: Option<u32>, x: &Expr) -> Result<u32
 // ---- its code
 
 // Generates an argument, converted to its parameter's type.
-fn arg(p: &Position, param: &Param, x: &Expr, out: &mut Vec<Instr>) -> Result<(), Memory>
-    ensures { OnOk result (out.new.items ≡ arg_on (where_of p.now) (numbered_param_of param.now).ty.type
-        (expression_of x.now) out.old.items) }
+fn arg(
+    context: &EmitContext,
+    param: &Param,
+    expr: &Expr,
+    out: &mut Vec<Instr>,
+) -> Result<(), Memory>
+    ensures { OnOk result (out.new.items ≡ arg_on (where_of context.now) (numbered_param_of param.now).ty.type
+        (expression_of expr.now) out.old.items) }
 {
-    value(p, x, out)?;
-    let known = known_of(p.site.program, p.site.this, x);
-    add_conversion(x.place(), Seen::of(&param.ty.ty, false), known, out)
+    value(context, expr, out)?;
+    let known = known_of(context.site.program, context.site.this, expr);
+    add_conversion(expr.place(), TyRef::of(&param.ty.ty, false), known, out)
 }
 
 // Generates arguments for parameters, in order.
-fn args_for(p: &Position, params: &[Param], xs: &[Expr], out: &mut Vec<Instr>) -> Result<(), Memory>
-    ensures { OnOk result (out.new.items ≡ args_on (where_of p.now) (parameters_from 0 (map numbered_param_of params.now))
-        (numbered_exps (map expression_of xs.now)) out.old.items) }
+fn args_for(
+    context: &EmitContext,
+    params: &[Param],
+    exprs: &[Expr],
+    out: &mut Vec<Instr>,
+) -> Result<(), Memory>
+    ensures { OnOk result (out.new.items ≡ args_on (where_of context.now) (parameters_from 0 (map numbered_param_of params.now))
+        (numbered_exps (map expression_of exprs.now)) out.old.items) }
 {
     let mut i = 0;
-    while i < params.len() && i < xs.len() {
-        arg(p, &params[i], &xs[i], out)?;
+    while i < params.len() && i < exprs.len() {
+        arg(context, &params[i], &exprs[i], out)?;
         i += 1;
     }
     Ok(())
 }
 
 // Generates the arguments of a call.
-fn args(p: &Position, c: &CallSite, out: &mut Vec<Instr>) -> Result<(), Memory>
-    ensures { OnOk result (out.new.items ≡ args_on (where_of p.now) (parameters_of (call_of c.now).method.params)
-        (call_of c.now).args out.old.items) }
+fn args(context: &EmitContext, call: &CallSite, out: &mut Vec<Instr>) -> Result<(), Memory>
+    ensures { OnOk result (out.new.items ≡ args_on (where_of context.now) (parameters_of (call_site_of call.now).method.params)
+        (call_site_of call.now).args out.old.items) }
 {
-    match &c.method.params {
-        Params::Words => Ok(()),
-        Params::Typed(params) => args_for(p, params, c.args, out),
+    match &call.method.params {
+        Params::MainArgs => Ok(()),
+        Params::Typed(params) => args_for(context, params, call.args, out),
     }
 }
 
 // Generates the object of a call, if it has one.
 #[tactic(auto, using(crate::proofs::Hiding::hidden_slots))]
 fn add_object(
-    p: &Position,
-    object: Object,
+    context: &EmitContext,
+    object: CallObject,
     place: Place,
     out: &mut Vec<Instr>,
 ) -> Result<(), Memory>
-    ensures { OnOk result (out.new.items ≡ object_on (where_of p.now) (object_of place object.entry) out.old.items) }
+    ensures { OnOk result (out.new.items ≡ object_on (where_of context.now) (object_of place object.entry) out.old.items) }
 {
     match object {
-        Object::None => Ok(()),
-        Object::This => add(own(p.site.slots), out),
-        Object::Of(x) => value(p, x, out),
+        CallObject::None => Ok(()),
+        CallObject::This => emit(load_this(context.site.slots), out),
+        CallObject::Of(x) => value(context, x, out),
     }
 }
 
 /// Generates the object, the arguments, and the call of method `number`.
-pub fn call(p: &Position, number: u32, c: &CallSite, out: &mut Vec<Instr>) -> Result<(), Memory>
-    ensures { OnOk result (out.new.items ≡ call_on (where_of p.now) number (call_of c.now) out.old.items) }
+pub fn call(
+    context: &EmitContext,
+    number: u32,
+    site: &CallSite,
+    out: &mut Vec<Instr>,
+) -> Result<(), Memory>
+    ensures { OnOk result (out.new.items ≡ call_on (where_of context.now) number (call_site_of site.now) out.old.items) }
 {
-    add_object(p, c.object, c.place, out)?;
-    args(p, c, out)?;
-    add(Instr::Call(number, c.place), out)
+    add_object(context, site.object, site.place, out)?;
+    args(context, site, out)?;
+    emit(Instr::Call(number, site.place), out)
 }

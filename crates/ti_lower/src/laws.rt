@@ -8,6 +8,6 @@ use ti_rules::Checked;
 
 /// The code of a checked program follows it: for each number of processes, each amount of fuel, each process and all answers that fit, it
 /// has next the same action, fault or end as the program, at the same place.
-pub fn code_follows(c: &Checked)
-    ensures { Follows (program_code (program_of c.now.program.parts)) (program_of c.now.program.parts) }
+pub fn code_follows(checked: &Checked)
+    ensures { Follows (program_code (program_of checked.now.program.parts)) (program_of checked.now.program.parts) }
 {}

@@ -2,12 +2,12 @@
 #![tactic(auto)]
 
 mod body;
+mod builtins;
 mod calls;
-mod forms;
+mod emit_context;
 mod inits;
 mod laws;
 mod methods;
-mod position;
 mod receivers;
 mod targets;
 mod values;

@@ -3,22 +3,24 @@
 
 ghost use Rattle.std.specs.Prelude.{◌≡◌, OnOk, IfOk};
 ghost use Rattle.ti_lang.specs.Program.Views.{variable_of, type_use_of};
-ghost use Rattle.ti_lang.specs.Typing.Seen.{seen};
+ghost use Rattle.ti_lang.specs.Typing.TyRef.{ty_view};
 ghost use Rattle.ti_lang.specs.Meaning.Processes.{Assigned, Updated};
 ghost use Rattle.ti_lang.specs.Program.Views.{expression_of};
 ghost use Rattle.ti_lower.specs.Receivers.{InSlot, InField, InElement};
-ghost use Rattle.ti_lower.specs.Mirrors.Positions.{where_of, source_of, target_kind, receiver_of};
-ghost use Rattle.ti_lower.specs.Mirrors.Values.{operated_on, update_on, declared_on, assigned_on, into_on, waiting_on, late_on};
+ghost use Rattle.ti_lower.specs.Mirrors.Positions.{where_of, source_of, target_kind, dest_of};
+ghost use Rattle.ti_lower.specs.Mirrors.Values.{operated_on, update_on, declared_on, assigned_on, into_on, spill_on, store_result_on};
 
-use crate::position::{Position, one_waits, slot_behind};
-use crate::targets::{Target, held_known, keep, loaded, place, store, target_of};
-use crate::values::{Right, source};
+use crate::emit_context::{EmitContext, slot_after, with_temporary};
+use crate::targets::{StoreTarget, held_known, keep, load_variable, place, store, target_of};
+use crate::values::{StoreSource, source};
 use ti_base::{Memory, Place};
 use ti_code::{Instr, Operation};
 use ti_lang::program::{Expr, TypeUse, Variable};
 use ti_lang::tree::BinaryOperator;
-use ti_lang::typing::{Seen, type_in_text};
-use ti_lower_expr::{Kind, Known, add, add_conversion, kind_of_seen, known_operated, operation_of};
+use ti_lang::typing::{TyRef, syntactic_type};
+use ti_lower_expr::{
+    OperandClass, StaticRepr, add_conversion, emit, kind_of_seen, known_of_binary, operation_of,
+};
 
 /// What becomes of a value: it is dropped, initializes a new variable, or is written to the target of an assignment, perhaps by an
 /// operator.
@@ -52,76 +54,95 @@ struct Updating<'a> {
     read: Place,
     operation: Operation,
     /// What is known of the operator's result.
-    known: Known,
+    known: StaticRepr,
     /// The type of the target.
-    ty: Seen<'a>,
+    ty: TyRef<'a>,
 }
 
 // Generates a right side, and the operator.
-fn operated(p: &Position, u: &Updating, right: Right, out: &mut Vec<Instr>) -> Result<(), Memory>
-    ensures { OnOk result (out.new.items ≡ operated_on (where_of p.now) u.now.place u.now.operation (source_of right.entry) out.old.items) }
+fn apply_operator(
+    context: &EmitContext,
+    update: &Updating,
+    right: StoreSource,
+    out: &mut Vec<Instr>,
+) -> Result<(), Memory>
+    ensures { OnOk result (out.new.items ≡ operated_on (where_of context.now) update.now.place update.now.operation (source_of right.entry) out.old.items) }
 {
-    source(p, right, out)?;
-    add(Instr::Operate(u.operation, u.place), out)
+    source(context, right, out)?;
+    emit(Instr::Operate(update.operation, update.place), out)
 }
 
 // Generates the compound assignment of a variable.
 fn update_slot(
-    p: &Position,
-    u: &Updating,
-    v: &Variable,
-    right: Right,
+    context: &EmitContext,
+    update: &Updating,
+    variable: &Variable,
+    right: StoreSource,
     out: &mut Vec<Instr>,
 ) -> Result<(), Memory>
-    ensures { OnOk result (out.new.items ≡ update_on (where_of p.now) u.now.place u.now.read u.now.operation u.now.known (seen u.now.ty)
-        (InSlot (variable_of v.now)) (source_of right.entry) out.old.items) }
+    ensures { OnOk result (out.new.items ≡ update_on (where_of context.now) update.now.place update.now.read update.now.operation update.now.known (ty_view update.now.ty)
+        (InSlot (variable_of variable.now)) (source_of right.entry) out.old.items) }
 {
-    add(loaded(p, v)?, out)?;
-    operated(p, u, right, out)?;
-    store(p, u.place, u.ty, u.known, Target::Slot(v), out)
+    emit(load_variable(context, variable)?, out)?;
+    apply_operator(context, update, right, out)?;
+    store(
+        context,
+        update.place,
+        update.ty,
+        update.known,
+        StoreTarget::Slot(variable),
+        out,
+    )
 }
 
 // Generates the compound assignment of a field.
 fn update_field(
-    p: &Position,
-    u: &Updating,
+    context: &EmitContext,
+    update: &Updating,
     field: u32,
-    right: Right,
+    right: StoreSource,
     out: &mut Vec<Instr>,
 ) -> Result<(), Memory>
-    ensures { OnOk result (out.new.items ≡ update_on (where_of p.now) u.now.place u.now.read u.now.operation u.now.known (seen u.now.ty)
+    ensures { OnOk result (out.new.items ≡ update_on (where_of context.now) update.now.place update.now.read update.now.operation update.now.known (ty_view update.now.ty)
         (InField field) (source_of right.entry) out.old.items) }
 {
-    out.extend_from_slice(&[Instr::Dup, Instr::GetField(field, u.read)])?;
-    operated(p, u, right, out)?;
-    store(p, u.place, u.ty, u.known, Target::Field(field), out)
+    out.extend_from_slice(&[Instr::Dup, Instr::GetField(field, update.read)])?;
+    apply_operator(context, update, right, out)?;
+    store(
+        context,
+        update.place,
+        update.ty,
+        update.known,
+        StoreTarget::Field(field),
+        out,
+    )
 }
 
 // Generates the compound assignment of an element, whose index is kept in a temporary slot.
 fn update_element(
-    p: &Position,
-    u: &Updating,
-    right: Right,
+    context: &EmitContext,
+    update: &Updating,
+    right: StoreSource,
     out: &mut Vec<Instr>,
 ) -> Result<(), Memory>
-    ensures { OnOk result (out.new.items ≡ update_on (where_of p.now) u.now.place u.now.read u.now.operation u.now.known
-        (seen u.now.ty) InElement (source_of right.entry) out.old.items) }
+    ensures { OnOk result (out.new.items ≡ update_on (where_of context.now) update.now.place update.now.read update.now.operation update.now.known
+        (ty_view update.now.ty) InElement (source_of right.entry) out.old.items) }
 {
-    let n = slot_behind(p, 0)?;
-    let m = slot_behind(p, 1)?;
+    let n = slot_after(context, 0)?;
+    let m = slot_after(context, 1)?;
     out.extend_from_slice(&[
         Instr::Keep(n),
         Instr::Dup,
         Instr::Load(n),
-        Instr::GetElem(u.read),
+        Instr::GetElem(update.read),
     ])?;
-    operated(&one_waits(p)?, u, right, out)?;
-    add_conversion(u.place, u.ty, u.known, out)?;
+    apply_operator(&with_temporary(context)?, update, right, out)?;
+    add_conversion(update.place, update.ty, update.known, out)?;
     out.extend_from_slice(&[
         Instr::Keep(m),
         Instr::Load(n),
         Instr::Load(m),
-        Instr::PutElem(u.place),
+        Instr::PutElem(update.place),
         Instr::Trim(n),
     ])?;
     Ok(())
@@ -129,160 +150,169 @@ fn update_element(
 
 // Generates the compound assignment of a target whose reference and index are on the stack.
 fn update(
-    p: &Position,
-    u: &Updating,
-    target: Target,
-    right: Right,
+    context: &EmitContext,
+    info: &Updating,
+    target: StoreTarget,
+    right: StoreSource,
     out: &mut Vec<Instr>,
 ) -> Result<(), Memory>
-    ensures { OnOk result (out.new.items ≡ update_on (where_of p.now) u.now.place u.now.read u.now.operation u.now.known (seen u.now.ty)
+    ensures { OnOk result (out.new.items ≡ update_on (where_of context.now) info.now.place info.now.read info.now.operation info.now.known (ty_view info.now.ty)
         (target_kind target.entry) (source_of right.entry) out.old.items) }
 {
     match target {
-        Target::Slot(v) => update_slot(p, u, v, right, out),
-        Target::Field(field) => update_field(p, u, field, right, out),
-        Target::Element => update_element(p, u, right, out),
+        StoreTarget::Slot(v) => update_slot(context, info, v, right, out),
+        StoreTarget::Field(field) => update_field(context, info, field, right, out),
+        StoreTarget::Element => update_element(context, info, right, out),
     }
 }
 
 // Generates a compound assignment, the target's reference and index included.
-fn updated(
-    p: &Position,
+fn update_target(
+    context: &EmitContext,
     place_of: Place,
     operator: BinaryOperator,
     target: &Expr,
-    kind: Kind,
-    known: Known,
-    right: Right,
+    kind: OperandClass,
+    known: StaticRepr,
+    right: StoreSource,
     out: &mut Vec<Instr>,
 ) -> Result<(), Memory>
-    ensures { OnOk result (out.new.items ≡ into_on (where_of p.now) (Updated place_of operator (expression_of target.now)) kind known
+    ensures { OnOk result (out.new.items ≡ into_on (where_of context.now) (Updated place_of operator (expression_of target.now)) kind known
         (source_of right.entry) out.old.items) }
 {
-    let ty = type_in_text(p.site.program, p.site.this, target);
-    let written = target_of(p, target)?;
-    let u = Updating {
+    let ty = syntactic_type(context.site.program, context.site.this, target);
+    let written = target_of(context, target)?;
+    let info = Updating {
         place: place_of,
         read: target.place(),
         operation: operation_of(operator, kind_of_seen(ty), kind),
-        known: known_operated(operator, held_known(written), known),
+        known: known_of_binary(operator, held_known(written), known),
         ty,
     };
-    place(p, target, out)?;
-    update(p, &u, written, right, out)
+    place(context, target, out)?;
+    update(context, &info, written, right, out)
 }
 
 // ---- stores
 
 // Stores the top operand in a new variable.
-fn declared(
-    p: &Position,
+fn init_variable(
+    context: &EmitContext,
     place: Place,
     ty: &TypeUse,
-    known: Known,
+    known: StaticRepr,
     out: &mut Vec<Instr>,
 ) -> Result<(), Memory>
-    ensures { OnOk result (out.new.items ≡ declared_on (where_of p.now) place (type_use_of ty.now).type known out.old.items) }
+    ensures { OnOk result (out.new.items ≡ declared_on (where_of context.now) place (type_use_of ty.now).type known out.old.items) }
 {
-    add_conversion(place, Seen::of(&ty.ty, false), known, out)?;
-    add(Instr::Keep(slot_behind(p, 0)?), out)
+    add_conversion(place, TyRef::of(&ty.ty, false), known, out)?;
+    emit(Instr::Keep(slot_after(context, 0)?), out)
 }
 
 // Generates the target's reference and index and a right side, and stores its value.
-fn assigned(
-    p: &Position,
+fn assign_target(
+    context: &EmitContext,
     place_of: Place,
     target: &Expr,
-    known: Known,
-    right: Right,
+    known: StaticRepr,
+    right: StoreSource,
     out: &mut Vec<Instr>,
 ) -> Result<(), Memory>
-    ensures { OnOk result (out.new.items ≡ assigned_on (where_of p.now) place_of (expression_of target.now) known
+    ensures { OnOk result (out.new.items ≡ assigned_on (where_of context.now) place_of (expression_of target.now) known
         (source_of right.entry) out.old.items) }
 {
-    place(p, target, out)?;
-    source(p, right, out)?;
-    let ty = type_in_text(p.site.program, p.site.this, target);
-    store(p, place_of, ty, known, target_of(p, target)?, out)
+    place(context, target, out)?;
+    source(context, right, out)?;
+    let ty = syntactic_type(context.site.program, context.site.this, target);
+    store(
+        context,
+        place_of,
+        ty,
+        known,
+        target_of(context, target)?,
+        out,
+    )
 }
 
 /// Generates a right side and the store of its value. The reference and the index of a target come first.
-pub fn into(
-    p: &Position,
+pub fn evaluate_into(
+    context: &EmitContext,
     receiver: Receiver,
-    kind: Kind,
-    known: Known,
-    right: Right,
+    kind: OperandClass,
+    known: StaticRepr,
+    right: StoreSource,
     out: &mut Vec<Instr>,
 ) -> Result<(), Memory>
-    ensures { OnOk result (out.new.items ≡ into_on (where_of p.now) (receiver_of receiver.entry) kind known
+    ensures { OnOk result (out.new.items ≡ into_on (where_of context.now) (dest_of receiver.entry) kind known
         (source_of right.entry) out.old.items) }
 {
     match receiver {
         Receiver::Nowhere => {
-            source(p, right, out)?;
-            add(Instr::Pop, out)
+            source(context, right, out)?;
+            emit(Instr::Pop, out)
         }
         Receiver::Declared {
             place,
             variable: _,
             ty,
         } => {
-            source(p, right, out)?;
-            declared(p, place, ty, known, out)
+            source(context, right, out)?;
+            init_variable(context, place, ty, known, out)
         }
-        Receiver::Assigned { place, target } => assigned(p, place, target, known, right, out),
+        Receiver::Assigned { place, target } => assign_target(
+            context, place, target, known, right, out,
+        ),
         Receiver::Updated {
             place,
             operator,
             target,
-        } => updated(p, place, operator, target, kind, known, right, out),
+        } => update_target(context, place, operator, target, kind, known, right, out),
     }
 }
 
 // Spills a computed value to a temporary slot while the target's reference and index are evaluated.
-fn waiting(
-    p: &Position,
+fn spill_and_store(
+    context: &EmitContext,
     receiver: Receiver,
-    kind: Kind,
-    known: Known,
+    kind: OperandClass,
+    known: StaticRepr,
     out: &mut Vec<Instr>,
 ) -> Result<(), Memory>
-    ensures { OnOk result (out.new.items ≡ waiting_on (where_of p.now) (receiver_of receiver.entry) kind known out.old.items) }
+    ensures { OnOk result (out.new.items ≡ spill_on (where_of context.now) (dest_of receiver.entry) kind known out.old.items) }
 {
-    let n = slot_behind(p, 0)?;
-    add(Instr::Keep(n), out)?;
-    into(
-        &one_waits(p)?,
+    let n = slot_after(context, 0)?;
+    emit(Instr::Keep(n), out)?;
+    evaluate_into(
+        &with_temporary(context)?,
         receiver,
         kind,
         known,
-        Right::Waiting(n),
+        StoreSource::Temporary(n),
         out,
     )?;
-    add(Instr::Trim(n), out)
+    emit(Instr::Trim(n), out)
 }
 
 // Stores a computed value in the target of an assignment; a variable needs no spill.
-fn late_assigned(
-    p: &Position,
+fn store_result_in(
+    context: &EmitContext,
     place_of: Place,
     target: &Expr,
-    kind: Kind,
-    known: Known,
+    kind: OperandClass,
+    known: StaticRepr,
     out: &mut Vec<Instr>,
 ) -> Result<(), Memory>
-    ensures { OnOk result (out.new.items ≡ late_on (where_of p.now)
+    ensures { OnOk result (out.new.items ≡ store_result_on (where_of context.now)
         (Assigned place_of (expression_of target.now)) kind known out.old.items) }
 {
     match target {
         Expr::Variable(_, v) => {
-            let ty = type_in_text(p.site.program, p.site.this, target);
+            let ty = syntactic_type(context.site.program, context.site.this, target);
             add_conversion(place_of, ty, known, out)?;
-            keep(p, v, out)
+            keep(context, v, out)
         }
-        _ => waiting(
-            p,
+        _ => spill_and_store(
+            context,
             Receiver::Assigned {
                 place: place_of,
                 target,
@@ -295,27 +325,29 @@ fn late_assigned(
 }
 
 /// Stores the value of a call, a `new` or a collective, which is on top before its target is evaluated.
-pub fn late(
-    p: &Position,
+pub fn store_result(
+    context: &EmitContext,
     receiver: Receiver,
-    kind: Kind,
-    known: Known,
+    kind: OperandClass,
+    known: StaticRepr,
     out: &mut Vec<Instr>,
 ) -> Result<(), Memory>
-    ensures { OnOk result (out.new.items ≡ late_on (where_of p.now) (receiver_of receiver.entry) kind known out.old.items) }
+    ensures { OnOk result (out.new.items ≡ store_result_on (where_of context.now) (dest_of receiver.entry) kind known out.old.items) }
 {
     match receiver {
-        Receiver::Nowhere => add(Instr::Pop, out),
+        Receiver::Nowhere => emit(Instr::Pop, out),
         Receiver::Declared {
             place,
             variable: _,
             ty,
-        } => declared(p, place, ty, known, out),
-        Receiver::Assigned { place, target } => late_assigned(p, place, target, kind, known, out),
+        } => init_variable(context, place, ty, known, out),
+        Receiver::Assigned { place, target } => store_result_in(
+            context, place, target, kind, known, out,
+        ),
         Receiver::Updated {
             place: _,
             operator: _,
             target: _,
-        } => waiting(p, receiver, kind, known, out),
+        } => spill_and_store(context, receiver, kind, known, out),
     }
 }

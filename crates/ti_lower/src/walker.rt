@@ -11,28 +11,28 @@ ghost use Rattle.ti_lang.specs.Meaning.Processes.{Updated};
 ghost use Rattle.ti_lang.specs.Program.Views.{expression_of, printed_of, statement_of, type_use_of};
 ghost use Rattle.ti_lang.specs.Meaning.Statements.{declared_as, one_more as one_more_spec};
 ghost use Rattle.ti_lower_expr.specs.Slots.{Of};
-ghost use Rattle.ti_lower.specs.Laying.{break_code, continue_code};
+ghost use Rattle.ti_lower.specs.StmtCode.{break_code, continue_code};
 ghost use Rattle.ti_lower.specs.Mirrors.Bodies as on;
-ghost use Rattle.ti_lower.specs.Mirrors.Bodies.{written_of, labels_of};
-ghost use Rattle.ti_lower.specs.Mirrors.Statements.{coded, closed, trimming};
+ghost use Rattle.ti_lower.specs.Mirrors.Bodies.{builder_of, labels_of};
+ghost use Rattle.ti_lower.specs.Mirrors.Statements.{with_code, close_branch, trim_slots};
 ghost use Rattle.ti_lower.specs.Mirrors.Positions.{where_of};
 ghost use Rattle.ti_lower.specs.Mirrors.Values.{init_on, print_on, returned_on};
-ghost use Rattle.ti_lang.specs.Typing.Seen.{seen};
+ghost use Rattle.ti_lang.specs.Typing.TyRef.{ty_view};
 ghost use Rattle.ti_code.specs.declared.instr.Instr.TheVariants as i;
 ghost use Rattle.ti_lower_expr.specs.Contents.{names_in};
 
-use crate::body::{Body, Labels, Written, later, position, target};
-use crate::forms::alone;
-use crate::inits::{init, valued};
-use crate::position::Position;
+use crate::body::{CodeBuilder, LoopTargets, MethodEmitContext, context_of, target, usize_sum};
+use crate::builtins::expr_stmt;
+use crate::emit_context::EmitContext;
+use crate::inits::{init, value_and_store};
 use crate::receivers::Receiver;
 use crate::values::value;
 use ti_base::{CollKind, Memory, Place, Value};
 use ti_code::Instr;
 use ti_lang::program::{Expr, Printed, Stmt, TypeUse};
 use ti_lang::tree::{BinaryOperator, StepOperator};
-use ti_lang::typing::Seen;
-use ti_lower_expr::{SlotName, Slots, add, add_conversion, counted, known_of, number_behind};
+use ti_lang::typing::TyRef;
+use ti_lower_expr::{SlotName, Slots, add_conversion, emit, known_of, to_u32, u32_sum};
 
 // ---- simple statements
 
@@ -48,13 +48,13 @@ fn one_more(operator: StepOperator) -> BinaryOperator
 
 // `t++` and `t--`.
 fn step(
-    p: &Position,
+    context: &EmitContext,
     place: Place,
     operator: StepOperator,
     target: &Expr,
     out: &mut Vec<Instr>,
 ) -> Result<(), Memory>
-    ensures { OnOk result (out.new.items ≡ init_on (where_of p.now) (Updated place (one_more_spec operator) (expression_of target.now))
+    ensures { OnOk result (out.new.items ≡ init_on (where_of context.now) (Updated place (one_more_spec operator) (expression_of target.now))
         (s.Value (e.Int place (pos 1))) out.old.items) }
 {
     let receiver = Receiver::Updated {
@@ -62,23 +62,28 @@ fn step(
         operator: one_more(operator),
         target,
     };
-    valued(p, receiver, &Expr::Int(place, 1), out)
+    value_and_store(context, receiver, &Expr::Int(place, 1), out)
 }
 
 // Generates a print. It prints a string literal and a value, each if there is one.
-fn print(p: &Position, place: Place, what: &Printed, out: &mut Vec<Instr>) -> Result<(), Memory>
-    ensures { OnOk result (out.new.items ≡ print_on (where_of p.now) place (printed_of what.now) out.old.items) }
+fn print(
+    context: &EmitContext,
+    place: Place,
+    what: &Printed,
+    out: &mut Vec<Instr>,
+) -> Result<(), Memory>
+    ensures { OnOk result (out.new.items ≡ print_on (where_of context.now) place (printed_of what.now) out.old.items) }
 {
     match what {
-        Printed::Nothing => add(Instr::Print(None, false, place), out),
-        Printed::Text(literal) => add(Instr::Print(Some(*literal), false, place), out),
+        Printed::Nothing => emit(Instr::Print(None, false, place), out),
+        Printed::Text(literal) => emit(Instr::Print(Some(*literal), false, place), out),
         Printed::Value(x) => {
-            value(p, x, out)?;
-            add(Instr::Print(None, true, place), out)
+            value(context, x, out)?;
+            emit(Instr::Print(None, true, place), out)
         }
         Printed::TextAndValue(literal, x) => {
-            value(p, x, out)?;
-            add(Instr::Print(Some(*literal), true, place), out)
+            value(context, x, out)?;
+            emit(Instr::Print(Some(*literal), true, place), out)
         }
     }
 }
@@ -87,8 +92,8 @@ fn print(p: &Position, place: Place, what: &Printed, out: &mut Vec<Instr>) -> Re
 fn barrier(place: Place, out: &mut Vec<Instr>) -> Result<(), Memory>
     ensures { OnOk result (out.new.items ≡ out.old.items ++ i.Arrive coll.Barrier place ∷ i.Depart place ∷ []) }
 {
-    add(Instr::Arrive(CollKind::Barrier, place), out)?;
-    add(Instr::Depart(place), out)
+    emit(Instr::Arrive(CollKind::Barrier, place), out)?;
+    emit(Instr::Depart(place), out)
 }
 
 // A break or continue outside loops leads to the next instruction.
@@ -96,60 +101,64 @@ fn leave(slots: &Slots, out: &mut Vec<Instr>) -> Result<(), Memory>
     ensures { OnOk result (out.new.items ≡ out.old.items ++ i.Trim (length (names_in slots.now)) ∷ i.Jump (length out.old.items + 1 + 1)
         ∷ []) }
 {
-    let next = number_behind(out.len(), 2)?;
-    add(Instr::Trim(counted(slots.len())?), out)?;
-    add(Instr::Jump(next), out)
+    let next = u32_sum(out.len(), 2)?;
+    emit(Instr::Trim(to_u32(slots.len())?), out)?;
+    emit(Instr::Jump(next), out)
 }
 
 // Generates a break.
-fn break_out(l: Option<Labels>, slots: &Slots, out: &mut Vec<Instr>) -> Result<(), Memory>
-    ensures { OnOk result (out.new.items ≡ out.old.items ++ break_code (option_map labels_of l) (names_in slots.now)
+fn break_out(labels: Option<LoopTargets>, slots: &Slots, out: &mut Vec<Instr>) -> Result<(), Memory>
+    ensures { OnOk result (out.new.items ≡ out.old.items ++ break_code (option_map labels_of labels) (names_in slots.now)
         (length out.old.items)) }
 {
-    match l {
+    match labels {
         None => leave(slots, out),
-        Some(l) => {
-            add(Instr::Trim(l.left), out)?;
-            if l.walks {
-                add(Instr::Pop, out)?;
+        Some(labels) => {
+            emit(Instr::Trim(labels.break_slots), out)?;
+            if labels.over_points {
+                emit(Instr::Pop, out)?;
             }
-            add(Instr::Jump(l.exit), out)
+            emit(Instr::Jump(labels.break_to), out)
         }
     }
 }
 
 // Generates a continue.
-fn go_on(l: Option<Labels>, slots: &Slots, out: &mut Vec<Instr>) -> Result<(), Memory>
-    ensures { OnOk result (out.new.items ≡ out.old.items ++ continue_code (option_map labels_of l) (names_in slots.now)
+fn continue_loop(
+    labels: Option<LoopTargets>,
+    slots: &Slots,
+    out: &mut Vec<Instr>,
+) -> Result<(), Memory>
+    ensures { OnOk result (out.new.items ≡ out.old.items ++ continue_code (option_map labels_of labels) (names_in slots.now)
         (length out.old.items)) }
 {
-    match l {
+    match labels {
         None => leave(slots, out),
-        Some(l) => {
-            add(Instr::Trim(l.kept), out)?;
-            add(Instr::Jump(l.again), out)
+        Some(labels) => {
+            emit(Instr::Trim(labels.continue_slots), out)?;
+            emit(Instr::Jump(labels.continue_to), out)
         }
     }
 }
 
 // Generates a return. Its value, if there is one, is converted to the method's result type.
-fn returns(
-    p: &Position,
+fn return_stmt(
+    context: &EmitContext,
     place: Place,
-    result_type: Seen,
+    result_type: TyRef,
     x: &Option<Expr>,
     out: &mut Vec<Instr>,
 ) -> Result<(), Memory>
-    ensures { OnOk result (out.new.items ≡ returned_on (where_of p.now) place (seen result_type.entry)
+    ensures { OnOk result (out.new.items ≡ returned_on (where_of context.now) place (ty_view result_type.entry)
         (maybe_of expression_of x.now) out.old.items) }
 {
     match x {
-        None => add(Instr::Return, out),
+        None => emit(Instr::Return, out),
         Some(x) => {
-            let known = known_of(p.site.program, p.site.this, x);
-            value(p, x, out)?;
+            let known = known_of(context.site.program, context.site.this, x);
+            value(context, x, out)?;
             add_conversion(place, result_type, known, out)?;
-            add(Instr::ReturnValue, out)
+            emit(Instr::ReturnValue, out)
         }
     }
 }
@@ -168,112 +177,147 @@ fn declare<'p>(ty: &'p TypeUse, variable: u32, slots: &mut Slots<'p>) -> Result<
 // ---- branches
 
 // Generates the condition of an `if`, and the jump if it doesn't hold.
-fn test<'p>(b: &Body<'p>, c: &'p Expr, w: &mut Written<'p>) -> Result<(), Memory>
-    ensures { OnOk result (written_of w.new ≡ on.tested b.now (expression_of c.now) (written_of w.old)) }
+fn test<'p>(
+    method: &MethodEmitContext<'p>,
+    expr: &'p Expr,
+    builder: &mut CodeBuilder<'p>,
+) -> Result<(), Memory>
+    ensures { OnOk result (builder_of builder.new ≡ on.branch_test method.now (expression_of expr.now) (builder_of builder.old)) }
 {
-    value(&position(b, &w.slots), c, &mut w.code)?;
-    let otherwise = target(b, w.targets.len());
-    add(Instr::JumpIfNot(otherwise), &mut w.code)?;
-    w.reserve()
+    value(&context_of(method, &builder.slots), expr, &mut builder.code)?;
+    let otherwise = target(method, builder.targets.len());
+    emit(Instr::JumpIfNot(otherwise), &mut builder.code)?;
+    builder.new_label()
 }
 
-// Between two branches: the first one jumps over the second, and target `k` is here.
-fn between(b: &Body, k: usize, n: usize, w: &mut Written) -> Result<(), Memory>
-    ensures { OnOk result (written_of w.new ≡ on.otherwise b.now k n (written_of w.old)) }
+// Between two branches: the first one jumps over the second, and target `label` is here.
+fn between_branches(
+    method: &MethodEmitContext,
+    label: usize,
+    count: usize,
+    builder: &mut CodeBuilder,
+) -> Result<(), Memory>
+    ensures { OnOk result (builder_of builder.new ≡ on.otherwise method.now label count (builder_of builder.old)) }
 {
-    w.cut(n);
-    let end = target(b, later(k, 1)?);
-    add(Instr::Jump(end), &mut w.code)?;
-    w.land(k)
+    builder.cut(count);
+    let end = target(method, usize_sum(label, 1)?);
+    emit(Instr::Jump(end), &mut builder.code)?;
+    builder.bind_label(label)
 }
 
 // ---- loops
 
-// The labels of a loop with `n` slots whose targets are numbered from `k` on.
-fn loop_labels(b: &Body, k: usize, n: usize) -> Result<Labels, Memory>
-    ensures { IfOk result (λ l. Some (labels_of l) ≡ on.loop_labels b.now k n) }
+// The labels of a loop with `count` slots whose targets are numbered from `label` on.
+fn loop_labels(
+    method: &MethodEmitContext,
+    label: usize,
+    count: usize,
+) -> Result<LoopTargets, Memory>
+    ensures { IfOk result (λ l. Some (labels_of l) ≡ on.loop_labels method.now label count) }
 {
-    let slots = counted(n)?;
-    Ok(Labels {
-        again: target(b, k),
-        kept: slots,
-        exit: target(b, later(k, 2)?),
-        left: slots,
-        walks: false,
+    let slots = to_u32(count)?;
+    Ok(LoopTargets {
+        continue_to: target(method, label),
+        continue_slots: slots,
+        break_to: target(method, usize_sum(label, 2)?),
+        break_slots: slots,
+        over_points: false,
     })
 }
 
-// The labels of a foreach with `n` slots whose target is `k`.
-fn walk_labels(b: &Body, k: usize, n: usize) -> Result<Labels, Memory>
-    ensures { IfOk result (λ l. Some (labels_of l) ≡ on.walk_labels b.now k n) }
+// The labels of a foreach with `count` slots whose target is `label`.
+fn walk_labels(
+    method: &MethodEmitContext,
+    label: usize,
+    count: usize,
+) -> Result<LoopTargets, Memory>
+    ensures { IfOk result (λ l. Some (labels_of l) ≡ on.walk_labels method.now label count) }
 {
-    let again = target(b, k);
-    Ok(Labels {
-        again,
-        kept: number_behind(n, 1)?,
-        exit: number_behind(again as usize, 4)?,
-        left: counted(n)?,
-        walks: true,
+    let continue_to = target(method, label);
+    Ok(LoopTargets {
+        continue_to,
+        continue_slots: u32_sum(count, 1)?,
+        break_to: u32_sum(continue_to as usize, 4)?,
+        break_slots: to_u32(count)?,
+        over_points: true,
     })
 }
 
 // Generates what comes before the body of a loop: the jump to the condition, and the tick of an iteration.
-fn begin_loop(b: &Body, place: Place, w: &mut Written) -> Result<(), Memory>
-    ensures { OnOk result (written_of w.new ≡ on.loop_begun b.now place (written_of w.old)) }
+fn begin_loop(
+    method: &MethodEmitContext,
+    place: Place,
+    builder: &mut CodeBuilder,
+) -> Result<(), Memory>
+    ensures { OnOk result (builder_of builder.new ≡ on.loop_begun method.now place (builder_of builder.old)) }
 {
-    let test = target(b, later(w.targets.len(), 1)?);
-    add(Instr::Jump(test), &mut w.code)?;
-    add(Instr::Tick(place), &mut w.code)?;
-    w.reserve()?;
-    w.reserve()?;
-    w.reserve()
+    let test = target(method, usize_sum(builder.targets.len(), 1)?);
+    emit(Instr::Jump(test), &mut builder.code)?;
+    emit(Instr::Tick(place), &mut builder.code)?;
+    builder.new_label()?;
+    builder.new_label()?;
+    builder.new_label()
 }
 
 // Generates what comes before the body of a foreach: the jump to the next point, and the tick of an iteration.
-fn begin_walk(b: &Body, place: Place, variable: u32, w: &mut Written) -> Result<(), Memory>
-    ensures { OnOk result (written_of w.new ≡ on.walk_begun b.now place variable (written_of w.old)) }
+fn begin_walk(
+    method: &MethodEmitContext,
+    place: Place,
+    variable: u32,
+    builder: &mut CodeBuilder,
+) -> Result<(), Memory>
+    ensures { OnOk result (builder_of builder.new ≡ on.walk_begun method.now place variable (builder_of builder.old)) }
 {
-    let again = target(b, w.targets.len());
-    add(Instr::Jump(number_behind(again as usize, 1)?), &mut w.code)?;
-    add(Instr::Tick(place), &mut w.code)?;
-    w.slots.push(SlotName::Point(variable))?;
-    w.reserve()
+    let again = target(method, builder.targets.len());
+    emit(Instr::Jump(u32_sum(again as usize, 1)?), &mut builder.code)?;
+    emit(Instr::Tick(place), &mut builder.code)?;
+    builder.slots.push(SlotName::Point(variable))?;
+    builder.new_label()
 }
 
 // Generates the condition of a loop; a missing one is true.
-fn condition<'p>(b: &Body<'p>, c: Option<&'p Expr>, w: &mut Written<'p>) -> Result<(), Memory>
-    ensures { OnOk result (written_of w.new ≡ coded (written_of w.old)
-        (on.condition_in b.now (option_map (λ x. expression_of x.now) c.entry) (written_of w.old))) }
+fn condition<'p>(
+    method: &MethodEmitContext<'p>,
+    expr: Option<&'p Expr>,
+    builder: &mut CodeBuilder<'p>,
+) -> Result<(), Memory>
+    ensures { OnOk result (builder_of builder.new ≡ with_code (builder_of builder.old)
+        (on.condition_in method.now (option_map (λ x. expression_of x.now) expr.entry) (builder_of builder.old))) }
 {
-    match c {
-        None => add(Instr::Const(Value::Bool(true)), &mut w.code),
-        Some(c) => value(&position(b, &w.slots), c, &mut w.code),
+    match expr {
+        None => emit(Instr::Const(Value::Bool(true)), &mut builder.code),
+        Some(expr) => value(&context_of(method, &builder.slots), expr, &mut builder.code),
     }
 }
 
 // Generates what comes after the body and the update of a loop: the condition, and the jump back.
 fn end_loop<'p>(
-    b: &Body<'p>,
-    k: usize,
-    at: usize,
-    c: Option<&'p Expr>,
-    w: &mut Written<'p>,
+    method: &MethodEmitContext<'p>,
+    label: usize,
+    pc: usize,
+    expr: Option<&'p Expr>,
+    builder: &mut CodeBuilder<'p>,
 ) -> Result<(), Memory>
-    ensures { OnOk result (written_of w.new ≡ on.loop_ended b.now k at (option_map (λ x. expression_of x.now) c.entry) (written_of w.old)) }
+    ensures { OnOk result (builder_of builder.new ≡ on.loop_ended method.now label pc (option_map (λ x. expression_of x.now) expr.entry) (builder_of builder.old)) }
 {
-    condition(b, c, w)?;
-    add(Instr::JumpIf(number_behind(at, 1)?), &mut w.code)?;
-    w.land(later(k, 2)?)
+    condition(method, expr, builder)?;
+    emit(Instr::JumpIf(u32_sum(pc, 1)?), &mut builder.code)?;
+    builder.bind_label(usize_sum(label, 2)?)
 }
 
 // Generates what comes after the body of a foreach: the next point, the jump back, and the pop of the domain.
-fn end_walk(b: &Body, n: usize, at: usize, w: &mut Written) -> Result<(), Memory>
-    ensures { OnOk result (written_of w.new ≡ on.walk_ended b.now n at (written_of w.old)) }
+fn end_walk(
+    method: &MethodEmitContext,
+    count: usize,
+    pc: usize,
+    builder: &mut CodeBuilder,
+) -> Result<(), Memory>
+    ensures { OnOk result (builder_of builder.new ≡ on.walk_ended method.now count pc (builder_of builder.old)) }
 {
-    let slots = counted(n)?;
-    let end = number_behind(w.code.len(), 3)?;
-    let turn = number_behind(at, 1)?;
-    w.code.extend_from_slice(&[
+    let slots = to_u32(count)?;
+    let end = u32_sum(builder.code.len(), 3)?;
+    let turn = u32_sum(pc, 1)?;
+    builder.code.extend_from_slice(&[
         Instr::Trim(slots),
         Instr::Next(slots, end),
         Instr::Jump(turn),
@@ -283,7 +327,7 @@ fn end_walk(b: &Body, n: usize, at: usize, w: &mut Written) -> Result<(), Memory
 }
 
 // The expression in an option, by reference.
-fn there(x: &Option<Expr>) -> Option<&Expr>
+fn expr_in(x: &Option<Expr>) -> Option<&Expr>
     ensures { option_map (λ x. expression_of x.now) result ≡ maybe_of expression_of x.now }
 {
     match x {
@@ -294,7 +338,7 @@ fn there(x: &Option<Expr>) -> Option<&Expr>
 
 // The state of the generator at the beginning of a loop.
 #[derive(Clone, Copy)]
-struct Turns {
+struct LoopStart {
     /// The number of the first target of the loop.
     target: usize,
     /// How many slots there are.
@@ -306,77 +350,77 @@ struct Turns {
 // Generates a loop up to its update.
 #[cycle(statement)]
 fn turn<'p>(
-    b: &Body<'p>,
+    method: &MethodEmitContext<'p>,
     place: Place,
     body: &'p Stmt,
-    w: &mut Written<'p>,
-) -> Result<Turns, Memory>
-    ensures written { OnOk result (written_of w.new ≡ on.turn_in b.now place (on.stm_in b.now (statement_of body.now)) (written_of w.old)) }
-    ensures target { IfOk result (λ t. t.target ≡ length (written_of w.old).targets) }
-    ensures slots { IfOk result (λ t. t.slots ≡ length (written_of w.old).names) }
-    ensures at { IfOk result (λ t. t.at ≡ length (written_of w.old).code) }
+    builder: &mut CodeBuilder<'p>,
+) -> Result<LoopStart, Memory>
+    ensures written { OnOk result (builder_of builder.new ≡ on.turn_in method.now place (on.stm_in method.now (statement_of body.now)) (builder_of builder.old)) }
+    ensures target { IfOk result (λ start. start.target ≡ length (builder_of builder.old).targets) }
+    ensures slots { IfOk result (λ start. start.slots ≡ length (builder_of builder.old).names) }
+    ensures at { IfOk result (λ start. start.at ≡ length (builder_of builder.old).code) }
 {
-    let t = Turns {
-        target: w.targets.len(),
-        slots: w.slots.len(),
-        at: w.code.len(),
+    let start = LoopStart {
+        target: builder.targets.len(),
+        slots: builder.slots.len(),
+        at: builder.code.len(),
     };
-    let labels = loop_labels(b, t.target, t.slots)?;
-    begin_loop(b, place, w)?;
-    statement(b, body, Some(labels), w)?;
-    w.close(t.target, t.slots)?;
-    Ok(t)
+    let labels = loop_labels(method, start.target, start.slots)?;
+    begin_loop(method, place, builder)?;
+    statement(method, body, Some(labels), builder)?;
+    builder.close(start.target, start.slots)?;
+    Ok(start)
 }
 
 // Generates the rest of a loop after its update.
 fn close_loop<'p>(
-    b: &Body<'p>,
-    t: &Turns,
-    c: Option<&'p Expr>,
-    w: &mut Written<'p>,
+    method: &MethodEmitContext<'p>,
+    start: &LoopStart,
+    expr: Option<&'p Expr>,
+    builder: &mut CodeBuilder<'p>,
 ) -> Result<(), Memory>
-    ensures { OnOk result (written_of w.new ≡ on.loop_ended b.now t.now.target t.now.at (option_map (λ x. expression_of x.now) c.entry)
-        (closed (t.now.target + 1) t.now.slots (written_of w.old))) }
+    ensures { OnOk result (builder_of builder.new ≡ on.loop_ended method.now start.now.target start.now.at (option_map (λ x. expression_of x.now) expr.entry)
+        (close_branch (start.now.target + 1) start.now.slots (builder_of builder.old))) }
 {
-    w.close(later(t.target, 1)?, t.slots)?;
-    end_loop(b, t.target, t.at, c, w)
+    builder.close(usize_sum(start.target, 1)?, start.slots)?;
+    end_loop(method, start.target, start.at, expr, builder)
 }
 
 // Generates the rest of a `for` after its update; the scope of its variable ends there.
 fn close_for<'p>(
-    b: &Body<'p>,
-    t: &Turns,
-    c: &'p Option<Expr>,
+    method: &MethodEmitContext<'p>,
+    start: &LoopStart,
+    expr: &'p Option<Expr>,
     slots: usize,
-    w: &mut Written<'p>,
+    builder: &mut CodeBuilder<'p>,
 ) -> Result<(), Memory>
-    ensures { OnOk result (written_of w.new ≡ trimming slots (on.loop_ended b.now t.now.target t.now.at (maybe_of expression_of c.now)
-        (closed (t.now.target + 1) t.now.slots (written_of w.old)))) }
+    ensures { OnOk result (builder_of builder.new ≡ trim_slots slots (on.loop_ended method.now start.now.target start.now.at (maybe_of expression_of expr.now)
+        (close_branch (start.now.target + 1) start.now.slots (builder_of builder.old)))) }
 {
-    close_loop(b, t, there(c), w)?;
-    w.trim(slots)
+    close_loop(method, start, expr_in(expr), builder)?;
+    builder.trim(slots)
 }
 
 // Generates a foreach after its domain.
 #[cycle(statement)]
-fn walk<'p>(
-    b: &Body<'p>,
+fn foreach<'p>(
+    method: &MethodEmitContext<'p>,
     place: Place,
     variable: u32,
     body: &'p Stmt,
-    w: &mut Written<'p>,
+    builder: &mut CodeBuilder<'p>,
 ) -> Result<(), Memory>
-    ensures { OnOk result (written_of w.new ≡ on.walked_in b.now place variable (on.stm_in b.now (statement_of body.now))
-        (written_of w.old)) }
+    ensures { OnOk result (builder_of builder.new ≡ on.walked_in method.now place variable (on.stm_in method.now (statement_of body.now))
+        (builder_of builder.old)) }
 {
-    let k = w.targets.len();
-    let n = w.slots.len();
-    let at = w.code.len();
-    let labels = walk_labels(b, k, n)?;
-    begin_walk(b, place, variable, w)?;
-    statement(b, body, Some(labels), w)?;
-    w.close(k, n)?;
-    end_walk(b, n, at, w)
+    let k = builder.targets.len();
+    let n = builder.slots.len();
+    let at = builder.code.len();
+    let labels = walk_labels(method, k, n)?;
+    begin_walk(method, place, variable, builder)?;
+    statement(method, body, Some(labels), builder)?;
+    builder.close(k, n)?;
+    end_walk(method, n, at, builder)
 }
 
 // ---- all statements
@@ -384,16 +428,16 @@ fn walk<'p>(
 /// Generates statements, in order.
 #[cycle(statement)]
 pub fn statements<'p>(
-    b: &Body<'p>,
-    xs: &'p [Stmt],
-    l: Option<Labels>,
-    w: &mut Written<'p>,
+    method: &MethodEmitContext<'p>,
+    stmts: &'p [Stmt],
+    labels: Option<LoopTargets>,
+    builder: &mut CodeBuilder<'p>,
 ) -> Result<(), Memory>
-    ensures { OnOk result (written_of w.new ≡ on.stms_in b.now (numbered_stms (map statement_of xs.now)) (option_map labels_of l)
-        (written_of w.old)) }
+    ensures { OnOk result (builder_of builder.new ≡ on.stms_in method.now (numbered_stms (map statement_of stmts.now)) (option_map labels_of labels)
+        (builder_of builder.old)) }
 {
-    for x in xs {
-        statement(b, x, l, w)?;
+    for x in stmts {
+        statement(method, x, labels, builder)?;
     }
     Ok(())
 }
@@ -401,31 +445,31 @@ pub fn statements<'p>(
 // Generates a block. Its variables' slots are dropped at its end.
 #[cycle(statement)]
 fn block<'p>(
-    b: &Body<'p>,
-    xs: &'p [Stmt],
-    l: Option<Labels>,
-    w: &mut Written<'p>,
+    method: &MethodEmitContext<'p>,
+    stmts: &'p [Stmt],
+    labels: Option<LoopTargets>,
+    builder: &mut CodeBuilder<'p>,
 ) -> Result<(), Memory>
-    ensures { OnOk result (written_of w.new ≡ trimming (length (written_of w.old).names)
-        (on.stms_in b.now (numbered_stms (map statement_of xs.now)) (option_map labels_of l) (written_of w.old))) }
+    ensures { OnOk result (builder_of builder.new ≡ trim_slots (length (builder_of builder.old).names)
+        (on.stms_in method.now (numbered_stms (map statement_of stmts.now)) (option_map labels_of labels) (builder_of builder.old))) }
 {
-    let n = w.slots.len();
-    statements(b, xs, l, w)?;
-    w.trim(n)
+    let n = builder.slots.len();
+    statements(method, stmts, labels, builder)?;
+    builder.trim(n)
 }
 
 // Generates a statement.
 #[cycle(statement)]
 #[tactic(auto, using(ti_lang::proofs::Lemmas::program_bridges))]
 fn statement<'p>(
-    b: &Body<'p>,
-    x: &'p Stmt,
-    l: Option<Labels>,
-    w: &mut Written<'p>,
+    method: &MethodEmitContext<'p>,
+    stmt: &'p Stmt,
+    labels: Option<LoopTargets>,
+    builder: &mut CodeBuilder<'p>,
 ) -> Result<(), Memory>
-    ensures { OnOk result (written_of w.new ≡ on.stm_in b.now (statement_of x.now) (option_map labels_of l) (written_of w.old)) }
+    ensures { OnOk result (builder_of builder.new ≡ on.stm_in method.now (statement_of stmt.now) (option_map labels_of labels) (builder_of builder.old)) }
 {
-    match x {
+    match stmt {
         Stmt::Empty => Ok(()),
         Stmt::Declare {
             place,
@@ -438,8 +482,13 @@ fn statement<'p>(
                 variable: *variable,
                 ty,
             };
-            init(&position(b, &w.slots), receiver, value, &mut w.code)?;
-            declare(ty, *variable, &mut w.slots)
+            init(
+                &context_of(method, &builder.slots),
+                receiver,
+                value,
+                &mut builder.code,
+            )?;
+            declare(ty, *variable, &mut builder.slots)
         }
         Stmt::Assign {
             place,
@@ -450,7 +499,12 @@ fn statement<'p>(
                 place: *place,
                 target,
             };
-            init(&position(b, &w.slots), receiver, value, &mut w.code)
+            init(
+                &context_of(method, &builder.slots),
+                receiver,
+                value,
+                &mut builder.code,
+            )
         }
         Stmt::Update {
             place,
@@ -463,7 +517,12 @@ fn statement<'p>(
                 operator: *operator,
                 target,
             };
-            valued(&position(b, &w.slots), receiver, value, &mut w.code)
+            value_and_store(
+                &context_of(method, &builder.slots),
+                receiver,
+                value,
+                &mut builder.code,
+            )
         }
         Stmt::Step {
             place,
@@ -471,42 +530,53 @@ fn statement<'p>(
             target,
         } => {
             step(
-                &position(b, &w.slots),
+                &context_of(method, &builder.slots),
                 *place,
                 *operator,
                 target,
-                &mut w.code,
+                &mut builder.code,
             )
         }
-        Stmt::Call(e) => alone(&position(b, &w.slots), e, &mut w.code),
-        Stmt::Print(place, what) => print(&position(b, &w.slots), *place, what, &mut w.code),
-        Stmt::Barrier(place) => barrier(*place, &mut w.code),
-        Stmt::Break(_) => break_out(l, &w.slots, &mut w.code),
-        Stmt::Continue(_) => go_on(l, &w.slots, &mut w.code),
+        Stmt::Call(e) => expr_stmt(&context_of(method, &builder.slots), e, &mut builder.code),
+        Stmt::Print(place, what) => print(
+            &context_of(method, &builder.slots),
+            *place,
+            what,
+            &mut builder.code,
+        ),
+        Stmt::Barrier(place) => barrier(*place, &mut builder.code),
+        Stmt::Break(_) => break_out(labels, &builder.slots, &mut builder.code),
+        Stmt::Continue(_) => continue_loop(labels, &builder.slots, &mut builder.code),
         Stmt::Return(place, value) => {
-            returns(&position(b, &w.slots), *place, b.result, value, &mut w.code)
+            return_stmt(
+                &context_of(method, &builder.slots),
+                *place,
+                method.result,
+                value,
+                &mut builder.code,
+            )
         }
-        Stmt::Block(xs) => block(b, xs, l, w),
+        Stmt::Block(xs) => block(method, xs, labels, builder),
         Stmt::If {
             place: _,
             condition,
             then,
             otherwise,
         } => {
-            let k = w.targets.len();
-            let n = w.slots.len();
-            test(b, condition, w)?;
+            let k = builder.targets.len();
+            let n = builder.slots.len();
+            test(method, condition, builder)?;
             match otherwise {
                 None => {
-                    statement(b, then, l, w)?;
-                    w.close(k, n)
+                    statement(method, then, labels, builder)?;
+                    builder.close(k, n)
                 }
                 Some(other) => {
-                    w.reserve()?;
-                    statement(b, then, l, w)?;
-                    between(b, k, n, w)?;
-                    statement(b, other, l, w)?;
-                    w.close(later(k, 1)?, n)
+                    builder.new_label()?;
+                    statement(method, then, labels, builder)?;
+                    between_branches(method, k, n, builder)?;
+                    statement(method, other, labels, builder)?;
+                    builder.close(usize_sum(k, 1)?, n)
                 }
             }
         }
@@ -515,8 +585,8 @@ fn statement<'p>(
             condition,
             body,
         } => {
-            let t = turn(b, *place, body, w)?;
-            close_loop(b, &t, Some(condition), w)
+            let t = turn(method, *place, body, builder)?;
+            close_loop(method, &t, Some(condition), builder)
         }
         Stmt::For {
             place,
@@ -525,30 +595,30 @@ fn statement<'p>(
             update,
             body,
         } => {
-            let n = w.slots.len();
+            let n = builder.slots.len();
             match first {
                 Some(first) => match update {
                     Some(update) => {
-                        statement(b, first, l, w)?;
-                        let t = turn(b, *place, body, w)?;
-                        statement(b, update, l, w)?;
-                        close_for(b, &t, condition, n, w)
+                        statement(method, first, labels, builder)?;
+                        let t = turn(method, *place, body, builder)?;
+                        statement(method, update, labels, builder)?;
+                        close_for(method, &t, condition, n, builder)
                     }
                     None => {
-                        statement(b, first, l, w)?;
-                        let t = turn(b, *place, body, w)?;
-                        close_for(b, &t, condition, n, w)
+                        statement(method, first, labels, builder)?;
+                        let t = turn(method, *place, body, builder)?;
+                        close_for(method, &t, condition, n, builder)
                     }
                 },
                 None => match update {
                     Some(update) => {
-                        let t = turn(b, *place, body, w)?;
-                        statement(b, update, l, w)?;
-                        close_for(b, &t, condition, n, w)
+                        let t = turn(method, *place, body, builder)?;
+                        statement(method, update, labels, builder)?;
+                        close_for(method, &t, condition, n, builder)
                     }
                     None => {
-                        let t = turn(b, *place, body, w)?;
-                        close_for(b, &t, condition, n, w)
+                        let t = turn(method, *place, body, builder)?;
+                        close_for(method, &t, condition, n, builder)
                     }
                 },
             }
@@ -559,8 +629,12 @@ fn statement<'p>(
             domain,
             body,
         } => {
-            value(&position(b, &w.slots), domain, &mut w.code)?;
-            walk(b, *place, *variable, body, w)
+            value(
+                &context_of(method, &builder.slots),
+                domain,
+                &mut builder.code,
+            )?;
+            foreach(method, *place, *variable, body, builder)
         }
     }
 }

@@ -5,7 +5,7 @@ use Rattle.std.proofs.lemmas.List.{append-nil, take-append-drop, take-set}
 use Rattle.ti_lang.specs.Program.Expressions.{NumberedExp, NumberedExps, NumberedRange, NumberedRanges}
 use Rattle.ti_lang.specs.Program.Views.{program_of}
 use Rattle.ti_code.specs.declared.instr.Instr.{Instr}
-use Rattle.ti_lower_expr.specs.declared.site.Site.{Site}
+use Rattle.ti_lower_expr.specs.declared.context.LoweringContext.{LoweringContext}
 use Rattle.ti_lower_expr.specs.Contents.{names_in, BeginsWith}
 use Rattle.ti_lower_expr.specs.Coding.{code_of, code_of_all, code_of_range, code_of_ranges}
 use Rattle.ti_lower_expr.specs.Mirrors.Sites.{walked_in, all_in, range_in, ranges_in}
@@ -43,7 +43,7 @@ jump_begins o m n i x y =
 
 -- ---- expressions
 
-module _ (s : Site) where
+module _ (s : LoweringContext) where
   pub walked_begins : (x : NumberedExp) {m n : List Instr} → n ≡ walked_in s x m → BeginsWith n m
   walked_begins x {m} e = record {
     more = code_of (program_of s.program.now) s.this (names_in s.slots.now) x (length m);

@@ -15,11 +15,11 @@ use Rattle.ti_lang.specs.Program.Types.{ValueType, VariableUse, Declaration, Typ
 use Rattle.ti_lang.specs.Program.Types as t
 use Rattle.ti_lang.specs.Program.Expressions.{NumberedExp, NumberedExps, NumberedRange, NumberedRanges}
 use Rattle.ti_lang.specs.Program.Expressions as e
-use Rattle.ti_lang.specs.Program.Classes.{NumberedProgram}
+use Rattle.ti_lang.specs.Program.Classes.{ProgramView}
 use Rattle.ti_lang.specs.Typing.Kinds.{is_local, is_point}
 use Rattle.ti_lang.specs.Typing.Called.{member_called}
-use Rattle.ti_lang.specs.Typing.TextTypes.{type_in_text, how_many}
-use Rattle.ti_lang.specs.Meaning.Held.{Held, Plain, Dm, nothing, zero_of, zero_point}
+use Rattle.ti_lang.specs.Typing.TextTypes.{syntactic_type, how_many}
+use Rattle.ti_lang.specs.Meaning.Held.{Held, Plain, Dm, no_value, zero_of, zero_point}
 use Rattle.ti_lang.specs.Meaning.Scoping.{zero_declared}
 use Rattle.ti_code.specs.declared.instr.Instr.{Instr}
 use Rattle.ti_code.specs.declared.instr.Instr.TheVariants as i
@@ -27,14 +27,14 @@ use Rattle.ti_code.specs.declared.instr.Operation.{Operation}
 use Rattle.ti_code.specs.declared.instr.Member.{Member}
 use Rattle.ti_code.specs.Forms.{IsFormedInstr}
 use Rattle.ti_lower_expr.specs.Slots.{Name, find_slot, has_this}
-use Rattle.ti_lower_expr.specs.declared.kinds.Kind.{Kind}
-use Rattle.ti_lower_expr.specs.declared.kinds.Kind.TheVariants.{Points}
-use Rattle.ti_lower_expr.specs.declared.kinds.Known.{Known}
-use Rattle.ti_lower_expr.specs.declared.kinds.Known.TheVariants as known
-use Rattle.ti_lower_expr.specs.declared.kinds.Laziness.{Laziness}
-use Rattle.ti_lower_expr.specs.declared.kinds.Laziness.TheVariants.{Never, Where}
+use Rattle.ti_lower_expr.specs.declared.kinds.OperandClass.{OperandClass}
+use Rattle.ti_lower_expr.specs.declared.kinds.OperandClass.TheVariants.{Points}
+use Rattle.ti_lower_expr.specs.declared.kinds.StaticRepr.{StaticRepr}
+use Rattle.ti_lower_expr.specs.declared.kinds.StaticRepr.TheVariants as known
+use Rattle.ti_lower_expr.specs.declared.kinds.ShortCircuit.{ShortCircuit}
+use Rattle.ti_lower_expr.specs.declared.kinds.ShortCircuit.TheVariants.{Never, Where}
 use Rattle.ti_lower_expr.specs.Knowing.{known_of}
-use Rattle.ti_lower_expr.specs.Coding.{constant, loaded, own, conversion, local_test, alone_code, operation_in, laziness, jump_where, lazy_code, operator_code, pops, kind_code, shown_member, index_code, rect_instr, how_many_ranges, kind_of_ranges, code_of, code_of_all, code_of_range, code_of_ranges}
+use Rattle.ti_lower_expr.specs.Coding.{constant, load_variable, load_this, conversion, local_test, unary_code, operation_in, short_circuit, jump_where, lazy_code, operator_code, pops, kind_code, shown_member, index_code, rect_instr, how_many_ranges, kind_of_ranges, code_of, code_of_all, code_of_range, code_of_ranges}
 
 -- ---- constants
 
@@ -65,10 +65,10 @@ some_dim : (n : ℕ) → is_dim n ≡ true → IsDim n
 some_dim n e = let parts = and_parts (nat_le 1 n) (nat_le n 3) e in (leb-true 1 n parts.0, leb-true n 3 parts.1)
 
 -- where the dimension is one, so is the value
-where_formed : (n : ℕ) (h : Held) → (IsDim n → IsFormedInstr (constant h)) → IsFormedInstr (constant (if is_dim n then h else nothing))
+where_formed : (n : ℕ) (h : Held) → (IsDim n → IsFormedInstr (constant h)) → IsFormedInstr (constant (if is_dim n then h else no_value))
 where_formed n h f = by (is_dim n) refl
   where
-    by : (b : Bool) → is_dim n ≡ b → IsFormedInstr (constant (if b then h else nothing))
+    by : (b : Bool) → is_dim n ≡ b → IsFormedInstr (constant (if b then h else no_value))
     by true e = f (some_dim n e)
     by false e = tt
 
@@ -109,15 +109,15 @@ then_come {x} {xs} e f = record { each = All-cons IsLowered x xs (inl e) f.each 
 
 -- ---- instructions of expressions
 
-pub loaded_comes : (o : Option ℕ) (x : VariableUse) → IsLowered (loaded o x)
+pub loaded_comes : (o : Option ℕ) (x : VariableUse) → IsLowered (load_variable o x)
 loaded_comes (Some k) x = inl refl
 loaded_comes None x = inr (x.declared, refl)
 
-pub own_simple : (has : Bool) → is_simple (own has) ≡ true
+pub own_simple : (has : Bool) → is_simple (load_this has) ≡ true
 own_simple true = refl
 own_simple false = refl
 
-rect_simple : (kind : Kind) (n : ℕ) (at : Place) → is_simple (rect_instr kind n at) ≡ true
+rect_simple : (kind : OperandClass) (n : ℕ) (at : Place) → is_simple (rect_instr kind n at) ≡ true
 rect_simple Points (suc zero) at = refl
 rect_simple kind n at = refl
 
@@ -125,7 +125,7 @@ jump_simple : (where_is : Bool) (target : ℕ) → is_simple (jump_where where_i
 jump_simple true target = refl
 jump_simple false target = refl
 
-pub conversion_comes : (at : Place) (type : ValueType) (k : Known) → AllCome (conversion at type k)
+pub conversion_comes : (at : Place) (type : ValueType) (k : StaticRepr) → AllCome (conversion at type k)
 conversion_comes at t.Long known.Long = simple_come refl
 conversion_comes at t.Long k = simple_come refl
 conversion_comes at t.Int known.Int = simple_come refl
@@ -140,7 +140,7 @@ local_comes : (at : Place) (is : Bool) → AllCome (local_test at is)
 local_comes at true = simple_come refl
 local_comes at false = simple_come refl
 
-alone_comes : (op : UnaryOperator) → AllCome (alone_code op)
+alone_comes : (op : UnaryOperator) → AllCome (unary_code op)
 alone_comes un.Minus = simple_come refl
 alone_comes un.Plus = simple_come refl
 alone_comes un.Not = simple_come refl
@@ -163,11 +163,11 @@ kind_comes None n at = both_come (pops_come (suc n)) (simple_come refl)
 lazy_comes : (left : Bool) (at : ℕ) (right : ℕ → List Instr) → ((from : ℕ) → AllCome (right from)) → AllCome (lazy_code left at right)
 lazy_comes left at right f = then_come (jump_simple left _) (both_come (f _) (simple_come refl))
 
-operator_comes : (l : Laziness) (name : Operation) (p : Place) (at : ℕ) (right : ℕ → List Instr) → ((from : ℕ) → AllCome (right from)) → AllCome (operator_code l name p at right)
+operator_comes : (l : ShortCircuit) (name : Operation) (p : Place) (at : ℕ) (right : ℕ → List Instr) → ((from : ℕ) → AllCome (right from)) → AllCome (operator_code l name p at right)
 operator_comes Never name p at right f = both_come (f at) (simple_come refl)
 operator_comes (Where left) name p at right f = lazy_comes left at right f
 
-module _ (program : NumberedProgram) (this : Option ℕ) (names : List Name) where
+module _ (program : ProgramView) (this : Option ℕ) (names : List Name) where
   mutual
     pub code_comes : (x : NumberedExp) (at : ℕ) → AllCome (code_of program this names x at)
     code_comes (e.This p) at = then_come (own_simple (has_this names)) (simple_come refl)
@@ -178,14 +178,14 @@ module _ (program : NumberedProgram) (this : Option ℕ) (names : List Name) whe
         both_come (ranges_come ranges at) (then_come (rect_simple (kind_of_ranges program this ranges) (how_many_ranges ranges) p) (simple_come refl))
     code_comes (e.Unary p op x) at = both_come (code_comes x at) (alone_comes op)
     code_comes (e.Binary p op x y) at =
-        both_come (code_comes x at) (operator_comes (laziness op) (operation_in program this op x y) p _ (code_of program this names y) (code_comes y))
+        both_come (code_comes x at) (operator_comes (short_circuit op) (operation_in program this op x y) p _ (code_of program this names y) (code_comes y))
     code_comes (e.Cast p type x) at =
         both_come (code_comes x at) (both_come (conversion_comes p type.type (known_of program this x)) (local_comes p (is_local type.type)))
     code_comes (e.Select p x name) at = both_come (code_comes x at) (simple_come refl)
     code_comes (e.Member p x name args) at =
         both_come (code_comes x at) (both_come (all_come args _) (kind_comes (shown_member (member_called program this x name)) (how_many args) p))
     code_comes (e.Index p x parts) at =
-        both_come (code_comes x at) (both_come (all_come parts _) (index_comes (is_point (type_in_text program this x)) (how_many parts) p))
+        both_come (code_comes x at) (both_come (all_come parts _) (index_comes (is_point (syntactic_type program this x)) (how_many parts) p))
     code_comes x at = simple_come refl
 
     pub all_come : (xs : NumberedExps) (at : ℕ) → AllCome (code_of_all program this names xs at)

@@ -4,13 +4,13 @@ use Rattle.ti_base.specs.declared.value.Id.{Id}
 use Rattle.ti_base.specs.declared.value.Value.TheVariants as v
 use Rattle.ti_lang.specs.Program.Types.{VariableUse, Declaration, Typed, Foreach}
 use Rattle.ti_lang.specs.Meaning.Processes.{Variable}
-use Rattle.ti_lang.specs.Meaning.Held.{Held, Plain, nothing}
+use Rattle.ti_lang.specs.Meaning.Held.{Held, Plain, no_value}
 use Rattle.ti_lang.specs.Meaning.Turns.{Turn, point_at}
 use Rattle.ti_lang.specs.Meaning.Scoping.{Env, same_variable, find_variable, value_by, zero_declared}
 use Rattle.ti_code.specs.Effects.{slot}
-use Rattle.ti_lower_expr.specs.Slots.{Name, Holds, none, object, variable, turn, hidden, find_by, has_this}
+use Rattle.ti_lower_expr.specs.Slots.{Name, SlotsHold, none, object, variable, turn, hidden, find_by, has_this}
 
-pub as_many : (this : Option Id) (ns : List Name) (vs : List Variable) (ts : List Turn) (hs : List Held) → Holds this ns vs ts hs → length ns ≡ length hs
+pub as_many : (this : Option Id) (ns : List Name) (vs : List Variable) (ts : List Turn) (hs : List Held) → SlotsHold this ns vs ts hs → length ns ≡ length hs
 as_many this ns vs ts hs (none z) = refl
 as_many this ns vs ts hs object = refl
 as_many this ns vs ts hs (variable {ns = ms} {vs = us} {ts = rs} {hs = gs} k h) = ap suc (as_many this ms us rs gs h)
@@ -50,7 +50,7 @@ IsFound None hs z value = value ≡ z
 -- what it is where nothing of the kind is in scope
 abbrev pub zero_in : Declaration → VariableUse → Held
 zero_in (Typed is_single type) x = zero_declared x.declared
-zero_in Foreach x = nothing
+zero_in Foreach x = no_value
 
 pub zero_is : (d : Declaration) (x : VariableUse) → x.declared ≡ d → zero_in d x ≡ zero_declared x.declared
 zero_is (Typed is_single type) x e = refl
@@ -67,7 +67,7 @@ by_test : (b : Bool) (n : ℕ) (o : Option ℕ) (h : Held) (hs : List Held) (z x
 by_test true n o h hs z x e f = (omega (arith, e), newest n h hs e)
 by_test false n o h hs z x e f = one_more o h hs z x f
 
-pub found : (this : Option Id) (ns : List Name) (vs : List Variable) (ts : List Turn) (hs : List Held) → Holds this ns vs ts hs
+pub found : (this : Option Id) (ns : List Name) (vs : List Variable) (ts : List Turn) (hs : List Held) → SlotsHold this ns vs ts hs
     → (d : Declaration) (x : VariableUse) → IsFound (find_by d x ns) hs (zero_in d x) (value_in d x vs ts)
 found this ns vs ts hs (none z) (Typed s t) x = refl
 found this ns vs ts hs (none z) Foreach x = refl
@@ -97,7 +97,7 @@ own_older : (b : Bool) (this : Option Id) (h : Held) (hs : List Held) → IsOwn 
 own_older true this h hs f = (omega arith, older 0 h hs f.0 ∙ f.1)
 own_older false this h hs f = f
 
-pub own_held : (this : Option Id) (ns : List Name) (vs : List Variable) (ts : List Turn) (hs : List Held) → Holds this ns vs ts hs → IsOwn (has_this ns) this hs
+pub own_held : (this : Option Id) (ns : List Name) (vs : List Variable) (ts : List Turn) (hs : List Held) → SlotsHold this ns vs ts hs → IsOwn (has_this ns) this hs
 own_held this ns vs ts hs (none z) = z
 own_held this ns vs ts hs object = (omega arith, newest 0 (Plain (v.Obj this)) [] refl)
 own_held this ns vs ts hs (variable {ns = ms} {vs = us} {ts = rs} {hs = gs} {h = g} k h) = own_older (has_this ms) this g gs (own_held this ms us rs gs h)

@@ -5,11 +5,11 @@ use Rattle.ti_base.specs.declared.entry.Answer.{Answer}
 use Rattle.ti_syntax.specs.declared.tree.exprs.BinaryOperator.{BinaryOperator}
 use Rattle.ti_syntax.specs.declared.tree.exprs.BinaryOperator.TheVariants as op
 use Rattle.ti_lang.specs.Meaning.Held.{Held, truth, truth_of}
-use Rattle.ti_lang.specs.Meaning.Asking.{Gives, gives}
-use Rattle.ti_lang.specs.Meaning.Operators.{operated, settled}
-use Rattle.ti_code.specs.Effects.{Spot, Who, effect, top, below, jumping, going}
-use Rattle.ti_lower_expr.specs.declared.kinds.Laziness.TheVariants.{Never, Where}
-use Rattle.ti_lower_expr.specs.Coding.{laziness, jump_where}
+use Rattle.ti_lang.specs.Meaning.Comp.{Gives, gives}
+use Rattle.ti_lang.specs.Meaning.Operators.{apply_binary, short_circuit as evaluate_left}
+use Rattle.ti_code.specs.Effects.{LocalState, Who, effect, top, below, jump_to, continue_with}
+use Rattle.ti_lower_expr.specs.declared.kinds.ShortCircuit.TheVariants.{Never, Where}
+use Rattle.ti_lower_expr.specs.Coding.{short_circuit, jump_where}
 
 where_not : (b : Bool) → Never ≡ Where b → ⊥
 where_not b e = cc
@@ -21,13 +21,13 @@ never_where : (b : Bool) → Where b ≡ Never → ⊥
 never_where b e = cc
 
 -- the left operand says nothing alone
-pub never_settled : (o : BinaryOperator) (h : Held) → laziness o ≡ Never → settled o h ≡ None
+pub never_settled : (o : BinaryOperator) (h : Held) → short_circuit o ≡ Never → evaluate_left o h ≡ None
 never_settled op.OrElse h e = absurd (never_where true e)
 never_settled op.AndThen h e = absurd (never_where false e)
 never_settled o h e = refl
 
 -- the left operand decides
-pub lazily_settled : (o : BinaryOperator) (b : Bool) (h : Held) → laziness o ≡ Where b → truth_of h ≡ b → settled o h ≡ Some (truth b)
+pub lazily_settled : (o : BinaryOperator) (b : Bool) (h : Held) → short_circuit o ≡ Where b → truth_of h ≡ b → evaluate_left o h ≡ Some (truth b)
 lazily_settled op.OrElse b h e x =
     ap (λ z. if z then Some (truth true) else None) (x ∙ sym (where_same true b e)) ∙ ap (λ z. Some (truth z)) (where_same true b e)
 lazily_settled op.AndThen b h e x =
@@ -35,24 +35,24 @@ lazily_settled op.AndThen b h e x =
 lazily_settled o b h e x = absurd (where_not b e)
 
 -- it doesn't
-pub lazily_open : (o : BinaryOperator) (b : Bool) (h : Held) → laziness o ≡ Where b → truth_of h ≡ not b → settled o h ≡ None
+pub lazily_open : (o : BinaryOperator) (b : Bool) (h : Held) → short_circuit o ≡ Where b → truth_of h ≡ not b → evaluate_left o h ≡ None
 lazily_open op.OrElse b h e x = ap (λ z. if z then Some (truth true) else None) (x ∙ ap not (sym (where_same true b e)))
 lazily_open op.AndThen b h e x = ap (λ z. if z then None else Some (truth false)) (x ∙ ap not (sym (where_same false b e)))
 lazily_open o b h e x = absurd (where_not b e)
 
-pub lazily_right : (o : BinaryOperator) (b : Bool) (at : Place) (h y : Held) (rs : List Answer) → laziness o ≡ Where b → operated at o h y rs ≡ gives y rs
+pub lazily_right : (o : BinaryOperator) (b : Bool) (at : Place) (h y : Held) (rs : List Answer) → short_circuit o ≡ Where b → apply_binary at o h y rs ≡ gives y rs
 lazily_right op.OrElse b at h y rs e = refl
 lazily_right op.AndThen b at h y rs e = refl
 lazily_right o b at h y rs e = absurd (where_not b e)
 
 -- ---- the jump
 
-pub jumps : (w : Who) (b : Bool) (target : ℕ) (s : Spot) (rs : List Answer) → truth_of (top s.stack) ≡ b
+pub jumps : (w : Who) (b : Bool) (target : ℕ) (s : LocalState) (rs : List Answer) → truth_of (top s.stack) ≡ b
     → effect w (jump_where b target) s rs ≡ Gives (record { at = target; slots = s.slots; stack = below s.stack }) rs
-jumps w true target s rs x = ap (λ z. (if z then jumping target s (below s.stack) else going s (below s.stack)) rs) x
-jumps w false target s rs x = ap (λ z. (if z then going s (below s.stack) else jumping target s (below s.stack)) rs) x
+jumps w true target s rs x = ap (λ z. (if z then jump_to target s (below s.stack) else continue_with s (below s.stack)) rs) x
+jumps w false target s rs x = ap (λ z. (if z then continue_with s (below s.stack) else jump_to target s (below s.stack)) rs) x
 
-pub jumps_not : (w : Who) (b : Bool) (target : ℕ) (s : Spot) (rs : List Answer) → truth_of (top s.stack) ≡ not b
+pub jumps_not : (w : Who) (b : Bool) (target : ℕ) (s : LocalState) (rs : List Answer) → truth_of (top s.stack) ≡ not b
     → effect w (jump_where b target) s rs ≡ Gives (record { at = s.at + 1; slots = s.slots; stack = below s.stack }) rs
-jumps_not w true target s rs x = ap (λ z. (if z then jumping target s (below s.stack) else going s (below s.stack)) rs) x
-jumps_not w false target s rs x = ap (λ z. (if z then going s (below s.stack) else jumping target s (below s.stack)) rs) x
+jumps_not w true target s rs x = ap (λ z. (if z then jump_to target s (below s.stack) else continue_with s (below s.stack)) rs) x
+jumps_not w false target s rs x = ap (λ z. (if z then continue_with s (below s.stack) else jump_to target s (below s.stack)) rs) x

@@ -5,7 +5,7 @@ pub use Rattle.ti_lower_expr.proofs.Doing.{Alike, behind_both, does_after, does_
 pub use Rattle.ti_lower_expr.proofs.Doing.{does_weaker, front_stands, rest_stands}
 pub use Rattle.ti_lower_expr.proofs.Expressions.{Pushes, PushesAll, PushesNumbers, all_do, asked_alike, code, convert_does, does}
 pub use Rattle.ti_lower_expr.proofs.Expressions.{element_does, field_does, from_spot, instr, load_does, moved, needed_alike, next}
-pub use Rattle.ti_lower_expr.proofs.Expressions.{next_known, numbers_do, operation_means, own_does, pops_do, spot, who}
+pub use Rattle.ti_lower_expr.proofs.Expressions.{next_known, numbers_do, operation_means, own_does, pops_do, state, who}
 pub use Rattle.ti_lower_expr.proofs.Finding.{as_many, found, newest, older, other_number, own_held, same_number}
 pub use Rattle.ti_lower_expr.proofs.Jumping.{Fits, all_fit, behind_more, code_fits, conversion_fits, fits_back, fits_both, fits_forward}
 pub use Rattle.ti_lower_expr.proofs.Jumping.{fits_jumpless, fits_next, fits_standing, jumpless, loaded_stays, own_stays, pops_fit}

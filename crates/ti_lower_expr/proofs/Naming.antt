@@ -8,15 +8,15 @@ use Rattle.ti_lower_expr.specs.declared.slots.SlotName.{SlotName}
 use Rattle.ti_lower_expr.specs.Slots as name
 use Rattle.ti_lower_expr.specs.Slots.{Name, is_meant, find_by, find_slot, has_this}
 use Rattle.ti_lower_expr.specs.declared.slots.SlotName.TheVariants as slot
-use Rattle.ti_lower_expr.specs.Noted.{number_of}
-use Rattle.ti_lower_expr.specs.Views.{name_of, names_of}
+use Rattle.ti_lower_expr.specs.Noted.{variable_number}
+use Rattle.ti_lower_expr.specs.Views.{slot_name_of, names_of}
 
 -- the newest of so many
-newest : (xs : List SlotName) (n : ℕ) (d : SlotName) → n < length xs → names_of (take (suc n) xs) ≡ name_of (get_or xs n d) ∷ names_of (take n xs)
+newest : (xs : List SlotName) (n : ℕ) (d : SlotName) → n < length xs → names_of (take (suc n) xs) ≡ slot_name_of (get_or xs n d) ∷ names_of (take n xs)
 newest xs n d h = rw (take-suc xs n d h, reverse-append) refl
 
 pub names_length : (xs : List SlotName) → length (names_of xs) ≡ length xs
-names_length xs = length-map (reverse xs) name_of ∙ length-reverse xs
+names_length xs = length-map (reverse xs) slot_name_of ∙ length-reverse xs
 
 -- ---- a variable
 
@@ -29,17 +29,17 @@ meant_later b k rest e = rw e refl
 length_taken : (xs : List SlotName) (m : ℕ) → m < length xs → length (names_of (take m xs)) ≡ m
 length_taken xs m h = names_length (take m xs) ∙ length-take-le m xs (omega arith)
 
-pub found_here : (x : VariableUse) (xs : List SlotName) (n m : ℕ) (d : SlotName) → n ≡ suc m → m < length xs → is_meant x.declared x (name_of (get_or xs m d)) ≡ true
+pub found_here : (x : VariableUse) (xs : List SlotName) (n m : ℕ) (d : SlotName) → n ≡ suc m → m < length xs → is_meant x.declared x (slot_name_of (get_or xs m d)) ≡ true
     → find_slot x (names_of xs) ≡ find_slot x (names_of (take n xs)) → find_slot x (names_of xs) ≡ Some m
 found_here x xs n m d e l is same =
     same ∙ ap (λ k. find_slot x (names_of (take k xs))) e ∙ ap (find_slot x) (newest xs m d l)
-    ∙ meant_first (is_meant x.declared x (name_of (get_or xs m d))) (length (names_of (take m xs))) (find_slot x (names_of (take m xs))) is ∙ ap Some (length_taken xs m l)
+    ∙ meant_first (is_meant x.declared x (slot_name_of (get_or xs m d))) (length (names_of (take m xs))) (find_slot x (names_of (take m xs))) is ∙ ap Some (length_taken xs m l)
 
-pub not_here : (x : VariableUse) (xs : List SlotName) (n m : ℕ) (d : SlotName) → n ≡ suc m → m < length xs → is_meant x.declared x (name_of (get_or xs m d)) ≡ false
+pub not_here : (x : VariableUse) (xs : List SlotName) (n m : ℕ) (d : SlotName) → n ≡ suc m → m < length xs → is_meant x.declared x (slot_name_of (get_or xs m d)) ≡ false
     → find_slot x (names_of xs) ≡ find_slot x (names_of (take n xs)) → find_slot x (names_of xs) ≡ find_slot x (names_of (take m xs))
 not_here x xs n m d e l is same =
     same ∙ ap (λ k. find_slot x (names_of (take k xs))) e ∙ ap (find_slot x) (newest xs m d l)
-    ∙ meant_later (is_meant x.declared x (name_of (get_or xs m d))) (length (names_of (take m xs))) (find_slot x (names_of (take m xs))) is
+    ∙ meant_later (is_meant x.declared x (slot_name_of (get_or xs m d))) (length (names_of (take m xs))) (find_slot x (names_of (take m xs))) is
 
 -- ---- where the search begins
 
@@ -52,7 +52,7 @@ not_same : (m n : ℕ) (b : Bool) → (m ≡ n → ⊥) → ((m == n) && b) ≡ 
 not_same m n b h = let t : (m == n) ≡ false = grind (arith, nat_tests, h) in rw t refl
 
 -- a slot for another number isn't meant
-another : (x : VariableUse) (d : Declaration) (n : SlotName) → (number_of n ≡ Some x.number → ⊥) → is_meant d x (name_of n) ≡ false
+another : (x : VariableUse) (d : Declaration) (n : SlotName) → (variable_number n ≡ Some x.number → ⊥) → is_meant d x (slot_name_of n) ≡ false
 another x (Typed single type) slot.This h = refl
 another x (Typed single type) (slot.Of number s ty) h = not_same x.number number _ (λ e. h (ap Some (sym e)))
 another x (Typed single type) (slot.Point number) h = refl
@@ -63,7 +63,7 @@ another x Foreach (slot.Point number) h = grind (arith, nat_tests, λ (e : numbe
 another x Foreach slot.Hidden h = refl
 
 -- so the search may begin at the first slot behind which none is for the number
-pub search_begins : (x : VariableUse) (xs : List SlotName) (s more : ℕ) → ((k : ℕ) → s ≤ k → k < length xs → number_of (get_or xs k slot.Hidden) ≡ Some x.number → ⊥)
+pub search_begins : (x : VariableUse) (xs : List SlotName) (s more : ℕ) → ((k : ℕ) → s ≤ k → k < length xs → variable_number (get_or xs k slot.Hidden) ≡ Some x.number → ⊥)
     → s + more ≤ length xs → find_slot x (names_of (take (s + more) xs)) ≡ find_slot x (names_of (take s xs))
 search_begins x xs s zero none h =
     let e : s + zero ≡ s = omega arith in
@@ -72,11 +72,11 @@ search_begins x xs s (suc more) none h =
     let e : s + suc more ≡ suc (s + more) = omega arith in
     let l : s + more < length xs = omega (arith, h) in
     ap (λ k. find_slot x (names_of (take k xs))) e ∙ ap (find_slot x) (newest xs (s + more) slot.Hidden l)
-    ∙ meant_later (is_meant x.declared x (name_of (get_or xs (s + more) slot.Hidden))) (length (names_of (take (s + more) xs))) (find_slot x (names_of (take (s + more) xs)))
+    ∙ meant_later (is_meant x.declared x (slot_name_of (get_or xs (s + more) slot.Hidden))) (length (names_of (take (s + more) xs))) (find_slot x (names_of (take (s + more) xs)))
     (another x x.declared (get_or xs (s + more) slot.Hidden) (none (s + more) (omega arith) l))
     ∙ search_begins x xs s more none (omega (arith, h))
 
-pub search_from : (x : VariableUse) (xs : List SlotName) (s : ℕ) → ((k : ℕ) → s ≤ k → k < length xs → number_of (get_or xs k slot.Hidden) ≡ Some x.number → ⊥)
+pub search_from : (x : VariableUse) (xs : List SlotName) (s : ℕ) → ((k : ℕ) → s ≤ k → k < length xs → variable_number (get_or xs k slot.Hidden) ≡ Some x.number → ⊥)
     → s ≤ length xs → find_slot x (names_of xs) ≡ find_slot x (names_of (take s xs))
 search_from x xs s none h =
     let all : s + (length xs - s) ≡ length xs = omega (arith, h) in
@@ -99,13 +99,13 @@ this_more (name.Point k ∷ ms) ns h = this_more ms ns h
 this_more (name.Hidden ∷ ms) ns h = this_more ms ns h
 
 names_split : (xs : List SlotName) (n : ℕ) → names_of xs ≡ names_of (drop n xs) ++ names_of (take n xs)
-names_split xs n = ap names_of (sym (take-append-drop n xs)) ∙ ap (map name_of) (reverse-append (take n xs) (drop n xs)) ∙ map-append name_of (reverse (drop n xs)) (reverse (take n xs))
+names_split xs n = ap names_of (sym (take-append-drop n xs)) ∙ ap (map slot_name_of) (reverse-append (take n xs) (drop n xs)) ∙ map-append slot_name_of (reverse (drop n xs)) (reverse (take n xs))
 
 this_next : (xs : List SlotName) (i : ℕ) (d : SlotName) → i < length xs
-    → has_this (names_of (take (suc i) xs)) ≡ (if has_this (name_of (get_or xs i d) ∷ []) then true else has_this (names_of (take i xs)))
-this_next xs i d l = ap has_this (newest xs i d l) ∙ this_or (name_of (get_or xs i d)) (names_of (take i xs))
+    → has_this (names_of (take (suc i) xs)) ≡ (if has_this (slot_name_of (get_or xs i d) ∷ []) then true else has_this (names_of (take i xs)))
+this_next xs i d l = ap has_this (newest xs i d l) ∙ this_or (slot_name_of (get_or xs i d)) (names_of (take i xs))
 
-pub this_here : (xs : List SlotName) (i : ℕ) (d : SlotName) → i < length xs → has_this (name_of (get_or xs i d) ∷ []) ≡ true → has_this (names_of xs) ≡ true
+pub this_here : (xs : List SlotName) (i : ℕ) (d : SlotName) → i < length xs → has_this (slot_name_of (get_or xs i d) ∷ []) ≡ true → has_this (names_of xs) ≡ true
 this_here xs i d l is =
     ap has_this (names_split xs (suc i))
     ∙ this_more (names_of (drop (suc i) xs)) (names_of (take (suc i) xs)) (this_next xs i d l ∙ ap (λ b. if b then true else has_this (names_of (take i xs))) is)

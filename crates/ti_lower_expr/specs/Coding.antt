@@ -10,12 +10,12 @@ use Rattle.ti_lang.specs.Program.Types.{ValueType, VariableUse}
 use Rattle.ti_lang.specs.Program.Types as t
 use Rattle.ti_lang.specs.Program.Expressions.{NumberedExp, NumberedExps, NumberedRange, NumberedRanges}
 use Rattle.ti_lang.specs.Program.Expressions as e
-use Rattle.ti_lang.specs.Program.Classes.{NumberedProgram}
+use Rattle.ti_lang.specs.Program.Classes.{ProgramView}
 use Rattle.ti_lang.specs.Typing.Kinds.{is_local, is_point, class_of_type}
 use Rattle.ti_lang.specs.Typing.Declared.{field_numbered}
 use Rattle.ti_lang.specs.Typing.BuiltIn as b
 use Rattle.ti_lang.specs.Typing.Called.{member_called}
-use Rattle.ti_lang.specs.Typing.TextTypes.{type_in_text, how_many}
+use Rattle.ti_lang.specs.Typing.TextTypes.{syntactic_type, how_many}
 use Rattle.ti_lang.specs.Meaning.Held.{Held, Plain, Dm}
 use Rattle.ti_lang.specs.Meaning.Scoping.{zero_declared}
 use Rattle.std.specs.Prelude.{unwrap_or, option_and_then}
@@ -26,13 +26,13 @@ use Rattle.ti_code.specs.declared.instr.Operation.TheVariants as o
 use Rattle.ti_code.specs.declared.instr.OneOperand.TheVariants as one
 use Rattle.ti_code.specs.declared.instr.Member.{Member}
 use Rattle.ti_code.specs.declared.instr.Member.TheVariants as kind
-use Rattle.ti_code.specs.Leading.{behind}
-use Rattle.ti_lower_expr.specs.declared.kinds.Kind.{Kind}
-use Rattle.ti_lower_expr.specs.declared.kinds.Kind.TheVariants.{Numbers, Points, Rects, Domains}
-use Rattle.ti_lower_expr.specs.declared.kinds.Known.{Known}
-use Rattle.ti_lower_expr.specs.declared.kinds.Known.TheVariants as known
-use Rattle.ti_lower_expr.specs.declared.kinds.Laziness.{Laziness}
-use Rattle.ti_lower_expr.specs.declared.kinds.Laziness.TheVariants.{Never, Where}
+use Rattle.ti_code.specs.Leading.{pc_after}
+use Rattle.ti_lower_expr.specs.declared.kinds.OperandClass.{OperandClass}
+use Rattle.ti_lower_expr.specs.declared.kinds.OperandClass.TheVariants.{Numbers, Points, Rects, Domains}
+use Rattle.ti_lower_expr.specs.declared.kinds.StaticRepr.{StaticRepr}
+use Rattle.ti_lower_expr.specs.declared.kinds.StaticRepr.TheVariants as known
+use Rattle.ti_lower_expr.specs.declared.kinds.ShortCircuit.{ShortCircuit}
+use Rattle.ti_lower_expr.specs.declared.kinds.ShortCircuit.TheVariants.{Never, Where}
 use Rattle.ti_lower_expr.specs.Knowing.{known_of}
 use Rattle.ti_lower_expr.specs.Slots.{Name, find_slot, has_this}
 
@@ -42,34 +42,34 @@ constant (Plain value) = i.Const value
 constant (Dm dim points) = i.EmptyDom dim
 
 -- Pushes the value of a variable: that of its slot, or the zero of its type if it has no slot.
-abbrev pub loaded : Option ℕ → VariableUse → Instr
-loaded (Some k) x = i.Load k
-loaded None x = constant (zero_declared x.declared)
+abbrev pub load_variable : Option ℕ → VariableUse → Instr
+load_variable (Some k) x = i.Load k
+load_variable None x = constant (zero_declared x.declared)
 
 -- Pushes `this`, which is in slot 0, if there is one.
-abbrev pub own : Bool → Instr
-own true = i.Load 0
-own false = i.Const (v.Obj None)
+abbrev pub load_this : Bool → Instr
+load_this true = i.Load 0
+load_this false = i.Const (v.Obj None)
 
 -- Conversions to int, long, object and grid. A value that is known to have the type already needs no instruction.
-abbrev pub into_int : Known → List Instr
+abbrev pub into_int : StaticRepr → List Instr
 into_int known.Int = []
 into_int k = i.Narrow ∷ []
 
-abbrev pub into_long : Known → List Instr
+abbrev pub into_long : StaticRepr → List Instr
 into_long known.Long = []
 into_long k = i.Widen ∷ []
 
-abbrev pub into_object : Known → List Instr
+abbrev pub into_object : StaticRepr → List Instr
 into_object known.Object = []
 into_object k = i.AsObj ∷ []
 
-abbrev pub into_grid : Known → List Instr
+abbrev pub into_grid : StaticRepr → List Instr
 into_grid known.Grid = []
 into_grid k = i.AsGrid ∷ []
 
 -- Converts a value of which this is known to a type.
-abbrev pub conversion : Place → ValueType → Known → List Instr
+abbrev pub conversion : Place → ValueType → StaticRepr → List Instr
 conversion at (t.Dm dim) k = i.ToDom at ∷ []
 conversion at t.Long k = into_long k
 conversion at t.Int k = into_int k
@@ -85,14 +85,14 @@ local_test at false = []
 -- ---- names of operators
 
 -- The kind of a type, as far as the names of operators depend on it.
-abbrev pub kind_of_type : ValueType → Kind
+abbrev pub kind_of_type : ValueType → OperandClass
 kind_of_type (t.Pt dim) = Points
 kind_of_type (t.Rc dim) = Rects
 kind_of_type (t.Dm dim) = Domains
 kind_of_type type = Numbers
 
 -- The name of an operator for operands of these kinds.
-abbrev pub operation : BinaryOperator → Kind → Kind → Operation
+abbrev pub operation : BinaryOperator → OperandClass → OperandClass → Operation
 operation op.Add Numbers y = o.Add
 operation op.Add Points y = o.PtAdd
 operation op.Add x y = o.DomUnion
@@ -121,19 +121,19 @@ operation op.AndThen x y = o.AndThen
 operation op.OrElse x y = o.OrElse
 
 -- A unary operator; `+` changes nothing.
-abbrev pub alone_code : UnaryOperator → List Instr
-alone_code un.Minus = i.Alone one.Neg ∷ []
-alone_code un.Plus = []
-alone_code un.Not = i.Alone one.Not ∷ []
-alone_code un.Complement = i.Alone one.Com ∷ []
+abbrev pub unary_code : UnaryOperator → List Instr
+unary_code un.Minus = i.Alone one.Neg ∷ []
+unary_code un.Plus = []
+unary_code un.Not = i.Alone one.Not ∷ []
+unary_code un.Complement = i.Alone one.Com ∷ []
 
 -- ---- short-circuit operators
 
 -- The value of the left operand for which the right one isn't evaluated.
-abbrev pub laziness : BinaryOperator → Laziness
-laziness op.OrElse = Where true
-laziness op.AndThen = Where false
-laziness other = Never
+abbrev pub short_circuit : BinaryOperator → ShortCircuit
+short_circuit op.OrElse = Where true
+short_circuit op.AndThen = Where false
+short_circuit other = Never
 
 -- Jumps if the operand has this value.
 abbrev pub jump_where : Bool → ℕ → Instr
@@ -144,26 +144,26 @@ jump_where false target = i.JumpIfNot target
 -- evaluated, the result is pushed after it.
 abbrev pub lazy_code : Bool → ℕ → (ℕ → List Instr) → List Instr
 lazy_code left at right =
-    jump_where left (behind (at + 1) (right (at + 1)) + 1) ∷ right (at + 1)
-    ++ i.Jump (behind (at + 1) (right (at + 1)) + 1 + 1) ∷ i.Const (v.Bool left) ∷ []
+    jump_where left (pc_after (at + 1) (right (at + 1)) + 1) ∷ right (at + 1)
+    ++ i.Jump (pc_after (at + 1) (right (at + 1)) + 1 + 1) ∷ i.Const (v.Bool left) ∷ []
 
-abbrev pub operator_code : Laziness → Operation → Place → ℕ → (ℕ → List Instr) → List Instr
+abbrev pub operator_code : ShortCircuit → Operation → Place → ℕ → (ℕ → List Instr) → List Instr
 operator_code Never name p at right = right at ++ i.Operate name p ∷ []
 operator_code (Where left) name p at right = lazy_code left at right
 
 -- ---- members
 
 -- The member as an instruction knows it, if it has a value.
-abbrev pub kind_of : b.BuiltIn → Option Member
-kind_of b.Size = Some kind.Size
-kind_of b.Min = Some kind.Min
-kind_of b.Max = Some kind.Max
-kind_of b.Contains = Some kind.Contains
-kind_of b.Domain = Some kind.DomainOf
-kind_of b.Restrict = Some kind.Restrict
-kind_of b.Translate = Some kind.Translate
-kind_of b.Slice = Some kind.Slice
-kind_of _ = None
+abbrev pub member_kind : b.BuiltIn → Option Member
+member_kind b.Size = Some kind.Size
+member_kind b.Min = Some kind.Min
+member_kind b.Max = Some kind.Max
+member_kind b.Contains = Some kind.Contains
+member_kind b.Domain = Some kind.DomainOf
+member_kind b.Restrict = Some kind.Restrict
+member_kind b.Translate = Some kind.Translate
+member_kind b.Slice = Some kind.Slice
+member_kind _ = None
 
 -- Drops n operands.
 abbrev pub pops : ℕ → List Instr
@@ -175,7 +175,7 @@ kind_code (Some k) n at = i.Member k n at ∷ []
 kind_code None n at = pops (suc n) ++ i.Const (v.Bool false) ∷ []
 
 abbrev pub shown_member : Option b.BuiltIn → Option Member
-shown_member (Some m) = kind_of m
+shown_member (Some m) = member_kind m
 shown_member None = None
 
 abbrev pub member_code : Option b.BuiltIn → ℕ → Place → List Instr
@@ -189,7 +189,7 @@ index_code false n at = i.MakePt n ∷ i.GetElem at ∷ []
 -- ---- ranges
 
 -- Makes the rectangular domain of n ranges: of numbers, or of points, if there is one range of these.
-abbrev pub rect_instr : Kind → ℕ → Place → Instr
+abbrev pub rect_instr : OperandClass → ℕ → Place → Instr
 rect_instr Points (suc zero) at = i.RectOfPts at
 rect_instr kind n at = i.MakeRect n at
 
@@ -205,18 +205,18 @@ how_many_ranges (e.MoreRange r rs) = how_many_ranges rs + 1
 -- ---- expressions
 
 -- The kind of an expression's static type.
-abbrev pub kind_in : NumberedProgram → Option ℕ → NumberedExp → Kind
-kind_in program this x = kind_of_type (type_in_text program this x)
+abbrev pub kind_in : ProgramView → Option ℕ → NumberedExp → OperandClass
+kind_in program this x = kind_of_type (syntactic_type program this x)
 
 -- The name of an operator for these operands.
-abbrev pub operation_in : NumberedProgram → Option ℕ → BinaryOperator → NumberedExp → NumberedExp → Operation
+abbrev pub operation_in : ProgramView → Option ℕ → BinaryOperator → NumberedExp → NumberedExp → Operation
 operation_in program this op x y = operation op (kind_in program this x) (kind_in program this y)
 
-abbrev pub kind_of_ranges : NumberedProgram → Option ℕ → NumberedRanges → Kind
+abbrev pub kind_of_ranges : ProgramView → Option ℕ → NumberedRanges → OperandClass
 kind_of_ranges program this e.NoRange = Numbers
 kind_of_ranges program this (e.MoreRange r rs) = kind_in program this (low_bound r)
 
-module _ (program : NumberedProgram) (this : Option ℕ) (names : List Name) where
+module _ (program : ProgramView) (this : Option ℕ) (names : List Name) where
   abbrev mutual
     -- The code of an expression from a position on.
     pub code_of : NumberedExp → ℕ → List Instr
@@ -224,42 +224,42 @@ module _ (program : NumberedProgram) (this : Option ℕ) (names : List Name) whe
     code_of (e.Long p n) at = i.Const (v.Long n) ∷ []
     code_of (e.Truth p x) at = i.Const (v.Bool x) ∷ []
     code_of (e.Null p) at = i.Const (v.Obj None) ∷ []
-    code_of (e.This p) at = own (has_this names) ∷ []
-    code_of (e.Variable p x) at = loaded (find_slot x names) x ∷ []
-    code_of (e.OwnField p field) at = own (has_this names) ∷ i.GetField field p ∷ []
+    code_of (e.This p) at = load_this (has_this names) ∷ []
+    code_of (e.Variable p x) at = load_variable (find_slot x names) x ∷ []
+    code_of (e.OwnField p field) at = load_this (has_this names) ∷ i.GetField field p ∷ []
     code_of (e.ThisProc p) at = i.ThisProc ∷ []
     code_of (e.NumProcs p) at = i.NumProcs ∷ []
     code_of (e.Point p parts) at = code_of_all parts at ++ i.MakePt (how_many parts) ∷ []
     code_of (e.Rect p ranges) at =
         code_of_ranges ranges at ++ rect_instr (kind_of_ranges program this ranges) (how_many_ranges ranges) p ∷ []
-    code_of (e.Unary p op x) at = code_of x at ++ alone_code op
+    code_of (e.Unary p op x) at = code_of x at ++ unary_code op
     code_of (e.Binary p op x y) at =
-        code_of x at ++ operator_code (laziness op) (operation_in program this op x y) p (behind at (code_of x at)) (code_of y)
+        code_of x at ++ operator_code (short_circuit op) (operation_in program this op x y) p (pc_after at (code_of x at)) (code_of y)
     code_of (e.Cast p type x) at = code_of x at ++ (conversion p type.type (known_of program this x) ++ local_test p (is_local type.type))
     code_of (e.Select p x name) at =
-        code_of x at ++ i.GetField (unwrap_or (option_and_then (field_numbered program name) (class_of_type (type_in_text program this x)))
+        code_of x at ++ i.GetField (unwrap_or (option_and_then (field_numbered program name) (class_of_type (syntactic_type program this x)))
         0) p ∷ []
     code_of (e.Member p x name args) at =
-        code_of x at ++ (code_of_all args (behind at (code_of x at)) ++ member_code (member_called program this x name) (how_many args) p)
+        code_of x at ++ (code_of_all args (pc_after at (code_of x at)) ++ member_code (member_called program this x name) (how_many args) p)
     code_of (e.Index p x parts) at =
-        code_of x at ++ (code_of_all parts (behind at (code_of x at))
-        ++ index_code (is_point (type_in_text program this x)) (how_many parts) p)
+        code_of x at ++ (code_of_all parts (pc_after at (code_of x at))
+        ++ index_code (is_point (syntactic_type program this x)) (how_many parts) p)
     code_of (e.Call p method args) at = i.Const (v.Bool false) ∷ []
     code_of (e.OwnCall p method args) at = i.Const (v.Bool false) ∷ []
 
     -- The code of expressions, in order.
     pub code_of_all : NumberedExps → ℕ → List Instr
     code_of_all e.NoExp at = []
-    code_of_all (e.MoreExp x xs) at = code_of x at ++ code_of_all xs (behind at (code_of x at))
+    code_of_all (e.MoreExp x xs) at = code_of x at ++ code_of_all xs (pc_after at (code_of x at))
 
     -- The code of the bounds of a range and of its step.
     pub code_of_range : NumberedRange → ℕ → List Instr
-    code_of_range (e.Plain low high) at = code_of low at ++ (code_of high (behind at (code_of low at)) ++ i.Step ∷ [])
+    code_of_range (e.Plain low high) at = code_of low at ++ (code_of high (pc_after at (code_of low at)) ++ i.Step ∷ [])
     code_of_range (e.Stepped low high step) at =
-        code_of low at ++ (code_of high (behind at (code_of low at))
-        ++ code_of step (behind (behind at (code_of low at)) (code_of high (behind at (code_of low at)))))
+        code_of low at ++ (code_of high (pc_after at (code_of low at))
+        ++ code_of step (pc_after (pc_after at (code_of low at)) (code_of high (pc_after at (code_of low at)))))
 
     -- The code of ranges, in order.
     pub code_of_ranges : NumberedRanges → ℕ → List Instr
     code_of_ranges e.NoRange at = []
-    code_of_ranges (e.MoreRange r rs) at = code_of_range r at ++ code_of_ranges rs (behind at (code_of_range r at))
+    code_of_ranges (e.MoreRange r rs) at = code_of_range r at ++ code_of_ranges rs (pc_after at (code_of_range r at))

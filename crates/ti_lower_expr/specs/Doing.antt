@@ -2,15 +2,15 @@
 use Rattle.std.specs.Prelude.{◌≡◌, ℕ, List, ◌∷◌}
 use Rattle.ti_base.specs.declared.entry.Answer.{Answer}
 use Rattle.ti_lang.specs.Meaning.Held.{Held}
-use Rattle.ti_lang.specs.Meaning.Asking.{Request, Got, Gives, Asks, Fails, Asking}
+use Rattle.ti_lang.specs.Meaning.Comp.{Request, CompResult, Gives, Asks, Fails, Comp}
 use Rattle.ti_lang.specs.Meaning.Scoping.{Env}
 use Rattle.ti_code.specs.declared.instr.Instr.{Instr}
-use Rattle.ti_code.specs.Effects.{Spot, Who}
-use Rattle.ti_code.specs.Leading.{next_effect, Leads}
+use Rattle.ti_code.specs.Effects.{LocalState, Who}
+use Rattle.ti_code.specs.Leading.{next_effect, ExecutesTo}
 use Rattle.ti_lower_expr.specs.Methods.{receivers_of}
 
 -- The computation requests this action at this place.
-pub record AsksFor (g : Got Spot) (q : Request) : Type 0 where
+pub record AsksFor (g : CompResult LocalState) (q : Request) : Type 0 where
   pub request : Request
   pub is : g ≡ Asks request
   pub place : request.place ≡ q.place
@@ -18,19 +18,19 @@ pub record AsksFor (g : Got Spot) (q : Request) : Type 0 where
 
 module _ (w : Who) (c : List Instr) where
   -- On these answers, the instructions have the computation's result from the given state of the frame on.
-  abbrev pub Outcome : {A : Type 0} → (A → Spot → Type 0) → Spot → List Answer → Got A → Type 0
-  Outcome P s rs (Gives a rest) = (t : Spot) × Leads w c s rs t rest × P a t
-  Outcome P s rs (Asks q) = (t : Spot) × (left : List Answer) × Leads w c s rs t left × AsksFor (next_effect w c t left) q
-  Outcome P s rs (Fails kind at) = (t : Spot) × (left : List Answer) × Leads w c s rs t left × (next_effect w c t left ≡ Fails kind at)
+  abbrev pub ReachesResult : {A : Type 0} → (A → LocalState → Type 0) → LocalState → List Answer → CompResult A → Type 0
+  ReachesResult P s rs (Gives a rest) = (t : LocalState) × ExecutesTo w c s rs t rest × P a t
+  ReachesResult P s rs (Asks q) = (t : LocalState) × (left : List Answer) × ExecutesTo w c s rs t left × AsksFor (next_effect w c t left) q
+  ReachesResult P s rs (Fails kind at) = (t : LocalState) × (left : List Answer) × ExecutesTo w c s rs t left × (next_effect w c t left ≡ Fails kind at)
 
   -- The instructions carry out the computation from the given state of the frame on.
-  abbrev pub Does : {A : Type 0} → Spot → Asking A → (A → Spot → Type 0) → Type 0
-  Does s m P = (rs : List Answer) → Outcome P s rs (m rs)
+  abbrev pub Implements : {A : Type 0} → LocalState → Comp A → (A → LocalState → Type 0) → Type 0
+  Implements s m P = (rs : List Answer) → ReachesResult P s rs (m rs)
 
 -- The process as the semantics of instructions sees it, from the environment of an expression.
 abbrev pub who_in : Env → Who
 who_in env = record { number = env.number; procs = env.procs; receivers = receivers_of env.program }
 
 -- The value is pushed on these operands, the slots are unchanged, and the frame is at that instruction.
-abbrev pub Pushes : List Held → ℕ → List Held → Held → Spot → Type 0
+abbrev pub Pushes : List Held → ℕ → List Held → Held → LocalState → Type 0
 Pushes slots at stack h s = s ≡ record { at = at; slots = slots; stack = h ∷ stack }

@@ -6,12 +6,12 @@ use Rattle.ti_lower_expr.specs.declared.slots.SlotName.{SlotName}
 use Rattle.ti_lower_expr.specs.declared.slots.SlotName.TheVariants as slot
 use Rattle.ti_lower_expr.specs.Slots.{Name, This, Of, Point, Hidden}
 
-abbrev pub name_of : SlotName → Name
-name_of slot.This = This
-name_of (slot.Of number single ty) = Of (record { number = number; declared = Typed single (value_type_of ty.now) })
-name_of (slot.Point number) = Point number
-name_of slot.Hidden = Hidden
+abbrev pub slot_name_of : SlotName → Name
+slot_name_of slot.This = This
+slot_name_of (slot.Of number single ty) = Of (record { number = number; declared = Typed single (value_type_of ty.now) })
+slot_name_of (slot.Point number) = Point number
+slot_name_of slot.Hidden = Hidden
 
 -- The names, the newest first.
 abbrev pub names_of : List SlotName → List Name
-names_of names = map name_of (reverse names)
+names_of names = map slot_name_of (reverse names)

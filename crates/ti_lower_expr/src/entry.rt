@@ -8,13 +8,13 @@ ghost use Rattle.ti_lang.specs.Meaning.Evaluation.{eval};
 ghost use Rattle.ti_lang.specs.Meaning.Held.{Held};
 ghost use Rattle.ti_lang.specs.Meaning.Scoping.{Env};
 ghost use Rattle.ti_code.specs.declared.instr.Instr.{Instr as OneInstr};
-ghost use Rattle.ti_code.specs.Leading.{Stands, behind};
+ghost use Rattle.ti_code.specs.Leading.{CodeAt, pc_after};
 ghost use Rattle.ti_lower_expr.specs.Coding.{code_of};
-ghost use Rattle.ti_lower_expr.specs.Doing.{Does, Pushes, who_in};
-ghost use Rattle.ti_lower_expr.specs.Slots.{Name, Holds};
+ghost use Rattle.ti_lower_expr.specs.Doing.{Implements, Pushes, who_in};
+ghost use Rattle.ti_lower_expr.specs.Slots.{Name, SlotsHold};
 ghost use Rattle.ti_lower_expr.specs.Contents.{names_in, BeginsWith};
 
-use crate::site::Site;
+use crate::context::LoweringContext;
 use crate::walker::{walk, walk_rect};
 use ti_base::{Memory, Place};
 use ti_code::Instr;
@@ -22,19 +22,19 @@ use ti_lang::program::{Expr, Range};
 
 /// Appends the code of an expression to that of its method. After out of memory, `out` is its old value followed by some instructions or
 /// none.
-pub fn lower_expr(site: &Site, e: &Expr, out: &mut Vec<Instr>) -> Result<(), Memory>
+pub fn lower_expr(site: &LoweringContext, expr: &Expr, out: &mut Vec<Instr>) -> Result<(), Memory>
     ensures code { OnOk result (out.new.items ≡ out.old.items ++ code_of (program_of site.now.program.now) site.now.this
-        (names_in site.now.slots.now) (expression_of e.now) (length out.old.items)) }
+        (names_in site.now.slots.now) (expression_of expr.now) (length out.old.items)) }
     ensures err { OnErr result (BeginsWith out.new.items out.old.items) }
 {
-    walk(site, e, out)?;
+    walk(site, expr, out)?;
     Ok(())
 }
 
 /// Appends the code of the rectangular domain of these ranges; `place` is that of their `[`. After out of memory, `out` is its old value
 /// followed by some instructions or none.
 pub fn lower_rect(
-    site: &Site,
+    site: &LoweringContext,
     place: Place,
     ranges: &[Range],
     out: &mut Vec<Instr>,
@@ -50,8 +50,8 @@ pub fn lower_rect(
 /// points of the current iterations, it requests the same actions and has the same faults as the semantics, in the same order and at the
 /// same places. Without a fault it pushes the value, leaves the slots unchanged, and ends after its last instruction.
 pub fn expressions_are_done()
-    ensures { (c : List OneInstr) (env : Env) (names : List Name) (slots : List Held) → Holds env.this names env.variables env.turns slots
-        → (x : NumberedExp) (at : ℕ) (stack : List Held) → Stands c at (code_of env.program (this_of env.method) names x at)
-        → Does (who_in env) c (record { at = at; slots = slots; stack = stack }) (eval env x)
-        (Pushes slots (behind at (code_of env.program (this_of env.method) names x at)) stack) }
+    ensures { (c : List OneInstr) (env : Env) (names : List Name) (slots : List Held) → SlotsHold env.this names env.variables env.turns slots
+        → (x : NumberedExp) (at : ℕ) (stack : List Held) → CodeAt c at (code_of env.program (this_of env.method) names x at)
+        → Implements (who_in env) c (record { at = at; slots = slots; stack = stack }) (eval env x)
+        (Pushes slots (pc_after at (code_of env.program (this_of env.method) names x at)) stack) }
 {}

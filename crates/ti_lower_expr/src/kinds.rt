@@ -5,18 +5,18 @@ ghost use Rattle.std.specs.Prelude.{◌≡◌, option_map, Some};
 ghost use Rattle.ti_syntax.specs.declared.tree.exprs.BinaryOperator.TheVariants as op;
 ghost use Rattle.ti_lang.specs.Program.Views.{program_of, expression_of, value_type_of, declared_of};
 ghost use Rattle.ti_lang.specs.Typing.Kinds.{is_point as is_point_spec};
-ghost use Rattle.ti_lang.specs.Typing.Seen.{seen, built_in_of};
+ghost use Rattle.ti_lang.specs.Typing.TyRef.{ty_view, built_in_of};
 ghost use Rattle.ti_lower_expr.specs.Coding as coding;
 ghost use Rattle.ti_lower_expr.specs.Knowing as knowing;
 
 use ti_code::{Member, Operation};
-use ti_lang::program::{Declared, Expr, Parts, Ty};
+use ti_lang::program::{Declared, Expr, ProgramData, Ty};
 use ti_lang::tree::{BinaryOperator, UnaryOperator};
-use ti_lang::typing::{BuiltIn, Seen, member_called, type_in_text};
+use ti_lang::typing::{BuiltIn, TyRef, member_called, syntactic_type};
 
 /// The kind of a type, as far as the names of operators depend on it.
 #[derive(Clone, Copy)]
-pub enum Kind {
+pub enum OperandClass {
     Numbers,
     Points,
     Rects,
@@ -25,7 +25,7 @@ pub enum Kind {
 
 /// What is statically known of a value: that it is already an int, a long, an object or a grid, so that a conversion to this is idle.
 #[derive(Clone, Copy)]
-pub enum Known {
+pub enum StaticRepr {
     Int,
     Long,
     Object,
@@ -35,18 +35,18 @@ pub enum Known {
 
 /// Whether an operator is short-circuit, and for which value of the left operand the right one isn't evaluated.
 #[derive(Clone, Copy)]
-pub enum Laziness {
+pub enum ShortCircuit {
     Never,
     Where(bool),
 }
 
 /// Whether an operator is short-circuit: `||` and `&&` are.
-pub fn laziness_of(operator: BinaryOperator) -> Laziness
-    ensures { result ≡ coding.laziness operator }
+pub fn short_circuit_of(operator: BinaryOperator) -> ShortCircuit
+    ensures { result ≡ coding.short_circuit operator }
 {
     match operator {
-        BinaryOperator::OrElse => Laziness::Where(true),
-        BinaryOperator::AndThen => Laziness::Where(false),
+        BinaryOperator::OrElse => ShortCircuit::Where(true),
+        BinaryOperator::AndThen => ShortCircuit::Where(false),
         BinaryOperator::Add
         | BinaryOperator::Subtract
         | BinaryOperator::Multiply
@@ -63,72 +63,72 @@ pub fn laziness_of(operator: BinaryOperator) -> Laziness
         | BinaryOperator::Less
         | BinaryOperator::LessEqual
         | BinaryOperator::Greater
-        | BinaryOperator::GreaterEqual => Laziness::Never,
+        | BinaryOperator::GreaterEqual => ShortCircuit::Never,
     }
 }
 
 /// The kind of a type.
-pub fn kind_of_seen(t: Seen) -> Kind
-    ensures { result ≡ coding.kind_of_type (seen t.entry) }
+pub fn kind_of_seen(ty: TyRef) -> OperandClass
+    ensures { result ≡ coding.kind_of_type (ty_view ty.entry) }
 {
-    match t {
-        Seen::Pt(_) => Kind::Points,
-        Seen::Rc(_) => Kind::Rects,
-        Seen::Dm(_) => Kind::Domains,
-        _ => Kind::Numbers,
+    match ty {
+        TyRef::Pt(_) => OperandClass::Points,
+        TyRef::Rc(_) => OperandClass::Rects,
+        TyRef::Dm(_) => OperandClass::Domains,
+        _ => OperandClass::Numbers,
     }
 }
 
 /// The kind of an expression's static type, in a method of the class `this`, if it has one.
-pub fn kind_in(program: &Parts, this: Option<u32>, e: &Expr) -> Kind
-    ensures { result ≡ coding.kind_in (program_of program.now) this (expression_of e.now) }
+pub fn kind_in(program: &ProgramData, this: Option<u32>, expr: &Expr) -> OperandClass
+    ensures { result ≡ coding.kind_in (program_of program.now) this (expression_of expr.now) }
 {
-    kind_of_seen(type_in_text(program, this, e))
+    kind_of_seen(syntactic_type(program, this, expr))
 }
 
 // The name of `+`.
-fn sum_name(left: Kind) -> Operation
-    ensures { (right : Kind) → result ≡ coding.operation op.Add left right }
+fn sum_name(left: OperandClass) -> Operation
+    ensures { (right : OperandClass) → result ≡ coding.operation op.Add left right }
 {
     match left {
-        Kind::Numbers => Operation::Add,
-        Kind::Points => Operation::PtAdd,
-        Kind::Rects => Operation::DomUnion,
-        Kind::Domains => Operation::DomUnion,
+        OperandClass::Numbers => Operation::Add,
+        OperandClass::Points => Operation::PtAdd,
+        OperandClass::Rects => Operation::DomUnion,
+        OperandClass::Domains => Operation::DomUnion,
     }
 }
 
 // The name of `-`.
-fn difference_name(left: Kind) -> Operation
-    ensures { (right : Kind) → result ≡ coding.operation op.Subtract left right }
+fn difference_name(left: OperandClass) -> Operation
+    ensures { (right : OperandClass) → result ≡ coding.operation op.Subtract left right }
 {
     match left {
-        Kind::Numbers => Operation::Sub,
-        Kind::Points => Operation::PtSub,
-        Kind::Rects => Operation::DomMinus,
-        Kind::Domains => Operation::DomMinus,
+        OperandClass::Numbers => Operation::Sub,
+        OperandClass::Points => Operation::PtSub,
+        OperandClass::Rects => Operation::DomMinus,
+        OperandClass::Domains => Operation::DomMinus,
     }
 }
 
 // The name of `*`.
-fn product_name(left: Kind, right: Kind) -> Operation
+fn product_name(left: OperandClass, right: OperandClass) -> Operation
     ensures { result ≡ coding.operation op.Multiply left right }
 {
     match left {
-        Kind::Numbers => Operation::Mul,
-        Kind::Points => Operation::Mul,
-        Kind::Rects => match right {
-            Kind::Numbers => Operation::DomMeet,
-            Kind::Points => Operation::DomMeet,
-            Kind::Rects => Operation::RectMeet,
-            Kind::Domains => Operation::DomMeet,
+        OperandClass::Numbers => Operation::Mul,
+        OperandClass::Points => Operation::Mul,
+        OperandClass::Rects => match right {
+            OperandClass::Numbers => Operation::DomMeet,
+            OperandClass::Points => Operation::DomMeet,
+            OperandClass::Rects => Operation::RectMeet,
+            OperandClass::Domains => Operation::DomMeet,
         },
-        Kind::Domains => Operation::DomMeet,
+        OperandClass::Domains => Operation::DomMeet,
     }
 }
 
 /// The name of an operator for operands of these kinds.
-pub fn operation_of(operator: BinaryOperator, left: Kind, right: Kind) -> Operation
+pub fn operation_of(operator: BinaryOperator, left: OperandClass, right: OperandClass) -> Operation
     ensures { result ≡ coding.operation operator left right }
 {
     match operator {
@@ -155,10 +155,10 @@ pub fn operation_of(operator: BinaryOperator, left: Kind, right: Kind) -> Operat
 }
 
 // The built-in member as an instruction knows it, if it has a value.
-fn shown(b: BuiltIn) -> Option<Member>
-    ensures { result ≡ coding.kind_of (built_in_of b) }
+fn member_instr(member: BuiltIn) -> Option<Member>
+    ensures { result ≡ coding.member_kind (built_in_of member) }
 {
-    match b {
+    match member {
         BuiltIn::Size => Some(Member::Size),
         BuiltIn::Min => Some(Member::Min),
         BuiltIn::Max => Some(Member::Max),
@@ -178,7 +178,7 @@ pub fn shown_member(called: Option<BuiltIn>) -> Option<Member>
     ensures { result ≡ coding.shown_member (option_map built_in_of called) }
 {
     match called {
-        Some(b) => shown(b),
+        Some(b) => member_instr(b),
         None => None,
     }
 }
@@ -186,68 +186,70 @@ pub fn shown_member(called: Option<BuiltIn>) -> Option<Member>
 // ---- what is statically known of values
 
 // What is known of each value that has been converted to a type.
-fn known_of_type(ty: &Ty) -> Known
+fn known_of_type(ty: &Ty) -> StaticRepr
     ensures { result ≡ knowing.known_of_type (value_type_of ty.now) }
 {
     match ty {
-        Ty::Int => Known::Int,
-        Ty::Long => Known::Long,
-        Ty::Class { class: _, local: _ } => Known::Object,
+        Ty::Int => StaticRepr::Int,
+        Ty::Long => StaticRepr::Long,
+        Ty::Class { class: _, local: _ } => StaticRepr::Object,
         Ty::Grid {
             elem: _,
             dim: _,
             local: _,
-        } => Known::Grid,
-        Ty::Bool => Known::Other,
-        Ty::Pt(_) => Known::Other,
-        Ty::Rc(_) => Known::Other,
-        Ty::Dm(_) => Known::Other,
-        Ty::Region => Known::Other,
-        Ty::Null => Known::Other,
-        Ty::Void => Known::Other,
+        } => StaticRepr::Grid,
+        Ty::Bool => StaticRepr::Other,
+        Ty::Pt(_) => StaticRepr::Other,
+        Ty::Rc(_) => StaticRepr::Other,
+        Ty::Dm(_) => StaticRepr::Other,
+        Ty::Region => StaticRepr::Other,
+        Ty::Null => StaticRepr::Other,
+        Ty::Void => StaticRepr::Other,
     }
 }
 
 /// What is known of each value of a variable with this declaration.
-pub fn known_declared(declared: &Declared) -> Known
+pub fn known_declared(declared: &Declared) -> StaticRepr
     ensures { result ≡ knowing.known_declared (declared_of declared.now) }
 {
     match declared {
         Declared::Typed { single: _, ty } => known_of_type(ty),
-        Declared::Foreach => Known::Other,
+        Declared::Foreach => StaticRepr::Other,
     }
 }
 
 // The result of an operator that yields a long only if its operand is one.
-fn narrow(k: Known) -> Known
-    ensures { result ≡ knowing.narrow_known k }
+fn narrow(known: StaticRepr) -> StaticRepr
+    ensures { result ≡ knowing.narrow_known known }
 {
-    match k {
-        Known::Int => Known::Int,
-        Known::Long | Known::Object | Known::Grid | Known::Other => Known::Other,
+    match known {
+        StaticRepr::Int => StaticRepr::Int,
+        StaticRepr::Long | StaticRepr::Object | StaticRepr::Grid | StaticRepr::Other =>
+            StaticRepr::Other,
     }
 }
 
 // The result of an operator that yields a long if an operand is one.
-fn joined(left: Known, right: Known) -> Known
+fn joined_repr(left: StaticRepr, right: StaticRepr) -> StaticRepr
     ensures { result ≡ knowing.joined_known left right }
 {
     match left {
-        Known::Long => Known::Long,
-        Known::Int => match right {
-            Known::Int => Known::Int,
-            Known::Long => Known::Long,
-            Known::Object | Known::Grid | Known::Other => Known::Other,
+        StaticRepr::Long => StaticRepr::Long,
+        StaticRepr::Int => match right {
+            StaticRepr::Int => StaticRepr::Int,
+            StaticRepr::Long => StaticRepr::Long,
+            StaticRepr::Object | StaticRepr::Grid | StaticRepr::Other => StaticRepr::Other,
         },
-        Known::Object | Known::Grid | Known::Other => match right {
-            Known::Long => Known::Long,
-            Known::Int | Known::Object | Known::Grid | Known::Other => Known::Other,
+        StaticRepr::Object | StaticRepr::Grid | StaticRepr::Other => match right {
+            StaticRepr::Long => StaticRepr::Long,
+            StaticRepr::Int | StaticRepr::Object | StaticRepr::Grid | StaticRepr::Other =>
+                StaticRepr::Other,
         },
     }
 }
 
 /// What is known of the result of a binary operator.
-pub fn known_operated(operator: BinaryOperator, left: Known, right: Known) -> Known
+pub fn known_of_binary(operator: BinaryOperator, left: StaticRepr, right: StaticRepr) -> StaticRepr
     ensures { result ≡ knowing.operated_known operator left right }
 {
     match operator {
@@ -258,7 +260,7 @@ pub fn known_operated(operator: BinaryOperator, left: Known, right: Known) -> Kn
         | BinaryOperator::Remainder
         | BinaryOperator::And
         | BinaryOperator::Or
-        | BinaryOperator::Xor => joined(left, right),
+        | BinaryOperator::Xor => joined_repr(left, right),
         BinaryOperator::ShiftLeft
         | BinaryOperator::ShiftRight
         | BinaryOperator::UnsignedShiftRight => narrow(left),
@@ -269,27 +271,27 @@ pub fn known_operated(operator: BinaryOperator, left: Known, right: Known) -> Kn
         | BinaryOperator::Greater
         | BinaryOperator::GreaterEqual
         | BinaryOperator::AndThen
-        | BinaryOperator::OrElse => Known::Other,
+        | BinaryOperator::OrElse => StaticRepr::Other,
     }
 }
 
 /// What is known of the result of a unary operator.
-pub fn known_alone(operator: UnaryOperator, k: Known) -> Known
-    ensures { result ≡ knowing.alone_known operator k }
+pub fn known_of_unary(operator: UnaryOperator, known: StaticRepr) -> StaticRepr
+    ensures { result ≡ knowing.unary_known operator known }
 {
     match operator {
-        UnaryOperator::Minus | UnaryOperator::Complement => narrow(k),
-        UnaryOperator::Plus => k,
-        UnaryOperator::Not => Known::Other,
+        UnaryOperator::Minus | UnaryOperator::Complement => narrow(known),
+        UnaryOperator::Plus => known,
+        UnaryOperator::Not => StaticRepr::Other,
     }
 }
 
 // What is known of the value of a built-in member.
-fn known_built_in(b: BuiltIn) -> Known
-    ensures { result ≡ knowing.member_known (Some (built_in_of b)) }
+fn known_built_in(member: BuiltIn) -> StaticRepr
+    ensures { result ≡ knowing.member_known (Some (built_in_of member)) }
 {
-    match b {
-        BuiltIn::Size => Known::Int,
+    match member {
+        BuiltIn::Size => StaticRepr::Int,
         BuiltIn::Min
         | BuiltIn::Max
         | BuiltIn::Contains
@@ -299,51 +301,55 @@ fn known_built_in(b: BuiltIn) -> Known
         | BuiltIn::Slice
         | BuiltIn::Copy
         | BuiltIn::Exchange
-        | BuiltIn::Delete => Known::Other,
+        | BuiltIn::Delete => StaticRepr::Other,
     }
 }
 
 /// What is known of the value of a called member, if there is one.
-pub fn known_member(called: Option<BuiltIn>) -> Known
+pub fn known_member(called: Option<BuiltIn>) -> StaticRepr
     ensures { result ≡ knowing.member_known (option_map built_in_of called) }
 {
     match called {
         Some(b) => known_built_in(b),
-        None => Known::Other,
+        None => StaticRepr::Other,
     }
 }
 
 /// What is known of an indexed value: a coordinate of a point, or an element of a grid.
-pub fn known_indexed(is_point: bool) -> Known
+pub fn known_indexed(is_point: bool) -> StaticRepr
     ensures { result ≡ knowing.index_known is_point }
 {
-    if is_point { Known::Int } else { Known::Other }
+    if is_point {
+        StaticRepr::Int
+    } else {
+        StaticRepr::Other
+    }
 }
 
 /// Whether the type is that of a point.
-pub fn is_point(t: Seen) -> bool
-    ensures { result ≡ is_point_spec (seen t.entry) }
+pub fn is_point(ty: TyRef) -> bool
+    ensures { result ≡ is_point_spec (ty_view ty.entry) }
 {
-    match t {
-        Seen::Pt(_) => true,
+    match ty {
+        TyRef::Pt(_) => true,
         _ => false,
     }
 }
 
 /// What is known of the value of an expression, in a method of the class `this`, if it has one.
-pub fn known_of(program: &Parts, this: Option<u32>, e: &Expr) -> Known
-    ensures { result ≡ knowing.known_of (program_of program.now) this (expression_of e.now) }
+pub fn known_of(program: &ProgramData, this: Option<u32>, expr: &Expr) -> StaticRepr
+    ensures { result ≡ knowing.known_of (program_of program.now) this (expression_of expr.now) }
 {
-    match e {
-        Expr::Int(_, _) | Expr::ThisProc(_) | Expr::NumProcs(_) => Known::Int,
-        Expr::Long(_, _) => Known::Long,
-        Expr::Null(_) | Expr::This(_) => Known::Object,
+    match expr {
+        Expr::Int(_, _) | Expr::ThisProc(_) | Expr::NumProcs(_) => StaticRepr::Int,
+        Expr::Long(_, _) => StaticRepr::Long,
+        Expr::Null(_) | Expr::This(_) => StaticRepr::Object,
         Expr::Variable(_, v) => known_declared(&v.declared),
         Expr::Unary {
             operator,
             operand,
             ..
-        } => known_alone(*operator, known_of(program, this, operand)),
+        } => known_of_unary(*operator, known_of(program, this, operand)),
         Expr::Binary {
             operator,
             left,
@@ -351,21 +357,21 @@ pub fn known_of(program: &Parts, this: Option<u32>, e: &Expr) -> Known
             ..
         } => {
             let first = known_of(program, this, left);
-            known_operated(*operator, first, known_of(program, this, right))
+            known_of_binary(*operator, first, known_of(program, this, right))
         }
         Expr::Cast { to, .. } => known_of_type(&to.ty),
         Expr::Member { receiver, name, .. } => {
             known_member(member_called(program, this, receiver, *name))
         }
-        Expr::Index { receiver, .. } => known_indexed(is_point(type_in_text(
+        Expr::Index { receiver, .. } => known_indexed(is_point(syntactic_type(
             program, this, receiver,
         ))),
-        Expr::Truth(_, _)
+        Expr::Bool(_, _)
         | Expr::OwnField(_, _)
         | Expr::Point(_, _)
         | Expr::Rect(_, _)
         | Expr::Select { .. }
         | Expr::Call { .. }
-        | Expr::OwnCall { .. } => Known::Other,
+        | Expr::OwnCall { .. } => StaticRepr::Other,
     }
 }

@@ -1,21 +1,22 @@
 //! Generates the code of expressions.
 #![tactic(auto)]
 
+mod context;
+mod emission;
 mod entry;
 mod fields;
 mod kinds;
-mod pieces;
-mod site;
 mod slots;
 mod walker;
 
+pub use context::{LoweringContext, StaticValue};
+pub use emission::{
+    add_conversion, add_point, add_pops, declared_zero, emit, load_this, to_u32, u32_sum,
+};
 pub use entry::{expressions_are_done, lower_expr, lower_rect};
-pub use fields::field_behind;
+pub use fields::resolve_field;
 pub use kinds::{
-    Kind, Known, kind_in, kind_of_seen, known_declared, known_of, known_operated, operation_of,
+    OperandClass, StaticRepr, kind_in, kind_of_seen, known_declared, known_of, known_of_binary,
+    operation_of,
 };
-pub use pieces::{
-    add, add_conversion, add_point, add_pops, counted, declared_zero, number_behind, own,
-};
-pub use site::{KnownValue, Site};
 pub use slots::{SlotName, Slots};

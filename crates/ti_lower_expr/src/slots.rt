@@ -3,9 +3,9 @@
 ghost use Rattle.std.specs.Prelude.{◌≡◌, ◌∷◌, ◌-◌, ◌<◌, ◌≤◌, ℕ, Some, [], OnOk, OnErr, drop, get_or, length};
 ghost use Rattle.ti_lang.specs.Program.Views.{variable_of};
 ghost use Rattle.ti_lower_expr.specs.declared.slots.SlotName.TheVariants as slot;
-ghost use Rattle.ti_lower_expr.specs.Noted.{AreNoted, number_of};
+ghost use Rattle.ti_lower_expr.specs.Noted.{AreNoted, variable_number};
 ghost use Rattle.ti_lower_expr.specs.Slots.{is_meant, find_slot, has_this};
-ghost use Rattle.ti_lower_expr.specs.Views.{name_of, names_of};
+ghost use Rattle.ti_lower_expr.specs.Views.{slot_name_of, names_of};
 
 use std::alloc::Global;
 use ti_base::Memory;
@@ -36,8 +36,8 @@ pub struct Slots<'p> {
 }
 
 // The number of the variable that a slot is for.
-fn number_of(name: &SlotName) -> Option<u32>
-    ensures { result ≡ number_of name.now }
+fn variable_number(name: &SlotName) -> Option<u32>
+    ensures { result ≡ variable_number name.now }
 {
     match name {
         SlotName::This => None,
@@ -59,23 +59,23 @@ fn make_room(latest: &mut Vec<usize>, number: usize) -> Result<(), Memory>
 }
 
 // Whether the slot is the one that the variable denotes.
-fn is_meant(v: &Variable, name: &SlotName) -> bool
-    ensures { result ≡ is_meant (variable_of v.now).declared (variable_of v.now) (name_of name.now) }
+fn is_meant(variable: &Variable, name: &SlotName) -> bool
+    ensures { result ≡ is_meant (variable_of variable.now).declared (variable_of variable.now) (slot_name_of name.now) }
 {
-    match &v.declared {
+    match &variable.declared {
         Declared::Typed { single, ty } => match name {
             SlotName::Of {
                 number,
                 single: other,
                 ty: found,
-            } => v.number == *number
+            } => variable.number == *number
                 && (*single == *other && same_elements(ty, false, found, false)),
             SlotName::This => false,
             SlotName::Point(_) => false,
             SlotName::Hidden => false,
         },
         Declared::Foreach => match name {
-            SlotName::Point(number) => *number == v.number,
+            SlotName::Point(number) => *number == variable.number,
             SlotName::This => false,
             SlotName::Of { .. } => false,
             SlotName::Hidden => false,
@@ -85,7 +85,7 @@ fn is_meant(v: &Variable, name: &SlotName) -> bool
 
 // Whether the slot is that of `this`.
 fn is_this(name: &SlotName) -> bool
-    ensures { result ≡ has_this (name_of name.now ∷ []) }
+    ensures { result ≡ has_this (slot_name_of name.now ∷ []) }
 {
     match name {
         SlotName::This => true,
@@ -115,10 +115,10 @@ impl<'p> Slots<'p> {
 
     /// Adds a slot. After out of memory the slots are unchanged.
     pub fn push(&mut self, name: SlotName<'p>) -> Result<(), Memory>
-        ensures added { OnOk result (names_of self.new.names.items ≡ name_of name.entry ∷ names_of self.old.names.items) }
+        ensures added { OnOk result (names_of self.new.names.items ≡ slot_name_of name.entry ∷ names_of self.old.names.items) }
         ensures err { OnErr result (names_of self.new.names.items ≡ names_of self.old.names.items) }
     {
-        match number_of(&name) {
+        match variable_number(&name) {
             Some(number) => {
                 let number = number as usize;
                 make_room(&mut self.latest, number)?;
@@ -140,7 +140,7 @@ impl<'p> Slots<'p> {
     // A position from which on no slot is for a variable of this number.
     fn end(&self, number: u32) -> usize
         ensures within { result ≤ length self.now.names.items }
-        ensures none_behind { (k : ℕ) → result ≤ k → k < length self.now.names.items → number_of (get_or self.now.names.items k slot.Hidden)
+        ensures none_behind { (k : ℕ) → result ≤ k → k < length self.now.names.items → variable_number (get_or self.now.names.items k slot.Hidden)
             ≡ Some number → ⊥ }
     {
         let number = number as usize;
@@ -152,13 +152,13 @@ impl<'p> Slots<'p> {
     }
 
     /// The newest slot that a variable denotes, counted from the oldest.
-    pub fn find(&self, v: &Variable) -> Option<usize>
-        ensures { result ≡ find_slot (variable_of v.now) (names_of self.now.names.items) }
+    pub fn find(&self, variable: &Variable) -> Option<usize>
+        ensures { result ≡ find_slot (variable_of variable.now) (names_of self.now.names.items) }
     {
-        let mut n = self.end(v.number);
+        let mut n = self.end(variable.number);
         while n > 0 {
             n -= 1;
-            if is_meant(v, &self.names[n]) {
+            if is_meant(variable, &self.names[n]) {
                 return Some(n);
             }
         }

@@ -1,24 +1,24 @@
 -- Proves that the parts of a process can be sent to another thread.
 use denote.Param.Send.{IsSend, owning_send, sendable}
 use Rattle.std.proofs.Crossing.{crosses}
-use Rattle.ti_eval.proofs.held.Held.TheSendSync as held
-use Rattle.ti_eval.proofs.team.Team.TheSendSync as team
-use Rattle.ti_machine.specs.contracts.desk.Desk as Desk
+use Rattle.ti_eval.proofs.var_value.VarValue.TheSendSync as held
+use Rattle.ti_eval.proofs.rank.Rank.TheSendSync as team
+use Rattle.ti_machine.specs.contracts.state.FrameState as FrameState
 use Rattle.ti_machine.specs.contracts.machine.Frame as Frame
 use Rattle.ti_machine.specs.contracts.machine.Machine as Machine
-use Rattle.ti_machine.specs.contracts.past.Past as Past
+use Rattle.ti_machine.specs.contracts.history.ProcHistory as ProcHistory
 use Rattle.ti_machine.specs.contracts.proc.Proc as Proc
-use Rattle.ti_machine.proofs.operand.Operand.TheSendSync as operand
-use Rattle.ti_machine.proofs.proc.State.TheSendSync as state
+use Rattle.ti_machine.proofs.operand.StackOperand.TheSendSync as operand
+use Rattle.ti_machine.proofs.proc.ProcState.TheSendSync as state
 
 -- what only clauses see owns nothing
-pub past_sent : IsSend Past.the_row
-past_sent = owning_send Past.the_type tt (λ d. tt) (λ k x w. tt)
+pub past_sent : IsSend ProcHistory.the_row
+past_sent = owning_send ProcHistory.the_type tt (λ d. tt) (λ k x w. tt)
 
-desk_kept : IsSend (Desk.the_field).row
+desk_kept : IsSend (FrameState.the_field).row
 desk_kept = search (crosses, sendable, held.the_send, operand.the_send) depth 60 fits 20000
 
-desk_sent : IsSend Desk.the_row
+desk_sent : IsSend FrameState.the_row
 desk_sent = search (crosses, sendable, held.the_send, operand.the_send) depth 60 fits 20000
 
 frame_sent : IsSend Frame.the_row

@@ -1,3 +1,3 @@
 pub mod Mirrors
-pub mod Standing
-pub mod Telling
+pub mod ProcView
+pub mod Requests

@@ -1,10 +1,10 @@
 -- Definitions that mirror the code, for contracts of private functions: no public claim depends on them.
 pub mod Conversions
-pub mod Desks
-pub mod GoingOn
+pub mod FrameStates
+pub mod RunLoop
 pub mod Instrs
 pub mod Machines
 pub mod Operands
 pub mod Proc
-pub mod Standing
-pub mod Strides
+pub mod ProcView
+pub mod RunsSteps

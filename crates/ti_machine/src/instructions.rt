@@ -6,32 +6,37 @@ ghost use Rattle.ti_base.specs.Points.{IsDim};
 ghost use Rattle.ti_code.specs.Effects.{Who};
 ghost use Rattle.ti_code.specs.Forms.{IsFormedValue};
 ghost use Rattle.ti_code.specs.declared.instr.Instr.TheVariants as i;
-ghost use Rattle.ti_machine.specs.Mirrors.Desks.{spot_of, who, Makes};
+ghost use Rattle.ti_machine.specs.Mirrors.FrameStates.{state_of, who, InstrOutcome};
 
-use crate::desk::Desk;
 use crate::domains::no_points;
-use crate::operand::Operand;
+use crate::operand::StackOperand;
+use crate::state::FrameState;
 use std::alloc::Global;
 use ti_base::Value;
-use ti_eval::{Held, Stop, Team};
+use ti_eval::{Interrupt, Rank, VarValue};
 
-impl Desk {
+impl FrameState {
     /// Pushes a constant.
-    pub(crate) fn constant(&mut self, value: Value, next: usize) -> Result<(), Stop>
+    pub(crate) fn constant(&mut self, value: Value, next: usize) -> Result<(), Interrupt>
         requires next { next ≡ self.old.at + 1 }
         requires form { IsFormedValue value }
-        ensures { (w : Who) → Makes w (i.Const value) result (spot_of self.old) (spot_of self.new) }
+        ensures { (w : Who) → InstrOutcome w (i.Const value) result (state_of self.old) (state_of self.new) }
     {
-        self.push(Held::plain(value))?;
+        self.push(VarValue::plain(value))?;
         self.at = next;
         Ok(())
     }
 
     /// Pushes the empty domain of the given number of dimensions.
-    pub(crate) fn empty_domain(&mut self, alloc: Global, dim: u8, next: usize) -> Result<(), Stop>
+    pub(crate) fn empty_domain(
+        &mut self,
+        alloc: Global,
+        dim: u8,
+        next: usize,
+    ) -> Result<(), Interrupt>
         requires next { next ≡ self.old.at + 1 }
         requires form { IsDim dim }
-        ensures { (w : Who) → Makes w (i.EmptyDom dim) result (spot_of self.old) (spot_of self.new) }
+        ensures { (w : Who) → InstrOutcome w (i.EmptyDom dim) result (state_of self.old) (state_of self.new) }
     {
         self.push(no_points(alloc, dim)?)?;
         self.at = next;
@@ -40,9 +45,9 @@ impl Desk {
 
     /// Drops the top operand.
     #[tactic(auto, using(crate::proofs::Reversed::reversed))]
-    pub(crate) fn drop_one(&mut self, next: usize) -> Result<(), Stop>
+    pub(crate) fn drop_one(&mut self, next: usize) -> Result<(), Interrupt>
         requires next { next ≡ self.old.at + 1 }
-        ensures { (w : Who) → Makes w i.Pop result (spot_of self.old) (spot_of self.new) }
+        ensures { (w : Who) → InstrOutcome w i.Pop result (state_of self.old) (state_of self.new) }
     {
         let _dropped = self.stack.pop();
         self.at = next;
@@ -51,13 +56,13 @@ impl Desk {
 
     /// Pushes a copy of the top operand.
     #[tactic(auto, using(crate::proofs::Reversed::reversed))]
-    pub(crate) fn double(&mut self, alloc: Global, next: usize) -> Result<(), Stop>
+    pub(crate) fn double(&mut self, alloc: Global, next: usize) -> Result<(), Interrupt>
         requires next { next ≡ self.old.at + 1 }
-        ensures { (w : Who) → Makes w i.Dup result (spot_of self.old) (spot_of self.new) }
+        ensures { (w : Who) → InstrOutcome w i.Dup result (state_of self.old) (state_of self.new) }
     {
         let o = match self.stack.last() {
             Some(o) => o.copy(alloc)?,
-            None => Operand::of(Held::truth(false)),
+            None => StackOperand::of(VarValue::boolean(false)),
         };
         self.stack.push(o)?;
         self.at = next;
@@ -65,69 +70,69 @@ impl Desk {
     }
 
     /// Pushes the value of a slot.
-    pub(crate) fn load(&mut self, alloc: Global, k: u32, next: usize) -> Result<(), Stop>
+    pub(crate) fn load(&mut self, alloc: Global, index: u32, next: usize) -> Result<(), Interrupt>
         requires next { next ≡ self.old.at + 1 }
-        ensures { (w : Who) → Makes w (i.Load k) result (spot_of self.old) (spot_of self.new) }
+        ensures { (w : Who) → InstrOutcome w (i.Load index) result (state_of self.old) (state_of self.new) }
     {
-        let h = self.slot(alloc, k)?;
+        let h = self.slot(alloc, index)?;
         self.push(h)?;
         self.at = next;
         Ok(())
     }
 
     /// Pops the top operand into a slot.
-    pub(crate) fn keep(&mut self, k: u32, next: usize) -> Result<(), Stop>
+    pub(crate) fn keep(&mut self, index: u32, next: usize) -> Result<(), Interrupt>
         requires next { next ≡ self.old.at + 1 }
-        ensures { (w : Who) → Makes w (i.Keep k) result (spot_of self.old) (spot_of self.new) }
+        ensures { (w : Who) → InstrOutcome w (i.Keep index) result (state_of self.old) (state_of self.new) }
     {
         let h = self.pop()?;
-        self.put(k as usize, h)?;
+        self.put(index as usize, h)?;
         self.at = next;
         Ok(())
     }
 
-    /// Keeps the `k` oldest slots.
-    pub(crate) fn trim(&mut self, k: u32, next: usize) -> Result<(), Stop>
+    /// Keeps the `count` oldest slots.
+    pub(crate) fn trim(&mut self, count: u32, next: usize) -> Result<(), Interrupt>
         requires next { next ≡ self.old.at + 1 }
-        ensures { (w : Who) → Makes w (i.Trim k) result (spot_of self.old) (spot_of self.new) }
+        ensures { (w : Who) → InstrOutcome w (i.Trim count) result (state_of self.old) (state_of self.new) }
     {
-        self.cut(k as usize);
+        self.cut(count as usize);
         self.at = next;
         Ok(())
     }
 
     /// Pushes the number of the process.
-    pub(crate) fn this_proc(&mut self, team: Team, next: usize) -> Result<(), Stop>
+    pub(crate) fn this_proc(&mut self, team: Rank, next: usize) -> Result<(), Interrupt>
         requires next { next ≡ self.old.at + 1 }
-        ensures { (receivers : List (Option ℕ)) → Makes (who team receivers) i.ThisProc result (spot_of self.old) (spot_of self.new) }
+        ensures { (receivers : List (Option ℕ)) → InstrOutcome (who team receivers) i.ThisProc result (state_of self.old) (state_of self.new) }
     {
-        self.push(Held::plain(Value::Int(team.number as i32)))?;
+        self.push(VarValue::plain(Value::Int(team.number as i32)))?;
         self.at = next;
         Ok(())
     }
 
     /// Pushes the number of processes.
-    pub(crate) fn num_procs(&mut self, team: Team, next: usize) -> Result<(), Stop>
+    pub(crate) fn num_procs(&mut self, team: Rank, next: usize) -> Result<(), Interrupt>
         requires next { next ≡ self.old.at + 1 }
-        ensures { (receivers : List (Option ℕ)) → Makes (who team receivers) i.NumProcs result (spot_of self.old) (spot_of self.new) }
+        ensures { (receivers : List (Option ℕ)) → InstrOutcome (who team receivers) i.NumProcs result (state_of self.old) (state_of self.new) }
     {
-        self.push(Held::plain(Value::Int(team.procs as i32)))?;
+        self.push(VarValue::plain(Value::Int(team.procs as i32)))?;
         self.at = next;
         Ok(())
     }
 
     /// Continues at the target.
-    pub(crate) fn jump(&mut self, target: u32) -> Result<(), Stop>
-        ensures { (w : Who) → Makes w (i.Jump target) result (spot_of self.old) (spot_of self.new) }
+    pub(crate) fn jump(&mut self, target: u32) -> Result<(), Interrupt>
+        ensures { (w : Who) → InstrOutcome w (i.Jump target) result (state_of self.old) (state_of self.new) }
     {
         self.at = target as usize;
         Ok(())
     }
 
     /// Pops a boolean and jumps if it is true.
-    pub(crate) fn jump_if(&mut self, target: u32, next: usize) -> Result<(), Stop>
+    pub(crate) fn jump_if(&mut self, target: u32, next: usize) -> Result<(), Interrupt>
         requires next { next ≡ self.old.at + 1 }
-        ensures { (w : Who) → Makes w (i.JumpIf target) result (spot_of self.old) (spot_of self.new) }
+        ensures { (w : Who) → InstrOutcome w (i.JumpIf target) result (state_of self.old) (state_of self.new) }
     {
         let h = self.pop()?;
         if h.is_true() {
@@ -139,9 +144,9 @@ impl Desk {
     }
 
     /// Pops a boolean and jumps if it is false.
-    pub(crate) fn jump_if_not(&mut self, target: u32, next: usize) -> Result<(), Stop>
+    pub(crate) fn jump_if_not(&mut self, target: u32, next: usize) -> Result<(), Interrupt>
         requires next { next ≡ self.old.at + 1 }
-        ensures { (w : Who) → Makes w (i.JumpIfNot target) result (spot_of self.old) (spot_of self.new) }
+        ensures { (w : Who) → InstrOutcome w (i.JumpIfNot target) result (state_of self.old) (state_of self.new) }
     {
         let h = self.pop()?;
         if h.is_true() {
@@ -154,9 +159,14 @@ impl Desk {
 
     /// Moves the first point of the domain on top into a slot and leaves the other points; jumps if the domain is empty.
     #[tactic(auto, using(crate::proofs::Reversed::reversed))]
-    pub(crate) fn next_point(&mut self, k: u32, target: u32, next: usize) -> Result<(), Stop>
+    pub(crate) fn next_point(
+        &mut self,
+        index: u32,
+        target: u32,
+        next: usize,
+    ) -> Result<(), Interrupt>
         requires next { next ≡ self.old.at + 1 }
-        ensures { (w : Who) → Makes w (i.Next k target) result (spot_of self.old) (spot_of self.new) }
+        ensures { (w : Who) → InstrOutcome w (i.Next index target) result (state_of self.old) (state_of self.new) }
     {
         let Some(o) = self.stack.pop() else {
             self.at = target as usize;
@@ -166,7 +176,7 @@ impl Desk {
         self.stack.push(rest)?;
         match p {
             Some(p) => {
-                self.put(k as usize, Held::plain(Value::Pt(p)))?;
+                self.put(index as usize, VarValue::plain(Value::Pt(p)))?;
                 self.at = next;
             }
             None => self.at = target as usize,

@@ -1,30 +1,30 @@
 //! A virtual machine that executes code: it says what a process does next.
 #![tactic(auto)]
 
-mod cells;
-mod desk;
+mod collectives;
+mod dispatch;
 mod domains;
-mod going_on;
+mod fast_path;
+mod fold_int;
+mod fold_scalar;
+mod fuse;
+mod heap_ops;
+mod history;
 mod instructions;
-mod ints;
 mod laws;
 mod machine;
-mod meeting;
 mod operand;
 mod operands;
-mod past;
-mod perform;
-mod pieces;
 mod proc;
-mod running;
-mod strides;
+mod run_loop;
+mod state;
 mod values;
 
-pub use desk::{Desk, Hears};
-pub use going_on::Way;
-pub use ints::{IntPiece, Number, TruthPiece};
-pub use laws::{following_code_goes_on, has_one_next, process_is_sent};
-pub use machine::{Frame, Machine, Turn};
-pub use operand::Operand;
-pub use pieces::{Conversion, Piece};
+pub use fold_int::{FoldedBool, FoldedInt, Number};
+pub use fold_scalar::{Conversion, FoldedScalar};
+pub use laws::{following_code_goes_on, next_is_unique, process_is_sent};
+pub use machine::{Frame, Machine, StepResult};
+pub use operand::StackOperand;
 pub use proc::Proc;
+pub use run_loop::Suspension;
+pub use state::{AnswerUse, FrameState};

@@ -19,22 +19,22 @@ use Rattle.ti_lang.specs.Program.Scope.{this_of}
 use Rattle.ti_lang.specs.Program.Views.{expression_of}
 use Rattle.ti_lang.specs.Typing.BuiltIn as member
 use Rattle.ti_lang.specs.Typing.Called.{member_called}
-use Rattle.ti_lang.specs.Typing.Seen.{built_in_of}
-use Rattle.ti_lang.specs.Meaning.Asking.{Asking}
+use Rattle.ti_lang.specs.Typing.TyRef.{built_in_of}
+use Rattle.ti_lang.specs.Meaning.Comp.{Comp}
 use Rattle.ti_lang.specs.Meaning.Evaluation.{eval}
 use Rattle.ti_lang.specs.Meaning.Moves.{receives}
 use Rattle.ti_lang.specs.Meaning.Moves as moves
-use Rattle.ti_lang.specs.Meaning.Processes.{Nowhere, Work, Do, all_before}
+use Rattle.ti_lang.specs.Meaning.Processes.{Nowhere, ContItem, Do, all_before}
 use Rattle.ti_lang.specs.Meaning.Scoping.{Env}
 use Rattle.ti_lang.specs.Meaning.Statements.{alone, member_alone}
-use Rattle.ti_eval.specs.declared.stop.Stop.{Stop}
+use Rattle.ti_eval.specs.declared.interrupt.Interrupt.{Interrupt}
 use Rattle.ti_eval.specs.Comes.{ComesAs}
 use Rattle.ti_eval.specs.Places.{list_of}
-use Rattle.ti_moves.specs.declared.moves.Move.{Move}
-use Rattle.ti_moves.specs.Moves.{move_of}
+use Rattle.ti_moves.specs.declared.outcomes.StmtOutcome.{StmtOutcome}
+use Rattle.ti_moves.specs.Outcomes.{outcome_of}
 
 -- the statements of a block come before its end
-pub before_list : (b : NumberedStms) (left : List Work) → all_before b left ≡ map Do (list_of b) ++ left
+pub before_list : (b : NumberedStms) (left : List ContItem) → all_before b left ≡ map Do (list_of b) ++ left
 before_list Nil left = refl
 before_list (Cons x rest) left = ap (λ ws. Do x ∷ ws) (before_list rest left)
 
@@ -42,17 +42,17 @@ before_list (Cons x rest) left = ap (λ ws. Do x ∷ ws) (before_list rest left)
 
 -- a member form
 pub member_comes : (E : Env) (e : NumberedExp) (at : Place) (x : NumberedExp) (name : ℕ) (args : NumberedExps) (k : Option member.BuiltIn)
-    (answers : List Answer) (r : Result (Move × Bor (List Answer)) Stop)
+    (answers : List Answer) (r : Result (StmtOutcome × Bor (List Answer)) Interrupt)
     → e ≡ exp.Member at x name args → k ≡ member_called E.program (this_of E.method) x name
-    → ComesAs (move_of E (stm.Call (exp.Member at x name args))) r (member_alone E at x args (receives E Nowhere (eval E e)) k answers) → ComesAs (move_of E (stm.Call e)) r (alone E e None answers)
+    → ComesAs (outcome_of E (stm.Call (exp.Member at x name args))) r (member_alone E at x args (receives E Nowhere (eval E e)) k answers) → ComesAs (outcome_of E (stm.Call e)) r (alone E e None answers)
 member_comes E e at x name args k answers r is seen h =
     let m = exp.Member at x name args in
-    subst (λ (y : NumberedExp). ComesAs (move_of E (stm.Call y)) r (alone E y None answers)) (sym is)
-    (subst (λ (y : NumberedExp). ComesAs (move_of E (stm.Call m)) r (member_alone E at x args (receives E Nowhere (eval E y)) (member_called E.program (this_of E.method) x name) answers)) is
-    (subst (λ (o : Option member.BuiltIn). ComesAs (move_of E (stm.Call m)) r (member_alone E at x args (receives E Nowhere (eval E e)) o answers)) seen h))
+    subst (λ (y : NumberedExp). ComesAs (outcome_of E (stm.Call y)) r (alone E y None answers)) (sym is)
+    (subst (λ (y : NumberedExp). ComesAs (outcome_of E (stm.Call m)) r (member_alone E at x args (receives E Nowhere (eval E y)) (member_called E.program (this_of E.method) x name) answers)) is
+    (subst (λ (o : Option member.BuiltIn). ComesAs (outcome_of E (stm.Call m)) r (member_alone E at x args (receives E Nowhere (eval E e)) o answers)) seen h))
 
 -- a member that has a value, which is dropped
-pub member_dropped : (E : Env) (at : Place) (x : NumberedExp) (args : NumberedExps) (other : Asking moves.Move) (b : BuiltIn) → (b ≡ built.Copy → ⊥) → (b ≡ built.Exchange → ⊥) → (b ≡ built.Delete → ⊥)
+pub member_dropped : (E : Env) (at : Place) (x : NumberedExp) (args : NumberedExps) (other : Comp moves.Move) (b : BuiltIn) → (b ≡ built.Copy → ⊥) → (b ≡ built.Exchange → ⊥) → (b ≡ built.Delete → ⊥)
     → other ≡ member_alone E at x args other (Some (built_in_of b))
 member_dropped E at x args other built.Copy f g h = absurd (f refl)
 member_dropped E at x args other built.Exchange f g h = absurd (g refl)
@@ -75,7 +75,7 @@ pub other_dropped : (E : Env) (a : Expr) → IsNoMember a → receives E Nowhere
 other_dropped E (Member' at h x name k args) f = absurd (f _ _ _ _ (sym (roll-out-Expr (Member' at h x name k args)) ∙ ap roll-Expr (outs-Member' at h x name k args) ∙ rolls-Member _ _ _ _))
 other_dropped E (e.Int at n) f = refl
 other_dropped E (e.Long at n) f = refl
-other_dropped E (e.Truth at b) f = refl
+other_dropped E (e.Bool at b) f = refl
 other_dropped E (e.Null at) f = refl
 other_dropped E (e.This at) f = refl
 other_dropped E (e.Variable at v) f = refl

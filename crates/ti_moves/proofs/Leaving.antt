@@ -5,7 +5,7 @@ use Rattle.std.proofs.lemmas.List.Elements.{filter-append}
 use Rattle.ti_lang.specs.Program.Types.{VariableUse}
 use Rattle.ti_lang.specs.Program.Views.{variable_of}
 use Rattle.ti_lang.specs.Meaning.Processes.{Variable}
-use Rattle.ti_lang.specs.Meaning.Scoping.{without}
+use Rattle.ti_lang.specs.Meaning.Scoping.{without_variables}
 use Rattle.ti_eval.specs.declared.frame.Slot.{Slot}
 use Rattle.ti_eval.specs.Frames.{slot_of, slots_of}
 use Rattle.ti_moves.specs.Scopes.{is_among}
@@ -30,10 +30,10 @@ by_test : (b : Bool) (x : Slot) (xs : List Slot) (ws : List Variable) → map sl
 by_test true x xs ws e = ap (λ ys. slot_of x ∷ ys) e
 by_test false x xs ws e = e
 
-filtered : (xs : List VariableUse) (slots : List Slot) → map slot_of (filter (stays xs) slots) ≡ without xs (map slot_of slots)
+filtered : (xs : List VariableUse) (slots : List Slot) → map slot_of (filter (stays xs) slots) ≡ without_variables xs (map slot_of slots)
 filtered xs [] = refl
 filtered xs (s ∷ slots) = by_test (stays xs s) s _ _ (filtered xs slots)
 
 -- those that stay are what is left without the others
-pub slots_left : (xs : List VariableUse) (slots : List Slot) → slots_of (filter (stays xs) slots) ≡ without xs (slots_of slots)
+pub slots_left : (xs : List VariableUse) (slots : List Slot) → slots_of (filter (stays xs) slots) ≡ without_variables xs (slots_of slots)
 slots_left xs slots = ap (map slot_of) (sym (filter_reversed (stays xs) slots)) ∙ filtered xs (reverse slots)

@@ -1,7 +1,7 @@
 pub mod Arguments
 pub mod Callees
-pub mod Moves
+pub mod Outcomes
 pub mod Receiving
+pub mod References
 pub mod Scopes
 pub mod Targets
-pub mod Things

@@ -8,9 +8,9 @@ use Rattle.ti_lang.specs.Program.Expressions.{NumberedExp}
 use Rattle.ti_lang.specs.Program.Expressions as e
 use Rattle.ti_lang.specs.Program.Views.{variable_of}
 use Rattle.ti_lang.specs.Meaning.Held.{Held}
-use Rattle.ti_lang.specs.Meaning.Asking.{ToBeDone, request_through, Asking, ◌>>=◌, gives, asked, needed}
+use Rattle.ti_lang.specs.Meaning.Comp.{ToBeDone, request_through, Comp, ◌>>=◌, gives, asked, needed}
 use Rattle.ti_lang.specs.Meaning.Processes.{Variable}
-use Rattle.ti_lang.specs.Meaning.Parts.{Field, Element}
+use Rattle.ti_lang.specs.Meaning.CellRefs.{Field, Element}
 use Rattle.ti_lang.specs.Meaning.Scoping.{Env, type_of}
 use Rattle.ti_lang.specs.Meaning.Targets as target
 use Rattle.ti_moves.specs.declared.targets.Target.{Target}
@@ -30,8 +30,8 @@ through_of env (e.Index at x parts) = type_of env x
 through_of env x = Void
 
 -- A write to a field or an element through a reference of this type, which leaves these variables in scope.
-abbrev pub written : Place → ValueType → Held → (Id → Action) → List Variable → Asking (List Variable)
-written at through h put ws = do
+abbrev pub write_through : Place → ValueType → Held → (Id → Action) → List Variable → Comp (List Variable)
+write_through at through h put ws = do
   r ← needed at through h
   done ← asked (request_through r at (put r.thing) ToBeDone)
   gives ws

@@ -7,37 +7,37 @@ ghost use Rattle.ti_base.specs.declared.place.Place.{Place as At};
 ghost use Rattle.ti_lang.specs.Program.Types.{Typed};
 ghost use Rattle.ti_lang.specs.Program.Expressions.{numbered_exps};
 ghost use Rattle.ti_lang.specs.Program.Statements.{NumberedStm};
-ghost use Rattle.ti_lang.specs.Program.Classes.{NumberedMethod, NumberedProgram};
+ghost use Rattle.ti_lang.specs.Program.Classes.{NumberedMethod, ProgramView};
 ghost use Rattle.ti_lang.specs.Program.Views.{program_of, expression_of, statement_of, value_type_of, numbered_param_of};
-ghost use Rattle.ti_lang.specs.Typing.Seen.{seen};
+ghost use Rattle.ti_lang.specs.Typing.TyRef.{ty_view};
 ghost use Rattle.ti_lang.specs.Typing.Declared.{is_static_method, instance_method};
 ghost use Rattle.ti_lang.specs.Typing.Called.{called_method, method_behind};
-ghost use Rattle.ti_lang.specs.Meaning.Calls.{bound, maybe_eval, parameters_from, parameters_of};
+ghost use Rattle.ti_lang.specs.Meaning.Calls.{bind_params, maybe_eval, parameters_from, parameters_of};
 ghost use Rattle.ti_lang.specs.Meaning.Calls.{call_by as call_by_spec, called as called_spec, calling as calling_spec};
 ghost use Rattle.ti_lang.specs.Meaning.Calls.{maybe_needed as maybe_needed_spec};
 ghost use Rattle.ti_eval.specs.declared.frame.Slot.{Slot as Kept};
 ghost use Rattle.ti_eval.specs.Comes.{Comes, ComesAs};
 ghost use Rattle.ti_eval.specs.Envs.{env_of};
 ghost use Rattle.ti_eval.specs.Frames.{method_seen, slot_of, slots_of};
-ghost use Rattle.ti_moves.specs.Arguments.{given};
+ghost use Rattle.ti_moves.specs.Arguments.{bound_argument};
 ghost use Rattle.ti_moves.specs.Callees.{object_seen, call_seen};
-ghost use Rattle.ti_moves.specs.Moves.{method_at, move_of};
+ghost use Rattle.ti_moves.specs.Outcomes.{method_at, outcome_of};
 ghost use Rattle.ti_moves.specs.Receiving.{receiver_of};
 
-use crate::moves::Move;
-use crate::receiving::new_slot;
-use crate::things::needed;
+use crate::assign::new_slot;
+use crate::outcomes::StmtOutcome;
+use crate::references::require_reference;
 use std::alloc::Global;
 use ti_base::{Id, Place, Value};
-use ti_eval::{Env, Held, Slot, Stop, Told, class_of_this, converted, evaluate};
-use ti_lang::program::{Expr, Method, Param, Params, Parts, Stmt, has_static};
-use ti_lang::typing::{Seen as Kind, type_in_text};
+use ti_eval::{CanonicalAnswer, Env, Interrupt, Slot, VarValue, class_of_this, coerce, evaluate};
+use ti_lang::program::{Expr, Method, Param, Params, ProgramData, Stmt, has_static};
+use ti_lang::typing::{TyRef as Kind, syntactic_type};
 
 // ---- which method
 
 /// The method with this number, if there is one.
 #[tactic(auto, using(ti_lang::proofs::Lemmas::method_lookups))]
-pub fn method<'p>(program: &'p Parts, number: usize) -> Option<&'p Method>
+pub fn method<'p>(program: &'p ProgramData, number: usize) -> Option<&'p Method>
     ensures { method_seen result ≡ method_at (program_of program.now) number }
 {
     if number < program.methods.len() {
@@ -59,7 +59,7 @@ pub fn body_of<'p>(method: Option<&'p Method>) -> &'p [Stmt]
 
 // The number, if a method has it.
 #[tactic(auto, using(crate::proofs::MethodLaws::method_numbers))]
-fn declared(program: &Parts, number: u32) -> Option<usize>
+fn existing_method(program: &ProgramData, number: u32) -> Option<usize>
     ensures { slice_get (program_of program.now).methods number ≡ option_map (method_at (program_of program.now)) result }
 {
     let number = number as usize;
@@ -71,25 +71,25 @@ fn declared(program: &Parts, number: u32) -> Option<usize>
 }
 
 // The number of the first method of a class and a name.
-fn method_named(program: &Parts, class: u32, name: u32) -> Option<usize>
+fn method_named(program: &ProgramData, class: u32, name: u32) -> Option<usize>
     ensures { find (λ (m : NumberedMethod). (m.class == class) && (m.name == name)) (program_of program.now).methods
         ≡ option_map (method_at (program_of program.now)) result }
 {
     program.first_method(class, name)
 }
 
-fn is_instance(m: Option<&Method>) -> bool
-    ensures { result ≡ not (is_static_method (method_seen m.entry)) }
+fn is_instance(method: Option<&Method>) -> bool
+    ensures { result ≡ not (is_static_method (method_seen method.entry)) }
 {
-    match m {
-        Some(m) => !has_static(&m.modifiers),
+    match method {
+        Some(method) => !has_static(&method.modifiers),
         None => true,
     }
 }
 
 // The number of the first method of a class and a name, if it is an instance method.
 #[tactic(auto, unfolding(ti_lang::specs::Typing::Declared::instance_method))]
-fn instance_named(program: &Parts, class: u32, name: u32) -> Option<usize>
+fn instance_named(program: &ProgramData, class: u32, name: u32) -> Option<usize>
     ensures { instance_method (program_of program.now) class name ≡ option_map (method_at (program_of program.now)) result }
 {
     let number = method_named(program, class, name)?;
@@ -101,10 +101,10 @@ fn instance_named(program: &Parts, class: u32, name: u32) -> Option<usize>
 }
 
 // The number of the instance method that a name denotes after an object.
-fn named_behind<'p>(program: &'p Parts, t: Kind<'p>, name: u32) -> Option<usize>
-    ensures { method_behind (program_of program.now) (seen t.entry) name ≡ option_map (method_at (program_of program.now)) result }
+fn method_of_object<'p>(program: &'p ProgramData, ty: Kind<'p>, name: u32) -> Option<usize>
+    ensures { method_behind (program_of program.now) (ty_view ty.entry) name ≡ option_map (method_at (program_of program.now)) result }
 {
-    match t {
+    match ty {
         Kind::Class { class, local: _ } => instance_named(program, class, name),
         _ => None,
     }
@@ -112,14 +112,14 @@ fn named_behind<'p>(program: &'p Parts, t: Kind<'p>, name: u32) -> Option<usize>
 
 /// The number of the declared method that an expression calls, if it is such a call.
 #[tactic(auto, using(ti_lang::proofs::Lemmas::program_bridges))]
-pub fn number_called(program: &Parts, this: Option<u32>, e: &Expr) -> Option<usize>
-    ensures { called_method (program_of program.now) this (expression_of e.now) ≡ option_map (method_at (program_of program.now)) result }
+pub fn number_called(program: &ProgramData, this: Option<u32>, expr: &Expr) -> Option<usize>
+    ensures { called_method (program_of program.now) this (expression_of expr.now) ≡ option_map (method_at (program_of program.now)) result }
 {
-    match e {
-        Expr::Call { method: number, .. } => declared(program, *number),
-        Expr::OwnCall { method: number, .. } => declared(program, *number),
+    match expr {
+        Expr::Call { method: number, .. } => existing_method(program, *number),
+        Expr::OwnCall { method: number, .. } => existing_method(program, *number),
         Expr::Member { receiver, name, .. } => {
-            named_behind(program, type_in_text(program, this, receiver), *name)
+            method_of_object(program, syntactic_type(program, this, receiver), *name)
         }
         _ => None,
     }
@@ -147,11 +147,11 @@ pub struct Call<'p> {
 
 // The call that an expression is, of the method with this number.
 #[tactic(auto, using(ti_lang::proofs::Lemmas::program_bridges))]
-fn call_by<'p>(method: usize, e: &'p Expr) -> Option<Call<'p>>
-    ensures { (program : NumberedProgram) → call_by_spec (expression_of e.now) (Some (method_at program method))
+fn call_by<'p>(method: usize, expr: &'p Expr) -> Option<Call<'p>>
+    ensures { (program : ProgramView) → call_by_spec (expression_of expr.now) (Some (method_at program method))
         ≡ option_map (call_seen program) result }
 {
-    match e {
+    match expr {
         Expr::Call { place, args, .. } => Some(Call {
             place: *place,
             method,
@@ -180,11 +180,11 @@ fn call_by<'p>(method: usize, e: &'p Expr) -> Option<Call<'p>>
 }
 
 /// The call that an expression is, if it calls a declared method.
-pub fn called<'p>(env: &Env, e: &'p Expr) -> Option<Call<'p>>
-    ensures { called_spec (env_of env.now) (expression_of e.now) ≡ option_map (call_seen (program_of env.now.program.now)) result }
+pub fn call_of<'p>(env: &Env, expr: &'p Expr) -> Option<Call<'p>>
+    ensures { called_spec (env_of env.now) (expression_of expr.now) ≡ option_map (call_seen (program_of env.now.program.now)) result }
 {
-    let number = number_called(env.program, class_of_this(env.method), e)?;
-    call_by(number, e)
+    let number = number_called(env.program, class_of_this(env.method), expr)?;
+    call_by(number, expr)
 }
 
 // ---- arguments
@@ -197,18 +197,18 @@ pub fn argument<'a>(
     env: &Env,
     number: usize,
     param: &Param,
-    x: &Expr,
-    answers: &'a [Told],
-) -> Result<(Slot, &'a [Told]), Stop>
-    ensures { ComesAs slot_of result (given (env_of env.now) (record {
+    expr: &Expr,
+    answers: &'a [CanonicalAnswer],
+) -> Result<(Slot, &'a [CanonicalAnswer]), Interrupt>
+    ensures { ComesAs slot_of result (bound_argument (env_of env.now) (record {
       number = number;
       declared = Typed param.now.ty.single (value_type_of param.now.ty.ty);
-    }) (expression_of x.now) answers.now) }
+    }) (expression_of expr.now) answers.now) }
 {
-    let (h, answers) = evaluate(alloc, env, x, answers)?;
-    let (held, answers) = converted(alloc, x.place(), &param.ty.ty, h, answers)?;
+    let (h, answers) = evaluate(alloc, env, expr, answers)?;
+    let (held, answers) = coerce(alloc, expr.place(), &param.ty.ty, h, answers)?;
     let Ok(number) = u32::try_from(number) else {
-        return Err(Stop::Memory);
+        return Err(Interrupt::Memory);
     };
     Ok((new_slot(alloc, &param.ty, number, held)?, answers))
 }
@@ -219,10 +219,10 @@ fn bind<'a>(
     env: &Env,
     params: &[Param],
     args: &[Expr],
-    answers: &'a [Told],
-) -> Result<(Vec<Slot>, &'a [Told]), Stop>
+    answers: &'a [CanonicalAnswer],
+) -> Result<(Vec<Slot>, &'a [CanonicalAnswer]), Interrupt>
     ensures { ComesAs (λ (v : Row Kept Heap). slots_of v.items) result
-        (bound (env_of env.now) (parameters_from 0 (map numbered_param_of params.now))
+        (bind_params (env_of env.now) (parameters_from 0 (map numbered_param_of params.now))
         (numbered_exps (map expression_of args.now)) [] answers.now) }
 {
     let mut found = Vec::new(alloc);
@@ -241,17 +241,17 @@ fn bind<'a>(
 fn parameters<'a>(
     alloc: Global,
     env: &Env,
-    m: Option<&Method>,
+    callee: Option<&Method>,
     args: &[Expr],
-    answers: &'a [Told],
-) -> Result<(Vec<Slot>, &'a [Told]), Stop>
+    answers: &'a [CanonicalAnswer],
+) -> Result<(Vec<Slot>, &'a [CanonicalAnswer]), Interrupt>
     ensures { ComesAs (λ (v : Row Kept Heap). slots_of v.items) result
-        (bound (env_of env.now) (parameters_of (method_seen m.entry).params) (numbered_exps (map expression_of args.now)) [] answers.now) }
+        (bind_params (env_of env.now) (parameters_of (method_seen callee.entry).params) (numbered_exps (map expression_of args.now)) [] answers.now) }
 {
-    match m {
-        Some(m) => match &m.params {
+    match callee {
+        Some(callee) => match &callee.params {
             Params::Typed(params) => bind(alloc, env, params, args, answers),
-            Params::Words => Ok((Vec::new(alloc), answers)),
+            Params::MainArgs => Ok((Vec::new(alloc), answers)),
         },
         None => Ok((Vec::new(alloc), answers)),
     }
@@ -261,16 +261,16 @@ fn parameters<'a>(
 
 // The object of a call, if it has one. A null reference is a fault.
 #[tactic(auto, using(ti_eval::proofs::Lemmas::steps))]
-fn maybe_needed<'a>(
-    at: Place,
-    object: &Option<Held>,
-    answers: &'a [Told],
-) -> Result<(Option<Id>, &'a [Told]), Stop>
-    ensures { Comes result (maybe_needed_spec at object.now answers.now) }
+fn require_object<'a>(
+    place: Place,
+    object: &Option<VarValue>,
+    answers: &'a [CanonicalAnswer],
+) -> Result<(Option<Id>, &'a [CanonicalAnswer]), Interrupt>
+    ensures { Comes result (maybe_needed_spec place object.now answers.now) }
 {
     match object {
         Some(h) => {
-            let (id, answers) = needed(at, h, answers)?;
+            let (id, answers) = require_reference(place, h, answers)?;
             Ok((Some(id), answers))
         }
         None => Ok((None, answers)),
@@ -283,13 +283,13 @@ fn object_of<'a>(
     alloc: Global,
     env: &Env,
     object: Object,
-    answers: &'a [Told],
-) -> Result<(Option<Held>, &'a [Told]), Stop>
+    answers: &'a [CanonicalAnswer],
+) -> Result<(Option<VarValue>, &'a [CanonicalAnswer]), Interrupt>
     ensures { (at : At) → Comes result (maybe_eval (env_of env.now) (object_seen at object.entry) answers.now) }
 {
     match object {
         Object::Missing => Ok((None, answers)),
-        Object::This => Ok((Some(Held::plain(Value::Obj(env.this))), answers)),
+        Object::This => Ok((Some(VarValue::plain(Value::Obj(env.this))), answers)),
         Object::Of(x) => {
             let (h, answers) = evaluate(alloc, env, x, answers)?;
             Ok((Some(h), answers))
@@ -299,21 +299,21 @@ fn object_of<'a>(
 
 /// The outcome of a call. Its object and its arguments are evaluated in order; then an object that is null is a fault.
 #[tactic(auto, using(ti_eval::proofs::Lemmas::steps))]
-pub fn calling<'a, 'c>(
+pub fn call_outcome<'a, 'c>(
     alloc: Global,
     env: &Env,
     call: Call,
-    answers: &'a [Told],
-) -> Result<(Move<'c>, &'a [Told]), Stop>
-    ensures { (x : NumberedStm) → ComesAs (move_of (env_of env.now) x) result
+    answers: &'a [CanonicalAnswer],
+) -> Result<(StmtOutcome<'c>, &'a [CanonicalAnswer]), Interrupt>
+    ensures { (x : NumberedStm) → ComesAs (outcome_of (env_of env.now) x) result
         (calling_spec (env_of env.now) (receiver_of x) (call_seen (program_of env.now.program.now) call.entry) answers.now) }
 {
     let callee = method(env.program, call.method);
     let (object, answers) = object_of(alloc, env, call.object, answers)?;
     let (parameters, answers) = parameters(alloc, env, callee, call.args, answers)?;
-    let (this, answers) = maybe_needed(call.place, &object, answers)?;
-    let came = Move::Calls {
-        at: call.place,
+    let (this, answers) = require_object(call.place, &object, answers)?;
+    let came = StmtOutcome::Calls {
+        place: call.place,
         method: call.method,
         this,
         parameters,

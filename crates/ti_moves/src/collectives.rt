@@ -9,31 +9,32 @@ ghost use Rattle.ti_lang.specs.Program.Statements.{NumberedStm};
 ghost use Rattle.ti_lang.specs.Program.Statements as stm;
 ghost use Rattle.ti_lang.specs.Program.Views.{expression_of};
 ghost use Rattle.ti_lang.specs.Typing.Kinds.{element_of};
-ghost use Rattle.ti_lang.specs.Typing.Seen.{seen};
+ghost use Rattle.ti_lang.specs.Typing.TyRef.{ty_view};
 ghost use Rattle.ti_lang.specs.Meaning.Held.{as_type as as_type_spec};
-ghost use Rattle.ti_lang.specs.Meaning.Asking.{Gives};
+ghost use Rattle.ti_lang.specs.Meaning.Comp.{Gives};
 ghost use Rattle.ti_lang.specs.Meaning.Scoping.{Env as Where, type_here};
 ghost use Rattle.ti_lang.specs.Meaning.Collectives as collectives;
 ghost use Rattle.ti_eval.specs.Comes.{Comes, ComesAs};
 ghost use Rattle.ti_eval.specs.Envs.{env_of};
-ghost use Rattle.ti_moves.specs.Moves.{move_of, type_received};
+ghost use Rattle.ti_moves.specs.Outcomes.{outcome_of, type_received};
 ghost use Rattle.ti_moves.specs.Receiving.{receiver_of};
 
-use crate::moves::{Meeting, Move};
-use crate::things::{first, needed};
+use crate::outcomes::{CollectiveCall, StmtOutcome};
+use crate::references::{first_or_false, require_reference};
 use std::alloc::Global;
 use ti_base::{Action, CollKind, Deposit, FaultKind, Place};
 use ti_eval::{
-    Env, Held, Stop, Todo, Told, as_type, asked, evaluate, evaluate_all, is_of_team, type_of,
+    CanonicalAnswer, Env, Interrupt, Resume, VarValue, as_type, evaluate, evaluate_all,
+    is_rect_of_procs, request, type_of,
 };
 use ti_lang::program::Expr;
-use ti_lang::typing::Seen as Kind;
+use ti_lang::typing::TyRef as Kind;
 
 // An arrival without an argument.
-fn meeting(place: Place, kind: CollKind) -> Meeting
+fn collective(place: Place, kind: CollKind) -> CollectiveCall
     ensures { result ≡ record { place = place; kind = kind; arg = None } }
 {
-    Meeting {
+    CollectiveCall {
         place,
         kind,
         arg: None,
@@ -43,23 +44,23 @@ fn meeting(place: Place, kind: CollKind) -> Meeting
 // ---- barriers and regions
 
 /// `Ti.barrier()`
-pub fn meets<'c>(at: Place) -> Move<'c>
-    ensures { (env : Where) (x : NumberedStm) (rest : List Answer) → collectives.meets at rest ≡ Gives (move_of env x result) rest }
+pub fn barrier<'c>(place: Place) -> StmtOutcome<'c>
+    ensures { (env : Where) (x : NumberedStm) (rest : List Answer) → collectives.meets place rest ≡ Gives (outcome_of env x result) rest }
 {
-    Move::Meets {
-        meeting: meeting(at, CollKind::Barrier),
+    StmtOutcome::Meets {
+        collective: collective(place, CollKind::Barrier),
         deposit: Deposit::Nothing,
-        todo: Todo::Inside,
+        resume: Resume::Inside,
     }
 }
 
 /// `new SharedRegion()`, whose departure yields the region.
-pub fn makes_region<'c>(at: Place) -> Move<'c>
+pub fn makes_region<'c>(place: Place) -> StmtOutcome<'c>
     ensures { (env : Where) (x : NumberedStm) (rest : List Answer) → type_received env x ≡ Region
-        → collectives.makes_region (receiver_of x) at rest ≡ Gives (move_of env x result) rest }
+        → collectives.makes_region (receiver_of x) place rest ≡ Gives (outcome_of env x result) rest }
 {
-    Move::Expects {
-        meeting: meeting(at, CollKind::MakeRegion),
+    StmtOutcome::Expects {
+        collective: collective(place, CollKind::MakeRegion),
         deposit: Deposit::Nothing,
     }
 }
@@ -69,16 +70,16 @@ pub fn makes_region<'c>(at: Place) -> Move<'c>
 pub fn delete<'a, 'c>(
     alloc: Global,
     env: &Env,
-    at: Place,
+    place: Place,
     receiver: &Expr,
-    answers: &'a [Told],
-) -> Result<(Move<'c>, &'a [Told]), Stop>
-    ensures { (x : NumberedStm) → ComesAs (move_of (env_of env.now) x) result
-        (collectives.deletes (env_of env.now) at (expression_of receiver.now) answers.now) }
+    answers: &'a [CanonicalAnswer],
+) -> Result<(StmtOutcome<'c>, &'a [CanonicalAnswer]), Interrupt>
+    ensures { (x : NumberedStm) → ComesAs (outcome_of (env_of env.now) x) result
+        (collectives.deletes (env_of env.now) place (expression_of receiver.now) answers.now) }
 {
     let (h, answers) = evaluate(alloc, env, receiver, answers)?;
     let region = h.region();
-    Ok((Move::Deletes { at, region }, answers))
+    Ok((StmtOutcome::Deletes { place, region }, answers))
 }
 
 // ---- broadcasts
@@ -86,17 +87,17 @@ pub fn delete<'a, 'c>(
 /// The number of a process; another number is a fault.
 pub fn root_among<'a>(
     procs: u32,
-    at: Place,
-    h: &Held,
-    answers: &'a [Told],
-) -> Result<(u32, &'a [Told]), Stop>
-    ensures { Comes result (collectives.root_among procs at h.now answers.now) }
+    place: Place,
+    value: &VarValue,
+    answers: &'a [CanonicalAnswer],
+) -> Result<(u32, &'a [CanonicalAnswer]), Interrupt>
+    ensures { Comes result (collectives.root_among procs place value.now answers.now) }
 {
-    let n = h.whole();
+    let n = value.integer();
     if 0 <= n && n < i64::from(procs) {
         Ok((n as u32, answers))
     } else {
-        Err(Stop::Fails(FaultKind::BadRoot, at))
+        Err(Interrupt::Fault(FaultKind::BadRoot, place))
     }
 }
 
@@ -107,11 +108,11 @@ fn root_gives<'a>(
     env: &Env,
     root: u32,
     value: &Expr,
-    answers: &'a [Told],
-) -> Result<(Deposit, &'a [Told]), Stop>
+    answers: &'a [CanonicalAnswer],
+) -> Result<(Deposit, &'a [CanonicalAnswer]), Interrupt>
     ensures { Comes result (collectives.root_deposit (env_of env.now) root (expression_of value.now) answers.now) }
 {
-    if env.team.number == root {
+    if env.rank.number == root {
         let (h, answers) = evaluate(alloc, env, value, answers)?;
         Ok((Deposit::One(h.value()), answers))
     } else {
@@ -124,40 +125,46 @@ fn root_gives<'a>(
 pub fn broadcasts<'a, 'c>(
     alloc: Global,
     env: &Env,
-    at: Place,
+    place: Place,
     value: &Expr,
     root: &Expr,
-    answers: &'a [Told],
-) -> Result<(Move<'c>, &'a [Told]), Stop>
+    answers: &'a [CanonicalAnswer],
+) -> Result<(StmtOutcome<'c>, &'a [CanonicalAnswer]), Interrupt>
     ensures { (x : NumberedStm) → type_received (env_of env.now) x ≡ type_here (env_of env.now) (expression_of value.now)
-        → ComesAs (move_of (env_of env.now) x) result (collectives.broadcasts (env_of env.now) (receiver_of x) at
+        → ComesAs (outcome_of (env_of env.now) x) result (collectives.broadcasts (env_of env.now) (receiver_of x) place
         (expression_of value.now) (expression_of root.now) answers.now) }
 {
     let (h, answers) = evaluate(alloc, env, root, answers)?;
-    let (root, answers) = root_among(env.team.procs, at, &h, answers)?;
+    let (root, answers) = root_among(env.rank.procs, place, &h, answers)?;
     let (deposit, answers) = root_gives(alloc, env, root, value, answers)?;
-    let meeting = Meeting {
-        place: at,
+    let collective = CollectiveCall {
+        place,
         kind: CollKind::Broadcast,
         arg: Some(root),
     };
-    Ok((Move::Expects { meeting, deposit }, answers))
+    Ok((
+        StmtOutcome::Expects {
+            collective,
+            deposit,
+        },
+        answers,
+    ))
 }
 
 // ---- exchanges
 
 // Converts a value to the element type of a grid.
-fn as_element<'p>(t: Kind<'p>, h: Held) -> Held
-    ensures { result ≡ as_type_spec (element_of (seen t.entry)) h }
+fn as_element<'p>(ty: Kind<'p>, value: VarValue) -> VarValue
+    ensures { result ≡ as_type_spec (element_of (ty_view ty.entry)) value }
 {
-    match t {
+    match ty {
         Kind::Grid {
             elem,
             any_dim: _,
             dim: _,
             local: _,
-        } => as_type(elem, h),
-        _ => h,
+        } => as_type(elem, value),
+        _ => value,
     }
 }
 
@@ -166,27 +173,27 @@ fn as_element<'p>(t: Kind<'p>, h: Held) -> Held
 pub fn exchanges<'a, 'c>(
     alloc: Global,
     env: &Env,
-    at: Place,
+    place: Place,
     receiver: &Expr,
     args: &[Expr],
-    answers: &'a [Told],
-) -> Result<(Move<'c>, &'a [Told]), Stop>
-    ensures { (name : ℕ) → ComesAs (move_of (env_of env.now) (stm.Call
-        (exp.member at (expression_of receiver.now) name (map expression_of args.now)))) result
-        (collectives.exchanges (env_of env.now) at (expression_of receiver.now) (numbered_exps (map expression_of args.now)) answers.now) }
+    answers: &'a [CanonicalAnswer],
+) -> Result<(StmtOutcome<'c>, &'a [CanonicalAnswer]), Interrupt>
+    ensures { (name : ℕ) → ComesAs (outcome_of (env_of env.now) (stm.Call
+        (exp.member place (expression_of receiver.now) name (map expression_of args.now)))) result
+        (collectives.exchanges (env_of env.now) place (expression_of receiver.now) (numbered_exps (map expression_of args.now)) answers.now) }
 {
     let (h, answers) = evaluate(alloc, env, receiver, answers)?;
     let (hs, answers) = evaluate_all(alloc, env, args, answers)?;
-    let (grid, answers) = needed(at, &h, answers)?;
-    let (d, answers) = asked(at, Action::DomainOf { grid }, answers)?;
-    if !is_of_team(&d.rect(), env.team.procs) {
-        return Err(Stop::Fails(FaultKind::ExchangeDomain, at));
+    let (grid, answers) = require_reference(place, &h, answers)?;
+    let (d, answers) = request(place, Action::DomainOf { grid }, answers)?;
+    if !is_rect_of_procs(&d.rect(), env.rank.procs) {
+        return Err(Interrupt::Fault(FaultKind::ExchangeDomain, place));
     }
-    let value = as_element(type_of(env, receiver), first(hs)).value();
-    let meets = Move::Meets {
-        meeting: meeting(at, CollKind::Exchange),
+    let value = as_element(type_of(env, receiver), first_or_false(hs)).value();
+    let outcome = StmtOutcome::Meets {
+        collective: collective(place, CollKind::Exchange),
         deposit: Deposit::One(value),
-        todo: Todo::Taking { grid, next: 0 },
+        resume: Resume::Taking { grid, next: 0 },
     };
-    Ok((meets, answers))
+    Ok((outcome, answers))
 }

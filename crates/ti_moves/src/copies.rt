@@ -15,29 +15,32 @@ ghost use Rattle.ti_lang.specs.Meaning.Moves as move;
 ghost use Rattle.ti_lang.specs.Meaning.Copies as copying;
 ghost use Rattle.ti_eval.specs.Comes.{ComesAs};
 ghost use Rattle.ti_eval.specs.Envs.{env_of};
-ghost use Rattle.ti_moves.specs.Moves.{move_of};
+ghost use Rattle.ti_moves.specs.Outcomes.{outcome_of};
 
-use crate::moves::Move;
-use crate::statements::goes;
-use crate::things::{first, needed};
+use crate::outcomes::StmtOutcome;
+use crate::references::{first_or_false, require_reference};
+use crate::statements::continue_with;
 use std::alloc::Global;
 use ti_base::{Action, Id, Place, Point, Rect, Value};
-use ti_eval::{Copy, Env, Held, Stop, Todo, Told, asked, element_at, evaluate, evaluate_all};
+use ti_eval::{
+    CanonicalAnswer, Copy, Env, Interrupt, Resume, VarValue, element_at, evaluate, evaluate_all,
+    request,
+};
 use ti_lang::program::Expr;
 use ti_rect::rect_meet;
 
 // ---- copies
 
 // The intersection of two rectangular domains; if they have different numbers of dimensions, a value without points.
-fn common(r: &Rect, s: &Rect) -> Held
-    requires first { IsRect r.now }
-    requires second { IsRect s.now }
-    ensures { points_in result ≡ copying.common_points r.now s.now }
+fn common_domain(rect: &Rect, other: &Rect) -> VarValue
+    requires first { IsRect rect.now }
+    requires second { IsRect other.now }
+    ensures { points_in result ≡ copying.common_points rect.now other.now }
 {
-    if r.dim == s.dim {
-        Held::plain(Value::Rc(rect_meet(r, s)))
+    if rect.dim == other.dim {
+        VarValue::plain(Value::Rc(rect_meet(rect, other)))
     } else {
-        Held::truth(false)
+        VarValue::boolean(false)
     }
 }
 
@@ -46,24 +49,24 @@ fn common(r: &Rect, s: &Rect) -> Held
 pub fn copies<'a, 'c>(
     alloc: Global,
     env: &Env,
-    at: Place,
+    place: Place,
     receiver: &Expr,
     args: &[Expr],
-    answers: &'a [Told],
-) -> Result<(Move<'c>, &'a [Told]), Stop>
-    ensures { (name : ℕ) → ComesAs (move_of (env_of env.now) (stm.Call
-        (exp.member at (expression_of receiver.now) name (map expression_of args.now)))) result
-        (copying.copies (env_of env.now) at (expression_of receiver.now) (numbered_exps (map expression_of args.now)) answers.now) }
+    answers: &'a [CanonicalAnswer],
+) -> Result<(StmtOutcome<'c>, &'a [CanonicalAnswer]), Interrupt>
+    ensures { (name : ℕ) → ComesAs (outcome_of (env_of env.now) (stm.Call
+        (exp.member place (expression_of receiver.now) name (map expression_of args.now)))) result
+        (copying.copies (env_of env.now) place (expression_of receiver.now) (numbered_exps (map expression_of args.now)) answers.now) }
 {
     let (h, answers) = evaluate(alloc, env, receiver, answers)?;
     let (hs, answers) = evaluate_all(alloc, env, args, answers)?;
-    let (to, answers) = needed(at, &h, answers)?;
-    let (from, answers) = needed(at, &first(hs), answers)?;
-    let (d, answers) = asked(at, Action::DomainOf { grid: to }, answers)?;
-    let (e, answers) = asked(at, Action::DomainOf { grid: from }, answers)?;
-    let domain = common(&d.rect(), &e.rect());
+    let (to, answers) = require_reference(place, &h, answers)?;
+    let (from, answers) = require_reference(place, &first_or_false(hs), answers)?;
+    let (d, answers) = request(place, Action::DomainOf { grid: to }, answers)?;
+    let (e, answers) = request(place, Action::DomainOf { grid: from }, answers)?;
+    let domain = common_domain(&d.rect(), &e.rect());
     let copy = Box::new(alloc, Copy { to, from, domain })?;
-    Ok((goes(Todo::Copying { copy, last: None }), answers))
+    Ok((continue_with(Resume::Copying { copy, last: None }), answers))
 }
 
 // ---- elements
@@ -71,45 +74,52 @@ pub fn copies<'a, 'c>(
 /// Copies the element at a point from one grid to the other.
 #[tactic(auto, using(ti_eval::proofs::Lemmas::steps))]
 pub fn copy_element<'a>(
-    at: Place,
+    place: Place,
     to: Id,
     from: Id,
-    p: Point,
-    answers: &'a [Told],
-) -> Result<((), &'a [Told]), Stop>
+    point: Point,
+    answers: &'a [CanonicalAnswer],
+) -> Result<((), &'a [CanonicalAnswer]), Interrupt>
     ensures { (env : Where) (t u : ValueType) (ps : List At) → ComesAs
-        (λ done. move.Goes env.variables (CopyAll at (record { thing = to; type = t }) (record { thing = from; type = u }) ps ∷ [])) result
-        (copying.copied env at (record { thing = to; type = t }) (record { thing = from; type = u }) (p ∷ ps) answers.now) }
+        (λ done. move.Goes env.variables (CopyAll place (record { thing = to; type = t }) (record { thing = from; type = u }) ps ∷ [])) result
+        (copying.copied env place (record { thing = to; type = t }) (record { thing = from; type = u }) (point ∷ ps) answers.now) }
 {
-    let (h, answers) = asked(at, Action::GetElem { grid: from, at: p }, answers)?;
+    let (h, answers) = request(
+        place,
+        Action::GetElem {
+            grid: from,
+            at: point,
+        },
+        answers,
+    )?;
     let action = Action::PutElem {
         grid: to,
-        at: p,
+        at: point,
         value: h.value(),
     };
-    let (_, answers) = asked(at, action, answers)?;
+    let (_, answers) = request(place, action, answers)?;
     Ok(((), answers))
 }
 
 /// Takes the value of a process and writes it into the grid.
 #[tactic(auto, using(ti_eval::proofs::Lemmas::steps))]
 pub fn take_element<'a>(
-    at: Place,
+    place: Place,
     grid: Id,
     number: u32,
-    answers: &'a [Told],
-) -> Result<((), &'a [Told]), Stop>
+    answers: &'a [CanonicalAnswer],
+) -> Result<((), &'a [CanonicalAnswer]), Interrupt>
     requires { number < 2 ^ 31 }
     ensures { (env : Where) (t : ValueType) (is : List ℕ) → ComesAs
-        (λ done. move.Goes env.variables (TakeAll at (record { thing = grid; type = t }) is ∷ [])) result
-        (copying.taken env at (record { thing = grid; type = t }) (number ∷ is) answers.now) }
+        (λ done. move.Goes env.variables (TakeAll place (record { thing = grid; type = t }) is ∷ [])) result
+        (copying.taken env place (record { thing = grid; type = t }) (number ∷ is) answers.now) }
 {
-    let (h, answers) = asked(at, Action::Take { who: number }, answers)?;
+    let (h, answers) = request(place, Action::Take { who: number }, answers)?;
     let action = Action::PutElem {
         grid,
         at: element_at(number),
         value: h.value(),
     };
-    let (_, answers) = asked(at, action, answers)?;
+    let (_, answers) = request(place, action, answers)?;
     Ok(((), answers))
 }

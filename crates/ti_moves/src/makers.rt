@@ -9,7 +9,7 @@ ghost use Rattle.ti_eval.specs.Envs.{env_of};
 
 use std::alloc::Global;
 use ti_base::{Action, Place};
-use ti_eval::{Env, Held, Stop, Told, asked, evaluate, rectangle};
+use ti_eval::{CanonicalAnswer, Env, Interrupt, VarValue, evaluate, rectangle, request};
 use ti_lang::program::{Dims, Expr, Ty};
 use ti_lang::typing::zero_of_type;
 
@@ -21,8 +21,8 @@ fn region_for<'a>(
     alloc: Global,
     env: &Env,
     region: &Option<Expr>,
-    answers: &'a [Told],
-) -> Result<(u32, &'a [Told]), Stop>
+    answers: &'a [CanonicalAnswer],
+) -> Result<(u32, &'a [CanonicalAnswer]), Interrupt>
     ensures { Comes result (makers.region_for (env_of env.now) (maybe_of expression_of region.now) answers.now) }
 {
     match region {
@@ -41,15 +41,15 @@ fn region_for<'a>(
 pub fn new_object<'a>(
     alloc: Global,
     env: &Env,
-    at: Place,
+    place: Place,
     region: &Option<Expr>,
     class: u32,
-    answers: &'a [Told],
-) -> Result<(Held, &'a [Told]), Stop>
-    ensures { Comes result (makers.new_object (env_of env.now) at (maybe_of expression_of region.now) class answers.now) }
+    answers: &'a [CanonicalAnswer],
+) -> Result<(VarValue, &'a [CanonicalAnswer]), Interrupt>
+    ensures { Comes result (makers.new_object (env_of env.now) place (maybe_of expression_of region.now) class answers.now) }
 {
     let (region, answers) = region_for(alloc, env, region, answers)?;
-    asked(at, Action::NewObj { class, region }, answers)
+    request(place, Action::NewObj { class, region }, answers)
 }
 
 // ---- grids
@@ -58,15 +58,15 @@ pub fn new_object<'a>(
 fn spread<'a>(
     alloc: Global,
     env: &Env,
-    at: Place,
+    place: Place,
     dims: &Dims,
-    answers: &'a [Told],
-) -> Result<(Held, &'a [Told]), Stop>
-    ensures { Comes result (makers.spread (env_of env.now) at (extent_of dims.now) answers.now) }
+    answers: &'a [CanonicalAnswer],
+) -> Result<(VarValue, &'a [CanonicalAnswer]), Interrupt>
+    ensures { Comes result (makers.spread (env_of env.now) place (extent_of dims.now) answers.now) }
 {
     match dims {
         Dims::Domain(x) => evaluate(alloc, env, x, answers),
-        Dims::Ranges(ranges) => rectangle(alloc, env, at, ranges, answers),
+        Dims::Ranges(ranges) => rectangle(alloc, env, place, ranges, answers),
     }
 }
 
@@ -75,19 +75,19 @@ fn spread<'a>(
 pub fn new_grid<'a>(
     alloc: Global,
     env: &Env,
-    at: Place,
+    place: Place,
     region: &Option<Expr>,
     element: &Ty,
     bracket: Place,
     dims: &Dims,
-    answers: &'a [Told],
-) -> Result<(Held, &'a [Told]), Stop>
-    ensures { Comes result (makers.new_grid (env_of env.now) at (maybe_of expression_of region.now) (value_type_of element.now) bracket
+    answers: &'a [CanonicalAnswer],
+) -> Result<(VarValue, &'a [CanonicalAnswer]), Interrupt>
+    ensures { Comes result (makers.new_grid (env_of env.now) place (maybe_of expression_of region.now) (value_type_of element.now) bracket
         (extent_of dims.now) answers.now) }
 {
     let (region, answers) = region_for(alloc, env, region, answers)?;
     let (h, answers) = spread(alloc, env, bracket, dims, answers)?;
     let zero = zero_of_type(element);
     let dom = h.rect();
-    asked(at, Action::NewGrid { zero, dom, region }, answers)
+    request(place, Action::NewGrid { zero, dom, region }, answers)
 }

@@ -15,7 +15,7 @@ ghost use Rattle.ti_lang.specs.Program.Statements as stm;
 ghost use Rattle.ti_lang.specs.Program.Views.{expression_of, initial_of, statement_of, value_type_of};
 ghost use Rattle.ti_lang.specs.Typing.Declared.{result_type};
 ghost use Rattle.ti_lang.specs.Meaning.Held.{Held as Seen, Plain};
-ghost use Rattle.ti_lang.specs.Meaning.Asking.{Got, followed, gives};
+ghost use Rattle.ti_lang.specs.Meaning.Comp.{CompResult, bind_result, gives};
 ghost use Rattle.ti_lang.specs.Meaning.Conversions as conversions;
 ghost use Rattle.ti_lang.specs.Meaning.Processes.{Nowhere, Do};
 ghost use Rattle.ti_lang.specs.Meaning.Scoping.{Env as Where};
@@ -28,65 +28,73 @@ ghost use Rattle.ti_lang.specs.Meaning.Moves as move;
 ghost use Rattle.ti_lang.specs.Meaning.Statements as statements;
 ghost use Rattle.ti_eval.specs.Comes.{Comes, ComesAs};
 ghost use Rattle.ti_eval.specs.Envs.{env_of};
-ghost use Rattle.ti_eval.specs.Frames.{Site, method_seen, work_of};
-ghost use Rattle.ti_moves.specs.Moves.{move_of, site_in, works_of, type_received, type_given};
+ghost use Rattle.ti_eval.specs.Frames.{MethodContext, method_seen, work_of};
+ghost use Rattle.ti_moves.specs.Outcomes.{outcome_of, context_in, works_of, type_received, type_given};
 ghost use Rattle.ti_moves.specs.Receiving.{stm_seen, receiver_of};
 
-use crate::calls::{called, calling};
-use crate::collectives::{broadcasts, delete, exchanges, makes_region, meets};
+use crate::assign::{Dest, RightSide, dest_at, store_value};
+use crate::calls::{call_of, call_outcome};
+use crate::collectives::{barrier, broadcasts, delete, exchanges, makes_region};
 use crate::copies::copies;
 use crate::makers::{new_grid, new_object};
-use crate::moves::{Change, Left, Move};
-use crate::prints::printed;
-use crate::receiving::{Receiver, Right, receiver_at, receives};
+use crate::outcomes::{Continuation, StmtOutcome, VarUpdate};
+use crate::prints::print_outcome;
 use std::alloc::Global;
 use ti_base::{Place, Value};
-use ti_eval::{Env, Held, Part, Stop, Todo, Told, called_member, converted, evaluate};
+use ti_eval::{
+    CanonicalAnswer, ChildIndex, Env, Interrupt, Resume, VarValue, called_member, coerce, evaluate,
+};
 use ti_lang::program::{Expr, Init, Method, ResultType, Stmt, Ty};
 use ti_lang::typing::BuiltIn;
 
 /// The outcome of a statement that continues with this pending work and changes no variable.
-pub fn goes<'c>(todo: Todo) -> Move<'c>
-    ensures { (env : Where) (x : NumberedStm) → move_of env x result ≡ move.Goes env.variables (work_of (site_in env) x todo) }
+pub fn continue_with<'c>(resume: Resume) -> StmtOutcome<'c>
+    ensures { (env : Where) (x : NumberedStm) → outcome_of env x result ≡ move.Goes env.variables (work_of (context_in env) x resume) }
 {
-    Move::Goes(Change::Same, Left::Of(todo))
+    StmtOutcome::Goes(VarUpdate::Same, Continuation::Own(resume))
 }
 
 // ---- right sides
 
 // An expression as a right side: a call leads into the method, the value of another expression is stored.
-fn valued<'a, 'c>(
+fn store_or_call<'a, 'c>(
     alloc: Global,
     env: &Env,
-    s: &'c Stmt,
-    e: &Expr,
-    answers: &'a [Told],
-) -> Result<(Move<'c>, &'a [Told]), Stop>
-    ensures { ComesAs (move_of (env_of env.now) (statement_of s.now)) result
-        (statements.valued_or_called (env_of env.now) (receiver_of (statement_of s.now)) (expression_of e.now)
-        (called_spec (env_of env.now) (expression_of e.now)) answers.now) }
+    stmt: &'c Stmt,
+    expr: &Expr,
+    answers: &'a [CanonicalAnswer],
+) -> Result<(StmtOutcome<'c>, &'a [CanonicalAnswer]), Interrupt>
+    ensures { ComesAs (outcome_of (env_of env.now) (statement_of stmt.now)) result
+        (statements.valued_or_called (env_of env.now) (receiver_of (statement_of stmt.now)) (expression_of expr.now)
+        (called_spec (env_of env.now) (expression_of expr.now)) answers.now) }
 {
-    match called(env, e) {
-        Some(call) => calling(alloc, env, call, answers),
-        None => receives(alloc, env, receiver_at(Some(s)), Right::Value(e), answers),
+    match call_of(env, expr) {
+        Some(call) => call_outcome(alloc, env, call, answers),
+        None => store_value(
+            alloc,
+            env,
+            dest_at(Some(stmt)),
+            RightSide::Value(expr),
+            answers,
+        ),
     }
 }
 
 // The right side of a declaration or an assignment.
 #[tactic(auto, using(ti_eval::proofs::Lemmas::steps))]
-fn initialized<'a, 'c>(
+fn store_init<'a, 'c>(
     alloc: Global,
     env: &Env,
-    s: &'c Stmt,
+    stmt: &'c Stmt,
     value: &Init,
-    answers: &'a [Told],
-) -> Result<(Move<'c>, &'a [Told]), Stop>
-    requires { type_received (env_of env.now) (statement_of s.now) ≡ type_given (env_of env.now) (initial_of value.now) }
-    ensures { ComesAs (move_of (env_of env.now) (statement_of s.now)) result
-        (statements.initialized (env_of env.now) (receiver_of (statement_of s.now)) (initial_of value.now) answers.now) }
+    answers: &'a [CanonicalAnswer],
+) -> Result<(StmtOutcome<'c>, &'a [CanonicalAnswer]), Interrupt>
+    requires { type_received (env_of env.now) (statement_of stmt.now) ≡ type_given (env_of env.now) (initial_of value.now) }
+    ensures { ComesAs (outcome_of (env_of env.now) (statement_of stmt.now)) result
+        (statements.initialized (env_of env.now) (receiver_of (statement_of stmt.now)) (initial_of value.now) answers.now) }
 {
     match value {
-        Init::Value(e) => valued(alloc, env, s, e, answers),
+        Init::Value(e) => store_or_call(alloc, env, stmt, e, answers),
         Init::NewRegion(place) => Ok((makes_region(*place), answers)),
         Init::NewObject {
             place,
@@ -94,7 +102,7 @@ fn initialized<'a, 'c>(
             class,
         } => {
             let (h, answers) = new_object(alloc, env, *place, region, *class, answers)?;
-            received(alloc, env, Some(s), &h, answers)
+            store_received(alloc, env, Some(stmt), &h, answers)
         }
         Init::NewGrid {
             place,
@@ -113,7 +121,7 @@ fn initialized<'a, 'c>(
                 dims,
                 answers,
             )?;
-            received(alloc, env, Some(s), &h, answers)
+            store_received(alloc, env, Some(stmt), &h, answers)
         }
         Init::Broadcast { place, value, root } => {
             broadcasts(alloc, env, *place, value, root, answers)
@@ -124,79 +132,79 @@ fn initialized<'a, 'c>(
 // ---- expression statements
 
 // An expression whose value is dropped.
-fn dropped<'a, 'c>(
+fn evaluate_and_drop<'a, 'c>(
     alloc: Global,
     env: &Env,
-    e: &Expr,
-    answers: &'a [Told],
-) -> Result<(Move<'c>, &'a [Told]), Stop>
-    ensures { (x : NumberedStm) → ComesAs (move_of (env_of env.now) x) result
-        (receives_spec (env_of env.now) Nowhere (eval (env_of env.now) (expression_of e.now)) answers.now) }
+    expr: &Expr,
+    answers: &'a [CanonicalAnswer],
+) -> Result<(StmtOutcome<'c>, &'a [CanonicalAnswer]), Interrupt>
+    ensures { (x : NumberedStm) → ComesAs (outcome_of (env_of env.now) x) result
+        (receives_spec (env_of env.now) Nowhere (eval (env_of env.now) (expression_of expr.now)) answers.now) }
 {
-    receives(alloc, env, Receiver::Nowhere, Right::Value(e), answers)
+    store_value(alloc, env, Dest::Nowhere, RightSide::Value(expr), answers)
 }
 
 // A member call; copy, exchange and delete have no value, the value of another member is dropped.
-fn member_alone<'a, 'c>(
+fn member_stmt<'a, 'c>(
     alloc: Global,
     env: &Env,
-    e: &Expr,
-    at: Place,
+    expr: &Expr,
+    place: Place,
     receiver: &Expr,
     name: u32,
     args: &[Expr],
-    answers: &'a [Told],
-) -> Result<(Move<'c>, &'a [Told]), Stop>
-    requires { expression_of e.now ≡ exp.member at (expression_of receiver.now) name (map expression_of args.now) }
-    ensures { ComesAs (move_of (env_of env.now) (stm.Call (expression_of e.now))) result
-        (statements.alone (env_of env.now) (expression_of e.now) None answers.now) }
+    answers: &'a [CanonicalAnswer],
+) -> Result<(StmtOutcome<'c>, &'a [CanonicalAnswer]), Interrupt>
+    requires { expression_of expr.now ≡ exp.member place (expression_of receiver.now) name (map expression_of args.now) }
+    ensures { ComesAs (outcome_of (env_of env.now) (stm.Call (expression_of expr.now))) result
+        (statements.alone (env_of env.now) (expression_of expr.now) None answers.now) }
 {
     match called_member(env, receiver, name) {
         Some(member) => match member {
-            BuiltIn::Copy => copies(alloc, env, at, receiver, args, answers),
-            BuiltIn::Exchange => exchanges(alloc, env, at, receiver, args, answers),
-            BuiltIn::Delete => delete(alloc, env, at, receiver, answers),
-            _ => dropped(alloc, env, e, answers),
+            BuiltIn::Copy => copies(alloc, env, place, receiver, args, answers),
+            BuiltIn::Exchange => exchanges(alloc, env, place, receiver, args, answers),
+            BuiltIn::Delete => delete(alloc, env, place, receiver, answers),
+            _ => evaluate_and_drop(alloc, env, expr, answers),
         },
-        None => dropped(alloc, env, e, answers),
+        None => evaluate_and_drop(alloc, env, expr, answers),
     }
 }
 
 // An expression statement that calls no declared method.
 #[tactic(auto, using(ti_lang::proofs::Lemmas::program_bridges))]
-fn uncalled<'a, 'c>(
+fn plain_expr_stmt<'a, 'c>(
     alloc: Global,
     env: &Env,
-    e: &Expr,
-    answers: &'a [Told],
-) -> Result<(Move<'c>, &'a [Told]), Stop>
-    ensures { ComesAs (move_of (env_of env.now) (stm.Call (expression_of e.now))) result
-        (statements.alone (env_of env.now) (expression_of e.now) None answers.now) }
+    expr: &Expr,
+    answers: &'a [CanonicalAnswer],
+) -> Result<(StmtOutcome<'c>, &'a [CanonicalAnswer]), Interrupt>
+    ensures { ComesAs (outcome_of (env_of env.now) (stm.Call (expression_of expr.now))) result
+        (statements.alone (env_of env.now) (expression_of expr.now) None answers.now) }
 {
-    match e {
+    match expr {
         Expr::Member {
             place,
             receiver,
             name,
             args,
-        } => member_alone(alloc, env, e, *place, receiver, *name, args, answers),
-        _ => dropped(alloc, env, e, answers),
+        } => member_stmt(alloc, env, expr, *place, receiver, *name, args, answers),
+        _ => evaluate_and_drop(alloc, env, expr, answers),
     }
 }
 
 // An expression statement.
-fn alone<'a, 'c>(
+fn expr_stmt<'a, 'c>(
     alloc: Global,
     env: &Env,
-    e: &Expr,
-    answers: &'a [Told],
-) -> Result<(Move<'c>, &'a [Told]), Stop>
-    ensures { ComesAs (move_of (env_of env.now) (stm.Call (expression_of e.now))) result
-        (statements.alone (env_of env.now) (expression_of e.now) (called_spec (env_of env.now) (expression_of e.now)) answers.now) }
+    expr: &Expr,
+    answers: &'a [CanonicalAnswer],
+) -> Result<(StmtOutcome<'c>, &'a [CanonicalAnswer]), Interrupt>
+    ensures { ComesAs (outcome_of (env_of env.now) (stm.Call (expression_of expr.now))) result
+        (statements.alone (env_of env.now) (expression_of expr.now) (called_spec (env_of env.now) (expression_of expr.now)) answers.now) }
 {
-    match called(env, e) {
-        Some(call) => calling(alloc, env, call, answers),
-        None => uncalled(alloc, env, e, answers),
+    match call_of(env, expr) {
+        Some(call) => call_outcome(alloc, env, call, answers),
+        None => plain_expr_stmt(alloc, env, expr, answers),
     }
 }
 
@@ -219,15 +227,15 @@ fn result_in<'a>(method: Option<&'a Method>) -> Option<&'a Ty>
 fn as_result<'a>(
     alloc: Global,
     env: &Env,
-    at: Place,
-    h: Held,
-    answers: &'a [Told],
-) -> Result<(Held, &'a [Told]), Stop>
-    ensures { Comes result (conversions.converted at (result_type (env_of env.now).method) h answers.now) }
+    place: Place,
+    value: VarValue,
+    answers: &'a [CanonicalAnswer],
+) -> Result<(VarValue, &'a [CanonicalAnswer]), Interrupt>
+    ensures { Comes result (conversions.converted place (result_type (env_of env.now).method) value answers.now) }
 {
     match result_in(env.method) {
-        Some(t) => converted(alloc, at, t, h, answers),
-        None => Ok((h, answers)),
+        Some(t) => coerce(alloc, place, t, value, answers),
+        None => Ok((value, answers)),
     }
 }
 
@@ -236,38 +244,38 @@ fn as_result<'a>(
 pub fn returns<'a, 'c>(
     alloc: Global,
     env: &Env,
-    at: Place,
+    place: Place,
     value: &Option<Expr>,
-    answers: &'a [Told],
-) -> Result<(Move<'c>, &'a [Told]), Stop>
-    ensures { (x : NumberedStm) → ComesAs (move_of (env_of env.now) x) result
-        (statements.returns (env_of env.now) at (maybe_of expression_of value.now) answers.now) }
+    answers: &'a [CanonicalAnswer],
+) -> Result<(StmtOutcome<'c>, &'a [CanonicalAnswer]), Interrupt>
+    ensures { (x : NumberedStm) → ComesAs (outcome_of (env_of env.now) x) result
+        (statements.returns (env_of env.now) place (maybe_of expression_of value.now) answers.now) }
 {
     match value {
         Some(e) => {
             let (h, answers) = evaluate(alloc, env, e, answers)?;
-            let (k, answers) = as_result(alloc, env, at, h, answers)?;
-            Ok((Move::Returns(Some(k)), answers))
+            let (k, answers) = as_result(alloc, env, place, h, answers)?;
+            Ok((StmtOutcome::Returns(Some(k)), answers))
         }
-        None => Ok((Move::Returns(None), answers)),
+        None => Ok((StmtOutcome::Returns(None), answers)),
     }
 }
 
 // ---- branches and loops
 
 // The pending work of an `if`, with `else` or without, after its condition.
-fn branch(taken: bool, with_else: bool) -> Left
-    ensures alone { with_else ≡ false → (site : Site) (at : At) (c : NumberedExp) (x : NumberedStm) → works_of site (stm.If at c x) result
+fn branch(taken: bool, with_else: bool) -> Continuation
+    ensures alone { with_else ≡ false → (site : MethodContext) (at : At) (c : NumberedExp) (x : NumberedStm) → works_of site (stm.If at c x) result
         ≡ (if taken then Do x ∷ [] else []) }
-    ensures both { with_else ≡ true → (site : Site) (at : At) (c : NumberedExp) (x y : NumberedStm)
+    ensures both { with_else ≡ true → (site : MethodContext) (at : At) (c : NumberedExp) (x y : NumberedStm)
         → works_of site (stm.IfElse at c x y) result ≡ Do (if taken then x else y) ∷ [] }
 {
     if taken {
-        Left::Part(Part::Then, Todo::Inside)
+        Continuation::Child(ChildIndex::Then, Resume::Inside)
     } else if with_else {
-        Left::Part(Part::Else, Todo::Inside)
+        Continuation::Child(ChildIndex::Else, Resume::Inside)
     } else {
-        Left::Of(Todo::Inside)
+        Continuation::Own(Resume::Inside)
     }
 }
 
@@ -278,18 +286,18 @@ fn branches<'a, 'c>(
     env: &Env,
     condition: &Expr,
     with_else: bool,
-    answers: &'a [Told],
-) -> Result<(Move<'c>, &'a [Told]), Stop>
+    answers: &'a [CanonicalAnswer],
+) -> Result<(StmtOutcome<'c>, &'a [CanonicalAnswer]), Interrupt>
     ensures alone { with_else ≡ false → (at : At) (x : NumberedStm)
-        → ComesAs (move_of (env_of env.now) (stm.If at (expression_of condition.now) x)) result
+        → ComesAs (outcome_of (env_of env.now) (stm.If at (expression_of condition.now) x)) result
         (statements.statement (env_of env.now) (stm.If at (expression_of condition.now) x) answers.now) }
     ensures both { with_else ≡ true → (at : At) (x y : NumberedStm)
-        → ComesAs (move_of (env_of env.now) (stm.IfElse at (expression_of condition.now) x y)) result
+        → ComesAs (outcome_of (env_of env.now) (stm.IfElse at (expression_of condition.now) x y)) result
         (statements.statement (env_of env.now) (stm.IfElse at (expression_of condition.now) x y) answers.now) }
 {
     let (h, answers) = evaluate(alloc, env, condition, answers)?;
     let left = branch(h.is_true(), with_else);
-    Ok((Move::Goes(Change::Same, left), answers))
+    Ok((StmtOutcome::Goes(VarUpdate::Same, left), answers))
 }
 
 // `foreach`, before its first iteration.
@@ -299,18 +307,18 @@ fn foreach<'a, 'c>(
     env: &Env,
     variable: u32,
     domain: &Expr,
-    answers: &'a [Told],
-) -> Result<(Move<'c>, &'a [Told]), Stop>
-    ensures { (at : At) (body : NumberedStm) → ComesAs (move_of (env_of env.now) (stm.Foreach at variable (expression_of domain.now) body))
+    answers: &'a [CanonicalAnswer],
+) -> Result<(StmtOutcome<'c>, &'a [CanonicalAnswer]), Interrupt>
+    ensures { (at : At) (body : NumberedStm) → ComesAs (outcome_of (env_of env.now) (stm.Foreach at variable (expression_of domain.now) body))
         result (statements.statement (env_of env.now) (stm.Foreach at variable (expression_of domain.now) body) answers.now) }
 {
     let (domain, answers) = evaluate(alloc, env, domain, answers)?;
-    let todo = Todo::Each {
+    let resume = Resume::Each {
         variable,
         domain: Box::new(alloc, domain)?,
         last: None,
     };
-    Ok((goes(todo), answers))
+    Ok((continue_with(resume), answers))
 }
 
 // ---- statements
@@ -319,40 +327,40 @@ fn foreach<'a, 'c>(
 fn step<'a, 'c>(
     alloc: Global,
     env: &Env,
-    s: &'c Stmt,
-    answers: &'a [Told],
-) -> Result<(Move<'c>, &'a [Told]), Stop>
-    ensures { ComesAs (move_of (env_of env.now) (statement_of s.now)) result
-        (receives_spec (env_of env.now) (receiver_of (statement_of s.now)) (gives (Plain (Int (pos 1)))) answers.now) }
+    stmt: &'c Stmt,
+    answers: &'a [CanonicalAnswer],
+) -> Result<(StmtOutcome<'c>, &'a [CanonicalAnswer]), Interrupt>
+    ensures { ComesAs (outcome_of (env_of env.now) (statement_of stmt.now)) result
+        (receives_spec (env_of env.now) (receiver_of (statement_of stmt.now)) (gives (Plain (Int (pos 1)))) answers.now) }
 {
-    let one = Held::plain(Value::Int(1));
-    received(alloc, env, Some(s), &one, answers)
+    let one = VarValue::plain(Value::Int(1));
+    store_received(alloc, env, Some(stmt), &one, answers)
 }
 
 // A statement that exists.
 #[tactic(auto, using(crate::proofs::Coming::before_list))]
-fn present<'a, 'c>(
+fn execute<'a, 'c>(
     alloc: Global,
     env: &Env,
-    s: &'c Stmt,
-    answers: &'a [Told],
-) -> Result<(Move<'c>, &'a [Told]), Stop>
-    ensures { ComesAs (move_of (env_of env.now) (statement_of s.now)) result
-        (statements.statement (env_of env.now) (statement_of s.now) answers.now) }
+    stmt: &'c Stmt,
+    answers: &'a [CanonicalAnswer],
+) -> Result<(StmtOutcome<'c>, &'a [CanonicalAnswer]), Interrupt>
+    ensures { ComesAs (outcome_of (env_of env.now) (statement_of stmt.now)) result
+        (statements.statement (env_of env.now) (statement_of stmt.now) answers.now) }
 {
-    match s {
-        Stmt::Empty => Ok((goes(Todo::Inside), answers)),
-        Stmt::Declare { value, .. } => initialized(alloc, env, s, value, answers),
-        Stmt::Assign { value, .. } => initialized(alloc, env, s, value, answers),
-        Stmt::Update { value, .. } => valued(alloc, env, s, value, answers),
-        Stmt::Step { .. } => step(alloc, env, s, answers),
-        Stmt::Call(e) => alone(alloc, env, e, answers),
-        Stmt::Print(place, what) => printed(alloc, env, *place, what, answers),
-        Stmt::Barrier(place) => Ok((meets(*place), answers)),
-        Stmt::Break(_) => Ok((Move::Breaks, answers)),
-        Stmt::Continue(_) => Ok((Move::Continues, answers)),
+    match stmt {
+        Stmt::Empty => Ok((continue_with(Resume::Inside), answers)),
+        Stmt::Declare { value, .. } => store_init(alloc, env, stmt, value, answers),
+        Stmt::Assign { value, .. } => store_init(alloc, env, stmt, value, answers),
+        Stmt::Update { value, .. } => store_or_call(alloc, env, stmt, value, answers),
+        Stmt::Step { .. } => step(alloc, env, stmt, answers),
+        Stmt::Call(e) => expr_stmt(alloc, env, e, answers),
+        Stmt::Print(place, what) => print_outcome(alloc, env, *place, what, answers),
+        Stmt::Barrier(place) => Ok((barrier(*place), answers)),
+        Stmt::Break(_) => Ok((StmtOutcome::Breaks, answers)),
+        Stmt::Continue(_) => Ok((StmtOutcome::Continues, answers)),
         Stmt::Return(place, value) => returns(alloc, env, *place, value, answers),
-        Stmt::Block(_) => Ok((goes(Todo::From(0)), answers)),
+        Stmt::Block(_) => Ok((continue_with(Resume::From(0)), answers)),
         Stmt::If {
             condition,
             otherwise,
@@ -361,12 +369,15 @@ fn present<'a, 'c>(
             Some(_) => branches(alloc, env, condition, true, answers),
             None => branches(alloc, env, condition, false, answers),
         },
-        Stmt::While { .. } => Ok((goes(Todo::Before), answers)),
+        Stmt::While { .. } => Ok((continue_with(Resume::Before), answers)),
         Stmt::For { first: Some(_), .. } => Ok((
-            Move::Goes(Change::Same, Left::Part(Part::First, Todo::Before)),
+            StmtOutcome::Goes(
+                VarUpdate::Same,
+                Continuation::Child(ChildIndex::First, Resume::Before),
+            ),
             answers,
         )),
-        Stmt::For { first: None, .. } => Ok((goes(Todo::Before), answers)),
+        Stmt::For { first: None, .. } => Ok((continue_with(Resume::Before), answers)),
         Stmt::Foreach {
             variable,
             domain,
@@ -379,28 +390,28 @@ fn present<'a, 'c>(
 pub fn statement<'a, 'c>(
     alloc: Global,
     env: &Env,
-    x: Option<&'c Stmt>,
-    answers: &'a [Told],
-) -> Result<(Move<'c>, &'a [Told]), Stop>
-    ensures { ComesAs (move_of (env_of env.now) (stm_seen x.entry)) result
-        (statements.statement (env_of env.now) (stm_seen x.entry) answers.now) }
+    stmt: Option<&'c Stmt>,
+    answers: &'a [CanonicalAnswer],
+) -> Result<(StmtOutcome<'c>, &'a [CanonicalAnswer]), Interrupt>
+    ensures { ComesAs (outcome_of (env_of env.now) (stm_seen stmt.entry)) result
+        (statements.statement (env_of env.now) (stm_seen stmt.entry) answers.now) }
 {
-    match x {
-        Some(s) => present(alloc, env, s, answers),
-        None => Ok((goes(Todo::Inside), answers)),
+    match stmt {
+        Some(s) => execute(alloc, env, s, answers),
+        None => Ok((continue_with(Resume::Inside), answers)),
     }
 }
 
 /// The outcome of a statement that has received the value of a call or a collective: the value is stored.
-pub fn received<'a, 'c>(
+pub fn store_received<'a, 'c>(
     alloc: Global,
     env: &Env,
-    x: Option<&'c Stmt>,
-    h: &Held,
-    answers: &'a [Told],
-) -> Result<(Move<'c>, &'a [Told]), Stop>
-    ensures { ComesAs (move_of (env_of env.now) (stm_seen x.entry)) result
-        (receives_spec (env_of env.now) (receiver_of (stm_seen x.entry)) (gives h.now) answers.now) }
+    stmt: Option<&'c Stmt>,
+    value: &VarValue,
+    answers: &'a [CanonicalAnswer],
+) -> Result<(StmtOutcome<'c>, &'a [CanonicalAnswer]), Interrupt>
+    ensures { ComesAs (outcome_of (env_of env.now) (stm_seen stmt.entry)) result
+        (receives_spec (env_of env.now) (receiver_of (stm_seen stmt.entry)) (gives value.now) answers.now) }
 {
-    receives(alloc, env, receiver_at(x), Right::Known(h), answers)
+    store_value(alloc, env, dest_at(stmt), RightSide::Known(value), answers)
 }

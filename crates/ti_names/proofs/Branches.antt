@@ -16,12 +16,12 @@ use Rattle.ti_lang.specs.Program.Types.{Foreach}
 use Rattle.ti_lang.specs.Program.Views.{expression_of, statement_of}
 use Rattle.ti_syntax.specs.Trees.Expressions.{Exp}
 use Rattle.ti_syntax.specs.Trees.Statements.{Stm, MaybeStm}
-use Rattle.ti_lang.specs.Scopes.{Site, declares, literals, literals_of, past, past_maybe, behind, behind_maybe}
+use Rattle.ti_lang.specs.Scopes.{Site, declares, literals, literals_of, past, past_maybe, site_after, behind_maybe}
 use Rattle.ti_lang.specs.Nodes.{Node, node, VariableName, exp_nodes, maybe_nodes, stm_nodes, maybe_stm_nodes}
 use Rattle.ti_names.specs.Branched.{numbered_branches}
 use Rattle.ti_names.specs.Mirrors.Numbered.{number_exp, number_stm, number_maybe_stm}
 use Rattle.ti_names.specs.Seen.{tree_maybe, seen_maybe}
-use Rattle.ti_rules.specs.Mirrors.First.{sooner}
+use Rattle.ti_rules.specs.Mirrors.First.{earlier_of}
 use Rattle.ti_rules.proofs.Lemmas.{sooner_none}
 use Rattle.ti_names.specs.Found.{first_in}
 use Rattle.ti_names.proofs.Firsts.{in_none, in_append}
@@ -68,7 +68,7 @@ pub number_branches : (site : Site) (at : Place) (c : Exp) (x : Stm) (y : MaybeS
 number_branches site at c x s.NoStm = refl
 number_branches site at c x (s.SomeStm y) = refl
 
-pub behind_branches : (site : Site) (at : Place) (c : Exp) (x : Stm) (y : MaybeStm) → behind site (branches at c x y) ≡ past_maybe (past site x) y
+pub behind_branches : (site : Site) (at : Place) (c : Exp) (x : Stm) (y : MaybeStm) → site_after site (branches at c x y) ≡ past_maybe (past site x) y
 behind_branches site at c x s.NoStm = refl
 behind_branches site at c x (s.SomeStm y) = refl
 
@@ -81,13 +81,13 @@ literals_branches at c x s.NoStm = sym (append_none (literals x))
 literals_branches at c x (s.SomeStm y) = refl
 
 pub in_branches : (site : Site) (at : Place) (c : Exp) (x : Stm) (y : MaybeStm)
-    → first_in (stm_nodes site (branches at c x y)) ≡ sooner (sooner (first_in (exp_nodes site c)) (first_in (stm_nodes site x))) (first_in (maybe_stm_nodes (past site x) y))
-in_branches site at c x s.NoStm = in_append (exp_nodes site c) (stm_nodes site x) ∙ sym (sooner_none _) ∙ ap (sooner (sooner (first_in (exp_nodes site c)) (first_in (stm_nodes site x)))) (sym in_none)
+    → first_in (stm_nodes site (branches at c x y)) ≡ earlier_of (earlier_of (first_in (exp_nodes site c)) (first_in (stm_nodes site x))) (first_in (maybe_stm_nodes (past site x) y))
+in_branches site at c x s.NoStm = in_append (exp_nodes site c) (stm_nodes site x) ∙ sym (sooner_none _) ∙ ap (earlier_of (earlier_of (first_in (exp_nodes site c)) (first_in (stm_nodes site x)))) (sym in_none)
 in_branches site at c x (s.SomeStm y) =
-    in_append (exp_nodes site c ++ stm_nodes site x) (stm_nodes (past site x) y) ∙ ap (λ f. sooner f (first_in (stm_nodes (past site x) y))) (in_append (exp_nodes site c) (stm_nodes site x))
+    in_append (exp_nodes site c ++ stm_nodes site x) (stm_nodes (past site x) y) ∙ ap (λ f. earlier_of f (first_in (stm_nodes (past site x) y))) (in_append (exp_nodes site c) (stm_nodes site x))
 
 pub in_for : (site : Site) (at : Place) (first : MaybeStm) (c : Option Exp) (update : MaybeStm) (body : Stm) → first_in (stm_nodes site (s.For at first c update body))
-    ≡ sooner (sooner (sooner (first_in (maybe_stm_nodes site first)) (first_in (maybe_nodes (behind_maybe site first) c))) (first_in (maybe_stm_nodes (behind_maybe site first) update)))
+    ≡ earlier_of (earlier_of (earlier_of (first_in (maybe_stm_nodes site first)) (first_in (maybe_nodes (behind_maybe site first) c))) (first_in (maybe_stm_nodes (behind_maybe site first) update)))
     (first_in (stm_nodes (past_maybe (behind_maybe site first) update) body))
 in_for site at first c update body =
     let inside = behind_maybe site first in
@@ -95,14 +95,14 @@ in_for site at first c update body =
     let b = maybe_nodes inside c in
     let d = maybe_stm_nodes inside update in
     let e = stm_nodes (past_maybe inside update) body in
-    in_append ((a ++ b) ++ d) e ∙ ap (λ f. sooner f (first_in e)) (in_append (a ++ b) d ∙ ap (λ f. sooner f (first_in d)) (in_append a b))
+    in_append ((a ++ b) ++ d) e ∙ ap (λ f. earlier_of f (first_in e)) (in_append (a ++ b) d ∙ ap (λ f. earlier_of f (first_in d)) (in_append a b))
 
 pub in_foreach : (site : Site) (at name_at : Place) (name : List ℕ) (domain : Exp) (body : Stm) → first_in (stm_nodes site (s.Foreach at name_at name domain body))
-    ≡ sooner (sooner (first_in (node site (VariableName name_at name) ∷ [])) (first_in (exp_nodes site domain))) (first_in (stm_nodes (declares site name Foreach) body))
+    ≡ earlier_of (earlier_of (first_in (node site (VariableName name_at name) ∷ [])) (first_in (exp_nodes site domain))) (first_in (stm_nodes (declares site name Foreach) body))
 in_foreach site at name_at name domain body =
     let own : Node = node site (VariableName name_at name) in
     in_append (own ∷ exp_nodes site domain) (stm_nodes (declares site name Foreach) body)
-    ∙ ap (λ f. sooner f (first_in (stm_nodes (declares site name Foreach) body))) (in_append (own ∷ []) (exp_nodes site domain))
+    ∙ ap (λ f. earlier_of f (first_in (stm_nodes (declares site name Foreach) body))) (in_append (own ∷ []) (exp_nodes site domain))
 
 pub ruleset statement_bridges = (seen_if, seen_for, held_for, held_if, number_branches, behind_branches, in_branches, in_for)
 

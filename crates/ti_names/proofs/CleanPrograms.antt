@@ -11,7 +11,7 @@ use Rattle.ti_syntax.specs.Trees.Classes.{FieldTree, ParamTree, ParamsTree, Resu
 use Rattle.ti_lang.specs.Program.Types.{NumberedType}
 use Rattle.ti_lang.specs.Program.Expressions.{NumberedExp, NumberedExps, NumberedRange, NumberedRanges}
 use Rattle.ti_lang.specs.Program.Statements.{NumberedDims, NumberedInit, NumberedPrint, NumberedStm, MaybeNumbered, NumberedStms}
-use Rattle.ti_lang.specs.Program.Classes.{NumberedField, NumberedClass, NumberedParam, NumberedParams, NumberedResult, NumberedMethod, NumberedProgram}
+use Rattle.ti_lang.specs.Program.Classes.{NumberedField, NumberedClass, NumberedParam, NumberedParams, NumberedResult, NumberedMethod, ProgramView}
 use Rattle.ti_lang.specs.Members.{class_named, fields_in, field_named, OwnMethod, method_named}
 use Rattle.ti_lang.specs.Scopes.{Site, class_site, most_variables, IsFresh, HasRoom}
 use Rattle.ti_lang.specs.Nodes.{base_nodes, type_nodes, exp_nodes, exps_nodes, range_nodes, ranges_nodes, maybe_nodes, dims_nodes}
@@ -186,5 +186,5 @@ clean_methods NumbersMethods.none = Clean.no_nodes
 clean_methods {text} (NumbersMethods.more {number = number} {own = own} first m rest) =
     clean_append (clean_method number (once (method_named text own.class own.method.name) number own.method.place first) m) (clean_methods rest)
 
-pub clean_program : {text : TextTree} {program : NumberedProgram} → Numbers text program → Clean (nodes_of text)
+pub clean_program : {text : TextTree} {program : ProgramView} → Numbers text program → Clean (nodes_of text)
 clean_program numbers = clean_append (clean_classes numbers.classes) (clean_methods numbers.methods)

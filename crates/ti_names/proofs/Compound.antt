@@ -10,7 +10,7 @@ use Rattle.ti_lang.specs.Program.Statements as m
 use Rattle.ti_lang.specs.Scopes.{Site, past_maybe, behind_maybe}
 use Rattle.ti_lang.specs.Nodes.{maybe_nodes, stm_nodes, maybe_stm_nodes}
 use Rattle.ti_rules.specs.declared.refusal.Refusal.{Refusal}
-use Rattle.ti_rules.specs.Mirrors.First.{sooner}
+use Rattle.ti_rules.specs.Mirrors.First.{earlier_of}
 use Rattle.ti_names.specs.Found.{first_in}
 use Rattle.ti_names.specs.Mirrors.Numbered.{number_maybe, number_stm, number_maybe_stm}
 use Rattle.ti_names.proofs.Branches.{in_for}
@@ -33,9 +33,9 @@ module _ (at : Place) (first : MaybeStm) (c : Option Exp) (update : MaybeStm) (b
       λ j. m.For at (is_first j) (c_is j) (update_is j) (body_is j)
 
   pub for_first : (f1 f2 f3 f4 : Option Refusal) → f1 ≡ first_in (maybe_stm_nodes s0 first) → f2 ≡ first_in (maybe_nodes s1 c) → f3 ≡ first_in (maybe_stm_nodes s1 update)
-      → f4 ≡ first_in (stm_nodes s2 body) → sooner (sooner (sooner f1 f2) f3) f4 ≡ first_in (stm_nodes s0 (s.For at first c update body))
+      → f4 ≡ first_in (stm_nodes s2 body) → earlier_of (earlier_of (earlier_of f1 f2) f3) f4 ≡ first_in (stm_nodes s0 (s.For at first c update body))
   for_first f1 f2 f3 f4 is1 is2 is3 is4 =
       let to_2 = is2 ∙ ap (λ z. first_in (maybe_nodes z c)) to1 in
       let to_3 = is3 ∙ ap (λ z. first_in (maybe_stm_nodes z update)) to1 in
       let to_4 = is4 ∙ ap (λ z. first_in (stm_nodes z body)) last_site in
-      (λ j. sooner (sooner (sooner (is1 j) (to_2 j)) (to_3 j)) (to_4 j)) ∙ sym (in_for s0 at first c update body)
+      (λ j. earlier_of (earlier_of (earlier_of (is1 j) (to_2 j)) (to_3 j)) (to_4 j)) ∙ sym (in_for s0 at first c update body)

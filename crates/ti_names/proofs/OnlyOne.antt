@@ -10,7 +10,7 @@ use Rattle.ti_lang.specs.Program.Expressions.{NumberedExp, NumberedExps, Numbere
 use Rattle.ti_lang.specs.Program.Expressions as n
 use Rattle.ti_lang.specs.Program.Statements.{NumberedDims, NumberedInit, NumberedPrint, NumberedStm, MaybeNumbered, NumberedStms, numbered_stms}
 use Rattle.ti_lang.specs.Program.Statements as m
-use Rattle.ti_lang.specs.Program.Classes.{NumberedField, NumberedClass, NumberedParam, NumberedParams, NumberedResult, NumberedMethod, NumberedProgram}
+use Rattle.ti_lang.specs.Program.Classes.{NumberedField, NumberedClass, NumberedParam, NumberedParams, NumberedResult, NumberedMethod, ProgramView}
 use Rattle.ti_lang.specs.Program.Classes as p
 use Rattle.ti_lang.specs.Members.{OwnMethod, is_single, method_named, name_number}
 use Rattle.ti_lang.specs.Scopes.{numbered_type, Site, body_site}
@@ -187,7 +187,7 @@ only_methods (NumbersMethods.more once m rest) = let a = only_method m in let b 
 pub main_is : {text : TextTree} {number : ℕ} → HasMain text number → main_method text ≡ Some number
 main_is {text} main = ap (λ c. option_and_then (λ (class : ℕ). method_named text class (codes "main")) c) main.is_class ∙ main.is_method
 
-pub only_program : {text : TextTree} {program : NumberedProgram} → Numbers text program → program ≡ number_program text
+pub only_program : {text : TextTree} {program : ProgramView} → Numbers text program → program ≡ number_program text
 only_program {text} numbers =
     let a = only_classes numbers.classes in
     let b = only_methods numbers.methods in

@@ -4,7 +4,7 @@ use Rattle.std.specs.Map.{lookup}
 use Rattle.ti_syntax.specs.Trees.Statements.{Stm, MaybeStm, Stms}
 use Rattle.ti_syntax.specs.Trees.Statements as s
 use Rattle.ti_lang.specs.Program.Types.{VariableUse, Foreach}
-use Rattle.ti_lang.specs.Scopes.{Known, Site, with_variable, declares, past, past_maybe, past_all, past_variable, behind, behind_maybe, behind_all}
+use Rattle.ti_lang.specs.Scopes.{Known, Site, with_variable, declares, past, past_maybe, past_all, past_variable, site_after, behind_maybe, behind_all}
 
 -- the site with another scope
 abbrev pub cut : Site → List Known → Site
@@ -48,7 +48,7 @@ past_maybe_scope : (site : Site) (x : MaybeStm) → (past_maybe site x).scope �
 past_maybe_scope site x = ap (λ (z : Site). z.scope) (past_maybe_cut site site.scope x)
 
 -- without the new variables, behind a statement is as where they have left
-cut_behind : (site : Site) (c : List Known) (x : Stm) → cut (behind site x) c ≡ past (cut site c) x
+cut_behind : (site : Site) (c : List Known) (x : Stm) → cut (site_after site x) c ≡ past (cut site c) x
 cut_behind site c s.Empty = refl
 cut_behind site c (s.Declare at type name value) = refl
 cut_behind site c (s.Assign at target value) = refl
@@ -73,7 +73,7 @@ cut_behind_maybe site c (s.SomeStm x) = cut_behind site c x
 
 cut_behind_all : (site : Site) (c : List Known) (xs : Stms) → cut (behind_all site xs) c ≡ past_all (cut site c) xs
 cut_behind_all site c s.Nil = refl
-cut_behind_all site c (s.Cons x rest) = cut_behind_all (behind site x) c rest ∙ ap (λ z. past_all z rest) (cut_behind site c x)
+cut_behind_all site c (s.Cons x rest) = cut_behind_all (site_after site x) c rest ∙ ap (λ z. past_all z rest) (cut_behind site c x)
 
 -- the scope grows at its end
 Grows : List Known → List Known → Type 0
@@ -95,7 +95,7 @@ grows_with scope name v = by (is_some (lookup (bytes_eq name) scope))
     by true = grows_same scope scope refl
     by false = ((name, v) ∷ [], refl)
 
-grows_behind : (site : Site) (x : Stm) → Grows site.scope (behind site x).scope
+grows_behind : (site : Site) (x : Stm) → Grows site.scope (site_after site x).scope
 grows_behind site (s.Declare at type name value) = grows_with site.scope name _
 grows_behind site s.Empty = grows_same _ _ refl
 grows_behind site (s.Assign at target value) = grows_same _ _ refl
@@ -123,7 +123,7 @@ unfolding Grows
 grows_behind_all site s.Nil = grows_same _ _ refl
 grows_behind_all site (s.Cons x rest) =
     let one = grows_behind site x in
-    let more = grows_behind_all (behind site x) rest in
+    let more = grows_behind_all (site_after site x) rest in
     (one.0 ++ more.0, more.1 ∙ ap (λ z. z ++ more.0) one.1 ∙ append_assoc site.scope one.0 more.0)
 
 take_grown : (old new : List Known) (n : ℕ) → n ≡ length old → Grows old new → take n new ≡ old
@@ -140,9 +140,9 @@ take_grown old new n is grows = ap (λ k. take k new) is ∙ ap (take (length ol
 
 -- ---- where code takes variables out of scope
 
-pub inner_site : (site t : Site) (n : ℕ) (x : Stm) → n ≡ length site.scope → t ≡ behind site x → cut t (take n t.scope) ≡ past site x
+pub inner_site : (site t : Site) (n : ℕ) (x : Stm) → n ≡ length site.scope → t ≡ site_after site x → cut t (take n t.scope) ≡ past site x
 inner_site site t n x is e =
-    ap (λ (z : Site). cut z (take n z.scope)) e ∙ ap (cut (behind site x)) (take_grown site.scope (behind site x).scope n is (grows_behind site x)) ∙ cut_behind site site.scope x
+    ap (λ (z : Site). cut z (take n z.scope)) e ∙ ap (cut (site_after site x)) (take_grown site.scope (site_after site x).scope n is (grows_behind site x)) ∙ cut_behind site site.scope x
 
 pub block_site : (site t : Site) (n : ℕ) (xs : Stms) → n ≡ length site.scope → t ≡ behind_all site xs → cut t (take n t.scope) ≡ past_all site xs
 block_site site t n xs is e =

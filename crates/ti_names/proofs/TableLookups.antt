@@ -8,7 +8,7 @@ use Rattle.std.proofs.lemmas.Iterator.Adapters.{position_from-zero}
 use Rattle.std.proofs.lemmas.Slice.Eq.{bytes_eq-Decides}
 use Rattle.ti_syntax.specs.Trees.Classes.{FieldTree, MemberTree, FieldMember, MethodMember, ClassTree, TextTree}
 use Rattle.ti_lang.specs.Members.{class_named, fields_in, field_named, OwnMethod, methods_in, methods_from, methods_of, method_named, is_static, is_static_method, names_of, name_number, with_name}
-use Rattle.ti_names.specs.Mirrors.Tables.{with_first, with_numbered, numbered, found_in, class_names, field_names, method_names, class_table, field_tables, method_tables, static_table}
+use Rattle.ti_names.specs.Mirrors.Tables.{with_new_name, with_numbered, with_indices, lookup_in, class_names, field_names, names_of_methods, class_table, field_tables, method_tables, static_table}
 
 -- ---- lists of pairs
 
@@ -31,7 +31,7 @@ found_apart table q name none there = by (bytes_eq q name) refl
         absurd (true≢false (sym there ∙ ap (λ z. is_some (lookup (bytes_eq z) table)) (sym same) ∙ ap is_some none))
 
 first_or : (table : List (List ℕ × ℕ)) (q name : List ℕ) (n : ℕ) (more : Option ℕ)
-    → option_or (lookup (bytes_eq q) (with_first table name n)) more ≡ option_or (lookup (bytes_eq q) table) (cond (bytes_eq q name) (Some n) more)
+    → option_or (lookup (bytes_eq q) (with_new_name table name n)) more ≡ option_or (lookup (bytes_eq q) table) (cond (bytes_eq q name) (Some n) more)
 first_or table q name n more = by (is_some (lookup (bytes_eq name) table)) refl
   where
     by : (b : Bool) → is_some (lookup (bytes_eq name) table) ≡ b
@@ -55,7 +55,7 @@ lookup_numbered q table n [] = none_or (lookup (bytes_eq q) table)
     none_or : (o : Option ℕ) → o ≡ option_or o None
     none_or None = refl
     none_or (Some v) = refl
-lookup_numbered q table n (name ∷ rest) = lookup_numbered q (with_first table name n) (n + 1) rest ∙ first_or table q name n (position_from (bytes_eq q) (n + 1) rest)
+lookup_numbered q table n (name ∷ rest) = lookup_numbered q (with_new_name table name n) (n + 1) rest ∙ first_or table q name n (position_from (bytes_eq q) (n + 1) rest)
 
 position_names : {A : Type 0} (name : A → List ℕ) (q : List ℕ) (n : ℕ) (xs : List A) → position_from (bytes_eq q) n (map name xs) ≡ position_from (λ x. bytes_eq q (name x)) n xs
 position_names name q n [] = refl
@@ -76,7 +76,7 @@ fields_told_in : (fs : List FieldTree) (name : List ℕ) → lookup (bytes_eq na
 fields_told_in fs name =
     lookup_numbered name [] 0 (field_names fs) ∙ position_names (λ (f : FieldTree). f.name) name 0 fs ∙ sym (position_from-zero (λ (f : FieldTree). bytes_eq name f.name) fs)
 
-pub field_told : (text : TextTree) (class : ℕ) (name : List ℕ) → found_in (field_tables text) class name ≡ field_named text class name
+pub field_told : (text : TextTree) (class : ℕ) (name : List ℕ) → lookup_in (field_tables text) class name ≡ field_named text class name
 field_told text class name =
     ap (option_and_then (λ table. lookup (bytes_eq name) table)) (get_map (λ (c : ClassTree). with_numbered [] 0 (field_names (fields_in c.members))) text class) ∙ by (slice_get text class)
   where
@@ -99,7 +99,7 @@ position_append t n (x ∷ xs) ys = by (t x) (position_append t (n + 1) xs ys)
     by true e = refl
     by false e = let more : n + 1 + length xs ≡ n + suc (length xs) = omega arith in e ∙ ap (λ k. option_or (position_from t (n + 1) xs) (position_from t k ys)) more
 
-own_position : (class : ℕ) (name : List ℕ) (n : ℕ) (ms : List MemberTree) → position_from (bytes_eq name) n (method_names ms) ≡ position_from (test class name) n (methods_in class ms)
+own_position : (class : ℕ) (name : List ℕ) (n : ℕ) (ms : List MemberTree) → position_from (bytes_eq name) n (names_of_methods ms) ≡ position_from (test class name) n (methods_in class ms)
 own_position class name n [] = refl
 own_position class name n (FieldMember f ∷ ms) = own_position class name n ms
 own_position class name n (MethodMember m ∷ ms) =
@@ -120,7 +120,7 @@ later_position class m name n (c ∷ cs) lt =
     position_append (test class name) n (methods_in m c.members) (methods_from (m + 1) cs)
     ∙ (λ j. option_or (other_position class m name n c.members apart j) (later_position class (m + 1) name (n + length (methods_in m c.members)) cs (omega arith) j))
 
-length_names : (class : ℕ) (ms : List MemberTree) → length (method_names ms) ≡ length (methods_in class ms)
+length_names : (class : ℕ) (ms : List MemberTree) → length (names_of_methods ms) ≡ length (methods_in class ms)
 length_names class [] = refl
 length_names class (FieldMember f ∷ ms) = length_names class ms
 length_names class (MethodMember m ∷ ms) = ap suc (length_names class ms)
@@ -129,22 +129,22 @@ or_none : (o : Option ℕ) → option_or o None ≡ o
 or_none None = refl
 or_none (Some v) = refl
 
-methods_told_from : (m n i : ℕ) (cs : List ClassTree) (name : List ℕ) → found_in (method_tables n cs) i name ≡ position_from (test (m + i) name) n (methods_from m cs)
+methods_told_from : (m n i : ℕ) (cs : List ClassTree) (name : List ℕ) → lookup_in (method_tables n cs) i name ≡ position_from (test (m + i) name) n (methods_from m cs)
 methods_told_from m n i [] name = refl
 methods_told_from m n zero (c ∷ cs) name =
     let here : m + 0 ≡ m = omega arith in
-    lookup_numbered name [] n (method_names c.members) ∙ own_position m name n c.members ∙ sym (or_none _)
+    lookup_numbered name [] n (names_of_methods c.members) ∙ own_position m name n c.members ∙ sym (or_none _)
     ∙ sym (ap (option_or (position_from (test m name) n (methods_in m c.members))) (later_position m (m + 1) name (n + length (methods_in m c.members)) cs (omega arith)))
     ∙ sym (position_append (test m name) n (methods_in m c.members) (methods_from (m + 1) cs)) ∙ ap (λ k. position_from (test k name) n (methods_from m (c ∷ cs))) (sym here)
 methods_told_from m n (suc i) (c ∷ cs) name =
     let apart : (m == m + suc i) ≡ false = grind (arith, nat_tests) in
     let class : m + 1 + i ≡ m + suc i = omega arith in
-    methods_told_from (m + 1) (n + length (method_names c.members)) i cs name
+    methods_told_from (m + 1) (n + length (names_of_methods c.members)) i cs name
     ∙ (λ j. position_from (test (class j) name) (n + length_names m c.members j) (methods_from (m + 1) cs))
     ∙ sym (ap (λ o. option_or o (position_from (test (m + suc i) name) (n + length (methods_in m c.members)) (methods_from (m + 1) cs))) (other_position (m + suc i) m name n c.members apart))
     ∙ sym (position_append (test (m + suc i) name) n (methods_in m c.members) (methods_from (m + 1) cs))
 
-pub method_told : (text : TextTree) (class : ℕ) (name : List ℕ) → found_in (method_tables 0 text) class name ≡ method_named text class name
+pub method_told : (text : TextTree) (class : ℕ) (name : List ℕ) → lookup_in (method_tables 0 text) class name ≡ method_named text class name
 method_told text class name =
     let here : 0 + class ≡ class = omega arith in
     methods_told_from 0 0 class text name ∙ ap (λ k. position_from (test k name) 0 (methods_of text)) here ∙ sym (position_from-zero (test class name) (methods_of text))
@@ -158,46 +158,46 @@ static_told text number = ap (λ o. unwrap_or o false) (get_map (λ (own : OwnMe
 
 -- ---- names of members
 
-names_told_from : (q : List ℕ) (n : ℕ) (names : List (List ℕ)) → unwrap_or (lookup (bytes_eq q) (numbered n names)) (n + length names) ≡ n + position_or_len (bytes_eq q) names
+names_told_from : (q : List ℕ) (n : ℕ) (names : List (List ℕ)) → unwrap_or (lookup (bytes_eq q) (with_indices n names)) (n + length names) ≡ n + position_or_len (bytes_eq q) names
 names_told_from q n [] = refl
 names_told_from q n (name ∷ rest) = by (bytes_eq q name) (names_told_from q (n + 1) rest)
   where
-    by : (b : Bool) → unwrap_or (lookup (bytes_eq q) (numbered (n + 1) rest)) (n + 1 + length rest) ≡ n + 1 + position_or_len (bytes_eq q) rest
-        → unwrap_or (cond b (Some n) (lookup (bytes_eq q) (numbered (n + 1) rest))) (n + suc (length rest)) ≡ n + cond (not b) (1 + position_or_len (bytes_eq q) rest) 0
+    by : (b : Bool) → unwrap_or (lookup (bytes_eq q) (with_indices (n + 1) rest)) (n + 1 + length rest) ≡ n + 1 + position_or_len (bytes_eq q) rest
+        → unwrap_or (cond b (Some n) (lookup (bytes_eq q) (with_indices (n + 1) rest))) (n + suc (length rest)) ≡ n + cond (not b) (1 + position_or_len (bytes_eq q) rest) 0
     by true e = omega arith
     by false e =
         let more : n + suc (length rest) ≡ n + 1 + length rest = omega arith in
-        ap (unwrap_or (lookup (bytes_eq q) (numbered (n + 1) rest))) more ∙ e ∙ omega arith
+        ap (unwrap_or (lookup (bytes_eq q) (with_indices (n + 1) rest))) more ∙ e ∙ omega arith
 
-pub name_told : (text : TextTree) (name : List ℕ) → unwrap_or (lookup (bytes_eq name) (numbered 0 (names_of text))) (length (names_of text)) ≡ name_number text name
+pub name_told : (text : TextTree) (name : List ℕ) → unwrap_or (lookup (bytes_eq name) (with_indices 0 (names_of text))) (length (names_of text)) ≡ name_number text name
 name_told text name =
     let start : length (names_of text) ≡ 0 + length (names_of text) = omega arith in
-    ap (unwrap_or (lookup (bytes_eq name) (numbered 0 (names_of text)))) start ∙ names_told_from name 0 (names_of text) ∙ omega arith
+    ap (unwrap_or (lookup (bytes_eq name) (with_indices 0 (names_of text)))) start ∙ names_told_from name 0 (names_of text) ∙ omega arith
 
-named_any : (q : List ℕ) (n : ℕ) (names : List (List ℕ)) → is_some (lookup (bytes_eq q) (numbered n names)) ≡ list_any (bytes_eq q) names
+named_any : (q : List ℕ) (n : ℕ) (names : List (List ℕ)) → is_some (lookup (bytes_eq q) (with_indices n names)) ≡ list_any (bytes_eq q) names
 named_any q n [] = refl
 named_any q n (name ∷ rest) = by (bytes_eq q name) (named_any q (n + 1) rest)
   where
-    by : (b : Bool) → is_some (lookup (bytes_eq q) (numbered (n + 1) rest)) ≡ list_any (bytes_eq q) rest
-        → is_some (cond b (Some n) (lookup (bytes_eq q) (numbered (n + 1) rest))) ≡ (b || list_any (bytes_eq q) rest)
+    by : (b : Bool) → is_some (lookup (bytes_eq q) (with_indices (n + 1) rest)) ≡ list_any (bytes_eq q) rest
+        → is_some (cond b (Some n) (lookup (bytes_eq q) (with_indices (n + 1) rest))) ≡ (b || list_any (bytes_eq q) rest)
     by true e = refl
     by false e = e
 
-numbered_more : (n : ℕ) (names : List (List ℕ)) (name : List ℕ) → numbered n (names ++ name ∷ []) ≡ numbered n names ++ (name, n + length names) ∷ []
+numbered_more : (n : ℕ) (names : List (List ℕ)) (name : List ℕ) → with_indices n (names ++ name ∷ []) ≡ with_indices n names ++ (name, n + length names) ∷ []
 numbered_more n [] name = let e : n ≡ n + 0 = omega arith in ap (λ k. (name, k) ∷ []) e
 numbered_more n (x ∷ rest) name = let e : n + 1 + length rest ≡ n + suc (length rest) = omega arith in
-    ap (λ xs. (x, n) ∷ xs) (numbered_more (n + 1) rest name ∙ ap (λ k. numbered (n + 1) rest ++ (name, k) ∷ []) e)
+    ap (λ xs. (x, n) ∷ xs) (numbered_more (n + 1) rest name ∙ ap (λ k. with_indices (n + 1) rest ++ (name, k) ∷ []) e)
 
 -- a name that is there isn't added
-pub names_kept : (names : List (List ℕ)) (name : List ℕ) → is_some (lookup (bytes_eq name) (numbered 0 names)) ≡ true → names ≡ with_name names name
+pub names_kept : (names : List (List ℕ)) (name : List ℕ) → is_some (lookup (bytes_eq name) (with_indices 0 names)) ≡ true → names ≡ with_name names name
 names_kept names name there = sym (ap (λ b. if b then names else names ++ name ∷ []) (sym (named_any name 0 names) ∙ there))
 
 -- another goes last, in the table too
-pub names_more : (names : List (List ℕ)) (name : List ℕ) → is_some (lookup (bytes_eq name) (numbered 0 names)) ≡ false → names ++ name ∷ [] ≡ with_name names name
+pub names_more : (names : List (List ℕ)) (name : List ℕ) → is_some (lookup (bytes_eq name) (with_indices 0 names)) ≡ false → names ++ name ∷ [] ≡ with_name names name
 names_more names name lacks = sym (ap (λ b. if b then names else names ++ name ∷ []) (sym (named_any name 0 names) ∙ lacks))
 
-pub table_more : (names : List (List ℕ)) (name : List ℕ) → is_some (lookup (bytes_eq name) (numbered 0 names)) ≡ false
-    → with_first (numbered 0 names) name (length names) ≡ numbered 0 (names ++ name ∷ [])
+pub table_more : (names : List (List ℕ)) (name : List ℕ) → is_some (lookup (bytes_eq name) (with_indices 0 names)) ≡ false
+    → with_new_name (with_indices 0 names) name (length names) ≡ with_indices 0 (names ++ name ∷ [])
 table_more names name lacks =
     let start : length names ≡ 0 + length names = omega arith in
-    ap (λ b. if b then numbered 0 names else numbered 0 names ++ (name, length names) ∷ []) lacks ∙ ap (λ k. numbered 0 names ++ (name, k) ∷ []) start ∙ sym (numbered_more 0 names name)
+    ap (λ b. if b then with_indices 0 names else with_indices 0 names ++ (name, length names) ∷ []) lacks ∙ ap (λ k. with_indices 0 names ++ (name, k) ∷ []) start ∙ sym (numbered_more 0 names name)

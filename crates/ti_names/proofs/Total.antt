@@ -19,7 +19,7 @@ use Rattle.ti_lang.specs.Numbering.{NumbersMaybe}
 use Rattle.ti_rules.specs.declared.rule.Rule.TheVariants.{N1}
 use Rattle.ti_rules.specs.Refusals.{refused_if}
 use Rattle.ti_rules.specs.BrokenNames.{lacks_method}
-use Rattle.ti_names.specs.Mirrors.Numbered.{named, called, class_called, selected, member_called, number_exp, number_exps, number_range, number_ranges, number_maybe}
+use Rattle.ti_names.specs.Mirrors.Numbered.{name_expr, method_call, static_call, select_expr, member_call, number_exp, number_exps, number_range, number_ranges, number_maybe}
 use Rattle.ti_names.proofs.CleanNodes.{Clean, first_clean, rest_clean, clean_left, clean_right}
 
 -- ---- types
@@ -49,13 +49,13 @@ total_this site at true is none = cc
 total_this site at false is none = this is
 
 total_name : (site : Site) (at : Place) (name : List ℕ) (v : Option VariableUse) (f : Option ℕ) → variable_named site name ≡ v → own_field_named site name ≡ f
-    → refused_if (is_none v && is_none f) N1 at ≡ [] → NumbersExp site (t.Name at name) (named at v f)
+    → refused_if (is_none v && is_none f) N1 at ≡ [] → NumbersExp site (t.Name at name) (name_expr at v f)
 total_name site at name (Some v) f is field none = variable is
 total_name site at name None (Some f) is field none = own_field is field
 total_name site at name None None is field none = cc
 
 total_call : (site : Site) (at : Place) (name : List ℕ) (xs : Exps) (m : Option ℕ) → own_method_named site name ≡ m → refused_if (is_none m) N1 at ≡ [] → NumbersExps site xs (number_exps site xs)
-    → NumbersExp site (t.Call at name xs) (called site.text at m (number_exps site xs))
+    → NumbersExp site (t.Call at name xs) (method_call site.text at m (number_exps site xs))
 total_call site at name xs None is none args = cc
 total_call site at name xs (Some m) is none args = by (is_static_method site.text m) refl
   where
@@ -65,17 +65,17 @@ total_call site at name xs (Some m) is none args = by (is_static_method site.tex
 
 total_select : (site : Site) (at : Place) (x : Exp) (name : List ℕ) (class : Option ℕ) → class_before_dot site x ≡ class → refused_if (is_some class) N1 at ≡ []
     → Clean (if is_some class then [] else exp_nodes site x) → (Clean (exp_nodes site x) → NumbersExp site x (number_exp site x))
-    → NumbersExp site (t.Select at x name) (selected site at class (number_exp site x) name)
+    → NumbersExp site (t.Select at x name) (select_expr site at class (number_exp site x) name)
 total_select site at x name None is none c inner = select is (inner c)
 total_select site at x name (Some class) is none c inner = cc
 
 total_member : (site : Site) (at : Place) (x : Exp) (name : List ℕ) (xs : Exps) (class : Option ℕ) → class_before_dot site x ≡ class → refused_if (lacks_method site class name) N1 at ≡ []
     → Clean (if is_some class then [] else exp_nodes site x) → (Clean (exp_nodes site x) → NumbersExp site x (number_exp site x)) → NumbersExps site xs (number_exps site xs)
-    → NumbersExp site (t.Member at x name xs) (member_called site at class (number_exp site x) name (number_exps site xs))
+    → NumbersExp site (t.Member at x name xs) (member_call site at class (number_exp site x) name (number_exps site xs))
 total_member site at x name xs None is none c inner args = member is (inner c) args
 total_member site at x name xs (Some class) is none c inner args = by (static_method_named site class name) refl none
   where
-    by : (m : Option ℕ) → static_method_named site class name ≡ m → refused_if (is_none m) N1 at ≡ [] → NumbersExp site (t.Member at x name xs) (class_called at m (number_exps site xs))
+    by : (m : Option ℕ) → static_method_named site class name ≡ m → refused_if (is_none m) N1 at ≡ [] → NumbersExp site (t.Member at x name xs) (static_call at m (number_exps site xs))
     by None method none = cc
     by (Some m) method none = class_call is method args
 

@@ -63,7 +63,7 @@ total_param_list site (p ∷ ps) c =
     (total_param_list (declares site p.name (typed_as site.text p.ty)) ps (clean_right head _ c))
 
 total_params : (site : Site) (params : ParamsTree) → Clean (params_nodes site params) → NumbersParams site params (number_params site.text params)
-total_params site (c.Words at name) clean = NumbersParams.words
+total_params site (c.MainArgs at name) clean = NumbersParams.words
 total_params site (c.Params params) clean = NumbersParams.params (total_param_list site params clean)
 
 total_method : (site : Site) (number : ℕ) (own : OwnMethod) → Clean (method_nodes site number own) → NumbersMethod site own (number_method site own)

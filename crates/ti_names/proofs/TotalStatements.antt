@@ -8,7 +8,7 @@ use Rattle.ti_syntax.specs.Trees.Statements.{DimsTree, InitTree, PrintTree, Stm,
 use Rattle.ti_syntax.specs.Trees.Statements as s
 use Rattle.ti_lang.specs.Program.Types.{VariableUse, Foreach}
 use Rattle.ti_lang.specs.Members.{class_named}
-use Rattle.ti_lang.specs.Scopes.{Site, declares, past, past_maybe, behind, behind_maybe, variable_named, most_variables, IsFresh, HasRoom}
+use Rattle.ti_lang.specs.Scopes.{Site, declares, past, past_maybe, site_after, behind_maybe, variable_named, most_variables, IsFresh, HasRoom}
 use Rattle.ti_lang.specs.Nodes.{type_nodes, exp_nodes, maybe_nodes, dims_nodes, init_nodes, print_nodes, stm_nodes, maybe_stm_nodes, stms_nodes, node, VariableName}
 use Rattle.ti_lang.specs.Numbering.{NumbersDims, NumbersInit, NumbersPrint, NumbersStm, NumbersMaybeStm, NumbersStms}
 use Rattle.ti_rules.specs.declared.rule.Rule.TheVariants.{N2, N4}
@@ -117,4 +117,4 @@ mutual
 
   pub total_stms : (site : Site) (xs : Stms) → Clean (stms_nodes site xs) → NumbersStms site xs (number_stms site xs)
   total_stms site s.Nil c = NumbersStms.nil
-  total_stms site (s.Cons x rest) c = NumbersStms.cons (total_stm site x (clean_left (stm_nodes site x) _ c)) (total_stms (behind site x) rest (clean_right (stm_nodes site x) _ c))
+  total_stms site (s.Cons x rest) c = NumbersStms.cons (total_stm site x (clean_left (stm_nodes site x) _ c)) (total_stms (site_after site x) rest (clean_right (stm_nodes site x) _ c))

@@ -13,7 +13,7 @@ use Rattle.ti_lang.specs.Program.Expressions.{NumberedExp, numbered_exps}
 use Rattle.ti_lang.specs.Program.Expressions as n
 use Rattle.ti_lang.specs.Members.{name_number, fields_in}
 use Rattle.ti_lang.specs.Scopes.{Site, class_before_dot}
-use Rattle.ti_names.specs.Mirrors.Numbered.{number_exp, number_exps, member_called}
+use Rattle.ti_names.specs.Mirrors.Numbered.{number_exp, number_exps, member_call}
 use Rattle.ti_names.proofs.Lists.{number_exps_list}
 
 -- ---- lists
@@ -37,7 +37,7 @@ pub number_member : (site : Site) (at : Place) (x : Exp) (name : List ℕ) (args
 number_member site at x name args x' number args' e is_x is_name are_args =
     ap (λ z. n.Member at z number (numbered_exps args')) is_x ∙ ap (λ z. n.Member at (number_exp site x) z (numbered_exps args')) is_name
     ∙ ap (λ z. n.Member at (number_exp site x) (name_number site.text name) z) (ap numbered_exps are_args ∙ sym (number_exps_list site args))
-    ∙ sym (ap (λ (o : Option ℕ). member_called site at o (number_exp site x) name (number_exps site (exps args))) e)
+    ∙ sym (ap (λ (o : Option ℕ). member_call site at o (number_exp site x) name (number_exps site (exps args))) e)
 
 -- ---- members
 

@@ -2,7 +2,7 @@
 use Rattle.std.specs.Prelude.{◌≡◌, ◌⊎◌, Result, Ok, Err}
 use Rattle.ti_lang.specs.declared.program.numbered.Program.{Program}
 use Rattle.ti_syntax.specs.Trees.Classes.{TextTree}
-use Rattle.ti_lang.specs.Program.Classes.{NumberedProgram}
+use Rattle.ti_lang.specs.Program.Classes.{ProgramView}
 use Rattle.ti_lang.specs.Program.Views.{program_of}
 use Rattle.ti_lang.specs.Numbering.{Numbers}
 use Rattle.ti_rules.specs.declared.refusal.Refusal.{Refusal}
@@ -18,7 +18,7 @@ Resolves text (Err (Refused refusal)) = IsFirstRefusal (BreaksNames text) refusa
 Resolves text (Err Memory) = Unit {0}
 
 -- the result is this program or out of memory
-abbrev pub GivesOnly : Result Program NameErr → NumberedProgram → Type 0
+abbrev pub GivesOnly : Result Program NameErr → ProgramView → Type 0
 GivesOnly (Ok found) program = program_of found.parts ≡ program
 GivesOnly (Err error) program = error ≡ Memory
 

@@ -2,5 +2,5 @@ pub mod Answer
 pub mod Branched
 pub mod Found
 pub mod Mirrors
-pub mod Own
+pub mod MethodDecl
 pub mod Seen

@@ -16,22 +16,22 @@ use Rattle.ti_lang.specs.Program.Views.{variable_of, statement_of}
 use Rattle.ti_lang.specs.Scopes.{Known}
 use Rattle.ti_lang.specs.Scopes as scopes
 use Rattle.ti_names.specs.declared.tables.Tables.{Tables}
-use Rattle.ti_names.specs.declared.site.Site.{Site}
+use Rattle.ti_names.specs.declared.context.NameContext.{NameContext}
 
 -- the program that the tables are of
-abbrev pub text_of : Tables → TextTree
-text_of tables = tree_of tables.tree.now
+abbrev pub text_of_tables : Tables → TextTree
+text_of_tables tables = tree_of tables.tree.now
 
-abbrev pub scope_of : List (List ℕ × Variable) → List Known
-scope_of names = map (λ e. (e.0, variable_of e.1)) names
+abbrev pub scope_of_names : List (List ℕ × Variable) → List Known
+scope_of_names names = map (λ e. (e.0, variable_of e.1)) names
 
 -- the model of a context
-abbrev pub site_of : Site → scopes.Site
-site_of a = record {
-  text = text_of a.tables.now;
+abbrev pub context_of : NameContext → scopes.Site
+context_of a = record {
+  text = text_of_tables a.tables.now;
   class = a.class;
   static = a.is_static;
-  scope = scope_of a.scope;
+  scope = scope_of_names a.scope;
   variables = a.variables;
   literals = a.literals;
 }

@@ -3,10 +3,10 @@ ghost use Rattle.std.specs.Prelude.{◌≡◌, ◌+◌, [], map, fold, length, I
 ghost use Rattle.ti_syntax.specs.Trees.Text.{tree_of};
 ghost use Rattle.ti_syntax.specs.Trees.Views.{member_of};
 ghost use Rattle.ti_lang.specs.Members.{fields_in, names_of, name_of_member, with_name};
-ghost use Rattle.ti_names.specs.Mirrors.Tables.{with_numbered, class_table, field_tables, field_names, method_tables, method_names};
+ghost use Rattle.ti_names.specs.Mirrors.Tables.{with_numbered, class_table, field_tables, field_names, method_tables, names_of_methods};
 
 use crate::names::Names;
-use crate::number::next;
+use crate::number::next_number;
 use crate::spelling::NameTable;
 use std::alloc::Global;
 use ti_base::Memory;
@@ -20,7 +20,7 @@ fn class_table<'a>(alloc: Global, tree: &'a Tree) -> Result<Names<'a, u32>, Memo
     let mut number = 0;
     for class in &tree.classes {
         found.add(class.name.as_bytes(), number)?;
-        number = next(number)?;
+        number = next_number(number)?;
     }
     Ok(found)
 }
@@ -35,7 +35,7 @@ fn field_table<'a>(alloc: Global, members: &'a [Member]) -> Result<Names<'a, u32
         match member {
             Member::Field(field) => {
                 found.add(field.name.as_bytes(), number)?;
-                number = next(number)?;
+                number = next_number(number)?;
             }
             Member::Method(_) => {}
         }
@@ -69,8 +69,8 @@ fn method_table<'a>(
     first: u32,
     members: &'a [Member],
 ) -> Result<MethodTable<'a>, Memory>
-    ensures names { IfOk result (λ t. t.names ≡ with_numbered [] first (method_names (map member_of members.now))) }
-    ensures behind { IfOk result (λ t. t.behind ≡ first + length (method_names (map member_of members.now))) }
+    ensures names { IfOk result (λ t. t.names ≡ with_numbered [] first (names_of_methods (map member_of members.now))) }
+    ensures behind { IfOk result (λ t. t.behind ≡ first + length (names_of_methods (map member_of members.now))) }
 {
     let mut names = Names::new(alloc);
     let mut behind = first;
@@ -79,7 +79,7 @@ fn method_table<'a>(
             Member::Field(_) => {}
             Member::Method(method) => {
                 names.add(method.name.as_bytes(), behind)?;
-                behind = next(behind)?;
+                behind = next_number(behind)?;
             }
         }
     }

@@ -8,21 +8,21 @@ ghost use Rattle.ti_lang.specs.Scopes.{class_site};
 ghost use Rattle.ti_lang.specs.Nodes.{node, FieldName, ClassName, type_nodes, fields_nodes, classes_nodes};
 ghost use Rattle.ti_names.specs.Mirrors.Numbered.{number_field, number_fields, number_class, number_classes};
 ghost use Rattle.ti_names.specs.Found.{first_in};
-ghost use Rattle.ti_names.specs.Seen.{site_of, text_of};
+ghost use Rattle.ti_names.specs.Seen.{context_of, text_of_tables};
 
 use crate::checks::is_another;
-use crate::number::next;
-use crate::site::{Site, class_site};
+use crate::context::{NameContext, class_site};
+use crate::number::next_number;
 use crate::tables::Tables;
 use std::alloc::Global;
 use ti_base::Memory;
 use ti_lang::program::{Class, Field};
-use ti_rules::{Refusal, Rule, refused_if, sooner};
+use ti_rules::{Refusal, Rule, earlier_of, refused_if};
 use ti_syntax::tree;
 
-impl<'t, 'a> Site<'t, 'a> {
+impl<'t, 'a> NameContext<'t, 'a> {
     fn field(&self, field: &tree::Field) -> Result<Field, Memory>
-        ensures { IfOk result (λ f. numbered_field_of f ≡ number_field (text_of self.now.tables.now) (field_of field.now)) }
+        ensures { IfOk result (λ f. numbered_field_of f ≡ number_field (text_of_tables self.now.tables.now) (field_of field.now)) }
     {
         Ok(Field {
             modifiers: field.modifiers.to_vec(self.alloc)?,
@@ -32,7 +32,7 @@ impl<'t, 'a> Site<'t, 'a> {
     }
 
     fn fields(&self, members: &[tree::Member]) -> Result<Vec<Field>, Memory>
-        ensures { IfOk result (λ v. map numbered_field_of v.items ≡ number_fields (text_of self.now.tables.now)
+        ensures { IfOk result (λ v. map numbered_field_of v.items ≡ number_fields (text_of_tables self.now.tables.now)
             (fields_in (map member_of members.now))) }
     {
         let mut fields = Vec::new(self.alloc);
@@ -46,7 +46,7 @@ impl<'t, 'a> Site<'t, 'a> {
     }
 
     fn class(&self, class: &tree::Class) -> Result<Class, Memory>
-        ensures { IfOk result (λ c. numbered_class_of c ≡ number_class (text_of self.now.tables.now) (class_of class.now)) }
+        ensures { IfOk result (λ c. numbered_class_of c ≡ number_class (text_of_tables self.now.tables.now) (class_of class.now)) }
     {
         Ok(Class {
             modifiers: class.modifiers.to_vec(self.alloc)?,
@@ -55,7 +55,7 @@ impl<'t, 'a> Site<'t, 'a> {
     }
 
     fn classes(&self, classes: &[tree::Class]) -> Result<Vec<Class>, Memory>
-        ensures { IfOk result (λ v. map numbered_class_of v.items ≡ number_classes (text_of self.now.tables.now)
+        ensures { IfOk result (λ v. map numbered_class_of v.items ≡ number_classes (text_of_tables self.now.tables.now)
             (map class_of classes.now)) }
     {
         let mut done = Vec::new(self.alloc);
@@ -69,25 +69,25 @@ impl<'t, 'a> Site<'t, 'a> {
 
     #[tactic(auto, using(crate::proofs::Firsts::in_nodes))]
     fn check_field(&self, number: u32, field: &tree::Field) -> Option<Refusal>
-        ensures { result ≡ first_in (node (site_of self.now) (FieldName number (field_of field.now)) ∷ type_nodes (site_of self.now)
+        ensures { result ≡ first_in (node (context_of self.now) (FieldName number (field_of field.now)) ∷ type_nodes (context_of self.now)
             (type_of field.now.ty)) }
     {
         let named = self.tables.field(self.class, field.name.as_bytes());
         let twice = refused_if(is_another(named, number), Rule::N2, field.place);
-        sooner(twice, self.check_type(&field.ty))
+        earlier_of(twice, self.check_type(&field.ty))
     }
 
     #[tactic(auto, using(crate::proofs::Firsts::none_sooner))]
     fn check_fields(&self, members: &[tree::Member]) -> Result<Option<Refusal>, Memory>
-        ensures { IfOk result (λ r. r ≡ first_in (fields_nodes (site_of self.now) 0 (fields_in (map member_of members.now)))) }
+        ensures { IfOk result (λ r. r ≡ first_in (fields_nodes (context_of self.now) 0 (fields_in (map member_of members.now)))) }
     {
         let mut found = None;
         let mut number = 0;
         for member in members {
             match member {
                 tree::Member::Field(field) => {
-                    found = sooner(found, self.check_field(number, field));
-                    number = next(number)?;
+                    found = earlier_of(found, self.check_field(number, field));
+                    number = next_number(number)?;
                 }
                 tree::Member::Method(_) => {}
             }
@@ -97,12 +97,12 @@ impl<'t, 'a> Site<'t, 'a> {
 
     #[tactic(auto, using(crate::proofs::Firsts::in_nodes))]
     fn check_class(&self, class: &tree::Class) -> Result<Option<Refusal>, Memory>
-        ensures { IfOk result (λ r. r ≡ first_in (node (site_of self.now) (ClassName self.now.class (class_of class.now)) ∷ fields_nodes
-            (site_of self.now) 0 (fields_in (class_of class.now).members))) }
+        ensures { IfOk result (λ r. r ≡ first_in (node (context_of self.now) (ClassName self.now.class (class_of class.now)) ∷ fields_nodes
+            (context_of self.now) 0 (fields_in (class_of class.now).members))) }
     {
         let named = self.tables.class(class.name.as_bytes());
         let twice = refused_if(is_another(named, self.class), Rule::N2, class.place);
-        Ok(sooner(twice, self.check_fields(&class.members)?))
+        Ok(earlier_of(twice, self.check_fields(&class.members)?))
     }
 }
 
@@ -112,7 +112,7 @@ pub fn classes(
     tables: &Tables<'_>,
     classes: &[tree::Class],
 ) -> Result<Vec<Class>, Memory>
-    ensures { IfOk result (λ v. map numbered_class_of v.items ≡ number_classes (text_of tables.now) (map class_of classes.now)) }
+    ensures { IfOk result (λ v. map numbered_class_of v.items ≡ number_classes (text_of_tables tables.now) (map class_of classes.now)) }
 {
     class_site(alloc, tables, 0).classes(classes)
 }
@@ -124,8 +124,8 @@ fn check_class(
     number: u32,
     class: &tree::Class,
 ) -> Result<Option<Refusal>, Memory>
-    ensures { IfOk result (λ r. r ≡ first_in (node (class_site (text_of tables.now) number) (ClassName number (class_of class.now))
-        ∷ fields_nodes (class_site (text_of tables.now) number) 0 (fields_in (class_of class.now).members))) }
+    ensures { IfOk result (λ r. r ≡ first_in (node (class_site (text_of_tables tables.now) number) (ClassName number (class_of class.now))
+        ∷ fields_nodes (class_site (text_of_tables tables.now) number) 0 (fields_in (class_of class.now).members))) }
 {
     class_site(alloc, tables, number).check_class(class)
 }
@@ -137,13 +137,13 @@ pub fn check_classes(
     tables: &Tables<'_>,
     classes: &[tree::Class],
 ) -> Result<Option<Refusal>, Memory>
-    ensures { IfOk result (λ r. r ≡ first_in (classes_nodes (text_of tables.now) 0 (map class_of classes.now))) }
+    ensures { IfOk result (λ r. r ≡ first_in (classes_nodes (text_of_tables tables.now) 0 (map class_of classes.now))) }
 {
     let mut found = None;
     let mut number = 0;
     for class in classes {
-        found = sooner(found, check_class(alloc, tables, number, class)?);
-        number = next(number)?;
+        found = earlier_of(found, check_class(alloc, tables, number, class)?);
+        number = next_number(number)?;
     }
     Ok(found)
 }

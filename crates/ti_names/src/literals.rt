@@ -38,21 +38,21 @@ impl Literals {
     }
 
     #[cycle(literals)]
-    fn maybe(&mut self, x: &Option<Box<Stmt>>) -> Result<(), Memory>
-        ensures { OnOk result (self.new.texts.items ≡ self.old.texts.items ++ literals_of (tree_maybe x.now)) }
+    fn maybe(&mut self, stmt: &Option<Box<Stmt>>) -> Result<(), Memory>
+        ensures { OnOk result (self.new.texts.items ≡ self.old.texts.items ++ literals_of (tree_maybe stmt.now)) }
     {
-        match x {
-            Some(x) => self.stmt(x),
+        match stmt {
+            Some(stmt) => self.stmt(stmt),
             None => Ok(()),
         }
     }
 
     #[cycle(literals)]
     #[tactic(auto, using(ti_syntax::proofs::Lemmas::bridges))]
-    fn stmt(&mut self, x: &Stmt) -> Result<(), Memory>
-        ensures { OnOk result (self.new.texts.items ≡ self.old.texts.items ++ literals (stm_of x.now)) }
+    fn stmt(&mut self, stmt: &Stmt) -> Result<(), Memory>
+        ensures { OnOk result (self.new.texts.items ≡ self.old.texts.items ++ literals (stm_of stmt.now)) }
     {
-        match x {
+        match stmt {
             Stmt::Print(_, what) => self.print(what),
             Stmt::Block(body) => self.body(body),
             Stmt::If {
@@ -90,11 +90,11 @@ impl Literals {
 
     /// Appends the literals of these statements.
     #[cycle(literals)]
-    pub fn body(&mut self, xs: &[Stmt]) -> Result<(), Memory>
-        ensures { OnOk result (self.new.texts.items ≡ self.old.texts.items ++ literals_in (stms (map stm_of xs.now))) }
+    pub fn body(&mut self, stmts: &[Stmt]) -> Result<(), Memory>
+        ensures { OnOk result (self.new.texts.items ≡ self.old.texts.items ++ literals_in (stms (map stm_of stmts.now))) }
     {
-        for x in xs {
-            self.stmt(x)?;
+        for stmt in stmts {
+            self.stmt(stmt)?;
         }
         Ok(())
     }

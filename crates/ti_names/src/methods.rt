@@ -9,20 +9,20 @@ ghost use Rattle.ti_lang.specs.Scopes.{declares, typed_as, behind_params, body_s
 ghost use Rattle.ti_lang.specs.Nodes.{node, VariableName, MethodName, type_nodes, param_list_nodes, params_nodes, result_nodes, method_nodes, methods_nodes};
 ghost use Rattle.ti_names.specs.Mirrors.Numbered.{number_param, number_param_list, number_params, number_result, number_method, number_methods};
 ghost use Rattle.ti_names.specs.Found.{first_in};
-ghost use Rattle.ti_names.specs.Own.{own_of};
-ghost use Rattle.ti_names.specs.Seen.{site_of, text_of};
+ghost use Rattle.ti_names.specs.MethodDecl.{method_decl_of};
+ghost use Rattle.ti_names.specs.Seen.{context_of, text_of_tables};
 
 use crate::checks::is_another;
+use crate::context::{NameContext, method_site};
 use crate::literals::Literals;
-use crate::number::{narrow, next};
-use crate::own::Own;
-use crate::site::{Site, method_site};
+use crate::method_decls::MethodDecl;
+use crate::number::{next_number, to_u32};
 use crate::stmts::Resolved;
 use crate::tables::Tables;
 use std::alloc::Global;
 use ti_base::Memory;
 use ti_lang::program::{Method, Param, Params, ResultType, is_single};
-use ti_rules::{Refusal, Rule, refused_if, sooner};
+use ti_rules::{Refusal, Rule, earlier_of, refused_if};
 use ti_syntax::tree;
 
 /// The resolved methods of a program, their string literals, and the first broken naming rule in them.
@@ -33,19 +33,19 @@ pub struct AllMethods {
     pub refusal: Option<Refusal>,
 }
 
-impl<'t, 'a> Site<'t, 'a> {
+impl<'t, 'a> NameContext<'t, 'a> {
     #[tactic(auto, using(crate::proofs::Firsts::in_nodes))]
     fn param(&mut self, param: &'a tree::Param) -> Result<Resolved<Param>, Memory>
-        ensures part { IfOk result (λ r. numbered_param_of r.part ≡ number_param (text_of self.old.tables.now) (param_of param.now)) }
-        ensures refusal { IfOk result (λ r. r.refusal ≡ first_in (type_nodes (site_of self.old) (type_of param.now.ty)
-            ++ node (site_of self.old) (VariableName param.now.place param.now.name) ∷ [])) }
-        ensures site { OnOk result (site_of self.new ≡ declares (site_of self.old) param.now.name
-            (typed_as (text_of self.old.tables.now) (type_of param.now.ty))) }
+        ensures part { IfOk result (λ r. numbered_param_of r.part ≡ number_param (text_of_tables self.old.tables.now) (param_of param.now)) }
+        ensures refusal { IfOk result (λ r. r.refusal ≡ first_in (type_nodes (context_of self.old) (type_of param.now.ty)
+            ++ node (context_of self.old) (VariableName param.now.place param.now.name) ∷ [])) }
+        ensures site { OnOk result (context_of self.new ≡ declares (context_of self.old) param.now.name
+            (typed_as (text_of_tables self.old.tables.now) (type_of param.now.ty))) }
     {
         let named = self.check_variable(param.place, &param.name);
-        let refusal = sooner(self.check_type(&param.ty), named);
+        let refusal = earlier_of(self.check_type(&param.ty), named);
         let ty = self.type_use(&param.ty)?;
-        let declared = self.declared(&param.ty)?;
+        let declared = self.declaration_of(&param.ty)?;
         self.declare(&param.name, declared)?;
         Ok(Resolved {
             part: Param {
@@ -59,16 +59,16 @@ impl<'t, 'a> Site<'t, 'a> {
     #[tactic(auto, using(crate::proofs::Firsts::none_sooner))]
     fn param_list(&mut self, params: &'a [tree::Param]) -> Result<Resolved<Vec<Param>>, Memory>
         ensures part { IfOk result (λ r. map numbered_param_of r.part.items
-            ≡ number_param_list (text_of self.old.tables.now) (map param_of params.now)) }
-        ensures refusal { IfOk result (λ r. r.refusal ≡ first_in (param_list_nodes (site_of self.old) (map param_of params.now))) }
-        ensures site { OnOk result (site_of self.new ≡ behind_params (site_of self.old) (map param_of params.now)) }
+            ≡ number_param_list (text_of_tables self.old.tables.now) (map param_of params.now)) }
+        ensures refusal { IfOk result (λ r. r.refusal ≡ first_in (param_list_nodes (context_of self.old) (map param_of params.now))) }
+        ensures site { OnOk result (context_of self.new ≡ behind_params (context_of self.old) (map param_of params.now)) }
     {
         let mut done = Vec::new(self.alloc);
         let mut refusal = None;
         for param in params {
             let param = self.param(param)?;
             done.push(param.part)?;
-            refusal = sooner(refusal, param.refusal);
+            refusal = earlier_of(refusal, param.refusal);
         }
         Ok(Resolved {
             part: done,
@@ -78,13 +78,13 @@ impl<'t, 'a> Site<'t, 'a> {
 
     #[tactic(auto, using(crate::proofs::Firsts::in_nodes))]
     fn params(&mut self, params: &'a tree::Params) -> Result<Resolved<Params>, Memory>
-        ensures part { IfOk result (λ r. numbered_params_of r.part ≡ number_params (text_of self.old.tables.now) (params_of params.now)) }
-        ensures refusal { IfOk result (λ r. r.refusal ≡ first_in (params_nodes (site_of self.old) (params_of params.now))) }
-        ensures site { OnOk result (site_of self.new ≡ body_site (site_of self.old) (params_of params.now)) }
+        ensures part { IfOk result (λ r. numbered_params_of r.part ≡ number_params (text_of_tables self.old.tables.now) (params_of params.now)) }
+        ensures refusal { IfOk result (λ r. r.refusal ≡ first_in (params_nodes (context_of self.old) (params_of params.now))) }
+        ensures site { OnOk result (context_of self.new ≡ body_site (context_of self.old) (params_of params.now)) }
     {
         match params {
-            tree::Params::Words(_, _) => Ok(Resolved {
-                part: Params::Words,
+            tree::Params::MainArgs(_, _) => Ok(Resolved {
+                part: Params::MainArgs,
                 refusal: None,
             }),
             tree::Params::Typed(params) => {
@@ -98,7 +98,7 @@ impl<'t, 'a> Site<'t, 'a> {
     }
 
     fn result(&self, given: &tree::ResultType) -> Result<ResultType, Memory>
-        ensures { IfOk result (λ r. numbered_result_of r ≡ number_result (text_of self.now.tables.now) (result_of given.now)) }
+        ensures { IfOk result (λ r. numbered_result_of r ≡ number_result (text_of_tables self.now.tables.now) (result_of given.now)) }
     {
         match given {
             tree::ResultType::Void(_) => Ok(ResultType::Void),
@@ -108,7 +108,7 @@ impl<'t, 'a> Site<'t, 'a> {
 
     #[tactic(auto, using(crate::proofs::Firsts::in_nodes))]
     fn check_result(&self, given: &tree::ResultType) -> Option<Refusal>
-        ensures { result ≡ first_in (result_nodes (site_of self.now) (result_of given.now)) }
+        ensures { result ≡ first_in (result_nodes (context_of self.now) (result_of given.now)) }
     {
         match given {
             tree::ResultType::Void(_) => None,
@@ -118,20 +118,20 @@ impl<'t, 'a> Site<'t, 'a> {
 
     /// The first broken naming rule in a method's name and result type.
     #[tactic(auto, using(crate::proofs::Firsts::in_nodes))]
-    fn check_head(&self, number: u32, own: Own<'a>) -> Option<Refusal>
-        ensures { result ≡ first_in (node (site_of self.now) (MethodName number (own_of own.entry)) ∷ result_nodes (site_of self.now)
-            (own_of own.entry).method.result) }
+    fn check_head(&self, number: u32, own: MethodDecl<'a>) -> Option<Refusal>
+        ensures { result ≡ first_in (node (context_of self.now) (MethodName number (method_decl_of own.entry)) ∷ result_nodes (context_of self.now)
+            (method_decl_of own.entry).method.result) }
     {
         let named = self.tables.method(own.class, own.method.name.as_bytes());
         let twice = refused_if(is_another(named, number), Rule::N2, own.method.place);
-        sooner(twice, self.check_result(&own.method.result))
+        earlier_of(twice, self.check_result(&own.method.result))
     }
 
     /// Resolves method `number`. The context is at its first parameter.
     #[tactic(auto, using(crate::proofs::Firsts::in_nodes))]
-    fn method(&mut self, number: u32, own: Own<'a>) -> Result<Resolved<Method>, Memory>
-        ensures part { IfOk result (λ r. numbered_method_of r.part ≡ number_method (site_of self.old) (own_of own.entry)) }
-        ensures refusal { IfOk result (λ r. r.refusal ≡ first_in (method_nodes (site_of self.old) number (own_of own.entry))) }
+    fn method(&mut self, number: u32, own: MethodDecl<'a>) -> Result<Resolved<Method>, Memory>
+        ensures part { IfOk result (λ r. numbered_method_of r.part ≡ number_method (context_of self.old) (method_decl_of own.entry)) }
+        ensures refusal { IfOk result (λ r. r.refusal ≡ first_in (method_nodes (context_of self.old) number (method_decl_of own.entry))) }
     {
         let head = self.check_head(number, own);
         let result = self.result(&own.method.result)?;
@@ -150,7 +150,7 @@ impl<'t, 'a> Site<'t, 'a> {
                 body: body.part,
                 end: own.method.end,
             },
-            refusal: sooner(sooner(head, params.refusal), body.refusal),
+            refusal: earlier_of(earlier_of(head, params.refusal), body.refusal),
         })
     }
 }
@@ -160,13 +160,13 @@ fn method<'a>(
     alloc: Global,
     tables: &Tables<'a>,
     number: u32,
-    own: Own<'a>,
+    own: MethodDecl<'a>,
     before: u32,
 ) -> Result<Resolved<Method>, Memory>
-    ensures part { IfOk result (λ r. numbered_method_of r.part ≡ number_method (method_site (text_of tables.now) (own_of own.entry) before)
-        (own_of own.entry)) }
+    ensures part { IfOk result (λ r. numbered_method_of r.part ≡ number_method (method_site (text_of_tables tables.now) (method_decl_of own.entry) before)
+        (method_decl_of own.entry)) }
     ensures refusal { IfOk result (λ r. r.refusal ≡ first_in (method_nodes
-        (method_site (text_of tables.now) (own_of own.entry) before) number (own_of own.entry))) }
+        (method_site (text_of_tables tables.now) (method_decl_of own.entry) before) number (method_decl_of own.entry))) }
 {
     let mut site = method_site(alloc, tables, own, before);
     site.method(number, own)
@@ -177,13 +177,13 @@ fn method<'a>(
 pub fn methods<'a>(
     alloc: Global,
     tables: &Tables<'a>,
-    methods: &[Own<'a>],
+    methods: &[MethodDecl<'a>],
 ) -> Result<AllMethods, Memory>
     ensures part { IfOk result (λ m. map numbered_method_of m.methods.items
-        ≡ number_methods (text_of tables.now) 0 (map own_of methods.now)) }
+        ≡ number_methods (text_of_tables tables.now) 0 (map method_decl_of methods.now)) }
     ensures literals { IfOk result (λ m. m.literals.texts.items ≡ flat_map (λ (own : OwnMethod). literals_in (stms own.method.body))
-        (map own_of methods.now)) }
-    ensures refusal { IfOk result (λ m. m.refusal ≡ first_in (methods_nodes (text_of tables.now) 0 0 (map own_of methods.now))) }
+        (map method_decl_of methods.now)) }
+    ensures refusal { IfOk result (λ m. m.refusal ≡ first_in (methods_nodes (text_of_tables tables.now) 0 0 (map method_decl_of methods.now))) }
 {
     let mut done = Vec::new(alloc);
     let mut literals = Literals {
@@ -193,12 +193,12 @@ pub fn methods<'a>(
     let mut refusal = None;
     let mut number = 0;
     for own in methods {
-        let before = narrow(literals.texts.len())?;
+        let before = to_u32(literals.texts.len())?;
         let found = method(alloc, tables, number, *own, before)?;
         literals.body(&own.method.body)?;
         done.push(found.part)?;
-        refusal = sooner(refusal, found.refusal);
-        number = next(number)?;
+        refusal = earlier_of(refusal, found.refusal);
+        number = next_number(number)?;
     }
     Ok(AllMethods {
         methods: done,

@@ -3,7 +3,7 @@ ghost use Rattle.std.specs.Prelude.{◌≡◌, ◌≤◌, [], length, take, OnOk
 ghost use Rattle.std.specs.Map.{lookup};
 ghost use Rattle.std.specs.Option.{option_map, option_copied};
 ghost use Rattle.std.specs.Str.{bytes_eq};
-ghost use Rattle.ti_names.specs.Mirrors.Tables.{with_first};
+ghost use Rattle.ti_names.specs.Mirrors.Tables.{with_new_name};
 
 use indexmap::IndexMap;
 use std::alloc::Global;
@@ -50,7 +50,7 @@ impl<'a, V: Drop> Names<'a, V> {
 
     /// Adds a name with its value; does nothing if the name is in the table already.
     pub fn add(&mut self, name: &'a [u8], value: V) -> Result<(), Memory>
-        ensures { OnOk result (self.new ≡ with_first self.old name.now value) }
+        ensures { OnOk result (self.new ≡ with_new_name self.old name.now value) }
     {
         if self.map.contains_key(name) {
             return Ok(());

@@ -1,9 +1,9 @@
 // The interned names of members.
 ghost use Rattle.std.specs.Prelude.{◌≡◌};
-ghost use Rattle.ti_names.specs.Mirrors.Tables.{numbered};
+ghost use Rattle.ti_names.specs.Mirrors.Tables.{with_indices};
 
 use crate::names::Names;
-use crate::number::narrow;
+use crate::number::to_u32;
 use std::alloc::Global;
 use ti_base::Memory;
 use ti_syntax::Spelled;
@@ -13,7 +13,7 @@ use ti_syntax::Spelled;
 pub struct NameTable<'a> {
     pub spelled: Vec<Spelled>,
     pub numbers: Names<'a, u32>,
-    ghost told: { numbers ≡ numbered 0 spelled.items },
+    ghost told: { numbers ≡ with_indices 0 spelled.items },
 }
 
 impl<'a> NameTable<'a> {
@@ -27,7 +27,7 @@ impl<'a> NameTable<'a> {
         if self.numbers.get(name).is_some() {
             return Ok(self);
         }
-        let number = narrow(self.spelled.len())?;
+        let number = to_u32(self.spelled.len())?;
         let mut spelled = self.spelled;
         let mut numbers = self.numbers;
         let bytes = name.to_vec(alloc)?;

@@ -5,18 +5,18 @@ ghost use Rattle.ti_syntax.specs.Trees.Views.{exp_of, type_of, init_of, print_of
 ghost use Rattle.ti_syntax.specs.Trees.Statements.{stms};
 ghost use Rattle.ti_syntax.specs.Trees.Statements as s;
 ghost use Rattle.ti_lang.specs.Program.Views.{expression_of, printed_of, statement_of};
-ghost use Rattle.ti_lang.specs.Scopes.{printed_text, past, past_maybe, behind, behind_maybe, behind_all};
+ghost use Rattle.ti_lang.specs.Scopes.{printed_text, past, past_maybe, site_after, behind_maybe, behind_all};
 ghost use Rattle.ti_lang.specs.Nodes.{exp_nodes, print_nodes, stm_nodes, maybe_stm_nodes, stms_nodes};
 ghost use Rattle.ti_names.specs.Mirrors.Numbered.{number_exp, number_print, number_stm, number_maybe_stm, number_list};
 ghost use Rattle.ti_names.specs.Found.{first_in};
-ghost use Rattle.ti_rules.specs.Mirrors.First.{sooner};
+ghost use Rattle.ti_rules.specs.Mirrors.First.{earlier_of};
 ghost use Rattle.ti_names.specs.Branched.{numbered_branches};
-ghost use Rattle.ti_names.specs.Seen.{site_of, tree_maybe, seen_maybe};
+ghost use Rattle.ti_names.specs.Seen.{context_of, tree_maybe, seen_maybe};
 
-use crate::site::Site;
+use crate::context::NameContext;
 use ti_base::{Memory, Place};
 use ti_lang::program::{Declared, Expr, Printed, Stmt};
-use ti_rules::{Refusal, sooner};
+use ti_rules::{Refusal, earlier_of};
 use ti_syntax::tree::{BinaryOperator, StepOperator};
 use ti_syntax::{Spelled, tree};
 
@@ -29,7 +29,7 @@ pub struct Resolved<T: Drop> {
 
 /// A condition and the statement that it guards.
 #[derive(Drop)]
-struct Guarded {
+struct GuardedBody {
     condition: Expr,
     body: Box<Stmt>,
 }
@@ -47,12 +47,12 @@ impl<T: Drop> Resolved<T> {
     }
 }
 
-impl<'t, 'a> Site<'t, 'a> {
+impl<'t, 'a> NameContext<'t, 'a> {
     // ---- simple statements
 
     #[tactic(auto, using(crate::proofs::Firsts::in_nodes))]
     fn check_print(&self, what: &tree::Printed) -> Option<Refusal>
-        ensures { result ≡ first_in (print_nodes (site_of self.now) (print_of what.now)) }
+        ensures { result ≡ first_in (print_nodes (context_of self.now) (print_of what.now)) }
     {
         match what {
             tree::Printed::Nothing => None,
@@ -63,8 +63,8 @@ impl<'t, 'a> Site<'t, 'a> {
     }
 
     fn print(&mut self, what: &tree::Printed) -> Result<Printed, Memory>
-        ensures part { IfOk result (λ w. printed_of w ≡ number_print (site_of self.old) (print_of what.now)) }
-        ensures site { OnOk result (site_of self.new ≡ record (site_of self.old)
+        ensures part { IfOk result (λ w. printed_of w ≡ number_print (context_of self.old) (print_of what.now)) }
+        ensures site { OnOk result (context_of self.new ≡ record (context_of self.old)
             { literals = self.old.literals + length (printed_text (print_of what.now)) }) }
     {
         match what {
@@ -84,12 +84,12 @@ impl<'t, 'a> Site<'t, 'a> {
         target: &tree::Expr,
         value: &tree::Init,
     ) -> Result<Resolved<Stmt>, Memory>
-        ensures part { IfOk result (λ r. statement_of r.part ≡ number_stm (site_of self.now)
+        ensures part { IfOk result (λ r. statement_of r.part ≡ number_stm (context_of self.now)
             (s.Assign place (exp_of target.now) (init_of value.now))) }
-        ensures refusal { IfOk result (λ r. r.refusal ≡ first_in (stm_nodes (site_of self.now)
+        ensures refusal { IfOk result (λ r. r.refusal ≡ first_in (stm_nodes (context_of self.now)
             (s.Assign place (exp_of target.now) (init_of value.now)))) }
     {
-        let refusal = sooner(self.check_exp(target), self.check_init(value));
+        let refusal = earlier_of(self.check_exp(target), self.check_init(value));
         let value = Box::new(self.alloc, self.init(value)?)?;
         Ok(Resolved {
             part: Stmt::Assign {
@@ -108,13 +108,13 @@ impl<'t, 'a> Site<'t, 'a> {
         target: &tree::Expr,
         value: &tree::Expr,
     ) -> Result<Resolved<Stmt>, Memory>
-        ensures part { IfOk result (λ r. statement_of r.part ≡ number_stm (site_of self.now)
+        ensures part { IfOk result (λ r. statement_of r.part ≡ number_stm (context_of self.now)
             (s.Update place operator (exp_of target.now) (exp_of value.now))) }
-        ensures refusal { IfOk result (λ r. r.refusal ≡ first_in (stm_nodes (site_of self.now)
+        ensures refusal { IfOk result (λ r. r.refusal ≡ first_in (stm_nodes (context_of self.now)
             (s.Update place operator (exp_of target.now) (exp_of value.now)))) }
     {
-        let refusal = sooner(self.check_exp(target), self.check_exp(value));
-        let (target, value) = self.two(target, value)?;
+        let refusal = earlier_of(self.check_exp(target), self.check_exp(value));
+        let (target, value) = self.expr_pair(target, value)?;
         Ok(Resolved {
             part: Stmt::Update {
                 place,
@@ -132,8 +132,8 @@ impl<'t, 'a> Site<'t, 'a> {
         operator: StepOperator,
         target: &tree::Expr,
     ) -> Result<Resolved<Stmt>, Memory>
-        ensures part { IfOk result (λ r. statement_of r.part ≡ number_stm (site_of self.now) (s.Step place operator (exp_of target.now))) }
-        ensures refusal { IfOk result (λ r. r.refusal ≡ first_in (stm_nodes (site_of self.now)
+        ensures part { IfOk result (λ r. statement_of r.part ≡ number_stm (context_of self.now) (s.Step place operator (exp_of target.now))) }
+        ensures refusal { IfOk result (λ r. r.refusal ≡ first_in (stm_nodes (context_of self.now)
             (s.Step place operator (exp_of target.now)))) }
     {
         Ok(Resolved {
@@ -146,19 +146,23 @@ impl<'t, 'a> Site<'t, 'a> {
         })
     }
 
-    fn call_alone(&self, x: &tree::Expr) -> Result<Resolved<Stmt>, Memory>
-        ensures part { IfOk result (λ r. statement_of r.part ≡ number_stm (site_of self.now) (s.Call (exp_of x.now))) }
-        ensures refusal { IfOk result (λ r. r.refusal ≡ first_in (stm_nodes (site_of self.now) (s.Call (exp_of x.now)))) }
+    fn call_stmt(&self, expr: &tree::Expr) -> Result<Resolved<Stmt>, Memory>
+        ensures part { IfOk result (λ r. statement_of r.part ≡ number_stm (context_of self.now) (s.Call (exp_of expr.now))) }
+        ensures refusal { IfOk result (λ r. r.refusal ≡ first_in (stm_nodes (context_of self.now) (s.Call (exp_of expr.now)))) }
     {
         Ok(Resolved {
-            part: Stmt::Call(self.exp(x)?),
-            refusal: self.check_exp(x),
+            part: Stmt::Call(self.exp(expr)?),
+            refusal: self.check_exp(expr),
         })
     }
 
-    fn leave(&self, place: Place, value: &Option<tree::Expr>) -> Result<Resolved<Stmt>, Memory>
-        ensures part { IfOk result (λ r. statement_of r.part ≡ number_stm (site_of self.now) (s.Return place (maybe_of exp_of value.now))) }
-        ensures refusal { IfOk result (λ r. r.refusal ≡ first_in (stm_nodes (site_of self.now)
+    fn return_stmt(
+        &self,
+        place: Place,
+        value: &Option<tree::Expr>,
+    ) -> Result<Resolved<Stmt>, Memory>
+        ensures part { IfOk result (λ r. statement_of r.part ≡ number_stm (context_of self.now) (s.Return place (maybe_of exp_of value.now))) }
+        ensures refusal { IfOk result (λ r. r.refusal ≡ first_in (stm_nodes (context_of self.now)
             (s.Return place (maybe_of exp_of value.now)))) }
     {
         Ok(Resolved {
@@ -167,10 +171,10 @@ impl<'t, 'a> Site<'t, 'a> {
         })
     }
 
-    fn printing(&mut self, place: Place, what: &tree::Printed) -> Result<Resolved<Stmt>, Memory>
-        ensures part { IfOk result (λ r. statement_of r.part ≡ number_stm (site_of self.old) (s.Print place (print_of what.now))) }
-        ensures refusal { IfOk result (λ r. r.refusal ≡ first_in (stm_nodes (site_of self.old) (s.Print place (print_of what.now)))) }
-        ensures site { OnOk result (site_of self.new ≡ behind (site_of self.old) (s.Print place (print_of what.now))) }
+    fn print_stmt(&mut self, place: Place, what: &tree::Printed) -> Result<Resolved<Stmt>, Memory>
+        ensures part { IfOk result (λ r. statement_of r.part ≡ number_stm (context_of self.old) (s.Print place (print_of what.now))) }
+        ensures refusal { IfOk result (λ r. r.refusal ≡ first_in (stm_nodes (context_of self.old) (s.Print place (print_of what.now)))) }
+        ensures site { OnOk result (context_of self.new ≡ site_after (context_of self.old) (s.Print place (print_of what.now))) }
     {
         let refusal = self.check_print(what);
         Ok(Resolved {
@@ -186,18 +190,18 @@ impl<'t, 'a> Site<'t, 'a> {
         name: &'a Spelled,
         value: &tree::Init,
     ) -> Result<Resolved<Stmt>, Memory>
-        ensures part { IfOk result (λ r. statement_of r.part ≡ number_stm (site_of self.old)
+        ensures part { IfOk result (λ r. statement_of r.part ≡ number_stm (context_of self.old)
             (s.Declare place (type_of ty.now) name.now (init_of value.now))) }
-        ensures refusal { IfOk result (λ r. r.refusal ≡ first_in (stm_nodes (site_of self.old)
+        ensures refusal { IfOk result (λ r. r.refusal ≡ first_in (stm_nodes (context_of self.old)
             (s.Declare place (type_of ty.now) name.now (init_of value.now)))) }
-        ensures site { OnOk result (site_of self.new ≡ behind (site_of self.old)
+        ensures site { OnOk result (context_of self.new ≡ site_after (context_of self.old)
             (s.Declare place (type_of ty.now) name.now (init_of value.now))) }
     {
-        let head = sooner(self.check_type(ty), self.check_variable(place, name));
-        let refusal = sooner(head, self.check_init(value));
+        let head = earlier_of(self.check_type(ty), self.check_variable(place, name));
+        let refusal = earlier_of(head, self.check_init(value));
         let type_use = self.type_use(ty)?;
         let value = Box::new(self.alloc, self.init(value)?)?;
-        let declared = self.declared(ty)?;
+        let declared = self.declaration_of(ty)?;
         let variable = self.declare(name, declared)?;
         Ok(Resolved {
             part: Stmt::Declare {
@@ -214,17 +218,17 @@ impl<'t, 'a> Site<'t, 'a> {
 
     /// Resolves a statement in a scope of its own.
     #[cycle(walk_stmt)]
-    fn inner(&mut self, x: &'a tree::Stmt) -> Result<Resolved<Box<Stmt>>, Memory>
-        ensures part { IfOk result (λ r. statement_of r.part.value ≡ number_stm (site_of self.old) (stm_of x.now)) }
-        ensures refusal { IfOk result (λ r. r.refusal ≡ first_in (stm_nodes (site_of self.old) (stm_of x.now))) }
-        ensures site { OnOk result (site_of self.new ≡ past (site_of self.old) (stm_of x.now)) }
+    fn scoped_stmt(&mut self, stmt: &'a tree::Stmt) -> Result<Resolved<Box<Stmt>>, Memory>
+        ensures part { IfOk result (λ r. statement_of r.part.value ≡ number_stm (context_of self.old) (stm_of stmt.now)) }
+        ensures refusal { IfOk result (λ r. r.refusal ≡ first_in (stm_nodes (context_of self.old) (stm_of stmt.now))) }
+        ensures site { OnOk result (context_of self.new ≡ past (context_of self.old) (stm_of stmt.now)) }
     {
         let len = self.scope.len();
-        let x = self.stm(x)?;
+        let stmt = self.stm(stmt)?;
         self.cut(len);
         Ok(Resolved {
-            part: Box::new(self.alloc, x.part)?,
-            refusal: x.refusal,
+            part: Box::new(self.alloc, stmt.part)?,
+            refusal: stmt.refusal,
         })
     }
 
@@ -233,18 +237,18 @@ impl<'t, 'a> Site<'t, 'a> {
     #[tactic(auto, using(crate::proofs::Firsts::in_nodes))]
     fn maybe_stm(
         &mut self,
-        x: &'a Option<Box<tree::Stmt>>,
+        stmt: &'a Option<Box<tree::Stmt>>,
     ) -> Result<Resolved<Option<Box<Stmt>>>, Memory>
-        ensures part { IfOk result (λ r. seen_maybe r.part ≡ number_maybe_stm (site_of self.old) (tree_maybe x.now)) }
-        ensures refusal { IfOk result (λ r. r.refusal ≡ first_in (maybe_stm_nodes (site_of self.old) (tree_maybe x.now))) }
-        ensures site { OnOk result (site_of self.new ≡ behind_maybe (site_of self.old) (tree_maybe x.now)) }
+        ensures part { IfOk result (λ r. seen_maybe r.part ≡ number_maybe_stm (context_of self.old) (tree_maybe stmt.now)) }
+        ensures refusal { IfOk result (λ r. r.refusal ≡ first_in (maybe_stm_nodes (context_of self.old) (tree_maybe stmt.now))) }
+        ensures site { OnOk result (context_of self.new ≡ behind_maybe (context_of self.old) (tree_maybe stmt.now)) }
     {
-        match x {
-            Some(x) => {
-                let x = self.stm(x)?;
+        match stmt {
+            Some(stmt) => {
+                let stmt = self.stm(stmt)?;
                 Ok(Resolved {
-                    part: Some(Box::new(self.alloc, x.part)?),
-                    refusal: x.refusal,
+                    part: Some(Box::new(self.alloc, stmt.part)?),
+                    refusal: stmt.refusal,
                 })
             }
             None => Ok(Resolved::clean(None)),
@@ -256,18 +260,18 @@ impl<'t, 'a> Site<'t, 'a> {
     #[tactic(auto, using(crate::proofs::Firsts::in_nodes))]
     fn maybe_inner(
         &mut self,
-        x: &'a Option<Box<tree::Stmt>>,
+        stmt: &'a Option<Box<tree::Stmt>>,
     ) -> Result<Resolved<Option<Box<Stmt>>>, Memory>
-        ensures part { IfOk result (λ r. seen_maybe r.part ≡ number_maybe_stm (site_of self.old) (tree_maybe x.now)) }
-        ensures refusal { IfOk result (λ r. r.refusal ≡ first_in (maybe_stm_nodes (site_of self.old) (tree_maybe x.now))) }
-        ensures site { OnOk result (site_of self.new ≡ past_maybe (site_of self.old) (tree_maybe x.now)) }
+        ensures part { IfOk result (λ r. seen_maybe r.part ≡ number_maybe_stm (context_of self.old) (tree_maybe stmt.now)) }
+        ensures refusal { IfOk result (λ r. r.refusal ≡ first_in (maybe_stm_nodes (context_of self.old) (tree_maybe stmt.now))) }
+        ensures site { OnOk result (context_of self.new ≡ past_maybe (context_of self.old) (tree_maybe stmt.now)) }
     {
-        match x {
-            Some(x) => {
-                let x = self.inner(x)?;
+        match stmt {
+            Some(stmt) => {
+                let stmt = self.scoped_stmt(stmt)?;
                 Ok(Resolved {
-                    part: Some(x.part),
-                    refusal: x.refusal,
+                    part: Some(stmt.part),
+                    refusal: stmt.refusal,
                 })
             }
             None => Ok(Resolved::clean(None)),
@@ -277,26 +281,26 @@ impl<'t, 'a> Site<'t, 'a> {
     /// Resolves statements in order. Their variables stay in scope.
     #[cycle(walk_stmt)]
     #[tactic(auto, using(crate::proofs::Firsts::none_sooner))]
-    pub fn stms(&mut self, xs: &'a [tree::Stmt]) -> Result<Resolved<Vec<Stmt>>, Memory>
-        ensures part { IfOk result (λ r. map statement_of r.part.items ≡ number_list (site_of self.old) (map stm_of xs.now)) }
-        ensures refusal { IfOk result (λ r. r.refusal ≡ first_in (stms_nodes (site_of self.old) (stms (map stm_of xs.now)))) }
-        ensures site { OnOk result (site_of self.new ≡ behind_all (site_of self.old) (stms (map stm_of xs.now))) }
+    pub fn stms(&mut self, stmts: &'a [tree::Stmt]) -> Result<Resolved<Vec<Stmt>>, Memory>
+        ensures part { IfOk result (λ r. map statement_of r.part.items ≡ number_list (context_of self.old) (map stm_of stmts.now)) }
+        ensures refusal { IfOk result (λ r. r.refusal ≡ first_in (stms_nodes (context_of self.old) (stms (map stm_of stmts.now)))) }
+        ensures site { OnOk result (context_of self.new ≡ behind_all (context_of self.old) (stms (map stm_of stmts.now))) }
     {
-        let mut ys = Vec::with_capacity(self.alloc, xs.len())?;
+        let mut ys = Vec::with_capacity(self.alloc, stmts.len())?;
         let mut refusal = None;
-        for x in xs {
-            let y = self.stm(x)?;
+        for stmt in stmts {
+            let y = self.stm(stmt)?;
             ys.push(y.part)?;
-            refusal = sooner(refusal, y.refusal);
+            refusal = earlier_of(refusal, y.refusal);
         }
         Ok(Resolved { part: ys, refusal })
     }
 
     #[cycle(walk_stmt)]
     fn block(&mut self, body: &'a [tree::Stmt]) -> Result<Resolved<Stmt>, Memory>
-        ensures part { IfOk result (λ r. statement_of r.part ≡ number_stm (site_of self.old) (s.block (map stm_of body.now))) }
-        ensures refusal { IfOk result (λ r. r.refusal ≡ first_in (stm_nodes (site_of self.old) (s.block (map stm_of body.now)))) }
-        ensures site { OnOk result (site_of self.new ≡ past (site_of self.old) (s.block (map stm_of body.now))) }
+        ensures part { IfOk result (λ r. statement_of r.part ≡ number_stm (context_of self.old) (s.block (map stm_of body.now))) }
+        ensures refusal { IfOk result (λ r. r.refusal ≡ first_in (stm_nodes (context_of self.old) (s.block (map stm_of body.now)))) }
+        ensures site { OnOk result (context_of self.new ≡ past (context_of self.old) (s.block (map stm_of body.now))) }
     {
         let len = self.scope.len();
         let body = self.stms(body)?;
@@ -309,42 +313,42 @@ impl<'t, 'a> Site<'t, 'a> {
 
     /// Resolves a condition and the statement that it guards, the latter in a scope of its own.
     #[cycle(walk_stmt)]
-    fn guarded(
+    fn guarded_body(
         &mut self,
         body: &'a tree::Stmt,
         condition: &tree::Expr,
-    ) -> Result<Resolved<Guarded>, Memory>
-        ensures condition { IfOk result (λ r. expression_of r.part.condition ≡ number_exp (site_of self.old) (exp_of condition.now)) }
-        ensures body { IfOk result (λ r. statement_of r.part.body.value ≡ number_stm (site_of self.old) (stm_of body.now)) }
-        ensures refusal { IfOk result (λ r. r.refusal ≡ first_in (exp_nodes (site_of self.old) (exp_of condition.now)
-            ++ stm_nodes (site_of self.old) (stm_of body.now))) }
-        ensures site { OnOk result (site_of self.new ≡ past (site_of self.old) (stm_of body.now)) }
+    ) -> Result<Resolved<GuardedBody>, Memory>
+        ensures condition { IfOk result (λ r. expression_of r.part.condition ≡ number_exp (context_of self.old) (exp_of condition.now)) }
+        ensures body { IfOk result (λ r. statement_of r.part.body.value ≡ number_stm (context_of self.old) (stm_of body.now)) }
+        ensures refusal { IfOk result (λ r. r.refusal ≡ first_in (exp_nodes (context_of self.old) (exp_of condition.now)
+            ++ stm_nodes (context_of self.old) (stm_of body.now))) }
+        ensures site { OnOk result (context_of self.new ≡ past (context_of self.old) (stm_of body.now)) }
     {
         let refusal = self.check_exp(condition);
         let condition = self.exp(condition)?;
-        let body = self.inner(body)?;
+        let body = self.scoped_stmt(body)?;
         Ok(Resolved {
-            part: Guarded {
+            part: GuardedBody {
                 condition,
                 body: body.part,
             },
-            refusal: sooner(refusal, body.refusal),
+            refusal: earlier_of(refusal, body.refusal),
         })
     }
 
     /// Resolves an `if`, given its condition and first branch.
     #[cycle(walk_stmt)]
-    fn choice(
+    fn if_stmt(
         &mut self,
         place: Place,
-        head: Resolved<Guarded>,
+        head: Resolved<GuardedBody>,
         otherwise: &'a Option<Box<tree::Stmt>>,
     ) -> Result<Resolved<Stmt>, Memory>
         ensures part { IfOk result (λ r. statement_of r.part ≡ numbered_branches place (expression_of head.part.condition)
-            (statement_of head.part.body.value) (number_maybe_stm (site_of self.old) (tree_maybe otherwise.now))) }
-        ensures refusal { IfOk result (λ r. r.refusal ≡ sooner head.refusal
-            (first_in (maybe_stm_nodes (site_of self.old) (tree_maybe otherwise.now)))) }
-        ensures site { OnOk result (site_of self.new ≡ past_maybe (site_of self.old) (tree_maybe otherwise.now)) }
+            (statement_of head.part.body.value) (number_maybe_stm (context_of self.old) (tree_maybe otherwise.now))) }
+        ensures refusal { IfOk result (λ r. r.refusal ≡ earlier_of head.refusal
+            (first_in (maybe_stm_nodes (context_of self.old) (tree_maybe otherwise.now)))) }
+        ensures site { OnOk result (context_of self.new ≡ past_maybe (context_of self.old) (tree_maybe otherwise.now)) }
     {
         let otherwise = self.maybe_inner(otherwise)?;
         Ok(Resolved {
@@ -354,7 +358,7 @@ impl<'t, 'a> Site<'t, 'a> {
                 then: head.part.body,
                 otherwise: otherwise.part,
             },
-            refusal: sooner(head.refusal, otherwise.refusal),
+            refusal: earlier_of(head.refusal, otherwise.refusal),
         })
     }
 
@@ -367,19 +371,19 @@ impl<'t, 'a> Site<'t, 'a> {
         body: &'a tree::Stmt,
         domain: &tree::Expr,
     ) -> Result<Resolved<Stmt>, Memory>
-        ensures part { IfOk result (λ r. statement_of r.part ≡ number_stm (site_of self.old)
+        ensures part { IfOk result (λ r. statement_of r.part ≡ number_stm (context_of self.old)
             (s.Foreach place name_place name.now (exp_of domain.now) (stm_of body.now))) }
-        ensures refusal { IfOk result (λ r. r.refusal ≡ first_in (stm_nodes (site_of self.old)
+        ensures refusal { IfOk result (λ r. r.refusal ≡ first_in (stm_nodes (context_of self.old)
             (s.Foreach place name_place name.now (exp_of domain.now) (stm_of body.now)))) }
-        ensures site { OnOk result (site_of self.new ≡ behind (site_of self.old)
+        ensures site { OnOk result (context_of self.new ≡ site_after (context_of self.old)
             (s.Foreach place name_place name.now (exp_of domain.now) (stm_of body.now))) }
     {
         let len = self.scope.len();
         let named = self.check_variable(name_place, name);
-        let refusal = sooner(named, self.check_exp(domain));
+        let refusal = earlier_of(named, self.check_exp(domain));
         let domain = self.exp(domain)?;
         let variable = self.declare(name, Declared::Foreach)?;
-        let body = self.inner(body)?;
+        let body = self.scoped_stmt(body)?;
         self.cut(len);
         Ok(Resolved {
             part: Stmt::Foreach {
@@ -388,18 +392,18 @@ impl<'t, 'a> Site<'t, 'a> {
                 domain,
                 body: body.part,
             },
-            refusal: sooner(refusal, body.refusal),
+            refusal: earlier_of(refusal, body.refusal),
         })
     }
 
     /// Resolves a statement. The most frequent forms have a fast path, which doesn't go through `any_stm`.
     #[cycle(walk_stmt)]
-    pub fn stm(&mut self, x: &'a tree::Stmt) -> Result<Resolved<Stmt>, Memory>
-        ensures part { IfOk result (λ r. statement_of r.part ≡ number_stm (site_of self.old) (stm_of x.now)) }
-        ensures refusal { IfOk result (λ r. r.refusal ≡ first_in (stm_nodes (site_of self.old) (stm_of x.now))) }
-        ensures site { OnOk result (site_of self.new ≡ behind (site_of self.old) (stm_of x.now)) }
+    pub fn stm(&mut self, stmt: &'a tree::Stmt) -> Result<Resolved<Stmt>, Memory>
+        ensures part { IfOk result (λ r. statement_of r.part ≡ number_stm (context_of self.old) (stm_of stmt.now)) }
+        ensures refusal { IfOk result (λ r. r.refusal ≡ first_in (stm_nodes (context_of self.old) (stm_of stmt.now))) }
+        ensures site { OnOk result (context_of self.new ≡ site_after (context_of self.old) (stm_of stmt.now)) }
     {
-        match x {
+        match stmt {
             tree::Stmt::Empty => Ok(Resolved::clean(Stmt::Empty)),
             tree::Stmt::Assign {
                 place,
@@ -407,18 +411,18 @@ impl<'t, 'a> Site<'t, 'a> {
                 value,
             } => self.assignment(*place, target, value),
             tree::Stmt::Block(body) => self.block(body),
-            _ => self.any_stm(x),
+            _ => self.any_stm(stmt),
         }
     }
 
     /// Resolves a statement of any form.
     #[cycle(walk_stmt)]
-    fn any_stm(&mut self, x: &'a tree::Stmt) -> Result<Resolved<Stmt>, Memory>
-        ensures part { IfOk result (λ r. statement_of r.part ≡ number_stm (site_of self.old) (stm_of x.now)) }
-        ensures refusal { IfOk result (λ r. r.refusal ≡ first_in (stm_nodes (site_of self.old) (stm_of x.now))) }
-        ensures site { OnOk result (site_of self.new ≡ behind (site_of self.old) (stm_of x.now)) }
+    fn any_stm(&mut self, stmt: &'a tree::Stmt) -> Result<Resolved<Stmt>, Memory>
+        ensures part { IfOk result (λ r. statement_of r.part ≡ number_stm (context_of self.old) (stm_of stmt.now)) }
+        ensures refusal { IfOk result (λ r. r.refusal ≡ first_in (stm_nodes (context_of self.old) (stm_of stmt.now))) }
+        ensures site { OnOk result (context_of self.new ≡ site_after (context_of self.old) (stm_of stmt.now)) }
     {
-        match x {
+        match stmt {
             tree::Stmt::Empty => Ok(Resolved::clean(Stmt::Empty)),
             tree::Stmt::Declare {
                 place,
@@ -442,12 +446,12 @@ impl<'t, 'a> Site<'t, 'a> {
                 operator,
                 target,
             } => self.step(*place, *operator, target),
-            tree::Stmt::Call(x) => self.call_alone(x),
-            tree::Stmt::Print(place, what) => self.printing(*place, what),
+            tree::Stmt::Call(stmt) => self.call_stmt(stmt),
+            tree::Stmt::Print(place, what) => self.print_stmt(*place, what),
             tree::Stmt::Barrier(place) => Ok(Resolved::clean(Stmt::Barrier(*place))),
             tree::Stmt::Break(place) => Ok(Resolved::clean(Stmt::Break(*place))),
             tree::Stmt::Continue(place) => Ok(Resolved::clean(Stmt::Continue(*place))),
-            tree::Stmt::Return(place, value) => self.leave(*place, value),
+            tree::Stmt::Return(place, value) => self.return_stmt(*place, value),
             tree::Stmt::Block(body) => self.block(body),
             tree::Stmt::If {
                 place,
@@ -455,15 +459,15 @@ impl<'t, 'a> Site<'t, 'a> {
                 then,
                 otherwise,
             } => {
-                let head = self.guarded(then, condition)?;
-                self.choice(*place, head, otherwise)
+                let head = self.guarded_body(then, condition)?;
+                self.if_stmt(*place, head, otherwise)
             }
             tree::Stmt::While {
                 place,
                 condition,
                 body,
             } => {
-                let head = self.guarded(body, condition)?;
+                let head = self.guarded_body(body, condition)?;
                 Ok(Resolved {
                     part: Stmt::While {
                         place: *place,
@@ -482,10 +486,10 @@ impl<'t, 'a> Site<'t, 'a> {
             } => {
                 let len = self.scope.len();
                 let first = self.maybe_stm(first)?;
-                let refusal = sooner(first.refusal, self.check_maybe(condition));
+                let refusal = earlier_of(first.refusal, self.check_maybe(condition));
                 let condition = self.maybe(condition)?;
                 let update = self.maybe_inner(update)?;
-                let body = self.inner(body)?;
+                let body = self.scoped_stmt(body)?;
                 self.cut(len);
                 Ok(Resolved {
                     part: Stmt::For {
@@ -495,7 +499,7 @@ impl<'t, 'a> Site<'t, 'a> {
                         update: update.part,
                         body: body.part,
                     },
-                    refusal: sooner(sooner(refusal, update.refusal), body.refusal),
+                    refusal: earlier_of(earlier_of(refusal, update.refusal), body.refusal),
                 })
             }
             tree::Stmt::Foreach {

@@ -4,16 +4,16 @@ ghost use Rattle.std.specs.Prelude.{◌≡◌, map, IfOk};
 ghost use Rattle.ti_syntax.specs.Trees.Views.{type_of, grid_of};
 ghost use Rattle.ti_lang.specs.Program.Views.{value_type_of, type_use_of, declared_of};
 ghost use Rattle.ti_lang.specs.Scopes.{base_type, grid_type, numbered_type, typed_as};
-ghost use Rattle.ti_names.specs.Seen.{text_of};
+ghost use Rattle.ti_names.specs.Seen.{text_of_tables};
 
-use crate::site::Site;
+use crate::context::NameContext;
 use ti_base::Memory;
 use ti_lang::program::{Declared, Ty, TypeUse, copy_all, has_local, has_single};
 use ti_syntax::tree::{Base, Brackets, Qualifier, TypeName};
 
-impl<'t, 'a> Site<'t, 'a> {
+impl<'t, 'a> NameContext<'t, 'a> {
     fn base_type(&self, words: &[Qualifier], base: &Base) -> Ty
-        ensures { value_type_of result ≡ base_type (text_of self.now.tables.now) words.now base.now }
+        ensures { value_type_of result ≡ base_type (text_of_tables self.now.tables.now) words.now base.now }
     {
         match base {
             Base::Int(_) => Ty::Int,
@@ -52,7 +52,7 @@ impl<'t, 'a> Site<'t, 'a> {
     /// Resolves a type.
     #[tactic(auto, using(ti_lang::proofs::Lemmas::copies))]
     pub fn type_use(&self, ty: &TypeName) -> Result<TypeUse, Memory>
-        ensures { IfOk result (λ t. type_use_of t ≡ numbered_type (text_of self.now.tables.now) (type_of ty.now)) }
+        ensures { IfOk result (λ t. type_use_of t ≡ numbered_type (text_of_tables self.now.tables.now) (type_of ty.now)) }
     {
         let base = self.base_type(&ty.qualifiers, &ty.base);
         Ok(TypeUse {
@@ -64,8 +64,8 @@ impl<'t, 'a> Site<'t, 'a> {
     }
 
     /// What a declaration with this type says of the variable: its type, and whether it is single.
-    pub fn declared(&self, ty: &TypeName) -> Result<Declared, Memory>
-        ensures { IfOk result (λ d. declared_of d ≡ typed_as (text_of self.now.tables.now) (type_of ty.now)) }
+    pub fn declaration_of(&self, ty: &TypeName) -> Result<Declared, Memory>
+        ensures { IfOk result (λ d. declared_of d ≡ typed_as (text_of_tables self.now.tables.now) (type_of ty.now)) }
     {
         let base = self.base_type(&ty.qualifiers, &ty.base);
         Ok(Declared::Typed {

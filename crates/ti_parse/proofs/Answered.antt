@@ -11,20 +11,20 @@ use Rattle.ti_syntax.specs.Spelling.{Spells, BeginsText, IsTooDeep, IsShallow, M
 use Rattle.ti_syntax.specs.Spelling.Classes.{AllClasses}
 use Rattle.ti_syntax.specs.Spelling.Loads.{classes_loads}
 use Rattle.ti_parse_expr.specs.Answers.{EndsAtEnd}
-use Rattle.ti_parse_expr.specs.Mirrors.Input.{At, Over, Spent, Outcome, Parser, and_then, kind, place, sees}
-use Rattle.ti_parse_expr.specs.Mirrors.Full.{limited, rest_of}
+use Rattle.ti_parse_expr.specs.Mirrors.Input.{At, Over, OutOfFuel, ParseOutcome, Parser, and_then, kind, place, next_is}
+use Rattle.ti_parse_expr.specs.Mirrors.Full.{limit_outcome, unread_of}
 use Rattle.ti_parse_expr.proofs.Lemmas.{Says, Said, append_nil, token, Near, Same, inside}
-use Rattle.ti_parse.specs.Mirrors.Way.{plain}
+use Rattle.ti_parse.specs.Mirrors.ParserParams.{language_params}
 use Rattle.ti_parse.specs.Mirrors.Classes.{classes, ended, text}
 use Rattle.ti_parse.proofs.Ends.{classes_no_end}
 use Rattle.ti_parse.proofs.Limited.{StopsIn, stops_in, above_there, never_refused}
 
 abbrev reading : ℕ → Parser TextTree
-reading n = classes plain n n []
+reading n = classes language_params n n []
 
 -- classes up to the end
-abbrev UpToEnd : ℕ → List Token → Outcome TextTree → Type 0
-UpToEnd n l out = Says n AllClasses (λ r. sees k.End r ≡ true) l out
+abbrev UpToEnd : ℕ → List Token → ParseOutcome TextTree → Type 0
+UpToEnd n l out = Says n AllClasses (λ r. next_is k.End r ≡ true) l out
 
 end_is : (a : TokenKind) → same_kind a k.End ≡ true → a ≡ k.End
 end_is k.End h = refl
@@ -42,21 +42,21 @@ begins_text : (f w : List Token) (tree : TextTree) → AllClasses (f ++ w) tree 
 begins_text f w tree s = (w ++ last, tree, text_of s (sym (append_assoc f w last)))
 
 -- what reading says of a list: a tree and no token too deep, or the one token that shows what is wrong
-abbrev Decides : List Token → Outcome TextTree → Type 0
+abbrev Decides : List Token → ParseOutcome TextTree → Type 0
 Decides list (Ok p) = Spells list p.0 × IsShallow list
 Decides list (Err (At r)) = IsGrammarRefusal list (Some (Unexpected, place r))
 Decides list (Err (Over r)) = IsGrammarRefusal list (Some (TooDeep, place r))
-Decides list (Err Spent) = ⊥
+Decides list (Err OutOfFuel) = ⊥
 
 -- some token is left, and that is what reading says
-record Judged (list : List Token) (out : Outcome TextTree) : Type 0 where
-  left : 0 < length (rest_of out)
+record Judged (list : List Token) (out : ParseOutcome TextTree) : Type 0 where
+  left : 0 < length (unread_of out)
   decides : Decides list out
 
-module _ (says : (turns : ℕ) (l : List Token) → Said turns AllClasses (λ r. sees k.End r ≡ true) l (classes plain turns turns [] l))
-    (reads : (l : List Token) (xs : List ClassTree) (s : AllClasses l xs) (turns : ℕ) (r : List Token) → kind r ≡ k.End → length (l ++ r) < turns
-    → classes plain turns turns [] (l ++ r) ≡ limited (classes_loads s) (l ++ r) (Ok (xs, r)))
-    (near : (t : Token) (w v : List Token) (turns more : ℕ) → turns ≤ more → Near t w v (classes plain turns turns []) (classes plain more more [])) where
+module _ (says : (fuel : ℕ) (l : List Token) → Said fuel AllClasses (λ r. next_is k.End r ≡ true) l (classes language_params fuel fuel [] l))
+    (reads : (l : List Token) (xs : List ClassTree) (s : AllClasses l xs) (fuel : ℕ) (r : List Token) → kind r ≡ k.End → length (l ++ r) < fuel
+    → classes language_params fuel fuel [] (l ++ r) ≡ limit_outcome (classes_loads s) (l ++ r) (Ok (xs, r)))
+    (near : (t : Token) (w v : List Token) (fuel more : ℕ) → fuel ≤ more → Near t w v (classes language_params fuel fuel []) (classes language_params more more [])) where
   -- ---- a token that reading left; whatever stands behind it, reading leaves it again
 
   left_again : (n m : ℕ) → n ≤ m → (f rest more : List Token) (t : Token) (tree : TextTree) → reading n (f ++ t ∷ rest) ≡ Ok (tree, t ∷ rest) → reading m (f ++ t ∷ more) ≡ Ok (tree, t ∷ more)
@@ -76,9 +76,9 @@ module _ (says : (turns : ℕ) (l : List Token) → Said turns AllClasses (λ r.
 
   -- ---- a text is read up to its end, within the limits
 
-  text_reads : (list : List Token) (tree : TextTree) (s : Spells list tree) (n : ℕ) → length list < n → reading n list ≡ limited (classes_loads s.classes) list (Ok (tree, s.last ∷ []))
+  text_reads : (list : List Token) (tree : TextTree) (s : Spells list tree) (n : ℕ) → length list < n → reading n list ≡ limit_outcome (classes_loads s.classes) list (Ok (tree, s.last ∷ []))
   text_reads list tree s n lt =
-      subst (λ z. reading n z ≡ limited (classes_loads s.classes) z (Ok (tree, s.last ∷ []))) (sym s.is) (reads s.front tree s.classes n (s.last ∷ []) s.ends (subst (λ z. length z < n) s.is lt))
+      subst (λ z. reading n z ≡ limit_outcome (classes_loads s.classes) z (Ok (tree, s.last ∷ []))) (sym s.is) (reads s.front tree s.classes n (s.last ∷ []) s.ends (subst (λ z. length z < n) s.is lt))
 
   -- the token that was found too deep is so in every tree
   deep_by : (n : ℕ) (f rest : List Token) (t : Token) → reading n (f ++ t ∷ rest) ≡ Err (Over (t ∷ rest)) → IsTooDeep f t
@@ -102,7 +102,7 @@ module _ (says : (turns : ℕ) (l : List Token) → Said turns AllClasses (λ r.
       let e : front ++ t ∷ (rest ++ g) ≡ f ++ g = sym (append_assoc front (t ∷ rest) g) ∙ ap (λ z. z ++ g) (sym is) in
       let above = deep (rest ++ g) tree (record { front = s.front; last = s.last; is = e ∙ s.is; ends = s.ends; classes = s.classes }) in
       let m : ℕ = suc (length (f ++ g)) in
-      let stop : StopsIn f g (limited (classes_loads s.classes) (f ++ g) (Ok (tree, s.last ∷ []))) =
+      let stop : StopsIn f g (limit_outcome (classes_loads s.classes) (f ++ g) (Ok (tree, s.last ∷ []))) =
       stops_in (classes_loads s.classes) f g (Ok (tree, s.last ∷ [])) (length front) above (omega (arith, ap length is, length-append front (t ∷ rest))) in
       let parts : (z : List Token) → f ++ z ≡ stop.front ++ stop.heavy ∷ (stop.rest ++ z) = λ z. ap (λ y. y ++ z) stop.is ∙ append_assoc stop.front (stop.heavy ∷ stop.rest) z in
       let over : reading m (stop.front ++ stop.heavy ∷ (stop.rest ++ g)) ≡ Err (Over (stop.heavy ∷ (stop.rest ++ g))) =
@@ -125,7 +125,7 @@ module _ (says : (turns : ℕ) (l : List Token) → Said turns AllClasses (λ r.
         shallow_by n (f ++ t ∷ []) [] rest tree (record { front = f; last = t; is = append_nil (f ++ t ∷ []); ends = end; classes = s })
         (λ m le a c u split over.
         let same : reading m ((f ++ t ∷ []) ++ rest) ≡ Ok (tree, t ∷ rest) = ap (reading m) (append_assoc f (t ∷ []) rest) ∙ left_again n m le f rest rest t tree is in
-        let both : ◌≡◌ {A = Outcome TextTree} (Ok (tree, t ∷ rest)) (Err (Over (u ∷ (c ++ rest)))) = sym same ∙ over in cc)
+        let both : ◌≡◌ {A = ParseOutcome TextTree} (Ok (tree, t ∷ rest)) (Err (Over (u ∷ (c ++ rest)))) = sym same ∙ over in cc)
 
     -- a text with a token behind it begins no text
     no_text : (f more rest : List Token) (t u : Token) (tree : TextTree) → t.kind ≡ k.End → Spells (((f ++ t ∷ []) ++ u ∷ []) ++ more) tree → ⊥
@@ -133,7 +133,7 @@ module _ (says : (turns : ℕ) (l : List Token) → Said turns AllClasses (λ r.
         let (c, is) = inside (f ++ t ∷ []) more s.front u s.last (sym (append_assoc (f ++ t ∷ []) (u ∷ []) more) ∙ s.is) in
         classes_no_end s.classes f t c (is ∙ append_assoc f (t ∷ []) c) end
 
-    ok_by : (f r : List Token) (tree : TextTree) → list ≡ f ++ r → AllClasses f tree → sees k.End r ≡ true → reading n list ≡ Ok (tree, r) → Judged list (ended plain n tree r)
+    ok_by : (f r : List Token) (tree : TextTree) → list ≡ f ++ r → AllClasses f tree → next_is k.End r ≡ true → reading n list ≡ Ok (tree, r) → Judged list (ended language_params n tree r)
     ok_by f [] tree e s q is = absurd (not_all f [] tree e (subst (λ z. AllClasses z tree) (sym (append_nil f)) s))
     ok_by f (t ∷ []) tree e s q is =
         let end : t.kind ≡ k.End = end_is t.kind q in record {
@@ -153,7 +153,7 @@ module _ (says : (turns : ℕ) (l : List Token) → Said turns AllClasses (λ r.
     refused_by f (t ∷ rest) w tree e s is =
         let at : reading n (f ++ t ∷ rest) ≡ Err (At (t ∷ rest)) = ap (reading n) (sym e) ∙ is in
         let shallow : IsShallow f = shallow_by n f (w ++ last) (t ∷ rest) tree (text_of s (sym (append_assoc f w last))) (λ m le a c u split over.
-        let both : ◌≡◌ {A = Outcome TextTree} (Err (At (t ∷ rest))) (Err (Over (u ∷ (c ++ t ∷ rest)))) = sym (refused_again n m le f rest rest t at) ∙ over in cc) in record {
+        let both : ◌≡◌ {A = ParseOutcome TextTree} (Err (At (t ∷ rest))) (Err (Over (u ∷ (c ++ t ∷ rest)))) = sym (refused_again n m le f rest rest t at) ∙ over in cc) in record {
           left = omega arith;
           decides = refused f t rest e (unexpected (begins_text f w tree s) (no_more n f rest t at) shallow);
         }
@@ -164,47 +164,47 @@ module _ (says : (turns : ℕ) (l : List Token) → Said turns AllClasses (λ r.
         let at : reading n (f ++ t ∷ rest) ≡ Err (Over (t ∷ rest)) = ap (reading n) (sym e) ∙ is in
         let parts : f ++ t ∷ (w ++ last) ≡ ((f ++ t ∷ []) ++ w) ++ last = sym (append_assoc (f ++ t ∷ []) w last ∙ append_assoc f (t ∷ []) (w ++ last)) in
         let shallow : IsShallow f = shallow_by n f (t ∷ (w ++ last)) (t ∷ rest) tree (text_of s parts) (λ m le a c u split over.
-        omega (arith, ap (λ o. length (rest_of o)) (sym (over_again n m le f rest rest t at) ∙ over), length-append c (t ∷ rest))) in record {
+        omega (arith, ap (λ o. length (unread_of o)) (sym (over_again n m le f rest rest t at) ∙ over), length-append c (t ∷ rest))) in record {
           left = omega arith;
           decides = refused f t rest e (too_deep (begins_text (f ++ t ∷ []) w tree s) (deep_by n f rest t at) shallow);
         }
 
-    says_so : (o : Outcome TextTree) → reading n list ≡ o → UpToEnd n list o → Judged list (and_then o (ended plain n))
+    says_so : (o : ParseOutcome TextTree) → reading n list ≡ o → UpToEnd n list o → Judged list (and_then o (ended language_params n))
     says_so (Ok p) is (f, e, s, q) = ok_by f p.1 p.0 e s q is
     says_so (Err (At r)) is (f, e, (w, tree, s)) = refused_by f r w tree e s is
     says_so (Err (Over r)) is (f, t, rest, e, same, (w, tree, s)) =
         subst (λ z. Judged list (Err (Over z))) (sym same) (over_by f rest w t tree e s (is ∙ ap (λ z. Err (Over z)) same))
-    says_so (Err Spent) is few = absurd (omega (arith, few, enough))
+    says_so (Err OutOfFuel) is few = absurd (omega (arith, few, enough))
 
-    plain_answers : Judged list (text plain n list)
+    plain_answers : Judged list (text language_params n list)
     unfolding text
     plain_answers = says_so (reading n list) refl (says n list).says
 
-    answers_as : (o : Outcome TextTree) → text plain n list ≡ o → Judged list o
+    answers_as : (o : ParseOutcome TextTree) → text language_params n list ≡ o → Judged list o
     answers_as o is = subst (Judged list) is plain_answers
 
     -- a tree is that of the list, and no token is too deep
-    pub ok_answer : (tree : TextTree) (r : List Token) → text plain n list ≡ Ok (tree, r) → Spells list tree × IsShallow list
+    pub ok_answer : (tree : TextTree) (r : List Token) → text language_params n list ≡ Ok (tree, r) → Spells list tree × IsShallow list
     ok_answer tree r is = (answers_as (Ok (tree, r)) is).decides
 
     -- some token is left, which is the first that is unexpected
-    pub refused_answer : (r : List Token) → text plain n list ≡ Err (At r) → (0 < length r) × IsGrammarRefusal list (Some (Unexpected, place r))
+    pub refused_answer : (r : List Token) → text language_params n list ≡ Err (At r) → (0 < length r) × IsGrammarRefusal list (Some (Unexpected, place r))
     refused_answer r is = let j : Judged list (Err (At r)) = answers_as (Err (At r)) is in (j.left, j.decides)
 
     -- some token is left, which is the first that is too deep
-    pub deep_answer : (r : List Token) → text plain n list ≡ Err (Over r) → (0 < length r) × IsGrammarRefusal list (Some (TooDeep, place r))
+    pub deep_answer : (r : List Token) → text language_params n list ≡ Err (Over r) → (0 < length r) × IsGrammarRefusal list (Some (TooDeep, place r))
     deep_answer r is = let j : Judged list (Err (Over r)) = answers_as (Err (Over r)) is in (j.left, j.decides)
 
     -- turns suffice
-    pub never_spent : text plain n list ≡ Err Spent → ⊥
-    never_spent is = (answers_as (Err Spent) is).decides
+    pub never_spent : text language_params n list ≡ Err OutOfFuel → ⊥
+    never_spent is = (answers_as (Err OutOfFuel) is).decides
 
-    refusal_by : (o : Outcome TextTree) → Judged list o → (a : Option (Misfit × Place)) × IsGrammarRefusal list a
+    refusal_by : (o : ParseOutcome TextTree) → Judged list o → (a : Option (Misfit × Place)) × IsGrammarRefusal list a
     refusal_by (Ok p) j = (None, fits j.decides.0 j.decides.1)
     refusal_by (Err (At r)) j = (Some (Unexpected, place r), j.decides)
     refusal_by (Err (Over r)) j = (Some (TooDeep, place r), j.decides)
-    refusal_by (Err Spent) j = absurd j.decides
+    refusal_by (Err OutOfFuel) j = absurd j.decides
 
     -- the grammar says of each list that it fits, or what is wrong with it
     pub has_refusal : (a : Option (Misfit × Place)) × IsGrammarRefusal list a
-    has_refusal = refusal_by (text plain n list) plain_answers
+    has_refusal = refusal_by (text language_params n list) plain_answers

@@ -11,25 +11,25 @@ use Rattle.ti_syntax.specs.Trees.Expressions.{Exp}
 use Rattle.ti_syntax.specs.Trees.Statements as s
 use Rattle.ti_syntax.specs.Spelling.Operators.{update_of, step_of}
 use Rattle.ti_syntax.specs.Spelling.Expressions.{Target}
-use Rattle.ti_parse_expr.specs.Mirrors.Input.{At, kind, next, place, sees}
-use Rattle.ti_parse.specs.Mirrors.Way.{Way}
-use Rattle.ti_parse.specs.Mirrors.Parts.{assigned, updated, update_if, changed_by, changed_if}
+use Rattle.ti_parse_expr.specs.Mirrors.Input.{At, kind, after_next, place, next_is}
+use Rattle.ti_parse.specs.Mirrors.ParserParams.{ParserParams}
+use Rattle.ti_parse.specs.Mirrors.Parts.{assignment, compound_assignment, update_if, change_of_by, change_of_if}
 use Rattle.ti_parse.proofs.SoundKinds.{assign_is}
 
-module _ (w : Way) (turns : ℕ) (target : Exp) (l : List Token) where
-  no_assign : (q : TokenKind) → same_kind q k.Assign ≡ false → changed_by w turns target q l ≡ update_if w turns target (update_of q) (step_of q) l
+module _ (w : ParserParams) (fuel : ℕ) (target : Exp) (l : List Token) where
+  no_assign : (q : TokenKind) → same_kind q k.Assign ≡ false → change_of_by w fuel target q l ≡ update_if w fuel target (update_of q) (step_of q) l
   no_assign k.Assign h = absurd (false≢true (sym h))
   no_assign _ h = refl
 
-  pub assign_changes : sees k.Assign l ≡ true → changed_if w turns target Target l ≡ assigned w turns (place l) target (next l)
-  assign_changes h = ap (λ q. changed_by w turns target q l) (assign_is (kind l) h)
+  pub assign_changes : next_is k.Assign l ≡ true → change_of_if w fuel target Target l ≡ assignment w fuel (place l) target (after_next l)
+  assign_changes h = ap (λ q. change_of_by w fuel target q l) (assign_is (kind l) h)
 
-  pub update_changes : {op : BinaryOperator} → sees k.Assign l ≡ false → update_of (kind l) ≡ Some op → changed_if w turns target Target l ≡ updated w turns (place l) op target (next l)
-  update_changes h is = no_assign (kind l) h ∙ ap (λ z. update_if w turns target z (step_of (kind l)) l) is
+  pub update_changes : {op : BinaryOperator} → next_is k.Assign l ≡ false → update_of (kind l) ≡ Some op → change_of_if w fuel target Target l ≡ compound_assignment w fuel (place l) op target (after_next l)
+  update_changes h is = no_assign (kind l) h ∙ ap (λ z. update_if w fuel target z (step_of (kind l)) l) is
 
-  pub step_changes : {op : StepOperator} → sees k.Assign l ≡ false → update_of (kind l) ≡ None → step_of (kind l) ≡ Some op
-      → changed_if w turns target Target l ≡ Ok (s.Step (place l) op target, next l)
-  step_changes h other is = no_assign (kind l) h ∙ ap (λ z. update_if w turns target z (step_of (kind l)) l) other ∙ ap (λ z. update_if w turns target None z l) is
+  pub step_changes : {op : StepOperator} → next_is k.Assign l ≡ false → update_of (kind l) ≡ None → step_of (kind l) ≡ Some op
+      → change_of_if w fuel target Target l ≡ Ok (s.Step (place l) op target, after_next l)
+  step_changes h other is = no_assign (kind l) h ∙ ap (λ z. update_if w fuel target z (step_of (kind l)) l) other ∙ ap (λ z. update_if w fuel target None z l) is
 
-  pub nothing_changes : sees k.Assign l ≡ false → update_of (kind l) ≡ None → step_of (kind l) ≡ None → changed_if w turns target Target l ≡ Err (At l)
-  nothing_changes h other none = no_assign (kind l) h ∙ ap (λ z. update_if w turns target z (step_of (kind l)) l) other ∙ ap (λ z. update_if w turns target None z l) none
+  pub nothing_changes : next_is k.Assign l ≡ false → update_of (kind l) ≡ None → step_of (kind l) ≡ None → change_of_if w fuel target Target l ≡ Err (At l)
+  nothing_changes h other none = no_assign (kind l) h ∙ ap (λ z. update_if w fuel target z (step_of (kind l)) l) other ∙ ap (λ z. update_if w fuel target None z l) none

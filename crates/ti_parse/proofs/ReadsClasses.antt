@@ -19,11 +19,11 @@ use Rattle.ti_syntax.specs.Spelling.Types as types
 use Rattle.ti_syntax.specs.Spelling.Classes.{ParamList, Parameters, Method, Modified, Member, Members, ClassModified, Class, AllClasses}
 use Rattle.ti_syntax.specs.Spelling.Classes as grammar
 use Rattle.ti_syntax.specs.Spelling.Loads.{free, method_loads, member_loads, members_loads, class_loads, classes_loads}
-use Rattle.ti_parse_expr.specs.Mirrors.Input.{and_then, kind, sees}
+use Rattle.ti_parse_expr.specs.Mirrors.Input.{and_then, kind, next_is}
 use Rattle.ti_parse_expr.specs.Mirrors.Full.{Limits, limited_to}
 use Rattle.ti_parse_expr.proofs.Lemmas.{append_nil}
-use Rattle.ti_parse.specs.Mirrors.Way.{up_to}
-use Rattle.ti_parse.specs.Mirrors.Parts.{is_wide, wide, field, typed}
+use Rattle.ti_parse.specs.Mirrors.ParserParams.{up_to}
+use Rattle.ti_parse.specs.Mirrors.Parts.{is_wide, wide, field, any_type}
 use Rattle.ti_parse.specs.Mirrors.Classes as spec
 use Rattle.ti_parse.specs.Mirrors.Classes.{more_params, words, params, method, method_named, field_or_method, member_from, modifiers, member, members, class_from, class, classes}
 use Rattle.ti_parse.proofs.Lengths.{free_loaded, items_loaded, members_loaded}
@@ -127,58 +127,58 @@ params_front : {l : List Token} {ps : List ParamTree} → ParamList l ps → (r 
 params_front (grammar.last {l = l} t s h) r = ap (λ z. begins_item (kind z)) (append_assoc l (t ∷ []) r) ∙ typed_front s (t ∷ r)
 params_front (grammar.more {l = l} {m = m} t c s h h2 q) r = ap (λ z. begins_item (kind z)) (append_assoc l (t ∷ c ∷ m) r) ∙ typed_front s (t ∷ c ∷ (m ++ r))
 
-module _ (limits : Limits) (allows : 0 < limits.weight) (turns : ℕ) where
+module _ (limits : Limits) (allows : 0 < limits.weight) (fuel : ℕ) where
   -- ---- modifiers
 
   modifiers_read : {l : List Token} {ms : List Modifier} → Modified l ms → (n : ℕ) (found : List Modifier) (r : List Token)
-      → modifier_of (kind r) ≡ None → length l < n → modifiers (up_to limits) turns modifier_of n found (l ++ r) ≡ Ok (found ++ ms, r)
+      → modifier_of (kind r) ≡ None → length l < n → modifiers (up_to limits) fuel modifier_of n found (l ++ r) ≡ Ok (found ++ ms, r)
   unfolding modifiers
   modifiers_read grammar.none zero found r free lt = absurd (omega arith)
-  modifiers_read grammar.none (suc n) found r free lt = ap (λ q. spec.modifiers_if (up_to limits) turns
-      (modifiers (up_to limits) turns modifier_of n) found q r) free ∙ ap (λ z. Ok (z, r)) (sym (append_nil found))
+  modifiers_read grammar.none (suc n) found r free lt = ap (λ q. spec.modifiers_if (up_to limits) fuel
+      (modifiers (up_to limits) fuel modifier_of n) found q r) free ∙ ap (λ z. Ok (z, r)) (sym (append_nil found))
   modifiers_read (grammar.more t is s) zero found r free lt = absurd (omega arith)
   modifiers_read (grammar.more {l = l} {ms = ms} t {word = word} is s) (suc n) found r free lt =
       let one : Modifier = record { word = word; place = t.place } in
-      ap (λ q. spec.modifiers_if (up_to limits) turns (modifiers (up_to limits) turns modifier_of n) found q (t ∷ (l ++ r))) is
+      ap (λ q. spec.modifiers_if (up_to limits) fuel (modifiers (up_to limits) fuel modifier_of n) found q (t ∷ (l ++ r))) is
       ∙ modifiers_read s n (found ++ one ∷ []) r free (omega arith)
       ∙ ap (λ z. Ok (z, r)) (append_assoc found (one ∷ []) ms)
 
   class_modifiers_read : {l : List Token} {ms : List Modifier} → ClassModified l ms → (n : ℕ) (found : List Modifier) (r : List Token) → class_modifier_of (kind r) ≡ None → length l < n
-      → modifiers (up_to limits) turns class_modifier_of n found (l ++ r) ≡ Ok (found ++ ms, r)
+      → modifiers (up_to limits) fuel class_modifier_of n found (l ++ r) ≡ Ok (found ++ ms, r)
   unfolding modifiers
   class_modifiers_read grammar.none zero found r free lt = absurd (omega arith)
-  class_modifiers_read grammar.none (suc n) found r free lt = ap (λ q. spec.modifiers_if (up_to limits) turns
-      (modifiers (up_to limits) turns class_modifier_of n) found q r) free ∙ ap (λ z. Ok (z, r)) (sym (append_nil found))
+  class_modifiers_read grammar.none (suc n) found r free lt = ap (λ q. spec.modifiers_if (up_to limits) fuel
+      (modifiers (up_to limits) fuel class_modifier_of n) found q r) free ∙ ap (λ z. Ok (z, r)) (sym (append_nil found))
   class_modifiers_read (grammar.more t is s) zero found r free lt = absurd (omega arith)
   class_modifiers_read (grammar.more {l = l} {ms = ms} t {word = word} is s) (suc n) found r free lt =
       let one : Modifier = record { word = word; place = t.place } in
-      ap (λ q. spec.modifiers_if (up_to limits) turns (modifiers (up_to limits) turns class_modifier_of n) found q (t ∷ (l ++ r))) is
+      ap (λ q. spec.modifiers_if (up_to limits) fuel (modifiers (up_to limits) fuel class_modifier_of n) found q (t ∷ (l ++ r))) is
       ∙ class_modifiers_read s n (found ++ one ∷ []) r free (omega arith)
       ∙ ap (λ z. Ok (z, r)) (append_assoc found (one ∷ []) ms)
 
   modifiers_part : {l : List Token} {ms : List Modifier} → Modified l ms → (r : List Token) → modifier_of (kind r) ≡ None
-      → IsRead limits turns (modifiers (up_to limits) turns modifier_of turns []) (free l) l r ms
-  modifiers_part s r free = free_reads (modifiers (up_to limits) turns modifier_of turns []) (λ lt. modifiers_read s turns [] r free lt)
+      → IsRead limits fuel (modifiers (up_to limits) fuel modifier_of fuel []) (free l) l r ms
+  modifiers_part s r free = free_reads (modifiers (up_to limits) fuel modifier_of fuel []) (λ lt. modifiers_read s fuel [] r free lt)
 
   class_modifiers_part : {l : List Token} {ms : List Modifier} → ClassModified l ms → (r : List Token) → class_modifier_of (kind r) ≡ None
-      → IsRead limits turns (modifiers (up_to limits) turns class_modifier_of turns []) (free l) l r ms
-  class_modifiers_part s r free = free_reads (modifiers (up_to limits) turns class_modifier_of turns []) (λ lt. class_modifiers_read s turns [] r free lt)
+      → IsRead limits fuel (modifiers (up_to limits) fuel class_modifier_of fuel []) (free l) l r ms
+  class_modifiers_part s r free = free_reads (modifiers (up_to limits) fuel class_modifier_of fuel []) (λ lt. class_modifiers_read s fuel [] r free lt)
 
   -- ---- types
 
-  typed_part : {l : List Token} {ty : TypeTree} {r : List Token} {next : List ℕ} → Typed l ty → kind r ≡ k.Name next → IsRead limits turns (typed (up_to limits) turns) (free l) l r ty
-  typed_part {r = r} s h = free_reads (typed (up_to limits) turns) (λ lt. typed_reads limits turns s r (name_ends h) lt)
+  typed_part : {l : List Token} {ty : TypeTree} {r : List Token} {next : List ℕ} → Typed l ty → kind r ≡ k.Name next → IsRead limits fuel (any_type (up_to limits) fuel) (free l) l r ty
+  typed_part {r = r} s h = free_reads (any_type (up_to limits) fuel) (λ lt. typed_reads limits fuel s r (name_ends h) lt)
 
-  field_part : {l : List Token} {ty : TypeTree} {r : List Token} {next : List ℕ} → FieldType l ty → kind r ≡ k.Name next → IsRead limits turns (field (up_to limits) turns) (free l) l r ty
-  field_part {r = r} s h = free_reads (field (up_to limits) turns) (λ lt. field_reads limits turns s r (name_ends h) lt)
+  field_part : {l : List Token} {ty : TypeTree} {r : List Token} {next : List ℕ} → FieldType l ty → kind r ≡ k.Name next → IsRead limits fuel (field (up_to limits) fuel) (free l) l r ty
+  field_part {r = r} s h = free_reads (field (up_to limits) fuel) (λ lt. field_reads limits fuel s r (name_ends h) lt)
 
-  wide_part : {l : List Token} {ty : TypeTree} {r : List Token} {next : List ℕ} → WideType l ty → kind r ≡ k.Name next → IsRead limits turns (wide (up_to limits) turns) (free l) l r ty
-  wide_part {r = r} s h = free_reads (wide (up_to limits) turns) (λ lt. wide_reads limits turns s r (name_ends {r = r} h).qualifier lt)
+  wide_part : {l : List Token} {ty : TypeTree} {r : List Token} {next : List ℕ} → WideType l ty → kind r ≡ k.Name next → IsRead limits fuel (wide (up_to limits) fuel) (free l) l r ty
+  wide_part {r = r} s h = free_reads (wide (up_to limits) fuel) (λ lt. wide_reads limits fuel s r (name_ends {r = r} h).qualifier lt)
 
   -- ---- methods
 
   more_params_read : {l : List Token} {ps : List ParamTree} → ParamList l ps → (n : ℕ) (found : List ParamTree) → length l < n
-      → (r : List Token) → kind r ≡ k.RightParen → IsRead limits turns (more_params (up_to limits) turns n found) (free l) l r (found ++ ps)
+      → (r : List Token) → kind r ≡ k.RightParen → IsRead limits fuel (more_params (up_to limits) fuel n found) (free l) l r (found ++ ps)
   unfolding more_params
   more_params_read (grammar.last t s h) zero found lt r end = absurd (omega arith)
   more_params_read (grammar.last {l = l} t s h) (suc n) found lt r end = free_both l (t ∷ []) (then_reads _ (typed_part s h) (name_took _ h (sees_reads k.Comma _ _ end done_reads)))
@@ -187,32 +187,32 @@ module _ (limits : Limits) (allows : 0 < limits.weight) (turns : ℕ) where
       free_both l (t ∷ c ∷ m) (then_reads _ (typed_part s h) (name_took _ h (sees_reads k.Comma _ _ hc (took
       (result_reads (append_assoc found (_ ∷ []) ps) (more_params_read q n (found ++ _ ∷ []) (omega (arith, length-append l (t ∷ c ∷ m))) r end))))))
 
-  params_typed : (q : TokenKind) (i : List Token) → begins_item q ≡ true → spec.params_by (up_to limits) turns q i
-      ≡ and_then (more_params (up_to limits) turns turns [] i) (λ ps i. Ok (tree.Params ps, i))
+  params_typed : (q : TokenKind) (i : List Token) → begins_item q ≡ true → spec.params_by (up_to limits) fuel q i
+      ≡ and_then (more_params (up_to limits) fuel fuel [] i) (λ ps i. Ok (tree.Params ps, i))
   params_typed k.RightParen i h = cc
   params_typed k.KeywordString i h = cc
   params_typed _ i h = refl
 
-  params_read : {l : List Token} {x : ParamsTree} → Parameters l x → (r : List Token) → kind r ≡ k.RightParen → IsRead limits turns (params (up_to limits) turns) (free l) l r x
+  params_read : {l : List Token} {x : ParamsTree} → Parameters l x → (r : List Token) → kind r ≡ k.RightParen → IsRead limits fuel (params (up_to limits) fuel) (free l) l r x
   unfolding params words
-  params_read grammar.none r end = by_kind (spec.params_by (up_to limits) turns) end done_reads
-  params_read (grammar.words s o c t hs ho hc ht) r end = by_kind (spec.params_by (up_to limits) turns) hs (took (want k.LeftBracket _ ho (want k.RightBracket _ hc (name_took _ ht done_reads))))
+  params_read grammar.none r end = by_kind (spec.params_by (up_to limits) fuel) end done_reads
+  params_read (grammar.words s o c t hs ho hc ht) r end = by_kind (spec.params_by (up_to limits) fuel) hs (took (want k.LeftBracket _ ho (want k.RightBracket _ hc (name_took _ ht done_reads))))
   params_read (grammar.typed {l = l} q) r end =
-      same_reads (λ i. and_then (more_params (up_to limits) turns turns [] i) (λ ps i. Ok (tree.Params ps, i))) (params_typed (kind (l ++ r)) (l ++ r) (params_front q r))
-      (made_reads _ (bounded_reads (free_loaded l) (λ lt. more_params_read q turns [] lt r end)) refl)
+      same_reads (λ i. and_then (more_params (up_to limits) fuel fuel [] i) (λ ps i. Ok (tree.Params ps, i))) (params_typed (kind (l ++ r)) (l ++ r) (params_front q r))
+      (made_reads _ (bounded_reads (free_loaded l) (λ lt. more_params_read q fuel [] lt r end)) refl)
 
   method_reads : {l : List Token} {ps : ParamsTree} {xs : List Stm} {e : Token} (s : Method l ps xs e) (ms : List Modifier) (result : ResultTree) (at : Place) (name : List ℕ) (r : List Token)
-      → IsRead limits turns (method (up_to limits) turns ms result at name) (method_loads s) l r
+      → IsRead limits fuel (method (up_to limits) fuel ms result at name) (method_loads s) l r
       (tree.MethodMember (record { modifiers = ms; result = result; place = at; name = name; params = ps; body = xs; end = e.place }))
   unfolding method
   method_reads (grammar.method o c b e ho ps hc hb items he) ms result at name r =
       want k.LeftParen _ ho (then_reads _ (params_read ps _ hc) (want k.RightParen _ hc (want k.LeftBrace _ hb
-      (then_reads _ (bounded_reads (items_loaded 1 items) (λ lt. items_reads limits allows turns items limits.level 1 (omega arith) turns [] lt _ he)) (want k.RightBrace _ he done_reads)))))
+      (then_reads _ (bounded_reads (items_loaded 1 items) (λ lt. items_reads limits allows fuel items limits.level 1 (omega arith) fuel [] lt _ he)) (want k.RightBrace _ he done_reads)))))
 
   -- ---- members
 
-  member_base : (ms : List Modifier) (q : TokenKind) (i : List Token) → begins_base q ≡ true → spec.member_by (up_to limits) turns ms q i
-      ≡ and_then (field (up_to limits) turns i) (field_or_method (up_to limits) turns ms)
+  member_base : (ms : List Modifier) (q : TokenKind) (i : List Token) → begins_base q ≡ true → spec.member_by (up_to limits) fuel ms q i
+      ≡ and_then (field (up_to limits) fuel i) (field_or_method (up_to limits) fuel ms)
   member_base ms k.KeywordInt i h = refl
   member_base ms k.KeywordLong i h = refl
   member_base ms k.KeywordBoolean i h = refl
@@ -221,75 +221,75 @@ module _ (limits : Limits) (allows : 0 < limits.weight) (turns : ℕ) where
   member_base ms (k.Name name) i h = refl
   member_base ms _ i h = absurd (false≢true h)
 
-  member_wide : (ms : List Modifier) (q : TokenKind) (i : List Token) → is_wide q ≡ true → spec.member_by (up_to limits) turns ms q i
-      ≡ and_then (wide (up_to limits) turns i) (λ ty. method_named (up_to limits) turns ms (tree.Typed ty))
+  member_wide : (ms : List Modifier) (q : TokenKind) (i : List Token) → is_wide q ≡ true → spec.member_by (up_to limits) fuel ms q i
+      ≡ and_then (wide (up_to limits) fuel i) (λ ty. method_named (up_to limits) fuel ms (tree.Typed ty))
   member_wide ms k.KeywordDomain i h = refl
   member_wide ms k.KeywordSharedRegion i h = refl
   member_wide ms _ i h = absurd (false≢true h)
 
   from_field : {m : List Token} {ty : TypeTree} → FieldType m ty → (ms : List Modifier) (b r : List Token)
-      → member_from (up_to limits) turns ms ((m ++ b) ++ r) ≡ and_then (field (up_to limits) turns ((m ++ b) ++ r))
-      (field_or_method (up_to limits) turns ms)
+      → member_from (up_to limits) fuel ms ((m ++ b) ++ r) ≡ and_then (field (up_to limits) fuel ((m ++ b) ++ r))
+      (field_or_method (up_to limits) fuel ms)
   unfolding member_from
   from_field {m = m} s ms b r = member_base ms (kind ((m ++ b) ++ r)) ((m ++ b) ++ r) (ap (λ z. begins_base (kind z)) (append_assoc m b r) ∙ front_field s (b ++ r))
 
   from_wide : {m : List Token} {ty : TypeTree} → WideType m ty → (ms : List Modifier) (b r : List Token)
-      → member_from (up_to limits) turns ms ((m ++ b) ++ r) ≡ and_then (wide (up_to limits) turns ((m ++ b) ++ r)) (λ ty. method_named (up_to limits) turns ms (tree.Typed ty))
+      → member_from (up_to limits) fuel ms ((m ++ b) ++ r) ≡ and_then (wide (up_to limits) fuel ((m ++ b) ++ r)) (λ ty. method_named (up_to limits) fuel ms (tree.Typed ty))
   unfolding member_from
   from_wide {m = m} s ms b r = member_wide ms (kind ((m ++ b) ++ r)) ((m ++ b) ++ r) (ap (λ z. is_wide (kind z)) (append_assoc m b r) ∙ wide_is_wide s (b ++ r))
 
   typed_free : {m : List Token} {ty : TypeTree} → Typed m ty → (b r : List Token) → modifier_of (kind ((m ++ b) ++ r)) ≡ None
   typed_free {m = m} s b r = ap (λ z. modifier_of (kind z)) (append_assoc m b r) ∙ (typed_begins s (b ++ r)).1
 
-  member_reads : {l : List Token} {x : MemberTree} (s : Member l x) (r : List Token) → IsRead limits turns (member (up_to limits) turns) (member_loads s) l r x
+  member_reads : {l : List Token} {x : MemberTree} (s : Member l x) (r : List Token) → IsRead limits fuel (member (up_to limits) fuel) (member_loads s) l r x
   unfolding member member_from method_named field_or_method
   member_reads (grammar.void_method {ms = words} v t e ms hv ht rest) r =
-      then_reads _ (modifiers_part ms _ (ap modifier_of hv)) (by_kind (spec.member_by (up_to limits) turns words) hv (took (name_took _ ht (method_reads rest words (tree.Void v.place) t.place _ r))))
+      then_reads _ (modifiers_part ms _ (ap modifier_of hv)) (by_kind (spec.member_by (up_to limits) fuel words) hv (took (name_took _ ht (method_reads rest words (tree.Void v.place) t.place _ r))))
   member_reads (grammar.field {m = m} {ms = words} t s ms ty ht hs) r =
       then_reads _ (modifiers_part ms _ (typed_free (types.field ty) (t ∷ s ∷ []) r))
-      (same_reads (λ i. and_then (field (up_to limits) turns i) (field_or_method (up_to limits) turns words)) (from_field ty words (t ∷ s ∷ []) r)
+      (same_reads (λ i. and_then (field (up_to limits) fuel i) (field_or_method (up_to limits) fuel words)) (from_field ty words (t ∷ s ∷ []) r)
       (then_reads _ (field_part ty ht) (name_took _ ht (sees_reads k.Semicolon _ _ hs (took done_reads)))))
   member_reads (grammar.method {m = m} {v = v} {ms = words} t e ms (types.field {ty = type} ty) ht rest) r =
       then_reads _ (modifiers_part ms _ (typed_free (types.field ty) (t ∷ v) r))
-      (same_reads (λ i. and_then (field (up_to limits) turns i) (field_or_method (up_to limits) turns words)) (from_field ty words (t ∷ v) r)
+      (same_reads (λ i. and_then (field (up_to limits) fuel i) (field_or_method (up_to limits) fuel words)) (from_field ty words (t ∷ v) r)
       (then_reads _ (field_part ty ht) (name_took _ ht (sees_reads k.Semicolon _ _ (method_front rest r) (method_reads rest words (tree.Typed type) t.place _ r)))))
   member_reads (grammar.method {m = m} {v = v} {ms = words} t e ms (types.wide {ty = type} ty) ht rest) r =
       then_reads _ (modifiers_part ms _ (typed_free (types.wide ty) (t ∷ v) r))
-      (same_reads (λ i. and_then (wide (up_to limits) turns i) (λ ty. method_named (up_to limits) turns words (tree.Typed ty))) (from_wide ty words (t ∷ v) r)
+      (same_reads (λ i. and_then (wide (up_to limits) fuel i) (λ ty. method_named (up_to limits) fuel words (tree.Typed ty))) (from_wide ty words (t ∷ v) r)
       (then_reads _ (wide_part ty ht) (name_took _ ht (method_reads rest words (tree.Typed type) t.place _ r))))
 
   members_read : {l : List Token} {xs : List MemberTree} (s : Members l xs) (n : ℕ) (found : List MemberTree) → length l < n
-      → (r : List Token) → kind r ≡ k.RightBrace → IsRead limits turns (members (up_to limits) turns n found) (members_loads s) l r (found
+      → (r : List Token) → kind r ≡ k.RightBrace → IsRead limits fuel (members (up_to limits) fuel n found) (members_loads s) l r (found
       ++ xs)
   unfolding members
   members_read grammar.none zero found lt r end = absurd (omega arith)
   members_read grammar.none (suc n) found lt r end = result_reads (sym (append_nil found)) (sees_reads k.RightBrace _ _ end done_reads)
   members_read (grammar.more x xs) zero found lt r end = absurd (omega arith)
   members_read (grammar.more {l = l} {m = m} {x = y} {xs = ys} x xs) (suc n) found lt r end =
-      test_reads (sees k.RightBrace) _ _ false (member_not_end (kind ((l ++ m) ++ r)) (ap (λ z. begins_member (kind z)) (append_assoc l m r) ∙ member_front x (m ++ r)))
+      test_reads (next_is k.RightBrace) _ _ false (member_not_end (kind ((l ++ m) ++ r)) (ap (λ z. begins_member (kind z)) (append_assoc l m r) ∙ member_front x (m ++ r)))
       (then_reads _ (member_reads x (m ++ r)) (result_reads (append_assoc found (y ∷ []) ys)
       (members_read xs n (found ++ y ∷ []) (omega (arith, length-append l m, member_some l (member_front x []))) r end)))
 
   -- ---- classes
 
-  class_reads : {l : List Token} {x : ClassTree} (s : Class l x) (r : List Token) → IsRead limits turns (class (up_to limits) turns) (class_loads s) l r x
+  class_reads : {l : List Token} {x : ClassTree} (s : Class l x) (r : List Token) → IsRead limits fuel (class (up_to limits) fuel) (class_loads s) l r x
   unfolding class class_from
   class_reads (grammar.class c t o e ms hc ht ho xs he) r =
       then_reads _ (class_modifiers_part ms _ (ap class_modifier_of hc)) (want k.KeywordClass _ hc (name_took _ ht (want k.LeftBrace _ ho
-      (then_reads _ (bounded_reads (members_loaded xs) (λ lt. members_read xs turns [] lt _ he)) (want k.RightBrace _ he done_reads)))))
+      (then_reads _ (bounded_reads (members_loaded xs) (λ lt. members_read xs fuel [] lt _ he)) (want k.RightBrace _ he done_reads)))))
 
   classes_reads : {l : List Token} {xs : List ClassTree} (s : AllClasses l xs) (n : ℕ) (found : List ClassTree) → length l < n
-      → (r : List Token) → kind r ≡ k.End → IsRead limits turns (classes (up_to limits) turns n found) (classes_loads s) l r (found ++ xs)
+      → (r : List Token) → kind r ≡ k.End → IsRead limits fuel (classes (up_to limits) fuel n found) (classes_loads s) l r (found ++ xs)
   unfolding classes
   classes_reads grammar.none zero found lt r end = absurd (omega arith)
   classes_reads grammar.none (suc n) found lt r end = result_reads (sym (append_nil found)) (sees_reads k.End _ _ end done_reads)
   classes_reads (grammar.more x xs) zero found lt r end = absurd (omega arith)
   classes_reads (grammar.more {l = l} {m = m} {x = y} {xs = ys} x xs) (suc n) found lt r end =
-      test_reads (sees k.End) _ _ false (class_not_end (kind ((l ++ m) ++ r)) (ap (λ z. begins_class (kind z)) (append_assoc l m r) ∙ class_front x (m ++ r)))
+      test_reads (next_is k.End) _ _ false (class_not_end (kind ((l ++ m) ++ r)) (ap (λ z. begins_class (kind z)) (append_assoc l m r) ∙ class_front x (m ++ r)))
       (then_reads _ (class_reads x (m ++ r)) (result_reads (append_assoc found (y ∷ []) ys)
       (classes_reads xs n (found ++ y ∷ []) (omega (arith, length-append l m, class_some l (class_front x []))) r end)))
 
-pub classes_read : (limits : Limits) → 0 < limits.weight → {l : List Token} {xs : List ClassTree} (s : AllClasses l xs) (turns : ℕ) (r : List Token) → kind r ≡ k.End → length (l ++ r) < turns
-    → classes (up_to limits) turns turns [] (l ++ r) ≡ limited_to limits (classes_loads s) (l ++ r) (Ok (xs, r))
-classes_read limits allows {l = l} s turns r end lt =
-    let fits : length l < turns = omega (arith, length-append l r) in (classes_reads limits allows turns s turns [] fits r end).reads fits
+pub classes_read : (limits : Limits) → 0 < limits.weight → {l : List Token} {xs : List ClassTree} (s : AllClasses l xs) (fuel : ℕ) (r : List Token) → kind r ≡ k.End → length (l ++ r) < fuel
+    → classes (up_to limits) fuel fuel [] (l ++ r) ≡ limited_to limits (classes_loads s) (l ++ r) (Ok (xs, r))
+classes_read limits allows {l = l} s fuel r end lt =
+    let fits : length l < fuel = omega (arith, length-append l r) in (classes_reads limits allows fuel s fuel [] fits r end).reads fits

@@ -16,9 +16,9 @@ use Rattle.ti_syntax.specs.Spelling.Types.{FieldType, Typed}
 use Rattle.ti_syntax.specs.Spelling.Types as types
 use Rattle.ti_syntax.specs.Spelling.Classes.{ParamList, Parameters, Method, Modified, Member, Members, ClassModified, Class, AllClasses}
 use Rattle.ti_syntax.specs.Spelling.Classes as grammar
-use Rattle.ti_parse_expr.specs.Mirrors.Input.{Outcome, Parser, ◌>>=◌, ◌>>◌, pure, here, and_then, sees, expect, any_name, take_token}
+use Rattle.ti_parse_expr.specs.Mirrors.Input.{ParseOutcome, Parser, ◌>>=◌, ◌>>◌, pure, next_place, and_then, next_is, expect, any_name, take_token}
 use Rattle.ti_parse_expr.proofs.Lemmas.{paren_is, close_is, bracket_is, shut_is, comma_is, BeginsIn, Said, token, append_nil}
-use Rattle.ti_parse.specs.Mirrors.Way.{plain}
+use Rattle.ti_parse.specs.Mirrors.ParserParams.{language_params}
 use Rattle.ti_parse.specs.Mirrors.Parts.{is_wide}
 use Rattle.ti_parse.specs.Mirrors.Classes as spec
 use Rattle.ti_parse.specs.Mirrors.Classes.{more_params, words, params, method, method_named, field_or_method, member_from, modifiers, member, members, class_from, class, classes}
@@ -40,7 +40,7 @@ no_more found s = record { others = []; are = sym (append_nil found); spelled = 
 one_more : {A : Type 0} {M : List Token → List A → Type 0} {f g : List Token} {found xs : List A} (x : A) → ((ys : List A) → M f ys → M g (x ∷ ys)) → More M (found ++ x ∷ []) f xs → More M found g xs
 one_more {found = found} x made q = record { others = x ∷ q.others; are = q.are ∙ append_assoc found (x ∷ []) q.others; spelled = made q.others q.spelled }
 
-all_tell : {A : Type 0} {n : ℕ} {M : List Token → List A → Type 0} {Q : List A → List Token → Type 0} {l : List Token} {out : Outcome (List A)} → Tells n (More M []) Q l out → Tells n M Q l out
+all_tell : {A : Type 0} {n : ℕ} {M : List Token → List A → Type 0} {Q : List A → List Token → Type 0} {l : List Token} {out : ParseOutcome (List A)} → Tells n (More M []) Q l out → Tells n M Q l out
 all_tell {M = M} tells = as_tells (λ f xs q. subst (M f) (sym q.are) q.spelled) tells
 
 -- ---- each phrase has a token
@@ -73,39 +73,39 @@ class_tree ms word at name xs = record { modifiers = ms; word = word; place = at
 
 -- ---- modifiers, where these words are some
 
-module _ (turns : ℕ) (word_of : TokenKind → Option ModifierWord) (M : List Token → List Modifier → Type 0) (none : M [] []) (word_of_end : word_of k.End ≡ None)
+module _ (fuel : ℕ) (word_of : TokenKind → Option ModifierWord) (M : List Token → List Modifier → Type 0) (none : M [] []) (word_of_end : word_of k.End ≡ None)
     (more : (t : Token) (word : ModifierWord) (f : List Token) (ms : List Modifier) → word_of t.kind ≡ Some word → M f ms → M (t ∷ f) (record { word = word; place = t.place } ∷ ms)) where
   modifiers_end : (m : ℕ) (found : List Modifier) (q : Option ModifierWord) → q ≡ None
-      → Tells (suc m) (More M found) Free [] (spec.modifiers_if plain turns (modifiers plain turns word_of m) found q [])
+      → Tells (suc m) (More M found) Free [] (spec.modifiers_if language_params fuel (modifiers language_params fuel word_of m) found q [])
   modifiers_end m found None is = done_tells (no_more found none)
   modifiers_end m found (Some word) is = cc
 
   modifiers_if_tells : (m : ℕ) (found : List Modifier) → ((found : List Modifier) (l : List Token)
-      → Tells m (More M found) Free l (modifiers plain turns word_of m found l)) → (t : Token) (ts : List Token) (q : Option ModifierWord)
+      → Tells m (More M found) Free l (modifiers language_params fuel word_of m found l)) → (t : Token) (ts : List Token) (q : Option ModifierWord)
       → word_of t.kind ≡ q
-      → Tells (suc m) (More M found) Free (t ∷ ts) (spec.modifiers_if plain turns (modifiers plain turns word_of m) found q (t ∷ ts))
+      → Tells (suc m) (More M found) Free (t ∷ ts) (spec.modifiers_if language_params fuel (modifiers language_params fuel word_of m) found q (t ∷ ts))
   modifiers_if_tells m found rec t ts None is = done_tells (no_more found none)
   modifiers_if_tells m found rec t ts (Some word) is =
       let one : Modifier = record { word = word; place = t.place } in
       after_turn (as_tells (λ g y s. one_more one (λ ys q. more t word g ys is q) s) (rec (found ++ one ∷ []) ts))
 
-  pub modifiers_tell : (m : ℕ) (found : List Modifier) (l : List Token) → Tells m (More M found) Free l (modifiers plain turns word_of m found l)
+  pub modifiers_tell : (m : ℕ) (found : List Modifier) (l : List Token) → Tells m (More M found) Free l (modifiers language_params fuel word_of m found l)
   unfolding modifiers
   modifiers_tell zero found l = spent_tells ([], found, no_more found none)
   modifiers_tell (suc m) found [] = modifiers_end m found (word_of k.End) word_of_end
   modifiers_tell (suc m) found (t ∷ ts) = modifiers_if_tells m found (modifiers_tell m) t ts (word_of t.kind) refl
 
-module _ (turns : ℕ) where
+module _ (fuel : ℕ) where
   -- ---- parameters
 
-  pub more_params_tell : (m : ℕ) → m ≤ turns → (found : List ParamTree) (l : List Token) → Tells m (More ParamList found) Free l (more_params plain turns m found l)
+  pub more_params_tell : (m : ℕ) → m ≤ fuel → (found : List ParamTree) (l : List Token) → Tells m (More ParamList found) Free l (more_params language_params fuel m found l)
   unfolding more_params
   more_params_tell zero le found l = let (w, ps, s) = some_param in spent_tells (w, found ++ ps, record { others = ps; are = refl; spelled = s })
   more_params_tell (suc m) le found l =
-      then_tells _ (fewer_tells le (typed_tells turns l)) (λ f r ty s.
+      then_tells _ (fewer_tells le (typed_tells fuel l)) (λ f r ty s.
       name_here
-      (λ at name i. if◌then◌else◌ {A = Parser (List ParamTree)} (sees k.Comma i)
-      (λ i. and_then (take_token i) (λ _. more_params plain turns m (found ++ param_tree ty at name ∷ [])))
+      (λ at name i. if◌then◌else◌ {A = Parser (List ParamTree)} (next_is k.Comma i)
+      (λ i. and_then (take_token i) (λ _. more_params language_params fuel m (found ++ param_tree ty at name ∷ [])))
       (pure (found ++ param_tree ty at name ∷ [])) i)
       (λ t name ts ht. if_sees k.Comma comma_is refl _ _
       (λ c us hc. after_turn (as_tells (λ g y q. one_more (param_tree ty t.place name) (λ ys p. grammar.more t c s ht hc p) q)
@@ -113,21 +113,21 @@ module _ (turns : ℕ) where
       (λ _. done_tells (record { others = param_tree ty t.place name ∷ []; are = refl; spelled = grammar.last t s ht }))))
 
   -- behind `String`
-  pub words_tell : (w : Token) → w.kind ≡ k.KeywordString → (l : List Token) → Tells turns (λ f x. Parameters (w ∷ f) x) Free l (words plain turns l)
+  pub words_tell : (w : Token) → w.kind ≡ k.KeywordString → (l : List Token) → Tells fuel (λ f x. Parameters (w ∷ f) x) Free l (words language_params fuel l)
   unfolding words
   words_tell w hw l =
       want_tells k.LeftBracket bracket_is refl _ (λ o us ho. want_tells k.RightBracket shut_is refl _ (λ c vs hc.
-      name_here (λ at name. pure (tree.Words at name)) (λ t name ts ht. done_tells (grammar.words w o c t hw ho hc ht))))
+      name_here (λ at name. pure (tree.MainArgs at name)) (λ t name ts ht. done_tells (grammar.words w o c t hw ho hc ht))))
 
-  typed_params : (l : List Token) → Tells turns Parameters Free l (and_then (more_params plain turns turns [] l) (λ ps j. Ok (tree.Params ps, j)))
-  typed_params l = map_tells tree.Params (λ f ps s. grammar.typed s) (all_tell (more_params_tell turns (omega arith) [] l))
+  typed_params : (l : List Token) → Tells fuel Parameters Free l (and_then (more_params language_params fuel fuel [] l) (λ ps j. Ok (tree.Params ps, j)))
+  typed_params l = map_tells tree.Params (λ f ps s. grammar.typed s) (all_tell (more_params_tell fuel (omega arith) [] l))
 
-  params_by_tells : (t : Token) (ts : List Token) (q : TokenKind) → t.kind ≡ q → Tells turns Parameters Free (t ∷ ts) (spec.params_by plain turns q (t ∷ ts))
+  params_by_tells : (t : Token) (ts : List Token) (q : TokenKind) → t.kind ≡ q → Tells fuel Parameters Free (t ∷ ts) (spec.params_by language_params fuel q (t ∷ ts))
   params_by_tells t ts k.RightParen h = done_tells grammar.none
   params_by_tells t ts k.KeywordString h = after_tells (words_tell t h ts)
   params_by_tells t ts _ h = typed_params (t ∷ ts)
 
-  pub params_tell : (l : List Token) → Tells turns Parameters Free l (params plain turns l)
+  pub params_tell : (l : List Token) → Tells fuel Parameters Free l (params language_params fuel l)
   unfolding params
   params_tell [] = typed_params []
   params_tell (t ∷ ts) = params_by_tells t ts t.kind refl
@@ -137,12 +137,12 @@ module _ (turns : ℕ) where
   -- behind the name, where each method makes a phrase of U
   pub method_tells : (U : List Token → MemberTree → Type 0) (ms : List Modifier) (result : ResultTree) (at : Place) (name : List ℕ)
       → ((f : List Token) (ps : ParamsTree) (xs : List Stm) (e : Token) → Method f ps xs e → U f (method_tree ms result at name ps xs e.place))
-      → (l : List Token) → Tells turns U Free l (method plain turns ms result at name l)
+      → (l : List Token) → Tells fuel U Free l (method language_params fuel ms result at name l)
   unfolding method
   method_tells U ms result at name made l =
       want_tells k.LeftParen paren_is refl _ (λ o l2 ho. then_tells _ (params_tell l2) (λ f l3 ps s1.
       want_tells k.RightParen close_is refl _ (λ c l4 hc. want_tells k.LeftBrace brace_is refl _ (λ w l5 hw.
-      then_tells _ (body_tells turns l5) (λ g l6 xs s2.
+      then_tells _ (body_tells fuel l5) (λ g l6 xs s2.
       want_here k.RightBrace brace_shut_is refl (λ end_at. pure (method_tree ms result at name ps xs end_at))
       (λ e l7 he. done_tells (made (o ∷ (f ++ c ∷ w ∷ (g ++ e ∷ []))) ps xs e (grammar.method o c w e ho s1 hc hw s2 he))))))))
 
@@ -150,80 +150,80 @@ module _ (turns : ℕ) where
   pub method_named_tells : (U : List Token → MemberTree → Type 0) (ms : List Modifier) (result : ResultTree)
       → ((t : Token) (name : List ℕ) (f : List Token) (ps : ParamsTree) (xs : List Stm) (e : Token) → t.kind ≡ k.Name name
       → Method f ps xs e → U (t ∷ f) (method_tree ms result t.place name ps xs e.place))
-      → (l : List Token) → Tells turns U Free l (method_named plain turns ms result l)
+      → (l : List Token) → Tells fuel U Free l (method_named language_params fuel ms result l)
   unfolding method_named
   method_named_tells U ms result made l =
-      name_here (λ at name. method plain turns ms result at name)
+      name_here (λ at name. method language_params fuel ms result at name)
       (λ t name ts ht. method_tells (λ f x. U (t ∷ f) x) ms result t.place name (λ f ps xs e s. made t name f ps xs e ht s) ts)
 
   -- ---- members, behind their modifiers, the tokens a
 
   -- and behind the type, the tokens m
   pub field_or_method_tells : (a m : List Token) (ms : List Modifier) (ty : TypeTree) → Modified a ms → FieldType m ty → (l : List Token)
-      → Tells turns (λ f x. Member (a ++ (m ++ f)) x) Free l (field_or_method plain turns ms ty l)
+      → Tells fuel (λ f x. Member (a ++ (m ++ f)) x) Free l (field_or_method language_params fuel ms ty l)
   unfolding field_or_method
   field_or_method_tells a m ms ty sm sty l =
       name_here
-      (λ at name i. if◌then◌else◌ {A = Parser MemberTree} (sees k.Semicolon i)
+      (λ at name i. if◌then◌else◌ {A = Parser MemberTree} (next_is k.Semicolon i)
       (λ i. and_then (take_token i) (λ _. pure (tree.FieldMember (record { modifiers = ms; ty = ty; place = at; name = name }))))
-      (method plain turns ms (tree.Typed ty) at name) i)
+      (method language_params fuel ms (tree.Typed ty) at name) i)
       (λ t name ts ht. if_sees k.Semicolon semicolon_is refl _ _ (λ s us hs. after_tells (done_tells (grammar.field t s sm sty ht hs)))
       (λ _. method_tells (λ f x. Member (a ++ (m ++ t ∷ f)) x) ms (tree.Typed ty) t.place name (λ f ps xs e q. grammar.method t e sm (types.field sty) ht q) ts))
 
   typed_member_tells : (a : List Token) (ms : List Modifier) → Modified a ms → (l : List Token) (is_wide : Bool)
-      → Tells turns (λ f x. Member (a ++ f) x) Free l (spec.typed_member plain turns ms is_wide l)
+      → Tells fuel (λ f x. Member (a ++ f) x) Free l (spec.typed_member language_params fuel ms is_wide l)
   typed_member_tells a ms sm l true =
-      then_tells _ (wide_tells turns l) (λ m r ty sty. method_named_tells (λ f x. Member (a ++ (m ++ f)) x) ms (tree.Typed ty) (λ t name f ps xs e ht q. grammar.method t e sm (types.wide sty) ht q) r)
-  typed_member_tells a ms sm l false = then_tells _ (field_tells turns l) (λ m r ty sty. field_or_method_tells a m ms ty sm sty r)
+      then_tells _ (wide_tells fuel l) (λ m r ty sty. method_named_tells (λ f x. Member (a ++ (m ++ f)) x) ms (tree.Typed ty) (λ t name f ps xs e ht q. grammar.method t e sm (types.wide sty) ht q) r)
+  typed_member_tells a ms sm l false = then_tells _ (field_tells fuel l) (λ m r ty sty. field_or_method_tells a m ms ty sm sty r)
 
   member_by_tells : (a : List Token) (ms : List Modifier) → Modified a ms → (v : Token) (l : List Token) (q : TokenKind) → v.kind ≡ q
-      → Tells turns (λ f x. Member (a ++ f) x) Free (v ∷ l) (spec.member_by plain turns ms q (v ∷ l))
+      → Tells fuel (λ f x. Member (a ++ f) x) Free (v ∷ l) (spec.member_by language_params fuel ms q (v ∷ l))
   member_by_tells a ms sm v l k.KeywordVoid h =
       after_tells (method_named_tells (λ f x. Member (a ++ v ∷ f) x) ms (tree.Void v.place) (λ t name f ps xs e ht q. grammar.void_method v t e sm h ht q) l)
   member_by_tells a ms sm v l q h = typed_member_tells a ms sm (v ∷ l) (is_wide q)
 
-  pub member_from_tells : (a : List Token) (ms : List Modifier) → Modified a ms → (l : List Token) → Tells turns (λ f x. Member (a ++ f) x) Free l (member_from plain turns ms l)
+  pub member_from_tells : (a : List Token) (ms : List Modifier) → Modified a ms → (l : List Token) → Tells fuel (λ f x. Member (a ++ f) x) Free l (member_from language_params fuel ms l)
   unfolding member_from
   member_from_tells a ms sm [] = typed_member_tells a ms sm [] false
   member_from_tells a ms sm (t ∷ ts) = member_by_tells a ms sm t ts t.kind refl
 
-  pub member_tells : (l : List Token) → Tells turns Member Free l (member plain turns l)
+  pub member_tells : (l : List Token) → Tells fuel Member Free l (member language_params fuel l)
   unfolding member
   member_tells l =
-      then_tells _ (all_tell (modifiers_tell turns modifier_of Modified grammar.none refl (λ t word f ms is s. grammar.more t is s) turns [] l)) (λ f r ms s. member_from_tells f ms s r)
+      then_tells _ (all_tell (modifiers_tell fuel modifier_of Modified grammar.none refl (λ t word f ms is s. grammar.more t is s) fuel [] l)) (λ f r ms s. member_from_tells f ms s r)
 
-  pub members_tell : (m : ℕ) → m ≤ turns → (found : List MemberTree) (l : List Token) → Tells m (More Members found) Free l (members plain turns m found l)
+  pub members_tell : (m : ℕ) → m ≤ fuel → (found : List MemberTree) (l : List Token) → Tells m (More Members found) Free l (members language_params fuel m found l)
   unfolding members
   members_tell zero le found l = spent_tells ([], found, no_more found grammar.none)
   members_tell (suc m) le found l =
-      if_tells (sees k.RightBrace l) _ _ (λ _. done_tells (no_more found grammar.none))
+      if_tells (next_is k.RightBrace l) _ _ (λ _. done_tells (no_more found grammar.none))
       (λ _. then_turn _ member_some (fewer_tells le (member_tells l)) (λ f r x s. as_tells (λ g y q. one_more x (λ ys p. grammar.more s p) q) (members_tell m (omega arith) (found ++ x ∷ []) r)))
 
   -- ---- classes
 
   -- behind the modifiers, the tokens a
-  pub class_from_tells : (a : List Token) (ms : List Modifier) → ClassModified a ms → (l : List Token) → Tells turns (λ f x. Class (a ++ f) x) Free l (class_from plain turns ms l)
+  pub class_from_tells : (a : List Token) (ms : List Modifier) → ClassModified a ms → (l : List Token) → Tells fuel (λ f x. Class (a ++ f) x) Free l (class_from language_params fuel ms l)
   unfolding class_from
   class_from_tells a ms sm l =
       want_here k.KeywordClass class_is refl
-      (λ word. here >>= (λ at. any_name >>= (λ name. expect k.LeftBrace >> (members plain turns turns [] >>= (λ xs. expect k.RightBrace >> pure (class_tree ms word at name xs))))))
+      (λ word. next_place >>= (λ at. any_name >>= (λ name. expect k.LeftBrace >> (members language_params fuel fuel [] >>= (λ xs. expect k.RightBrace >> pure (class_tree ms word at name xs))))))
       (λ c l2 hc. name_here
-      (λ at name. expect k.LeftBrace >> (members plain turns turns [] >>= (λ xs. expect k.RightBrace >> pure (class_tree ms c.place at name xs))))
-      (λ t name l3 ht. want_tells k.LeftBrace brace_is refl _ (λ o l4 ho. then_tells _ (all_tell (members_tell turns (omega arith) [] l4)) (λ f r xs s.
+      (λ at name. expect k.LeftBrace >> (members language_params fuel fuel [] >>= (λ xs. expect k.RightBrace >> pure (class_tree ms c.place at name xs))))
+      (λ t name l3 ht. want_tells k.LeftBrace brace_is refl _ (λ o l4 ho. then_tells _ (all_tell (members_tell fuel (omega arith) [] l4)) (λ f r xs s.
       last_tells k.RightBrace brace_shut_is refl (class_tree ms c.place t.place name xs) (λ e he. grammar.class c t o e sm hc ht ho s he)))))
 
-  pub class_tells : (l : List Token) → Tells turns Class Free l (class plain turns l)
+  pub class_tells : (l : List Token) → Tells fuel Class Free l (class language_params fuel l)
   unfolding class
   class_tells l =
-      then_tells _ (all_tell (modifiers_tell turns class_modifier_of ClassModified grammar.none refl (λ t word f ms is s. grammar.more t is s) turns [] l)) (λ f r ms s. class_from_tells f ms s r)
+      then_tells _ (all_tell (modifiers_tell fuel class_modifier_of ClassModified grammar.none refl (λ t word f ms is s. grammar.more t is s) fuel [] l)) (λ f r ms s. class_from_tells f ms s r)
 
-  pub classes_tell : (m : ℕ) → m ≤ turns → (found : List ClassTree) (l : List Token) → Tells m (More AllClasses found) (λ _ r. sees k.End r ≡ true) l (classes plain turns m found l)
+  pub classes_tell : (m : ℕ) → m ≤ fuel → (found : List ClassTree) (l : List Token) → Tells m (More AllClasses found) (λ _ r. next_is k.End r ≡ true) l (classes language_params fuel m found l)
   unfolding classes
   classes_tell zero le found l = spent_tells ([], found, no_more found grammar.none)
   classes_tell (suc m) le found l =
-      if_tells (sees k.End l) _ _ (λ h. met_tells (no_more found grammar.none) h)
+      if_tells (next_is k.End l) _ _ (λ h. met_tells (no_more found grammar.none) h)
       (λ _. then_turn _ class_some (fewer_tells le (class_tells l)) (λ f r x s. as_tells (λ g y q. one_more x (λ ys p. grammar.more s p) q) (classes_tell m (omega arith) (found ++ x ∷ []) r)))
 
 -- the classes of a text, up to the end
-pub classes_say : (turns : ℕ) (l : List Token) → Said turns AllClasses (λ r. sees k.End r ≡ true) l (classes plain turns turns [] l)
-classes_say turns l = said_of (all_tell (classes_tell turns turns (omega arith) [] l))
+pub classes_say : (fuel : ℕ) (l : List Token) → Said fuel AllClasses (λ r. next_is k.End r ≡ true) l (classes language_params fuel fuel [] l)
+classes_say fuel l = said_of (all_tell (classes_tell fuel fuel (omega arith) [] l))

@@ -11,13 +11,13 @@ use Rattle.ti_syntax.specs.Spelling.Types.{Typed}
 use Rattle.ti_syntax.specs.Spelling.Statements.{starts, Declared, Stated, Items}
 use Rattle.ti_syntax.specs.Spelling.Statements as grammar
 use Rattle.ti_parse_expr.specs.declared.parse.Form.TheVariants as form
-use Rattle.ti_parse_expr.specs.Mirrors.Input.{Outcome, Parser, ◌>>=◌, ◌>>◌, pure, refuse, and_then, kind, sees, expect, expect_word, take_token}
+use Rattle.ti_parse_expr.specs.Mirrors.Input.{ParseOutcome, Parser, ◌>>=◌, ◌>>◌, pure, refuse, and_then, kind, next_is, expect, expect_word, take_token}
 use Rattle.ti_parse_expr.specs.Mirrors.Full.{full, full_operand}
 use Rattle.ti_parse_expr.proofs.Lemmas.{paren_is, close_is, BeginsIn, token, append_nil, ended}
-use Rattle.ti_parse.specs.Mirrors.Way.{plain}
-use Rattle.ti_parse.specs.Mirrors.Parts.{begins_declaration, Begun, Declares, Starts, typed, declared, simple}
+use Rattle.ti_parse.specs.Mirrors.ParserParams.{language_params}
+use Rattle.ti_parse.specs.Mirrors.Parts.{begins_declaration, NameStart, DeclaredType, PostfixStart, any_type, declared, expr_stmt}
 use Rattle.ti_parse.specs.Mirrors.Statements as spec
-use Rattle.ti_parse.specs.Mirrors.Statements.{is_compound, too_deep, item, items, block, conditional, while_loop, for_loop, foreach_loop, small, stmt, body}
+use Rattle.ti_parse.specs.Mirrors.Statements.{is_compound, too_deep, item, items, block, conditional, while_loop, for_loop, foreach_loop, simple_stmt, stmt, body}
 use Rattle.ti_parse.proofs.Laws.{Free, Tells, as_tells, so_tells, fewer_tells, done_tells, met_tells, refused_tells, over_tells, spent_tells, if_tells, if_head, after_tells, then_tells, then_met, then_turn, map_met, want_tells, last_tells, word_tells, name_here}
 use Rattle.ti_parse.proofs.SoundKinds.{semicolon_is, brace_shut_is, else_is}
 use Rattle.ti_parse.proofs.SoundParts.{ends_open, Shut, BegunIs, whole_tells, typed_tells, declared_tells, start_tells, simple_tells, begun_tells, print_tells, barrier_tells, break_tells, continue_tells, return_tells, condition_tells, first_tells, optional_tells, update_tells}
@@ -30,12 +30,12 @@ Statement f x = Stated (ends_open x) f x
 
 -- behind an `if` without `else` stands no `else`
 abbrev pub NoElse : Stm → List Token → Type 0
-NoElse x r = ends_open x ≡ true → sees k.KeywordElse r ≡ false
+NoElse x r = ends_open x ≡ true → next_is k.KeywordElse r ≡ false
 
 shut_free : (x : Stm) (r : List Token) → ends_open x ≡ false → NoElse x r
 shut_free x r h is_open = let wrong : false ≡ true = sym h ∙ is_open in cc
 
-pub shut_tells : {n : ℕ} {l : List Token} {out : Outcome Stm} → Tells n Shut Free l out → Tells n Statement NoElse l out
+pub shut_tells : {n : ℕ} {l : List Token} {out : ParseOutcome Stm} → Tells n Shut Free l out → Tells n Statement NoElse l out
 shut_tells tells = as_tells (λ f x (s, h). subst (λ z. Stated z f x) (sym h) s) (so_tells (λ f r x (s, h) _. shut_free x r h) tells)
 
 -- an item with its semicolon
@@ -81,145 +81,145 @@ must_be_shut x false is h = is
 -- what an `else` follows is shut
 shut_before_else : (f : List Token) (x : Stm) (r ts : List Token) (d : Token) → Statement f x → NoElse x r → r ≡ d ∷ ts → d.kind ≡ k.KeywordElse → Stated false f x
 shut_before_else f x r ts d s free is h =
-    let seen : sees k.KeywordElse r ≡ true = ap (sees k.KeywordElse) is ∙ ap (λ z. same_kind z k.KeywordElse) h in
+    let seen : next_is k.KeywordElse r ≡ true = ap (next_is k.KeywordElse) is ∙ ap (λ z. same_kind z k.KeywordElse) h in
     let not_open : ends_open x ≡ true → ⊥ = λ is_open. let wrong : true ≡ false = sym seen ∙ free is_open in cc in
     subst (λ z. Stated z f x) (must_be_shut x (ends_open x) refl not_open) s
 
 -- ---- where statements are read so
 
-module _ (turns : ℕ) (stmt : Parser Stm) (stmt_tells : (l : List Token) → Tells turns Statement NoElse l (stmt l)) where
+module _ (fuel : ℕ) (stmt : Parser Stm) (stmt_tells : (l : List Token) → Tells fuel Statement NoElse l (stmt l)) where
   -- behind the type, the tokens a
   declared_closed : (a : List Token) (ty : TypeTree) → Typed a ty → (l : List Token)
-      → Tells turns (λ f x. ItemIs (a ++ f) x) Free l (and_then (declared plain turns ty l) (λ x i. and_then (expect k.Semicolon i) (λ _ j. Ok (x, j))))
+      → Tells fuel (λ f x. ItemIs (a ++ f) x) Free l (and_then (declared language_params fuel ty l) (λ x i. and_then (expect k.Semicolon i) (λ _ j. Ok (x, j))))
   declared_closed a ty s l =
-      then_tells _ (declared_tells turns a ty s l) (λ f r x q. last_tells k.Semicolon semicolon_is refl x (λ t h. subst (λ z. ItemIs z x) (append_assoc a f (t ∷ [])) (declaration t q h)))
+      then_tells _ (declared_tells fuel a ty s l) (λ f r x q. last_tells k.Semicolon semicolon_is refl x (λ t h. subst (λ z. ItemIs z x) (append_assoc a f (t ∷ [])) (declaration t q h)))
 
-  named_item_tells : (a : List Token) (x : Begun) → BegunIs a x → (l : List Token) → Tells turns (λ f y. ItemIs (a ++ f) y) Free l (spec.named_item plain turns stmt x l)
-  named_item_tells a (Declares ty) s l = declared_closed a ty s l
-  named_item_tells a (Starts x) s l = as_tells (λ f y (q, h). statement q) (simple_tells turns a x s l)
+  named_item_tells : (a : List Token) (x : NameStart) → BegunIs a x → (l : List Token) → Tells fuel (λ f y. ItemIs (a ++ f) y) Free l (spec.named_item language_params fuel stmt x l)
+  named_item_tells a (DeclaredType ty) s l = declared_closed a ty s l
+  named_item_tells a (PostfixStart x) s l = as_tells (λ f y (q, h). statement q) (simple_tells fuel a x s l)
 
   item_unnamed : (l : List Token) (declares : Bool)
-      → Tells turns ItemIs Free l ((if◌then◌else◌ {A = Parser Stm} declares
-      (λ i. and_then (typed plain turns i) (λ ty i. and_then (declared plain turns ty i)
+      → Tells fuel ItemIs Free l ((if◌then◌else◌ {A = Parser Stm} declares
+      (λ i. and_then (any_type language_params fuel i) (λ ty i. and_then (declared language_params fuel ty i)
       (λ x i. and_then (expect k.Semicolon i) (λ _ j. Ok (x, j))))) stmt) l)
-  item_unnamed l true = then_tells _ (typed_tells turns l) (λ f r ty s. declared_closed f ty s r)
+  item_unnamed l true = then_tells _ (typed_tells fuel l) (λ f r ty s. declared_closed f ty s r)
   item_unnamed l false = as_tells (λ f x s. statement s) (so_tells (λ f r x s _. tt) (stmt_tells l))
 
-  item_by_tells : (t : Token) (ts : List Token) (q : TokenKind) → t.kind ≡ q → Tells turns ItemIs Free (t ∷ ts) (spec.item_by plain turns stmt q (t ∷ ts))
-  item_by_tells t ts (k.Name name) h = then_tells _ (begun_tells turns t name h ts) (λ f r x s. named_item_tells f x s r)
+  item_by_tells : (t : Token) (ts : List Token) (q : TokenKind) → t.kind ≡ q → Tells fuel ItemIs Free (t ∷ ts) (spec.item_by language_params fuel stmt q (t ∷ ts))
+  item_by_tells t ts (k.Name name) h = then_tells _ (begun_tells fuel t name h ts) (λ f r x s. named_item_tells f x s r)
   item_by_tells t ts q h = item_unnamed (t ∷ ts) (begins_declaration q)
 
-  pub item_tells : (l : List Token) → Tells turns ItemIs Free l (item plain turns stmt l)
+  pub item_tells : (l : List Token) → Tells fuel ItemIs Free l (item language_params fuel stmt l)
   unfolding item
   item_tells [] = item_unnamed [] false
   item_tells (t ∷ ts) = item_by_tells t ts t.kind refl
 
-  pub items_tell : (m : ℕ) → m ≤ turns → (found : List Stm) (l : List Token) → Tells m (MoreItems found) Free l (items plain turns stmt m found l)
+  pub items_tell : (m : ℕ) → m ≤ fuel → (found : List Stm) (l : List Token) → Tells m (MoreItems found) Free l (items language_params fuel stmt m found l)
   unfolding items
   items_tell zero le found l = spent_tells ([], found, no_more found)
   items_tell (suc m) le found l =
-      if_tells (sees k.RightBrace l) _ _ (λ _. done_tells (no_more found))
+      if_tells (next_is k.RightBrace l) _ _ (λ _. done_tells (no_more found))
       (λ _. then_turn _ item_some (fewer_tells le (item_tells l))
       (λ f r x s. as_tells (λ g y (ys, is, q). (x ∷ ys, is ∙ append_assoc found (x ∷ []) ys, more_items f g x ys s q)) (items_tell m (omega arith) (found ++ x ∷ []) r)))
 
   -- all of them
-  pub all_items_tell : (l : List Token) → Tells turns Items Free l (items plain turns stmt turns [] l)
-  all_items_tell l = as_tells (λ f xs (ys, is, s). subst (Items f) (sym is) s) (items_tell turns (omega arith) [] l)
+  pub all_items_tell : (l : List Token) → Tells fuel Items Free l (items language_params fuel stmt fuel [] l)
+  all_items_tell l = as_tells (λ f xs (ys, is, s). subst (Items f) (sym is) s) (items_tell fuel (omega arith) [] l)
 
   -- ---- behind the first token of a compound statement
 
-  pub block_tells : (o : Token) → o.kind ≡ k.LeftBrace → (l : List Token) → Tells turns (λ f x. Statement (o ∷ f) x) NoElse l (block plain turns stmt l)
+  pub block_tells : (o : Token) → o.kind ≡ k.LeftBrace → (l : List Token) → Tells fuel (λ f x. Statement (o ∷ f) x) NoElse l (block language_params fuel stmt l)
   unfolding block
   block_tells o ho l =
       then_tells _ (all_items_tell l) (λ f r xs s. want_tells k.RightBrace brace_shut_is refl _ (λ c ts hc. met_tells (grammar.block o c ho s hc) (shut_free (tree.block xs) ts refl)))
 
-  pub conditional_tells : (i : Token) → i.kind ≡ k.KeywordIf → (l : List Token) → Tells turns (λ f x. Statement (i ∷ f) x) NoElse l (conditional plain turns stmt i.place l)
+  pub conditional_tells : (i : Token) → i.kind ≡ k.KeywordIf → (l : List Token) → Tells fuel (λ f x. Statement (i ∷ f) x) NoElse l (conditional language_params fuel stmt i.place l)
   unfolding conditional
   conditional_tells i hi l =
-      then_tells _ (condition_tells turns l) (λ f r c s. then_met _ (λ x _. refl) (stmt_tells r) (λ g r2 x q free.
+      then_tells _ (condition_tells fuel l) (λ f r c s. then_met _ (λ x _. refl) (stmt_tells r) (λ g r2 x q free.
       if_head k.KeywordElse else_is refl _ _
       (λ d ts is hd. after_tells (map_met _ (λ y _. refl) (λ h y p. grammar.if_else i d hi s (shut_before_else g x r2 ts d q free is hd) hd p) (λ y v no_else. no_else) (stmt_tells ts)))
       (λ unseen. met_tells (grammar.if_alone i hi s (ended Statement g x q)) (λ _. unseen))))
 
-  pub while_tells : (w : Token) → w.kind ≡ k.KeywordWhile → (l : List Token) → Tells turns (λ f x. Statement (w ∷ f) x) NoElse l (while_loop plain turns stmt w.place l)
+  pub while_tells : (w : Token) → w.kind ≡ k.KeywordWhile → (l : List Token) → Tells fuel (λ f x. Statement (w ∷ f) x) NoElse l (while_loop language_params fuel stmt w.place l)
   unfolding while_loop
   while_tells w hw l =
-      then_tells _ (condition_tells turns l) (λ f r c s. map_met _ (λ x _. refl) (λ g x q. grammar.while w hw s q) (λ x v no_else. no_else) (stmt_tells r))
+      then_tells _ (condition_tells fuel l) (λ f r c s. map_met _ (λ x _. refl) (λ g x q. grammar.while w hw s q) (λ x v no_else. no_else) (stmt_tells r))
 
-  pub for_tells : (w : Token) → w.kind ≡ k.KeywordFor → (l : List Token) → Tells turns (λ f x. Statement (w ∷ f) x) NoElse l (for_loop plain turns stmt w.place l)
+  pub for_tells : (w : Token) → w.kind ≡ k.KeywordFor → (l : List Token) → Tells fuel (λ f x. Statement (w ∷ f) x) NoElse l (for_loop language_params fuel stmt w.place l)
   unfolding for_loop
   for_tells w hw l =
-      want_tells k.LeftParen paren_is refl _ (λ o l2 ho. then_tells _ (first_tells turns l2) (λ f l3 begin s1.
-      want_tells k.Semicolon semicolon_is refl _ (λ p l4 hp. then_tells _ (optional_tells turns l4) (λ g l5 c s2.
-      want_tells k.Semicolon semicolon_is refl _ (λ q l6 hq. then_tells _ (update_tells turns l6) (λ h l7 change s3.
+      want_tells k.LeftParen paren_is refl _ (λ o l2 ho. then_tells _ (first_tells fuel l2) (λ f l3 begin s1.
+      want_tells k.Semicolon semicolon_is refl _ (λ p l4 hp. then_tells _ (optional_tells fuel l4) (λ g l5 c s2.
+      want_tells k.Semicolon semicolon_is refl _ (λ q l6 hq. then_tells _ (update_tells fuel l6) (λ h l7 change s3.
       want_tells k.RightParen close_is refl _ (λ d l8 hd.
       map_met _ (λ x _. refl) (λ v x s4. grammar.for w o p q d hw ho s1 hp s2 hq s3 hd s4) (λ x v no_else. no_else) (stmt_tells l8))))))))
 
-  pub foreach_tells : (w : Token) → w.kind ≡ k.KeywordForeach → (l : List Token) → Tells turns (λ f x. Statement (w ∷ f) x) NoElse l (foreach_loop plain turns stmt w.place l)
+  pub foreach_tells : (w : Token) → w.kind ≡ k.KeywordForeach → (l : List Token) → Tells fuel (λ f x. Statement (w ∷ f) x) NoElse l (foreach_loop language_params fuel stmt w.place l)
   unfolding foreach_loop
   foreach_tells w hw l =
       want_tells k.LeftParen paren_is refl _ (λ o l2 ho.
       name_here (λ at name. expect_word (codes "in") >> (full form.Whole >>= (λ domain. expect k.RightParen >> (stmt >>= (λ x. pure (tree.Foreach w.place at name domain x))))))
-      (λ t name l3 ht. word_tells (codes "in") _ (λ i l4 hi. then_tells _ (whole_tells turns l4) (λ f l5 domain s.
+      (λ t name l3 ht. word_tells (codes "in") _ (λ i l4 hi. then_tells _ (whole_tells fuel l4) (λ f l5 domain s.
       want_tells k.RightParen close_is refl _ (λ c l6 hc.
       map_met _ (λ x _. refl) (λ g x q. grammar.foreach w o t i c hw ho ht hi s hc q) (λ x v no_else. no_else) (stmt_tells l6))))))
 
 -- ---- statements
 
-module _ (turns : ℕ) where
+module _ (fuel : ℕ) where
   some_shut : BeginsIn Shut []
   some_shut = (token k.Semicolon ∷ [], tree.Empty, (grammar.empty (token k.Semicolon) refl, refl))
 
   operand_or_none : (l : List Token) (so : Bool) → starts (kind l) ≡ so
-      → Tells turns Shut Free l ((if◌then◌else◌ {A = Parser Stm} so (λ i. and_then (full_operand i) (simple plain turns)) refuse) l)
-  operand_or_none l true h = then_tells _ (start_tells turns l h) (λ f r x s. simple_tells turns f x s r)
+      → Tells fuel Shut Free l ((if◌then◌else◌ {A = Parser Stm} so (λ i. and_then (full_operand i) (expr_stmt language_params fuel)) refuse) l)
+  operand_or_none l true h = then_tells _ (start_tells fuel l h) (λ f r x s. simple_tells fuel f x s r)
   operand_or_none l false h = refused_tells some_shut
 
-  small_by_tells : (t : Token) (ts : List Token) (q : TokenKind) → t.kind ≡ q → Tells turns Shut Free (t ∷ ts) (spec.small_by plain turns q (t ∷ ts))
+  small_by_tells : (t : Token) (ts : List Token) (q : TokenKind) → t.kind ≡ q → Tells fuel Shut Free (t ∷ ts) (spec.small_by language_params fuel q (t ∷ ts))
   small_by_tells t ts k.Semicolon h = after_tells (done_tells (grammar.empty t h, refl))
-  small_by_tells t ts k.KeywordPrintln h = print_tells turns (t ∷ ts)
-  small_by_tells t ts k.KeywordSystem h = print_tells turns (t ∷ ts)
-  small_by_tells t ts k.KeywordTi h = after_tells (barrier_tells turns t h ts)
-  small_by_tells t ts k.KeywordBreak h = break_tells turns t h ts
-  small_by_tells t ts k.KeywordContinue h = continue_tells turns t h ts
-  small_by_tells t ts k.KeywordReturn h = return_tells turns t h ts
+  small_by_tells t ts k.KeywordPrintln h = print_tells fuel (t ∷ ts)
+  small_by_tells t ts k.KeywordSystem h = print_tells fuel (t ∷ ts)
+  small_by_tells t ts k.KeywordTi h = after_tells (barrier_tells fuel t h ts)
+  small_by_tells t ts k.KeywordBreak h = break_tells fuel t h ts
+  small_by_tells t ts k.KeywordContinue h = continue_tells fuel t h ts
+  small_by_tells t ts k.KeywordReturn h = return_tells fuel t h ts
   small_by_tells t ts q h = operand_or_none (t ∷ ts) (starts q) (ap starts h)
 
-  pub small_tells : (l : List Token) → Tells turns Shut Free l (small plain turns l)
-  unfolding small
+  pub small_tells : (l : List Token) → Tells fuel Shut Free l (simple_stmt language_params fuel l)
+  unfolding simple_stmt
   small_tells [] = refused_tells some_shut
   small_tells (t ∷ ts) = small_by_tells t ts t.kind refl
 
-  simple_statement : (l : List Token) → Tells turns Statement NoElse l (small plain turns l)
+  simple_statement : (l : List Token) → Tells fuel Statement NoElse l (simple_stmt language_params fuel l)
   simple_statement l = shut_tells (small_tells l)
 
   -- where no compound statement may begin
   deep_tells : (t : Token) (ts : List Token) (q : TokenKind) → t.kind ≡ q
-      → Tells turns Statement NoElse (t ∷ ts) ((if◌then◌else◌ {A = Parser Stm} (is_compound q) too_deep (small plain turns)) (t ∷ ts))
-  deep_tells t ts k.LeftBrace h = over_tells (block_tells turns (small plain turns) simple_statement t h []).some
-  deep_tells t ts k.KeywordIf h = over_tells (conditional_tells turns (small plain turns) simple_statement t h []).some
-  deep_tells t ts k.KeywordWhile h = over_tells (while_tells turns (small plain turns) simple_statement t h []).some
-  deep_tells t ts k.KeywordFor h = over_tells (for_tells turns (small plain turns) simple_statement t h []).some
-  deep_tells t ts k.KeywordForeach h = over_tells (foreach_tells turns (small plain turns) simple_statement t h []).some
+      → Tells fuel Statement NoElse (t ∷ ts) ((if◌then◌else◌ {A = Parser Stm} (is_compound q) too_deep (simple_stmt language_params fuel)) (t ∷ ts))
+  deep_tells t ts k.LeftBrace h = over_tells (block_tells fuel (simple_stmt language_params fuel) simple_statement t h []).some
+  deep_tells t ts k.KeywordIf h = over_tells (conditional_tells fuel (simple_stmt language_params fuel) simple_statement t h []).some
+  deep_tells t ts k.KeywordWhile h = over_tells (while_tells fuel (simple_stmt language_params fuel) simple_statement t h []).some
+  deep_tells t ts k.KeywordFor h = over_tells (for_tells fuel (simple_stmt language_params fuel) simple_statement t h []).some
+  deep_tells t ts k.KeywordForeach h = over_tells (foreach_tells fuel (simple_stmt language_params fuel) simple_statement t h []).some
   deep_tells t ts _ h = simple_statement (t ∷ ts)
 
-  compound_tells : (stmt : Parser Stm) → ((l : List Token) → Tells turns Statement NoElse l (stmt l)) → (t : Token) (ts : List Token) (q : TokenKind) → t.kind ≡ q
-      → Tells turns Statement NoElse (t ∷ ts) ((if◌then◌else◌ {A = Parser Stm} (is_compound q)
-      (λ i. and_then (take_token i) (λ _. spec.compound plain turns stmt t.place q)) (small plain turns)) (t ∷ ts))
-  compound_tells stmt inner t ts k.LeftBrace h = after_tells (block_tells turns stmt inner t h ts)
-  compound_tells stmt inner t ts k.KeywordIf h = after_tells (conditional_tells turns stmt inner t h ts)
-  compound_tells stmt inner t ts k.KeywordWhile h = after_tells (while_tells turns stmt inner t h ts)
-  compound_tells stmt inner t ts k.KeywordFor h = after_tells (for_tells turns stmt inner t h ts)
-  compound_tells stmt inner t ts k.KeywordForeach h = after_tells (foreach_tells turns stmt inner t h ts)
+  compound_tells : (stmt : Parser Stm) → ((l : List Token) → Tells fuel Statement NoElse l (stmt l)) → (t : Token) (ts : List Token) (q : TokenKind) → t.kind ≡ q
+      → Tells fuel Statement NoElse (t ∷ ts) ((if◌then◌else◌ {A = Parser Stm} (is_compound q)
+      (λ i. and_then (take_token i) (λ _. spec.compound language_params fuel stmt t.place q)) (simple_stmt language_params fuel)) (t ∷ ts))
+  compound_tells stmt inner t ts k.LeftBrace h = after_tells (block_tells fuel stmt inner t h ts)
+  compound_tells stmt inner t ts k.KeywordIf h = after_tells (conditional_tells fuel stmt inner t h ts)
+  compound_tells stmt inner t ts k.KeywordWhile h = after_tells (while_tells fuel stmt inner t h ts)
+  compound_tells stmt inner t ts k.KeywordFor h = after_tells (for_tells fuel stmt inner t h ts)
+  compound_tells stmt inner t ts k.KeywordForeach h = after_tells (foreach_tells fuel stmt inner t h ts)
   compound_tells stmt inner t ts _ h = simple_statement (t ∷ ts)
 
-  pub stmt_tells : (levels : ℕ) (l : List Token) → Tells turns Statement NoElse l (stmt plain turns levels l)
+  pub stmt_tells : (levels : ℕ) (l : List Token) → Tells fuel Statement NoElse l (stmt language_params fuel levels l)
   unfolding stmt
   stmt_tells zero [] = simple_statement []
   stmt_tells zero (t ∷ ts) = deep_tells t ts t.kind refl
   stmt_tells (suc n) [] = simple_statement []
-  stmt_tells (suc n) (t ∷ ts) = compound_tells (stmt plain turns n) (stmt_tells n) t ts t.kind refl
+  stmt_tells (suc n) (t ∷ ts) = compound_tells (stmt language_params fuel n) (stmt_tells n) t ts t.kind refl
 
   -- the items of a method
-  pub body_tells : (l : List Token) → Tells turns Items Free l (body plain turns l)
-  body_tells l = all_items_tell turns (stmt plain turns most_levels) (stmt_tells most_levels) l
+  pub body_tells : (l : List Token) → Tells fuel Items Free l (body language_params fuel l)
+  body_tells l = all_items_tell fuel (stmt language_params fuel most_levels) (stmt_tells most_levels) l

@@ -4,15 +4,15 @@ ghost use Rattle.std.specs.Prelude.{[], ◌≡◌};
 ghost use Rattle.ti_syntax.specs.Trees.Views.{class_of, member_of, params_of, result_of, type_of};
 ghost use Rattle.ti_parse.specs.Mirrors.Classes as spec;
 ghost use Rattle.ti_parse.specs.Mirrors.Pieces as pieces;
-ghost use Rattle.ti_parse.specs.Mirrors.Pieces.{braced_of};
-ghost use Rattle.ti_parse.specs.Mirrors.Seen.{classes_of, members_of, modifiers_of, param_list_of, word_of};
-ghost use Rattle.ti_parse.specs.Mirrors.Way.{plain};
-ghost use Rattle.ti_parse_expr.specs.Mirrors.Input.{ReadsAs};
+ghost use Rattle.ti_parse.specs.Mirrors.Pieces.{method_body_of};
+ghost use Rattle.ti_parse.specs.Mirrors.Seen.{classes_of, members_of, modifiers_of, param_list_of, modifier_word_of};
+ghost use Rattle.ti_parse.specs.Mirrors.ParserParams.{language_params};
+ghost use Rattle.ti_parse_expr.specs.Mirrors.Input.{ParsesAs};
 
-use crate::reader::{Reader, followed};
+use crate::parser::{TextParser, then_expect};
 use crate::words::{Modified, modifier_of};
 use ti_base::Place;
-use ti_parse_expr::{Stop, Tokens};
+use ti_parse_expr::{ParseStop, Tokens};
 use ti_syntax::tree::{
     Class, Field, Member, Method, Modifier, Param, Params, ResultType, Stmt, TypeName,
 };
@@ -20,54 +20,54 @@ use ti_syntax::{Spelled, TokenKind};
 
 /// A method body, with the position of its closing brace.
 #[derive(Drop)]
-pub struct Braced {
+pub struct MethodBody {
     pub body: Vec<Stmt>,
     pub end: Place,
 }
 
-impl Reader {
+impl TextParser {
     // ---- methods
 
     /// One or more parameters.
     #[tactic(auto, unfolding(crate::specs::Mirrors::Classes::more_params))]
-    fn more_params(self, tokens: &mut Tokens<'_>) -> Result<Vec<Param>, Stop>
-        ensures { ReadsAs param_list_of (spec.more_params plain self.turns self.turns [] tokens.old) result tokens.new }
+    fn more_params(self, tokens: &mut Tokens<'_>) -> Result<Vec<Param>, ParseStop>
+        ensures { ParsesAs param_list_of (spec.more_params language_params self.fuel self.fuel [] tokens.old) result tokens.new }
     {
         let mut found = Vec::new(self.alloc);
-        for _turn in 0..self.turns {
-            let ty = self.typed(tokens)?;
+        for _turn in 0..self.fuel {
+            let ty = self.any_type(tokens)?;
             let place = tokens.place();
             let name = tokens.name(self.alloc)?;
             found.push(Param { ty, place, name })?;
-            if !tokens.sees(TokenKind::Comma) {
+            if !tokens.next_is(TokenKind::Comma) {
                 return Ok(found);
             }
-            tokens.take();
+            tokens.bump();
         }
-        Err(Stop::Spent)
+        Err(ParseStop::OutOfFuel)
     }
 
     /// The parameter `String[] x`, after `String`.
     #[tactic(auto, unfolding(crate::specs::Mirrors::Classes::words))]
-    fn words(self, tokens: &mut Tokens<'_>) -> Result<Params, Stop>
-        ensures { ReadsAs params_of (spec.words plain self.turns tokens.old) result tokens.new }
+    fn words(self, tokens: &mut Tokens<'_>) -> Result<Params, ParseStop>
+        ensures { ParsesAs params_of (spec.words language_params self.fuel tokens.old) result tokens.new }
     {
         tokens.expect(TokenKind::LeftBracket)?;
         tokens.expect(TokenKind::RightBracket)?;
         let place = tokens.place();
         let name = tokens.name(self.alloc)?;
-        Ok(Params::Words(place, name))
+        Ok(Params::MainArgs(place, name))
     }
 
     /// A method's parameter list, without its parentheses.
     #[tactic(auto, unfolding(crate::specs::Mirrors::Classes::params))]
-    fn params(self, tokens: &mut Tokens<'_>) -> Result<Params, Stop>
-        ensures { ReadsAs params_of (spec.params plain self.turns tokens.old) result tokens.new }
+    fn params(self, tokens: &mut Tokens<'_>) -> Result<Params, ParseStop>
+        ensures { ParsesAs params_of (spec.params language_params self.fuel tokens.old) result tokens.new }
     {
         match tokens.peek() {
             TokenKind::RightParen => Ok(Params::Typed(Vec::new(self.alloc))),
             TokenKind::KeywordString => {
-                tokens.take();
+                tokens.bump();
                 self.words(tokens)
             }
             _ => Ok(Params::Typed(self.more_params(tokens)?)),
@@ -76,24 +76,24 @@ impl Reader {
 
     /// A method's parameter list, with its parentheses.
     #[tactic(auto, unfolding(crate::specs::Mirrors::Pieces::signature))]
-    fn signature(self, tokens: &mut Tokens<'_>) -> Result<Params, Stop>
-        ensures { ReadsAs params_of (pieces.signature plain self.turns tokens.old) result tokens.new }
+    fn signature(self, tokens: &mut Tokens<'_>) -> Result<Params, ParseStop>
+        ensures { ParsesAs params_of (pieces.signature language_params self.fuel tokens.old) result tokens.new }
     {
         tokens.expect(TokenKind::LeftParen)?;
         let params = self.params(tokens)?;
-        followed(tokens, TokenKind::RightParen, params)
+        then_expect(tokens, TokenKind::RightParen, params)
     }
 
     /// A method body in its braces.
-    #[tactic(auto, unfolding(crate::specs::Mirrors::Pieces::braced))]
-    fn braced(self, tokens: &mut Tokens<'_>) -> Result<Braced, Stop>
-        ensures { ReadsAs braced_of (pieces.braced plain self.turns tokens.old) result tokens.new }
+    #[tactic(auto, unfolding(crate::specs::Mirrors::Pieces::method_body))]
+    fn method_body(self, tokens: &mut Tokens<'_>) -> Result<MethodBody, ParseStop>
+        ensures { ParsesAs method_body_of (pieces.method_body language_params self.fuel tokens.old) result tokens.new }
     {
         tokens.expect(TokenKind::LeftBrace)?;
         let body = self.body(tokens)?;
         let end = tokens.place();
         tokens.expect(TokenKind::RightBrace)?;
-        Ok(Braced { body, end })
+        Ok(MethodBody { body, end })
     }
 
     /// A method, after its name. Its modifiers, result, name and the name's position are passed in.
@@ -105,12 +105,12 @@ impl Reader {
         result_type: ResultType,
         place: Place,
         name: Spelled,
-    ) -> Result<Member, Stop>
-        ensures { ReadsAs member_of (spec.method plain self.turns modifiers.items (result_of result_type) place name tokens.old) result
+    ) -> Result<Member, ParseStop>
+        ensures { ParsesAs member_of (spec.method language_params self.fuel modifiers.items (result_of result_type) place name tokens.old) result
             tokens.new }
     {
         let params = self.signature(tokens)?;
-        let braced = self.braced(tokens)?;
+        let braced = self.method_body(tokens)?;
         Ok(Member::Method(Method {
             modifiers,
             result: result_type,
@@ -131,8 +131,8 @@ impl Reader {
         tokens: &mut Tokens<'_>,
         modifiers: Vec<Modifier>,
         result_type: ResultType,
-    ) -> Result<Member, Stop>
-        ensures { ReadsAs member_of (spec.method_named plain self.turns modifiers.items (result_of result_type) tokens.old) result
+    ) -> Result<Member, ParseStop>
+        ensures { ParsesAs member_of (spec.method_named language_params self.fuel modifiers.items (result_of result_type) tokens.old) result
             tokens.new }
     {
         let place = tokens.place();
@@ -147,15 +147,15 @@ impl Reader {
         tokens: &mut Tokens<'_>,
         modifiers: Vec<Modifier>,
         ty: TypeName,
-    ) -> Result<Member, Stop>
-        ensures { ReadsAs member_of (spec.field_or_method plain self.turns modifiers.items (type_of ty) tokens.old) result tokens.new }
+    ) -> Result<Member, ParseStop>
+        ensures { ParsesAs member_of (spec.field_or_method language_params self.fuel modifiers.items (type_of ty) tokens.old) result tokens.new }
     {
         let place = tokens.place();
         let name = tokens.name(self.alloc)?;
-        if !tokens.sees(TokenKind::Semicolon) {
+        if !tokens.next_is(TokenKind::Semicolon) {
             return self.method(tokens, modifiers, ResultType::Typed(ty), place, name);
         }
-        tokens.take();
+        tokens.bump();
         Ok(Member::Field(Field {
             modifiers,
             ty,
@@ -166,17 +166,21 @@ impl Reader {
 
     /// A member, after its modifiers.
     #[tactic(auto, unfolding(crate::specs::Mirrors::Classes::member_from))]
-    fn member_from(self, tokens: &mut Tokens<'_>, modifiers: Vec<Modifier>) -> Result<Member, Stop>
-        ensures { ReadsAs member_of (spec.member_from plain self.turns modifiers.items tokens.old) result tokens.new }
+    fn member_from(
+        self,
+        tokens: &mut Tokens<'_>,
+        modifiers: Vec<Modifier>,
+    ) -> Result<Member, ParseStop>
+        ensures { ParsesAs member_of (spec.member_from language_params self.fuel modifiers.items tokens.old) result tokens.new }
     {
         match tokens.peek() {
             TokenKind::KeywordVoid => {
                 let place = tokens.place();
-                tokens.take();
+                tokens.bump();
                 self.method_named(tokens, modifiers, ResultType::Void(place))
             }
             TokenKind::KeywordDomain | TokenKind::KeywordSharedRegion => {
-                let ty = self.wide(tokens)?;
+                let ty = self.wide_type(tokens)?;
                 self.method_named(tokens, modifiers, ResultType::Typed(ty))
             }
             _ => {
@@ -188,24 +192,28 @@ impl Reader {
 
     /// All modifiers that follow, as allowed on a class or a member.
     #[tactic(auto, unfolding(crate::specs::Mirrors::Classes::modifiers))]
-    fn modifiers(self, tokens: &mut Tokens<'_>, modified: Modified) -> Result<Vec<Modifier>, Stop>
-        ensures { ReadsAs modifiers_of (spec.modifiers plain self.turns (word_of modified) self.turns [] tokens.old) result tokens.new }
+    fn modifiers(
+        self,
+        tokens: &mut Tokens<'_>,
+        modified: Modified,
+    ) -> Result<Vec<Modifier>, ParseStop>
+        ensures { ParsesAs modifiers_of (spec.modifiers language_params self.fuel (modifier_word_of modified) self.fuel [] tokens.old) result tokens.new }
     {
         let mut found = Vec::new(self.alloc);
-        for _turn in 0..self.turns {
+        for _turn in 0..self.fuel {
             let Some(word) = modifier_of(modified, tokens.peek()) else {
                 return Ok(found);
             };
             let place = tokens.place();
-            tokens.take();
+            tokens.bump();
             found.push(Modifier { word, place })?;
         }
-        Err(Stop::Spent)
+        Err(ParseStop::OutOfFuel)
     }
 
     #[tactic(auto, unfolding(crate::specs::Mirrors::Classes::member))]
-    fn member(self, tokens: &mut Tokens<'_>) -> Result<Member, Stop>
-        ensures { ReadsAs member_of (spec.member plain self.turns tokens.old) result tokens.new }
+    fn member(self, tokens: &mut Tokens<'_>) -> Result<Member, ParseStop>
+        ensures { ParsesAs member_of (spec.member language_params self.fuel tokens.old) result tokens.new }
     {
         let modifiers = self.modifiers(tokens, Modified::Member)?;
         self.member_from(tokens, modifiers)
@@ -213,25 +221,29 @@ impl Reader {
 
     /// All members up to the `}` of the class, which isn't consumed.
     #[tactic(auto, unfolding(crate::specs::Mirrors::Classes::members))]
-    fn members(self, tokens: &mut Tokens<'_>) -> Result<Vec<Member>, Stop>
-        ensures { ReadsAs members_of (spec.members plain self.turns self.turns [] tokens.old) result tokens.new }
+    fn members(self, tokens: &mut Tokens<'_>) -> Result<Vec<Member>, ParseStop>
+        ensures { ParsesAs members_of (spec.members language_params self.fuel self.fuel [] tokens.old) result tokens.new }
     {
         let mut found = Vec::new(self.alloc);
-        for _turn in 0..self.turns {
-            if tokens.sees(TokenKind::RightBrace) {
+        for _turn in 0..self.fuel {
+            if tokens.next_is(TokenKind::RightBrace) {
                 return Ok(found);
             }
             found.push(self.member(tokens)?)?;
         }
-        Err(Stop::Spent)
+        Err(ParseStop::OutOfFuel)
     }
 
     // ---- classes
 
     /// A class, after its modifiers.
     #[tactic(auto, unfolding(crate::specs::Mirrors::Classes::class_from))]
-    fn class_from(self, tokens: &mut Tokens<'_>, modifiers: Vec<Modifier>) -> Result<Class, Stop>
-        ensures { ReadsAs class_of (spec.class_from plain self.turns modifiers.items tokens.old) result tokens.new }
+    fn class_from(
+        self,
+        tokens: &mut Tokens<'_>,
+        modifiers: Vec<Modifier>,
+    ) -> Result<Class, ParseStop>
+        ensures { ParsesAs class_of (spec.class_from language_params self.fuel modifiers.items tokens.old) result tokens.new }
     {
         let word = tokens.place();
         tokens.expect(TokenKind::KeywordClass)?;
@@ -250,8 +262,8 @@ impl Reader {
     }
 
     #[tactic(auto, unfolding(crate::specs::Mirrors::Classes::class))]
-    fn class(self, tokens: &mut Tokens<'_>) -> Result<Class, Stop>
-        ensures { ReadsAs class_of (spec.class plain self.turns tokens.old) result tokens.new }
+    fn class(self, tokens: &mut Tokens<'_>) -> Result<Class, ParseStop>
+        ensures { ParsesAs class_of (spec.class language_params self.fuel tokens.old) result tokens.new }
     {
         let modifiers = self.modifiers(tokens, Modified::Class)?;
         self.class_from(tokens, modifiers)
@@ -259,16 +271,16 @@ impl Reader {
 
     /// All classes up to End, which isn't consumed.
     #[tactic(auto, unfolding(crate::specs::Mirrors::Classes::classes))]
-    pub fn classes(self, tokens: &mut Tokens<'_>) -> Result<Vec<Class>, Stop>
-        ensures { ReadsAs classes_of (spec.classes plain self.turns self.turns [] tokens.old) result tokens.new }
+    pub fn classes(self, tokens: &mut Tokens<'_>) -> Result<Vec<Class>, ParseStop>
+        ensures { ParsesAs classes_of (spec.classes language_params self.fuel self.fuel [] tokens.old) result tokens.new }
     {
         let mut found = Vec::new(self.alloc);
-        for _turn in 0..self.turns {
-            if tokens.sees(TokenKind::End) {
+        for _turn in 0..self.fuel {
+            if tokens.next_is(TokenKind::End) {
                 return Ok(found);
             }
             found.push(self.class(tokens)?)?;
         }
-        Err(Stop::Spent)
+        Err(ParseStop::OutOfFuel)
     }
 }

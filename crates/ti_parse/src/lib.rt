@@ -3,7 +3,7 @@
 
 mod classes;
 mod exprs;
-mod reader;
+mod parser;
 mod simple;
 mod stmts;
 mod text;

@@ -8,32 +8,32 @@ ghost use Rattle.ti_syntax.specs.Trees.Views.{text_tree_of};
 ghost use Rattle.ti_syntax.specs.Spelling.{Spells, IsShallow, Misfit, IsGrammarRefusal};
 ghost use Rattle.ti_parse.specs.Answer.{GivesOnly, Parsed, RefusesOnly};
 ghost use Rattle.ti_parse.specs.Mirrors.Classes as spec;
-ghost use Rattle.ti_parse.specs.Mirrors.Way.{plain};
+ghost use Rattle.ti_parse.specs.Mirrors.ParserParams.{language_params};
 ghost use Rattle.ti_parse_expr.specs.Answers.{EndsAtEnd};
-ghost use Rattle.ti_parse_expr.specs.Mirrors.Input.{ReadsAs};
+ghost use Rattle.ti_parse_expr.specs.Mirrors.Input.{ParsesAs};
 
-use crate::reader::Reader;
+use crate::parser::TextParser;
 use std::alloc::Global;
 use ti_base::Place;
-use ti_parse_expr::{ParseErr, Stop, Tokens};
+use ti_parse_expr::{ParseErr, ParseStop, Tokens};
 use ti_rules::{Refusal, Rule};
 use ti_syntax::tree::{Class, Tree};
 use ti_syntax::{Token, TokenKind};
 
 /// Parses all classes, and checks that nothing follows End.
 #[tactic(auto, unfolding(crate::specs::Mirrors::Classes::text))]
-fn read_text(alloc: Global, tokens: &mut Tokens<'_>, turns: usize) -> Result<Vec<Class>, Stop>
-    ensures { ReadsAs text_tree_of (spec.text plain turns tokens.old) result tokens.new }
+fn read_text(alloc: Global, tokens: &mut Tokens<'_>, fuel: usize) -> Result<Vec<Class>, ParseStop>
+    ensures { ParsesAs text_tree_of (spec.text language_params fuel tokens.old) result tokens.new }
 {
-    let classes = Reader { alloc, turns }.classes(tokens)?;
-    if tokens.left() > 1 {
-        tokens.take();
-        return Err(Stop::Refused);
+    let classes = TextParser { alloc, fuel }.classes(tokens)?;
+    if tokens.remaining() > 1 {
+        tokens.bump();
+        return Err(ParseStop::Refused);
     }
     Ok(classes)
 }
 
-fn refused(rule: Rule, place: Place) -> ParseErr
+fn parse_error(rule: Rule, place: Place) -> ParseErr
     ensures { result ≡ ParseErr.Refused (record { rule = rule; place = place }) }
 {
     ParseErr::Refused(Refusal { rule, place })
@@ -48,10 +48,10 @@ fn read_tree(alloc: Global, toks: &[Token]) -> Result<Tree, ParseErr>
     let mut tokens = Tokens::new(toks, &end);
     match read_text(alloc, &mut tokens, toks.len() + 1) {
         Ok(classes) => Ok(Tree { classes }),
-        Err(Stop::Memory) => Err(ParseErr::Memory),
-        Err(Stop::Refused) => Err(refused(Rule::G1, tokens.place())),
-        Err(Stop::TooDeep) => Err(refused(Rule::G2, tokens.place())),
-        Err(Stop::Spent) => unreachable!(),
+        Err(ParseStop::Memory) => Err(ParseErr::Memory),
+        Err(ParseStop::Refused) => Err(parse_error(Rule::G1, tokens.place())),
+        Err(ParseStop::TooDeep) => Err(parse_error(Rule::G2, tokens.place())),
+        Err(ParseStop::OutOfFuel) => unreachable!(),
     }
 }
 

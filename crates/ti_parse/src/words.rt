@@ -4,9 +4,9 @@ ghost use Rattle.std.specs.Prelude.{◌≡◌};
 ghost use Rattle.ti_syntax.specs.Spelling.Operators as operators;
 ghost use Rattle.ti_syntax.specs.Spelling.Statements.{starts as starts_spec};
 ghost use Rattle.ti_parse.specs.Mirrors.Parts as parts;
-ghost use Rattle.ti_parse.specs.Mirrors.Seen.{word_of};
+ghost use Rattle.ti_parse.specs.Mirrors.Seen.{modifier_word_of};
 ghost use Rattle.ti_parse.specs.Mirrors.Statements as statements;
-ghost use Rattle.ti_parse_expr.specs.Mirrors.Exprs.{is_dim as is_dim_spec};
+ghost use Rattle.ti_parse_expr.specs.Mirrors.Exprs.{is_dim_token as is_dim_spec};
 
 use ti_syntax::TokenKind;
 use ti_syntax::tree::{BinaryOperator, ModifierWord, StepOperator};
@@ -51,7 +51,7 @@ pub enum Modified {
 
 /// The modifier that the token denotes, if it is allowed on a class or member.
 pub fn modifier_of(modified: Modified, kind: &TokenKind) -> Option<ModifierWord>
-    ensures { result ≡ word_of modified kind.now }
+    ensures { result ≡ modifier_word_of modified kind.now }
 {
     match modified {
         Modified::Class => class_modifier_of(kind),
@@ -115,7 +115,7 @@ pub fn starts(kind: &TokenKind) -> bool
 }
 
 /// Whether the token is a dimension, as `1d`.
-pub fn is_dim(kind: &TokenKind) -> bool
+pub fn is_dim_token(kind: &TokenKind) -> bool
     ensures { result ≡ is_dim_spec kind.now }
 {
     matches!(kind, TokenKind::Dim(_))

@@ -8,9 +8,9 @@ use Rattle.ti_parse_expr.specs.declared.parse.Form.{Form}
 use Rattle.ti_parse_expr.specs.declared.parse.Form.TheVariants as form
 use Rattle.ti_parse_expr.specs.Answers.{Phrase, BeginsPhrase, IsLight, IsPhrase, IsNoPhrase, IsTooHeavy}
 use Rattle.ti_syntax.specs.Spelling.{most_weight}
-use Rattle.ti_parse_expr.specs.Mirrors.Input.{At, Over, Spent, Outcome, place, take_token}
+use Rattle.ti_parse_expr.specs.Mirrors.Input.{At, Over, OutOfFuel, ParseOutcome, place, take_token}
 use Rattle.ti_parse_expr.specs.Mirrors.Reach.{IsCut, ends_expression}
-use Rattle.ti_parse_expr.specs.Mirrors.Full.{rest_of}
+use Rattle.ti_parse_expr.specs.Mirrors.Full.{unread_of}
 use Rattle.ti_parse_expr.specs.Mirrors.Exprs.{phrase}
 use Rattle.ti_parse_expr.proofs.Law.{Says, Any, append_nil, token}
 use Rattle.ti_parse_expr.proofs.Phrases.{whole_some, postfixed_some}
@@ -51,7 +51,7 @@ last = token k.End ∷ []
 reads_before_end : (f : Form) (m : ℕ) (l : List Token) (x : Exp) → Phrase f l x → length (l ++ last) < m → phrase m f (l ++ last) ≡ Ok (x, last)
 reads_before_end f m l x s lt = phrase_reads f m l last x s (closer_stops k.End (token k.End) [] (level_of f) l end_closes (level_some f) refl) lt
 
-abbrev tree_or : Exp → Outcome Exp → Exp
+abbrev tree_or : Exp → ParseOutcome Exp → Exp
 tree_or d (Ok p) = p.0
 tree_or d (Err h) = d
 
@@ -61,11 +61,11 @@ one_tree f l x y s q =
     let m : ℕ = suc (length (l ++ last)) in
     ap (tree_or x) (sym (reads_before_end f m l y q (omega arith)) ∙ reads_before_end f m l x s (omega arith))
 
-abbrev left_in : Outcome Exp → ℕ
+abbrev left_in : ParseOutcome Exp → ℕ
 left_in (Ok p) = length p.1
 left_in (Err (At r)) = 0
 left_in (Err (Over r)) = 0
-left_in (Err Spent) = 0
+left_in (Err OutOfFuel) = 0
 
 -- ---- reading stopped at t, with a tree or refused: then no phrase goes on with t
 
@@ -89,7 +89,7 @@ module _ (form : Form) (n : ℕ) (f rest : List Token) (t : Token) where
       omega (arith, ap left_in (same [] refl))
 
   not_both : (x : Exp) (r : List Token) → phrase n form (f ++ t ∷ rest) ≡ Ok (x, r) → phrase n form (f ++ t ∷ rest) ≡ Err (At (t ∷ rest)) → ⊥
-  not_both x r a b = let c : ◌≡◌ {A = Outcome Exp} (Ok (x, r)) (Err (At (t ∷ rest))) = sym a ∙ b in cc
+  not_both x r a b = let c : ◌≡◌ {A = ParseOutcome Exp} (Ok (x, r)) (Err (At (t ∷ rest))) = sym a ∙ b in cc
 
   no_phrase_by : length (f ++ t ∷ rest) < n → phrase n form (f ++ t ∷ rest) ≡ Err (At (t ∷ rest)) → (x : Exp) → Phrase form f x
       → Stops (level_of form) f (t ∷ rest) ⊎ BeginsPhrase form (f ++ t ∷ []) → ⊥
@@ -109,13 +109,13 @@ pub record SaysOk (form : Form) (weight : ℕ) (list cut : List Token) (x : Exp)
   pub small : weight + weigh (take (length cut - length r) cut) ≤ most_weight
 
 module _ (form : Form) (weight : ℕ) (l c : List Token) (cut : IsCut weight l c) where
-  abbrev pub read : Outcome Exp
+  abbrev pub read : ParseOutcome Exp
   read = phrase (length c + 1) form c
 
-  abbrev PhraseSays : Outcome Exp → Type 0
+  abbrev PhraseSays : ParseOutcome Exp → Type 0
   PhraseSays o = Says (length c + 1) (Phrase form) Any c o
 
-  read_says : (o : Outcome Exp) → read ≡ o → PhraseSays o
+  read_says : (o : ParseOutcome Exp) → read ≡ o → PhraseSays o
   read_says o is = subst PhraseSays is (phrase_says form (length c + 1) c).says
 
   -- the tokens behind the cut
@@ -161,7 +161,7 @@ module _ (form : Form) (weight : ℕ) (l c : List Token) (cut : IsCut weight l c
   pub refused_answer : (r : List Token) → read ≡ Err (At r) → 0 < length r → IsNoPhrase form weight l (place r)
   refused_answer [] is some = absurd (omega (arith, some))
   refused_answer (t ∷ rest) is some =
-      let refused : Outcome Exp = Err (At (t ∷ rest)) in
+      let refused : ParseOutcome Exp = Err (At (t ∷ rest)) in
       let (f, e, b) : PhraseSays refused = read_says refused is in
       let at : phrase (length c + 1) form (f ++ t ∷ rest) ≡ Err (At (t ∷ rest)) = subst (λ z. phrase (length c + 1) form z ≡ Err (At (t ∷ rest))) e is in record {
         run = f;
@@ -177,7 +177,7 @@ module _ (form : Form) (weight : ℕ) (l c : List Token) (cut : IsCut weight l c
       let shallow : IsShallow read = phrase_shallow form (length c + 1) c in
       subst IsShallow is shallow
 
-  begins_all : (o : Outcome Exp) → read ≡ o → length (rest_of o) ≡ 0 → BeginsPhrase form c
+  begins_all : (o : ParseOutcome Exp) → read ≡ o → length (unread_of o) ≡ 0 → BeginsPhrase form c
   begins_all (Ok p) is h =
       let (f, e, s, q) : PhraseSays (Ok (p.0, p.1)) = read_says (Ok (p.0, p.1)) is in
       let all : c ≡ f = e ∙ ap (λ z. f ++ z) (nothing p.1 h) ∙ append_nil f in
@@ -186,8 +186,8 @@ module _ (form : Form) (weight : ℕ) (l c : List Token) (cut : IsCut weight l c
       let (f, e, b) : PhraseSays (Err (At r)) = read_says (Err (At r)) is in
       subst (BeginsPhrase form) (sym (e ∙ ap (λ z. f ++ z) (nothing r h) ∙ append_nil f)) b
   begins_all (Err (Over r)) is h = absurd (never_deep r is)
-  begins_all (Err Spent) is h =
-      let few : length c + 1 ≤ length c = read_says (Err Spent) is in
+  begins_all (Err OutOfFuel) is h =
+      let few : length c + 1 ≤ length c = read_says (Err OutOfFuel) is in
       absurd (omega (arith, few))
 
   -- the last token stands in an expression, so it weighs too much
@@ -213,8 +213,8 @@ module _ (form : Form) (weight : ℕ) (l c : List Token) (cut : IsCut weight l c
   some_cut = omega (arith, ap length cut.made, length-append cut.front (cut.last ∷ []))
 
   -- all was taken
-  pub heavy_answer : (o : Outcome Exp) → read ≡ o → length (rest_of o) ≡ 0 → IsTooHeavy form weight l cut.last.place
+  pub heavy_answer : (o : ParseOutcome Exp) → read ≡ o → length (unread_of o) ≡ 0 → IsTooHeavy form weight l cut.last.place
   heavy_answer o is none = heavy_by (begins_all o is none)
 
-  pub never_spent : read ≡ Err Spent → ⊥
-  never_spent is = let few : length c + 1 ≤ length c = read_says (Err Spent) is in omega (arith, few)
+  pub never_spent : read ≡ Err OutOfFuel → ⊥
+  never_spent is = let few : length c + 1 ≤ length c = read_says (Err OutOfFuel) is in omega (arith, few)

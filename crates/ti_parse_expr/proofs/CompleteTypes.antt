@@ -12,13 +12,13 @@ use Rattle.ti_syntax.specs.Tokens.{same_kind}
 use Rattle.ti_syntax.specs.Spelling.Operators.{qualifier_of}
 use Rattle.ti_syntax.specs.Spelling.Types.{Arity, Based, Qualified, Gridded, FieldType}
 use Rattle.ti_syntax.specs.Spelling.Types as grammar
-use Rattle.ti_parse_expr.specs.Mirrors.Input.{and_then, kind, sees, expect, take_token}
+use Rattle.ti_parse_expr.specs.Mirrors.Input.{and_then, kind, next_is, expect, take_token}
 use Rattle.ti_parse_expr.specs.Mirrors.Types as spec
-use Rattle.ti_parse_expr.specs.Mirrors.Types.{dim_of, dimension, arity, base, qualifiers, grid_dimension, grid, grids, field_type}
+use Rattle.ti_parse_expr.specs.Mirrors.Types.{dim_from_int, dimension, arity, base, qualifiers, grid_dimension, grid, grids, field_type}
 use Rattle.ti_parse_expr.proofs.Law.{append_nil}
 use Rattle.ti_parse_expr.proofs.Follows.{then_ok, test_reads, expect_reads}
 
-dim_of_small : (n : ℕ) → 1 ≤ n → n ≤ 3 → dim_of (pos n) ≡ Some n
+dim_of_small : (n : ℕ) → 1 ≤ n → n ≤ 3 → dim_from_int (pos n) ≡ Some n
 dim_of_small n low high = rw (le-leb 1 n low, le-leb n 3 high) refl
 
 dimension_reads : (t : Token) (n : ℕ) (r : List Token) → t.kind ≡ k.Int (pos n) → 1 ≤ n → n ≤ 3 → dimension (t ∷ r) ≡ Ok (n, r)
@@ -60,46 +60,46 @@ qualifiers_read (grammar.more {l = l} {qs = qs} t {word = word} is s) (suc m) fo
 grid_dimension_reads : (t : Token) (n : ℕ) (r : List Token) → t.kind ≡ k.Dim n → 1 ≤ n → n ≤ 3 → grid_dimension (t ∷ r) ≡ Ok (n, r)
 grid_dimension_reads t n r h low high = ap (λ q. spec.grid_dimension_by q (t ∷ r)) h ∙ ap (λ d. spec.dimension_if d (t ∷ r)) (dim_of_small n low high)
 
-pub grid_reads : {l : List Token} {qs : List Qualifier} → Qualified l qs → (turns : ℕ) (t c : Token) (n : ℕ) (r : List Token) → t.kind
-    ≡ k.Dim n → 1 ≤ n → n ≤ 3 → c.kind ≡ k.RightBracket → qualifier_of (kind r) ≡ None → length l < turns
-    → grid turns (t ∷ c ∷ (l ++ r)) ≡ Ok (record { dim = n; qualifiers = qs }, r)
+pub grid_reads : {l : List Token} {qs : List Qualifier} → Qualified l qs → (fuel : ℕ) (t c : Token) (n : ℕ) (r : List Token) → t.kind
+    ≡ k.Dim n → 1 ≤ n → n ≤ 3 → c.kind ≡ k.RightBracket → qualifier_of (kind r) ≡ None → length l < fuel
+    → grid fuel (t ∷ c ∷ (l ++ r)) ≡ Ok (record { dim = n; qualifiers = qs }, r)
 unfolding grid
-grid_reads {l = l} {qs = qs} s turns t c n r ht low high hc free lt =
+grid_reads {l = l} {qs = qs} s fuel t c n r ht low high hc free lt =
     then_ok _ (grid_dimension_reads t n (c ∷ (l ++ r)) ht low high)
     ∙ then_ok _ (expect_reads k.RightBracket c (l ++ r) refl hc)
-    ∙ then_ok (λ qs j. Ok (record { dim = n; qualifiers = qs }, j)) (qualifiers_read s turns [] r free lt)
+    ∙ then_ok (λ qs j. Ok (record { dim = n; qualifiers = qs }, j)) (qualifiers_read s fuel [] r free lt)
 
 -- what can follow the brackets of grids
 pub record EndsType (r : List Token) : Type 0 where
   pub qualifier : qualifier_of (kind r) ≡ None
-  pub bracket : sees k.LeftBracket r ≡ false
+  pub bracket : next_is k.LeftBracket r ≡ false
 
 pub gridded_front : {l : List Token} {gs : List GridTree} → Gridded l gs → (r : List Token) → qualifier_of (kind r) ≡ None → qualifier_of (kind (l ++ r)) ≡ None
 gridded_front grammar.none r h = h
 gridded_front (grammar.more o t c ho ht low high hc qs s) r h = ap qualifier_of ho
 
-pub grids_read : {l : List Token} {gs : List GridTree} → Gridded l gs → (turns n : ℕ) (found : List GridTree) (r : List Token) → EndsType r → length gs ≤ n → length l < turns
-    → grids turns n found (l ++ r) ≡ Ok (found ++ gs, r)
+pub grids_read : {l : List Token} {gs : List GridTree} → Gridded l gs → (fuel n : ℕ) (found : List GridTree) (r : List Token) → EndsType r → length gs ≤ n → length l < fuel
+    → grids fuel n found (l ++ r) ≡ Ok (found ++ gs, r)
 unfolding grids
-grids_read grammar.none turns zero found r free few lt = ap (λ z. Ok (z, r)) (sym (append_nil found))
-grids_read grammar.none turns (suc n) found r free few lt = test_reads (sees k.LeftBracket r) false _ _ r free.bracket ∙ ap (λ z. Ok (z, r)) (sym (append_nil found))
-grids_read (grammar.more o t c ho ht low high hc qs s) turns zero found r free few lt = absurd (omega (arith, few))
-grids_read (grammar.more {l = l} {m = m} {qs = words} {gs = gs} o t c {n = d} ho ht low high hc qs s) turns (suc n) found r free few lt =
+grids_read grammar.none fuel zero found r free few lt = ap (λ z. Ok (z, r)) (sym (append_nil found))
+grids_read grammar.none fuel (suc n) found r free few lt = test_reads (next_is k.LeftBracket r) false _ _ r free.bracket ∙ ap (λ z. Ok (z, r)) (sym (append_nil found))
+grids_read (grammar.more o t c ho ht low high hc qs s) fuel zero found r free few lt = absurd (omega (arith, few))
+grids_read (grammar.more {l = l} {m = m} {qs = words} {gs = gs} o t c {n = d} ho ht low high hc qs s) fuel (suc n) found r free few lt =
     let g : GridTree = record { dim = d; qualifiers = words } in
     let long = length-append l m in
     test_reads (same_kind o.kind k.LeftBracket) true _ _ (o ∷ t ∷ c ∷ ((l ++ m) ++ r)) (ap (λ q. same_kind q k.LeftBracket) ho)
-    ∙ ap (λ z. and_then (grid turns (t ∷ c ∷ z)) (λ g. grids turns n (found ++ g ∷ []))) (append_assoc l m r)
-    ∙ then_ok (λ g. grids turns n (found ++ g ∷ [])) (grid_reads qs turns t c d (m ++ r) ht low high hc (gridded_front s r free.qualifier) (omega arith))
-    ∙ grids_read s turns n (found ++ g ∷ []) r free (omega (arith, few)) (omega arith)
+    ∙ ap (λ z. and_then (grid fuel (t ∷ c ∷ z)) (λ g. grids fuel n (found ++ g ∷ []))) (append_assoc l m r)
+    ∙ then_ok (λ g. grids fuel n (found ++ g ∷ [])) (grid_reads qs fuel t c d (m ++ r) ht low high hc (gridded_front s r free.qualifier) (omega arith))
+    ∙ grids_read s fuel n (found ++ g ∷ []) r free (omega (arith, few)) (omega arith)
     ∙ ap (λ z. Ok (z, r)) (append_assoc found (g ∷ []) gs)
 
 -- the type of a field behind its base
 pub field_type_reads : {l m : List Token} {qs : List Qualifier} {gs : List GridTree} → Qualified l qs → Gridded m gs → length gs ≤ 3
-    → (turns : ℕ) (begin : Base) (r : List Token) → EndsType r → length (l ++ m) < turns
-    → field_type turns begin ((l ++ m) ++ r) ≡ Ok (record { base = begin; qualifiers = qs; grids = gs }, r)
+    → (fuel : ℕ) (begin : Base) (r : List Token) → EndsType r → length (l ++ m) < fuel
+    → field_type fuel begin ((l ++ m) ++ r) ≡ Ok (record { base = begin; qualifiers = qs; grids = gs }, r)
 unfolding field_type
-field_type_reads {l = l} {m = m} {qs = qs} {gs = gs} s p few turns begin r free lt =
+field_type_reads {l = l} {m = m} {qs = qs} {gs = gs} s p few fuel begin r free lt =
     let long = length-append l m in
-    ap (λ z. and_then (qualifiers turns [] z) (λ qs i. and_then (grids turns 3 [] i) (λ gs j. Ok (record { base = begin; qualifiers = qs; grids = gs }, j)))) (append_assoc l m r)
-    ∙ then_ok _ (qualifiers_read s turns [] (m ++ r) (gridded_front p r free.qualifier) (omega arith))
-    ∙ then_ok (λ gs j. Ok (record { base = begin; qualifiers = qs; grids = gs }, j)) (grids_read p turns 3 [] r free few (omega arith))
+    ap (λ z. and_then (qualifiers fuel [] z) (λ qs i. and_then (grids fuel 3 [] i) (λ gs j. Ok (record { base = begin; qualifiers = qs; grids = gs }, j)))) (append_assoc l m r)
+    ∙ then_ok _ (qualifiers_read s fuel [] (m ++ r) (gridded_front p r free.qualifier) (omega arith))
+    ∙ then_ok (λ gs j. Ok (record { base = begin; qualifiers = qs; grids = gs }, j)) (grids_read p fuel 3 [] r free few (omega arith))

@@ -6,18 +6,18 @@ use Rattle.ti_syntax.specs.declared.token.TokenKind.TheVariants as k
 use Rattle.ti_syntax.specs.declared.tree.exprs.BinaryOperator.{BinaryOperator}
 use Rattle.ti_syntax.specs.Tokens.{same_kind}
 use Rattle.ti_syntax.specs.Spelling.Operators.{infix_of}
-use Rattle.ti_parse_expr.specs.Mirrors.Input.{At, Outcome, Parser, and_then, kind, sees, expect, take_token}
+use Rattle.ti_parse_expr.specs.Mirrors.Input.{At, ParseOutcome, Parser, and_then, kind, next_is, expect, take_token}
 use Rattle.ti_parse_expr.proofs.Phrases.{binds}
 
-pub then_ok : {A B : Type 0} {out : Outcome A} {x : A} {r : List Token} (k : A → Parser B) → out ≡ Ok (x, r) → and_then out k ≡ k x r
+pub then_ok : {A B : Type 0} {out : ParseOutcome A} {x : A} {r : List Token} (k : A → Parser B) → out ≡ Ok (x, r) → and_then out k ≡ k x r
 then_ok k h = ap (λ o. and_then o k) h
 
-pub and_then_assoc : {A B C : Type 0} (out : Outcome A) (f : A → Parser B) (g : B → Parser C) → and_then (and_then out f) g ≡ and_then out (λ x i. and_then (f x i) g)
+pub and_then_assoc : {A B C : Type 0} (out : ParseOutcome A) (f : A → Parser B) (g : B → Parser C) → and_then (and_then out f) g ≡ and_then out (λ x i. and_then (f x i) g)
 and_then_assoc (Ok p) f g = refl
 and_then_assoc (Err e) f g = refl
 
 -- what was read first, where the whole was read
-pub first_of_two : {A B : Type 0} (out : Outcome A) (k : A → Parser B) (y : B) (s : List Token) → and_then out k ≡ Ok (y, s) → (x : A) × (r : List Token) × (out ≡ Ok (x, r)) × (k x r ≡ Ok (y, s))
+pub first_of_two : {A B : Type 0} (out : ParseOutcome A) (k : A → Parser B) (y : B) (s : List Token) → and_then out k ≡ Ok (y, s) → (x : A) × (r : List Token) × (out ≡ Ok (x, r)) × (k x r ≡ Ok (y, s))
 first_of_two (Ok p) k y s h = (p.0, p.1, refl, h)
 first_of_two (Err e) k y s h = cc
 
@@ -53,7 +53,7 @@ last_append (x ∷ y ∷ a) t l = last_append (y ∷ a) t l
 
 -- a name at the end isn't called
 abbrev pub NoCall : List Token → List Token → Type 0
-NoCall l r = is_name (last_kind l) ≡ true → sees k.LeftParen r ≡ false
+NoCall l r = is_name (last_kind l) ≡ true → next_is k.LeftParen r ≡ false
 
 -- an expression of a level can end before this list
 pub record Stops (n : ℕ) (l r : List Token) : Type 0 where

@@ -20,16 +20,16 @@ use Rattle.ti_parse_expr.proofs.GoesOn.{AnyPostfix, Halts, postfix_goes, whole_s
 -- ---- soundness
 
 -- the tree of an operand alone
-postfix_says : (turns : ℕ) (l : List Token) → Said turns AnyPostfix Any l (and_then (operand turns (expr turns) l) (λ y j. Ok (y.0, j)))
-postfix_says turns l =
-    then_said {m = turns} {S = Post} {Q = Any} (λ f x s. omega arith) (λ f y s. ([], y.0, (y.1, ended (Postfixed y.1) f y.0 s))) _
-    (as_said {m = suc turns} (omega arith) (λ g y s. s) (λ _ _. tt) (operand_says turns (expr turns) (expr_says turns) l))
+postfix_says : (fuel : ℕ) (l : List Token) → Said fuel AnyPostfix Any l (and_then (operand fuel (expr fuel) l) (λ y j. Ok (y.0, j)))
+postfix_says fuel l =
+    then_said {m = fuel} {S = Post} {Q = Any} (λ f x s. omega arith) (λ f y s. ([], y.0, (y.1, ended (Postfixed y.1) f y.0 s))) _
+    (as_said {m = suc fuel} (omega arith) (λ g y s. s) (λ _ _. tt) (operand_says fuel (expr fuel) (expr_says fuel) l))
     (λ f r y s _. done_said (y.1, ended (Postfixed y.1) f y.0 s) tt)
 
-pub phrase_says : (f : Form) (turns : ℕ) (l : List Token) → Said turns (Phrase f) Any l (phrase turns f l)
-phrase_says form.Whole turns l = as_said {m = turns} (omega arith) (λ g y s. s) (λ _ _. tt) (expr_says turns 1 (omega arith) (omega arith) l)
-phrase_says form.Mul turns l = as_said {m = turns} (omega arith) (λ g y s. s) (λ _ _. tt) (expr_says turns 10 (omega arith) (omega arith) l)
-phrase_says form.Postfix turns l = postfix_says turns l
+pub phrase_says : (f : Form) (fuel : ℕ) (l : List Token) → Said fuel (Phrase f) Any l (phrase fuel f l)
+phrase_says form.Whole fuel l = as_said {m = fuel} (omega arith) (λ g y s. s) (λ _ _. tt) (expr_says fuel 1 (omega arith) (omega arith) l)
+phrase_says form.Mul fuel l = as_said {m = fuel} (omega arith) (λ g y s. s) (λ _ _. tt) (expr_says fuel 10 (omega arith) (omega arith) l)
+phrase_says form.Postfix fuel l = postfix_says fuel l
 
 -- ---- completeness
 
@@ -39,28 +39,28 @@ level_of form.Whole = 1
 level_of form.Mul = 10
 level_of form.Postfix = 11
 
-pub postfix_reads : (turns : ℕ) (ending : Ending) (l r : List Token) (x : Exp) → Postfixed ending l x → Stops 11 l r
-    → length (l ++ r) < turns → operand turns (expr turns) (l ++ r) ≡ Ok ((x, ending), r)
-postfix_reads turns ending l r x s stops lt =
-    let loop = postfixed_law turns (expr turns) (expr_reads turns) (no_dimension turns) s r stops.call (omega arith) in
-    loop.operand ∙ postfix_stops turns (expr turns) (expr_reads turns) loop.left (x, ending) r stops.operand (omega (arith, loop.enough))
+pub postfix_reads : (fuel : ℕ) (ending : Ending) (l r : List Token) (x : Exp) → Postfixed ending l x → Stops 11 l r
+    → length (l ++ r) < fuel → operand fuel (expr fuel) (l ++ r) ≡ Ok ((x, ending), r)
+postfix_reads fuel ending l r x s stops lt =
+    let loop = postfixed_law fuel (expr fuel) (expr_reads fuel) (no_dimension fuel) s r stops.call (omega arith) in
+    loop.operand ∙ postfix_stops fuel (expr fuel) (expr_reads fuel) loop.left (x, ending) r stops.operand (omega (arith, loop.enough))
 
-pub phrase_reads : (f : Form) (turns : ℕ) (l r : List Token) (x : Exp) → Phrase f l x → Stops (level_of f) l r → length (l ++ r) < turns → phrase turns f (l ++ r) ≡ Ok (x, r)
-phrase_reads form.Whole turns l r x s stops lt = expr_reads turns 1 l r x (omega arith) (omega arith) s stops lt
-phrase_reads form.Mul turns l r x s stops lt = expr_reads turns 10 l r x (omega arith) (omega arith) s stops lt
-phrase_reads form.Postfix turns l r x (ending, s) stops lt = then_ok (λ y j. Ok (y.0, j)) (postfix_reads turns ending l r x s stops lt)
+pub phrase_reads : (f : Form) (fuel : ℕ) (l r : List Token) (x : Exp) → Phrase f l x → Stops (level_of f) l r → length (l ++ r) < fuel → phrase fuel f (l ++ r) ≡ Ok (x, r)
+phrase_reads form.Whole fuel l r x s stops lt = expr_reads fuel 1 l r x (omega arith) (omega arith) s stops lt
+phrase_reads form.Mul fuel l r x s stops lt = expr_reads fuel 10 l r x (omega arith) (omega arith) s stops lt
+phrase_reads form.Postfix fuel l r x (ending, s) stops lt = then_ok (λ y j. Ok (y.0, j)) (postfix_reads fuel ending l r x s stops lt)
 
 -- ---- locality, and more turns
 
-pub phrase_near : (t : Token) (w v : List Token) (f : Form) (turns more : ℕ) → turns ≤ more → Near t w v (phrase turns f) (phrase more f)
-phrase_near t w v form.Whole turns more le = (readers_near t w v turns more le).expr 1
-phrase_near t w v form.Mul turns more le = (readers_near t w v turns more le).expr 10
-phrase_near t w v form.Postfix turns more le = near_then t w v (readers_near t w v turns more le).operand (λ y. near_pure t w v y.0)
+pub phrase_near : (t : Token) (w v : List Token) (f : Form) (fuel more : ℕ) → fuel ≤ more → Near t w v (phrase fuel f) (phrase more f)
+phrase_near t w v form.Whole fuel more le = (readers_near t w v fuel more le).expr 1
+phrase_near t w v form.Mul fuel more le = (readers_near t w v fuel more le).expr 10
+phrase_near t w v form.Postfix fuel more le = near_then t w v (readers_near t w v fuel more le).operand (λ y. near_pure t w v y.0)
 
-pub phrase_enough : (f : Form) (turns more : ℕ) → turns ≤ more → Enough (phrase turns f) (phrase more f)
-phrase_enough form.Whole turns more le = (readers_enough turns more le).expr 1
-phrase_enough form.Mul turns more le = (readers_enough turns more le).expr 10
-phrase_enough form.Postfix turns more le = enough_then (readers_enough turns more le).operand (λ y. enough_pure y.0)
+pub phrase_enough : (f : Form) (fuel more : ℕ) → fuel ≤ more → Enough (phrase fuel f) (phrase more f)
+phrase_enough form.Whole fuel more le = (readers_enough fuel more le).expr 1
+phrase_enough form.Mul fuel more le = (readers_enough fuel more le).expr 10
+phrase_enough form.Postfix fuel more le = enough_then (readers_enough fuel more le).operand (λ y. enough_pure y.0)
 
 -- ---- a phrase can end before a token, or goes on with it
 

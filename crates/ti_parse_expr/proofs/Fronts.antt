@@ -9,8 +9,8 @@ use Rattle.ti_syntax.specs.Tokens.{same_kind}
 use Rattle.ti_syntax.specs.Spelling.Operators.{prefix_of}
 use Rattle.ti_syntax.specs.Spelling.Expressions.{Ending, Whole, Prefixed, Postfixed, Args, Listed, Ranges, Range}
 use Rattle.ti_syntax.specs.Spelling.Expressions as grammar
-use Rattle.ti_parse_expr.specs.Mirrors.Input.{kind, sees}
-use Rattle.ti_parse_expr.specs.Mirrors.Exprs.{begins_type, is_dim}
+use Rattle.ti_parse_expr.specs.Mirrors.Input.{kind, next_is}
+use Rattle.ti_parse_expr.specs.Mirrors.Exprs.{begins_type, is_dim_token}
 
 abbrev pub begins : TokenKind → Bool
 begins k.Minus = true
@@ -76,10 +76,10 @@ not_type k.KeywordPoint h = cc
 not_type k.KeywordRectDomain h = cc
 not_type _ h = refl
 
-pub not_dim : (q : TokenKind) → begins q ≡ true → is_dim q ≡ false
+pub not_dim : (q : TokenKind) → begins q ≡ true → is_dim_token q ≡ false
 not_dim (k.Dim n) h = cc
 not_dim _ h = refl
 
-pub listed_opens : {l : List Token} {xs : List Exp} → Listed l xs → (r : List Token) → sees k.RightParen (l ++ r) ≡ false
+pub listed_opens : {l : List Token} {xs : List Exp} → Listed l xs → (r : List Token) → next_is k.RightParen (l ++ r) ≡ false
 listed_opens (grammar.last {l = l} s) r = not_close (kind (l ++ r)) (front_whole s r)
 listed_opens (grammar.more {l = l} {m = m} t s h q) r = not_close (kind ((l ++ t ∷ m) ++ r)) (ap (λ z. begins (kind z)) (append_assoc l (t ∷ m) r) ∙ front_whole s (t ∷ (m ++ r)))

@@ -15,7 +15,7 @@ use Rattle.ti_parse_expr.specs.Answers.{Phrase}
 use Rattle.ti_parse_expr.specs.Mirrors.Input.{Parser, take_token}
 use Rattle.ti_parse_expr.specs.Mirrors.Exprs as spec
 use Rattle.ti_parse_expr.specs.Mirrors.Exprs.{Operand, phrase, operand, expr, postfix, behind_name, behind_bracket}
-use Rattle.ti_parse_expr.specs.Mirrors.Full.{Limits, limited_to, full_to, operand_to, behind_name_to, behind_bracket_to, full, full_operand, full_behind_name, full_behind_bracket, within}
+use Rattle.ti_parse_expr.specs.Mirrors.Full.{Limits, limited_to, full_to, operand_to, behind_name_to, behind_bracket_to, full, full_operand, full_behind_name, full_behind_bracket, with_weight_limit}
 use Rattle.ti_parse_expr.proofs.Law.{Said, Any, then_said, as_said, ended}
 use Rattle.ti_parse_expr.proofs.Phrases.{Post}
 use Rattle.ti_parse_expr.proofs.Sound as sound
@@ -89,17 +89,17 @@ module _ (bracket_at at : Place) (name : List ℕ) where
 
 -- ---- what holds of each
 
-full_laws : (form : Form) → Laws (Phrase form) (full form) (within 0 (λ n. phrase n form))
+full_laws : (form : Form) → Laws (Phrase form) (full form) (with_weight_limit 0 (λ n. phrase n form))
 full_laws form = laws (Phrase form) (λ n. phrase n form) (phrase_reader form) 0 (omega arith) (λ l. suc (length l)) (λ l. omega arith)
 
-operand_laws : Laws Post full_operand (within 0 (λ n. operand n (expr n)))
+operand_laws : Laws Post full_operand (with_weight_limit 0 (λ n. operand n (expr n)))
 operand_laws = laws Post (λ n. operand n (expr n)) operand_reader 0 (omega arith) (λ l. suc (length l)) (λ l. omega arith)
 
-behind_name_laws : (at : Place) (name : List ℕ) → Laws (BehindName at name) (full_behind_name at name) (within 0 (λ n. behind_name n at name))
+behind_name_laws : (at : Place) (name : List ℕ) → Laws (BehindName at name) (full_behind_name at name) (with_weight_limit 0 (λ n. behind_name n at name))
 behind_name_laws at name =
     laws (BehindName at name) (λ n. behind_name n at name) (name_reader at name) 0 (omega arith) (λ l. suc (suc (length l))) (λ l. omega arith)
 
-behind_bracket_laws : (bracket_at at : Place) (name : List ℕ) → Laws (BehindBracket bracket_at at name) (full_behind_bracket bracket_at at name) (within 1 (λ n. behind_bracket n bracket_at at name))
+behind_bracket_laws : (bracket_at at : Place) (name : List ℕ) → Laws (BehindBracket bracket_at at name) (full_behind_bracket bracket_at at name) (with_weight_limit 1 (λ n. behind_bracket n bracket_at at name))
 behind_bracket_laws bracket_at at name =
     laws (BehindBracket bracket_at at name) (λ n. behind_bracket n bracket_at at name) (bracket_reader bracket_at at name) 1 (omega arith) (λ l. suc (suc (length l)))
     (λ l. omega arith)
@@ -172,14 +172,14 @@ behind_bracket_near t w v bracket_at at name = (behind_bracket_laws bracket_at a
 
 -- ---- the front of a list is enough
 
-pub full_same : (form : Form) (l : List Token) → within 0 (λ n. phrase n form) l ≡ full form l
+pub full_same : (form : Form) (l : List Token) → with_weight_limit 0 (λ n. phrase n form) l ≡ full form l
 full_same form l = (full_laws form).same l
 
-pub operand_same : (l : List Token) → within 0 (λ n. operand n (expr n)) l ≡ full_operand l
+pub operand_same : (l : List Token) → with_weight_limit 0 (λ n. operand n (expr n)) l ≡ full_operand l
 operand_same l = operand_laws.same l
 
-pub behind_name_same : (at : Place) (name : List ℕ) (l : List Token) → within 0 (λ n. behind_name n at name) l ≡ full_behind_name at name l
+pub behind_name_same : (at : Place) (name : List ℕ) (l : List Token) → with_weight_limit 0 (λ n. behind_name n at name) l ≡ full_behind_name at name l
 behind_name_same at name l = (behind_name_laws at name).same l
 
-pub behind_bracket_same : (bracket_at at : Place) (name : List ℕ) (l : List Token) → within 1 (λ n. behind_bracket n bracket_at at name) l ≡ full_behind_bracket bracket_at at name l
+pub behind_bracket_same : (bracket_at at : Place) (name : List ℕ) (l : List Token) → with_weight_limit 1 (λ n. behind_bracket n bracket_at at name) l ≡ full_behind_bracket bracket_at at name l
 behind_bracket_same bracket_at at name l = (behind_bracket_laws bracket_at at name).same l

@@ -6,8 +6,8 @@ use Rattle.ti_syntax.specs.declared.token.Token.{Token}
 use Rattle.ti_syntax.specs.Spelling.Loads.{Load, Weight, weights_behind, weights}
 use Rattle.ti_syntax.specs.Spelling.Weights.{counts, arity_behind, weigh_behind}
 use Rattle.ti_syntax.specs.Spelling.{most_weight}
-use Rattle.ti_parse_expr.specs.Mirrors.Input.{Halt, Over, Outcome, Parser, and_then, next}
-use Rattle.ti_parse_expr.specs.Mirrors.Full.{Limits, usual, above, is_above, limited_to, limited, rest_of}
+use Rattle.ti_parse_expr.specs.Mirrors.Input.{Halt, Over, ParseOutcome, Parser, and_then, after_next}
+use Rattle.ti_parse_expr.specs.Mirrors.Full.{Limits, language_limits, above, is_above, limited_to, limit_outcome, unread_of}
 
 pub weights_behind_long : (n w : ℕ) (l : List Token) → length (weights_behind n w l) ≡ length l
 weights_behind_long n w [] = refl
@@ -29,14 +29,14 @@ weights_front zero w (t ∷ a) b =
 -- ---- what the limit makes of an outcome
 
 -- first the loads of a front, and then those behind it
-pub limited_fits : {A : Type 0} (limits : Limits) (loads more : List Load) (a b : List Token) (out : Outcome A) → length loads ≡ length a
+pub limited_fits : {A : Type 0} (limits : Limits) (loads more : List Load) (a b : List Token) (out : ParseOutcome A) → length loads ≡ length a
     → limited_to limits (loads ++ more) (a ++ b) out ≡ limited_to limits loads (a ++ b) (limited_to limits more b out)
 limited_fits limits [] more [] b out e = refl
 limited_fits limits [] more (t ∷ a) b out e = absurd (omega (arith, e))
 limited_fits limits (x ∷ loads) more [] b out e = absurd (omega (arith, e))
 limited_fits limits (x ∷ loads) more (t ∷ a) b out e = ap (λ z. if above limits x then Err (Over (t ∷ (a ++ b))) else z) (limited_fits limits loads more a b out (omega (arith, e)))
 
-then_if : {A B : Type 0} (c : Bool) (h : Halt) (o : Outcome A) (f : A → Parser B) → and_then (if c then Err h else o) f ≡ (if c then Err h else and_then o f)
+then_if : {A B : Type 0} (c : Bool) (h : Halt) (o : ParseOutcome A) (f : A → Parser B) → and_then (if c then Err h else o) f ≡ (if c then Err h else and_then o f)
 then_if true h o f = refl
 then_if false h o f = refl
 
@@ -45,45 +45,45 @@ pub limited_then : {A B : Type 0} (limits : Limits) (loads : List Load) (l : Lis
     → and_then (limited_to limits loads l (Ok (x, r))) f ≡ limited_to limits loads l (f x r)
 limited_then limits [] l x r f = refl
 limited_then limits (y ∷ loads) l x r f =
-    then_if (above limits y) (Over l) (limited_to limits loads (next l) (Ok (x, r))) f ∙ ap (λ z. if above limits y then Err (Over l) else z) (limited_then limits loads (next l) x r f)
+    then_if (above limits y) (Over l) (limited_to limits loads (after_next l) (Ok (x, r))) f ∙ ap (λ z. if above limits y then Err (Over l) else z) (limited_then limits loads (after_next l) x r f)
 
 -- a token that doesn't weigh too much
-pub below : {A : Type 0} (limits : Limits) (v : ℕ) (loads : List Load) (l : List Token) (out : Outcome A) → v ≤ limits.weight
-    → limited_to limits (Weight v ∷ loads) l out ≡ limited_to limits loads (next l) out
-below limits v loads l out small = ap (λ c. if c then Err (Over l) else limited_to limits loads (next l) out) (le-ltb limits.weight v small)
+pub below : {A : Type 0} (limits : Limits) (v : ℕ) (loads : List Load) (l : List Token) (out : ParseOutcome A) → v ≤ limits.weight
+    → limited_to limits (Weight v ∷ loads) l out ≡ limited_to limits loads (after_next l) out
+below limits v loads l out small = ap (λ c. if c then Err (Over l) else limited_to limits loads (after_next l) out) (le-ltb limits.weight v small)
 
 -- tokens that don't weigh too much
-pub limited_light : {A : Type 0} (n w : ℕ) (f r : List Token) (out : Outcome A) → w + weigh_behind n f ≤ most_weight → limited (weights_behind n w f) (f ++ r) out ≡ out
+pub limited_light : {A : Type 0} (n w : ℕ) (f r : List Token) (out : ParseOutcome A) → w + weigh_behind n f ≤ most_weight → limit_outcome (weights_behind n w f) (f ++ r) out ≡ out
 limited_light n w [] r out small = refl
-limited_light (suc n) w (t ∷ f) r out small = below usual w (weights_behind n w f) (t ∷ (f ++ r)) out (omega (arith, small)) ∙ limited_light n w f r out small
+limited_light (suc n) w (t ∷ f) r out small = below language_limits w (weights_behind n w f) (t ∷ (f ++ r)) out (omega (arith, small)) ∙ limited_light n w f r out small
 limited_light zero w (t ∷ f) r out small =
     let v : ℕ = (if counts t.kind then 1 else 0) + w in
-    below usual v (weights_behind (arity_behind t.kind) v f) (t ∷ (f ++ r)) out (omega (arith, small)) ∙ limited_light (arity_behind t.kind) v f r out (omega (arith, small))
+    below language_limits v (weights_behind (arity_behind t.kind) v f) (t ∷ (f ++ r)) out (omega (arith, small)) ∙ limited_light (arity_behind t.kind) v f r out (omega (arith, small))
 
 -- the first that does
-pub limited_heavy : {A : Type 0} (n w : ℕ) (f : List Token) (t : Token) (h r : List Token) (out : Outcome A) → w + weigh_behind n f ≤ most_weight → most_weight < w + weigh_behind n (f ++ t ∷ [])
-    → limited (weights_behind n w (f ++ t ∷ h)) ((f ++ t ∷ h) ++ r) out ≡ Err (Over (t ∷ (h ++ r)))
+pub limited_heavy : {A : Type 0} (n w : ℕ) (f : List Token) (t : Token) (h r : List Token) (out : ParseOutcome A) → w + weigh_behind n f ≤ most_weight → most_weight < w + weigh_behind n (f ++ t ∷ [])
+    → limit_outcome (weights_behind n w (f ++ t ∷ h)) ((f ++ t ∷ h) ++ r) out ≡ Err (Over (t ∷ (h ++ r)))
 limited_heavy (suc n) w [] t h r out small above = absurd (omega (arith, small, above))
 limited_heavy zero w [] t h r out small above =
     let v : ℕ = (if counts t.kind then 1 else 0) + w in
-    ap (λ c. if c then Err (Over (t ∷ (h ++ r))) else limited (weights_behind (arity_behind t.kind) v h) (h ++ r) out) (lt-ltb most_weight v (omega (arith, above)))
+    ap (λ c. if c then Err (Over (t ∷ (h ++ r))) else limit_outcome (weights_behind (arity_behind t.kind) v h) (h ++ r) out) (lt-ltb most_weight v (omega (arith, above)))
 limited_heavy (suc n) w (x ∷ f) t h r out small above =
-    below usual w (weights_behind n w (f ++ t ∷ h)) (x ∷ ((f ++ t ∷ h) ++ r)) out (omega (arith, small)) ∙ limited_heavy n w f t h r out small above
+    below language_limits w (weights_behind n w (f ++ t ∷ h)) (x ∷ ((f ++ t ∷ h) ++ r)) out (omega (arith, small)) ∙ limited_heavy n w f t h r out small above
 limited_heavy zero w (x ∷ f) t h r out small above =
     let v : ℕ = (if counts x.kind then 1 else 0) + w in
-    below usual v (weights_behind (arity_behind x.kind) v (f ++ t ∷ h)) (x ∷ ((f ++ t ∷ h) ++ r)) out (omega (arith, small))
+    below language_limits v (weights_behind (arity_behind x.kind) v (f ++ t ∷ h)) (x ∷ ((f ++ t ∷ h) ++ r)) out (omega (arith, small))
     ∙ limited_heavy (arity_behind x.kind) v f t h r out (omega (arith, small)) (omega (arith, above))
 
-next_short : (l : List Token) → length (next l) ≤ length l
+next_short : (l : List Token) → length (after_next l) ≤ length l
 next_short [] = omega arith
 next_short (t ∷ l) = omega arith
 
 -- what is left is no longer than the list, or than what was left
-pub limited_short : {A : Type 0} (loads : List Load) (l : List Token) (out : Outcome A) (most : ℕ) → length l ≤ most → length (rest_of out) ≤ most → length (rest_of (limited loads l out)) ≤ most
+pub limited_short : {A : Type 0} (loads : List Load) (l : List Token) (out : ParseOutcome A) (most : ℕ) → length l ≤ most → length (unread_of out) ≤ most → length (unread_of (limit_outcome loads l out)) ≤ most
 limited_short [] l out most long short = short
-limited_short (x ∷ loads) l out most long short = short_if (is_above x) (limited_short loads (next l) out most (omega (arith, next_short l, long)) short)
+limited_short (x ∷ loads) l out most long short = short_if (is_above x) (limited_short loads (after_next l) out most (omega (arith, next_short l, long)) short)
   where
-    short_if : (c : Bool) → length (rest_of (limited loads (next l) out)) ≤ most → length (rest_of (if c then Err (Over l) else limited loads (next l) out)) ≤ most
+    short_if : (c : Bool) → length (unread_of (limit_outcome loads (after_next l) out)) ≤ most → length (unread_of (if c then Err (Over l) else limit_outcome loads (after_next l) out)) ≤ most
     short_if true h = long
     short_if false h = h
 

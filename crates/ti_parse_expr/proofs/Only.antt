@@ -13,7 +13,7 @@ use Rattle.ti_rules.specs.declared.refusal.Refusal.{Refusal}
 use Rattle.ti_parse_expr.specs.declared.parse.Form.{Form}
 use Rattle.ti_parse_expr.specs.declared.error.ParseErr.{ParseErr}
 use Rattle.ti_parse_expr.specs.declared.error.ParseErr.TheVariants.{Refused, Memory}
-use Rattle.ti_parse_expr.specs.Answers.{Phrase, BeginsPhrase, IsRun, IsLight, IsPhrase, IsNoPhrase, IsTooHeavy, Refuses, Answers, GivesOnly, RefusesOnly}
+use Rattle.ti_parse_expr.specs.Answers.{Phrase, BeginsPhrase, IsViableRun, IsLight, IsPhrase, IsNoPhrase, IsTooHeavy, IsParseError, Answers, GivesOnly, RefusesOnly}
 use Rattle.ti_parse_expr.proofs.Apart.{Apart, apart}
 
 -- a front of what begins a phrase begins one
@@ -28,19 +28,19 @@ module _ (f : Form) (weight : ℕ) (list : List Token) where
   abbrev Begun : List Token → Type 0
   Begun l = BeginsPhrase f l
 
-  same_run_by : (r r2 : List Token) (a a2 : Token) (h : IsRun f list r a) (h2 : IsRun f list r2 a2) → Apart r (a ∷ h.rest) r2 a2 h2.rest → (r ≡ r2) × (a ≡ a2)
+  same_run_by : (r r2 : List Token) (a a2 : Token) (h : IsViableRun f list r a) (h2 : IsViableRun f list r2 a2) → Apart r (a ∷ h.rest) r2 a2 h2.rest → (r ≡ r2) × (a ≡ a2)
   same_run_by r r2 a a2 h h2 (inl (u, v, is, more)) =
       let head : a ≡ u = cc in
       absurd (h.longest (subst (λ z. Begun (r ++ z ∷ [])) (sym head) (begun_front f r2 r u v more h2.begins)))
   same_run_by r r2 a a2 h h2 (inr (inl (same, tails))) = let head : a ≡ a2 = cc in (same, head)
   same_run_by r r2 a a2 h h2 (inr (inr (v, longer))) = absurd (h2.longest (begun_front f r r2 a2 v longer h.begins))
 
-  pub same_run : (r r2 : List Token) (a a2 : Token) → IsRun f list r a → IsRun f list r2 a2 → (r ≡ r2) × (a ≡ a2)
+  pub same_run : (r r2 : List Token) (a a2 : Token) → IsViableRun f list r a → IsViableRun f list r2 a2 → (r ≡ r2) × (a ≡ a2)
   same_run r r2 a a2 h h2 = same_run_by r r2 a a2 h h2 (apart r (a ∷ h.rest) r2 a2 h2.rest (sym h.is ∙ h2.is))
 
   -- ---- tokens that weigh too much
 
-  not_heavy_by : (r : List Token) (a : Token) (h : IsRun f list r a) → IsLight weight r → (p : Place) (q : IsTooHeavy f weight list p) → Apart r (a ∷ h.rest) q.front q.heavy q.rest → ⊥
+  not_heavy_by : (r : List Token) (a : Token) (h : IsViableRun f list r a) → IsLight weight r → (p : Place) (q : IsTooHeavy f weight list p) → Apart r (a ∷ h.rest) q.front q.heavy q.rest → ⊥
   not_heavy_by r a h light p q (inl (u, v, is, more)) =
       let head : a ≡ u = cc in
       let e : q.front ++ q.heavy ∷ [] ≡ r ++ u ∷ (v ++ q.heavy ∷ []) = ap (λ z. z ++ q.heavy ∷ []) more ∙ append_assoc r (u ∷ v) (q.heavy ∷ []) in
@@ -50,7 +50,7 @@ module _ (f : Form) (weight : ℕ) (list : List Token) where
       h.longest (subst (λ z. Begun (r ++ z ∷ [])) (sym head) (subst (λ z. Begun (z ++ q.heavy ∷ [])) (sym same) q.begins))
   not_heavy_by r a h light p q (inr (inr (v, longer))) = omega (arith, light q.front q.heavy v longer, q.above)
 
-  not_heavy : (r : List Token) (a : Token) → IsRun f list r a → IsLight weight r → (p : Place) → IsTooHeavy f weight list p → ⊥
+  not_heavy : (r : List Token) (a : Token) → IsViableRun f list r a → IsLight weight r → (p : Place) → IsTooHeavy f weight list p → ⊥
   not_heavy r a h light p q = not_heavy_by r a h light p q (apart r (a ∷ h.rest) q.front q.heavy q.rest (sym h.is ∙ q.is))
 
   one_heavy_by : (p p2 : Place) (q : IsTooHeavy f weight list p) (q2 : IsTooHeavy f weight list p2) → Apart q.front (q.heavy ∷ q.rest) q2.front q2.heavy q2.rest → p ≡ p2
@@ -69,22 +69,22 @@ module _ (f : Form) (weight : ℕ) (list : List Token) where
   no_phrase_refused : (p : Place) → IsNoPhrase f weight list p → (x : Exp) (size used : ℕ) → IsPhrase f weight list x size used → ⊥
   no_phrase_refused p h x size used q = let (same, _) = same_run h.run q.run h.after q.after h.is_run q.is_run in h.no_phrase x (subst (λ z. Phrase f z x) (sym same) q.phrase)
 
-  never_refused : (rule : Rule) (p : Place) → Refuses f weight list rule p → (x : Exp) (size used : ℕ) → IsPhrase f weight list x size used → ⊥
+  never_refused : (rule : Rule) (p : Place) → IsParseError f weight list rule p → (x : Exp) (size used : ℕ) → IsPhrase f weight list x size used → ⊥
   never_refused G1 p h x size used q = no_phrase_refused p h x size used q
   never_refused G2 p h x size used q = not_heavy q.run q.after q.is_run q.light p h
   never_refused _ p h x size used q = h
 
-  refused_so : (p : Place) → IsNoPhrase f weight list p → (rule : Rule) (p2 : Place) → Refuses f weight list rule p2 → (G1 ≡ rule) × (p ≡ p2)
+  refused_so : (p : Place) → IsNoPhrase f weight list p → (rule : Rule) (p2 : Place) → IsParseError f weight list rule p2 → (G1 ≡ rule) × (p ≡ p2)
   refused_so p h G1 p2 q = let (_, same) = same_run h.run q.run h.after q.after h.is_run q.is_run in (refl, sym h.at ∙ ap (λ (t : Token). t.place) same ∙ q.at)
   refused_so p h G2 p2 q = absurd (not_heavy h.run h.after h.is_run h.light p2 q)
   refused_so p h _ p2 q = absurd q
 
-  heavy_so : (p : Place) → IsTooHeavy f weight list p → (rule : Rule) (p2 : Place) → Refuses f weight list rule p2 → (G2 ≡ rule) × (p ≡ p2)
+  heavy_so : (p : Place) → IsTooHeavy f weight list p → (rule : Rule) (p2 : Place) → IsParseError f weight list rule p2 → (G2 ≡ rule) × (p ≡ p2)
   heavy_so p h G1 p2 q = absurd (not_heavy q.run q.after q.is_run q.light p h)
   heavy_so p h G2 p2 q = (refl, one_heavy p p2 h q)
   heavy_so p h _ p2 q = absurd q
 
-  one_refusal : (rule : Rule) (p : Place) → Refuses f weight list rule p → (rule2 : Rule) (p2 : Place) → Refuses f weight list rule2 p2 → (rule ≡ rule2) × (p ≡ p2)
+  one_refusal : (rule : Rule) (p : Place) → IsParseError f weight list rule p → (rule2 : Rule) (p2 : Place) → IsParseError f weight list rule2 p2 → (rule ≡ rule2) × (p ≡ p2)
   one_refusal G1 p h rule2 p2 q = refused_so p h rule2 p2 q
   one_refusal G2 p h rule2 p2 q = heavy_so p h rule2 p2 q
   one_refusal _ p h rule2 p2 q = absurd h
@@ -104,7 +104,7 @@ only_tree list at f weight (Err (Refused r)) h x size used q = absurd (never_ref
 only_tree list at f weight (Err Memory) h x size used q = refl
 
 pub only_refusal : (list : List Token) (at : ℕ) (f : Form) (weight : ℕ) (answer : Result (Expr × ℕ × ℕ) ParseErr)
-    → Answers list at f weight answer → (rule : Rule) (place : Place) → Refuses f weight (drop at list) rule place
+    → Answers list at f weight answer → (rule : Rule) (place : Place) → IsParseError f weight (drop at list) rule place
     → RefusesOnly answer rule place
 only_refusal list at f weight (Ok p) (size, is, h) rule place q = never_refused f weight (drop at list) rule place q (exp_of p.0) size p.2 h
 only_refusal list at f weight (Err (Refused r)) h rule place q =

@@ -15,22 +15,22 @@ use Rattle.ti_syntax.specs.Trees.Expressions as e
 use Rattle.ti_syntax.specs.Tokens.{same_kind}
 use Rattle.ti_syntax.specs.Spelling.Operators.{prefix_of, infix_of, strength, qualifier_of}
 use Rattle.ti_syntax.specs.Spelling.Expressions.{Target, Call, Other}
-use Rattle.ti_parse_expr.specs.Mirrors.Input.{At, Spent, Parser, and_then, kind, place, sees, spells, expect, take_token, any_name, named_by}
+use Rattle.ti_parse_expr.specs.Mirrors.Input.{At, OutOfFuel, Parser, and_then, kind, place, next_is, spells, expect, take_token, any_name, name_of_kind}
 use Rattle.ti_parse_expr.specs.Mirrors.Types as types
-use Rattle.ti_parse_expr.specs.Mirrors.Types.{dim_of, dimension, arity, base as type_base, qualifiers, grid, grids, field_type}
+use Rattle.ti_parse_expr.specs.Mirrors.Types.{dim_from_int, dimension, arity, base as type_base, qualifiers, grid, grids, field_type}
 use Rattle.ti_parse_expr.specs.Mirrors.Exprs as spec
-use Rattle.ti_parse_expr.specs.Mirrors.Exprs.{Operand, begins_type, is_dim, more_args, args, more_parts, parts_from, parts, range_from}
-use Rattle.ti_parse_expr.specs.Mirrors.Exprs.{more_ranges, ranges_from, bracket, process_name, process, named, member, index, postfix}
+use Rattle.ti_parse_expr.specs.Mirrors.Exprs.{Operand, begins_type, is_dim_token, more_args, args, more_parts, parts_from, parts, range_from}
+use Rattle.ti_parse_expr.specs.Mirrors.Exprs.{more_ranges, ranges_from, bracket, process_name, process, name_or_call, member, index, postfix}
 use Rattle.ti_parse_expr.specs.Mirrors.Exprs.{group, operand, operation, climb, cast, cast_from, cast_from_grid, group_from}
 use Rattle.ti_parse_expr.specs.Mirrors.Exprs.{paren_name_bracket, paren_name, paren, unary, prefix, level, expr, behind_name}
 use Rattle.ti_parse_expr.specs.Mirrors.Exprs.{behind_bracket}
 
 -- the readers with so many turns each
-pub record Readers (Q : (A : Type 0) → Parser A → Parser A → Type 0) (turns more : ℕ) : Type 0 where
-  pub expr : (least : ℕ) → Q Exp (spec.expr turns least) (spec.expr more least)
-  pub operand : Q Operand (spec.operand turns (spec.expr turns)) (spec.operand more (spec.expr more))
-  pub behind_name : (at : Place) (name : List ℕ) → Q Operand (spec.behind_name turns at name) (spec.behind_name more at name)
-  pub behind_bracket : (bracket_at at : Place) (name : List ℕ) → Q Operand (spec.behind_bracket turns bracket_at at name) (spec.behind_bracket more bracket_at at name)
+pub record Readers (Q : (A : Type 0) → Parser A → Parser A → Type 0) (fuel more : ℕ) : Type 0 where
+  pub expr : (least : ℕ) → Q Exp (spec.expr fuel least) (spec.expr more least)
+  pub operand : Q Operand (spec.operand fuel (spec.expr fuel)) (spec.operand more (spec.expr more))
+  pub behind_name : (at : Place) (name : List ℕ) → Q Operand (spec.behind_name fuel at name) (spec.behind_name more at name)
+  pub behind_bracket : (bracket_at at : Place) (name : List ℕ) → Q Operand (spec.behind_bracket fuel bracket_at at name) (spec.behind_bracket more bracket_at at name)
 
 -- Q is the relation, and T relates the turns that are left
 module _ (Q : (A : Type 0) → Parser A → Parser A → Type 0) (T : ℕ → ℕ → Type 0) (q_pure : (A : Type 0) (x : A) → Q A (λ i. Ok (x, i)) (λ i. Ok (x, i)))
@@ -38,7 +38,7 @@ module _ (Q : (A : Type 0) → Parser A → Parser A → Type 0) (T : ℕ → �
     (q_then : (A B : Type 0) (p q : Parser A) (f g : A → Parser B) → Q A p q → ((x : A) → Q B (f x) (g x)) → Q B (λ i. and_then (p i) f) (λ i. and_then (q i) g))
     (q_kind : (A : Type 0) (f g : TokenKind → Parser A) → ((x : TokenKind) → Q A (f x) (g x)) → Q A (λ i. f (kind i) i) (λ i. g (kind i) i))
     (q_place : (A : Type 0) (f g : Place → Parser A) → ((x : Place) → Q A (f x) (g x)) → Q A (λ i. f (place i) i) (λ i. g (place i) i))
-    (q_spent : (A : Type 0) (q : ℕ → Parser A) (m : ℕ) → T zero m → q zero ≡ (λ i. Err Spent) → Q A (λ i. Err Spent) (q m)) (t_none : (m : ℕ) → T (suc m) zero → ⊥)
+    (q_spent : (A : Type 0) (q : ℕ → Parser A) (m : ℕ) → T zero m → q zero ≡ (λ i. Err OutOfFuel) → Q A (λ i. Err OutOfFuel) (q m)) (t_none : (m : ℕ) → T (suc m) zero → ⊥)
     (t_less : (m m2 : ℕ) → T (suc m) (suc m2) → T m m2) where
   abbrev R : {A : Type 0} → Parser A → Parser A → Type 0
   R {A = A} p q = Q A p q
@@ -61,7 +61,7 @@ module _ (Q : (A : Type 0) → Parser A → Parser A → Type 0) (T : ℕ → �
   r_place : {A : Type 0} (f g : Place → Parser A) → ((x : Place) → R (f x) (g x)) → R (λ i. f (place i) i) (λ i. g (place i) i)
   r_place {A = A} f g each = q_place A f g each
 
-  r_spent : {A : Type 0} (q : ℕ → Parser A) (m : ℕ) → T zero m → q zero ≡ (λ i. Err Spent) → R (λ i. Err Spent) (q m)
+  r_spent : {A : Type 0} (q : ℕ → Parser A) (m : ℕ) → T zero m → q zero ≡ (λ i. Err OutOfFuel) → R (λ i. Err OutOfFuel) (q m)
   r_spent {A = A} q m h is = q_spent A q m h is
 
   -- ---- steps
@@ -88,15 +88,15 @@ module _ (Q : (A : Type 0) → Parser A → Parser A → Type 0) (T : ℕ → �
       (λ a. r_if (test a) n1 n2)
 
   r_sees : {A : Type 0} (q : TokenKind) {p1 q1 p2 q2 : Parser A} → R p1 q1 → R p2 q2
-      → R (λ i. if◌then◌else◌ {A = Parser A} (sees q i) p1 p2 i) (λ i. if◌then◌else◌ {A = Parser A} (sees q i) q1 q2 i)
+      → R (λ i. if◌then◌else◌ {A = Parser A} (next_is q i) p1 p2 i) (λ i. if◌then◌else◌ {A = Parser A} (next_is q i) q1 q2 i)
   r_sees q n1 n2 = r_test (λ a. same_kind a q) n1 n2
 
-  r_name_by : (q : TokenKind) → R (named_by q) (named_by q)
+  r_name_by : (q : TokenKind) → R (name_of_kind q) (name_of_kind q)
   r_name_by (k.Name name) = r_then r_take (λ _. r_pure name)
   r_name_by _ = r_refuse
 
   r_name : R (any_name) (any_name)
-  r_name = r_kind (named_by) (named_by) r_name_by
+  r_name = r_kind (name_of_kind) (name_of_kind) r_name_by
 
   -- ---- types
 
@@ -105,7 +105,7 @@ module _ (Q : (A : Type 0) → Parser A → Parser A → Type 0) (T : ℕ → �
   r_dimension_if (Some n) = r_then r_take (λ _. r_pure n)
 
   r_dimension_by : (q : TokenKind) → R (types.dimension_by q) (types.dimension_by q)
-  r_dimension_by (k.Int n) = r_dimension_if (dim_of n)
+  r_dimension_by (k.Int n) = r_dimension_if (dim_from_int n)
   r_dimension_by _ = r_refuse
 
   pub r_arity : R (arity) (arity)
@@ -151,67 +151,67 @@ module _ (Q : (A : Type 0) → Parser A → Parser A → Type 0) (T : ℕ → �
       (λ q. r_qualifiers_if (qualifiers m) (qualifiers m2) (r_qualifiers m m2 (t_less m m2 h)) found (qualifier_of q))
 
   r_grid_dimension_by : (q : TokenKind) → R (types.grid_dimension_by q) (types.grid_dimension_by q)
-  r_grid_dimension_by (k.Dim n) = r_dimension_if (dim_of (pos n))
+  r_grid_dimension_by (k.Dim n) = r_dimension_if (dim_from_int (pos n))
   r_grid_dimension_by _ = r_refuse
 
-  module _ (turns more : ℕ) (most : T turns more) where
-    pub r_grid : R (grid turns) (grid more)
+  module _ (fuel more : ℕ) (most : T fuel more) where
+    pub r_grid : R (grid fuel) (grid more)
     unfolding grid
     r_grid = r_then (r_kind (types.grid_dimension_by) (types.grid_dimension_by) r_grid_dimension_by)
-        (λ n. r_then (r_expect k.RightBracket) (λ _. r_then (r_qualifiers turns more most [])
+        (λ n. r_then (r_expect k.RightBracket) (λ _. r_then (r_qualifiers fuel more most [])
         (λ qs. r_pure (record { dim = n; qualifiers = qs }))))
 
-    pub r_grids : (n : ℕ) (found : List GridTree) → R (grids turns n found) (grids more n found)
+    pub r_grids : (n : ℕ) (found : List GridTree) → R (grids fuel n found) (grids more n found)
     unfolding grids
     r_grids zero found = r_pure found
     r_grids (suc n) found = r_sees k.LeftBracket (r_then r_take (λ _. r_then r_grid (λ g. r_grids n (found ++ g ∷ [])))) (r_pure found)
 
-    pub r_field_type : (begin : Base) → R (field_type turns begin) (field_type more begin)
+    pub r_field_type : (begin : Base) → R (field_type fuel begin) (field_type more begin)
     unfolding field_type
-    r_field_type begin = r_then (r_qualifiers turns more most []) (λ qs. r_then (r_grids 3 []) (λ gs. r_pure (record { base = begin; qualifiers = qs; grids = gs })))
+    r_field_type begin = r_then (r_qualifiers fuel more most []) (λ qs. r_then (r_grids 3 []) (λ gs. r_pure (record { base = begin; qualifiers = qs; grids = gs })))
 
     -- ---- expressions
 
     module _ (expr1 expr2 : ℕ → Parser Exp) (r_expr : (n : ℕ) → R (expr1 n) (expr2 n)) where
-      r_more_args : (m m2 : ℕ) → T m m2 → (found : List Exp) → R (more_args turns expr1 m found) (more_args more expr2 m2 found)
+      r_more_args : (m m2 : ℕ) → T m m2 → (found : List Exp) → R (more_args fuel expr1 m found) (more_args more expr2 m2 found)
       unfolding more_args
       r_more_args zero m2 h found = r_spent (λ z. more_args more expr2 z found) m2 h refl
       r_more_args (suc m) zero h found = absurd (t_none m h)
       r_more_args (suc m) (suc m2) h found =
           r_then (r_expr 1) (λ x. r_sees k.Comma (r_then r_take (λ _. r_more_args m m2 (t_less m m2 h) (found ++ x ∷ []))) (r_pure (found ++ x ∷ [])))
 
-      r_args : R (args turns expr1) (args more expr2)
+      r_args : R (args fuel expr1) (args more expr2)
       unfolding args
-      r_args = r_sees k.RightParen (r_then r_take (λ _. r_pure [])) (r_then (r_more_args turns more most []) (λ found. r_then (r_expect k.RightParen) (λ _. r_pure found)))
+      r_args = r_sees k.RightParen (r_then r_take (λ _. r_pure [])) (r_then (r_more_args fuel more most []) (λ found. r_then (r_expect k.RightParen) (λ _. r_pure found)))
 
-      r_more_parts : (n : ℕ) (found : List Exp) → R (more_parts turns expr1 n found) (more_parts more expr2 n found)
+      r_more_parts : (n : ℕ) (found : List Exp) → R (more_parts fuel expr1 n found) (more_parts more expr2 n found)
       unfolding more_parts
       r_more_parts zero found = r_pure found
       r_more_parts (suc n) found = r_sees k.Comma (r_then r_take (λ _. r_then (r_expr 1) (λ x. r_more_parts n (found ++ x ∷ [])))) (r_pure found)
 
-      r_parts_from : (first : Exp) → R (parts_from turns expr1 first) (parts_from more expr2 first)
+      r_parts_from : (first : Exp) → R (parts_from fuel expr1 first) (parts_from more expr2 first)
       unfolding parts_from
       r_parts_from first = r_then (r_more_parts 2 (first ∷ [])) (λ found. r_then (r_expect k.RightBracket) (λ _. r_pure found))
 
-      r_parts : R (parts turns expr1) (parts more expr2)
+      r_parts : R (parts fuel expr1) (parts more expr2)
       unfolding parts
       r_parts = r_then (r_expr 1) r_parts_from
 
-      r_range_from : (low : Exp) → R (range_from turns expr1 low) (range_from more expr2 low)
+      r_range_from : (low : Exp) → R (range_from fuel expr1 low) (range_from more expr2 low)
       unfolding range_from
       r_range_from low =
           r_then (r_expect k.Colon) (λ _. r_then (r_expr 1) (λ high. r_sees k.Colon (r_then r_take (λ _. r_then (r_expr 1) (λ step. r_pure (e.Stepped low high step)))) (r_pure (e.Plain low high))))
 
-      r_more_ranges : (n : ℕ) (found : List RangeTree) → R (more_ranges turns expr1 n found) (more_ranges more expr2 n found)
+      r_more_ranges : (n : ℕ) (found : List RangeTree) → R (more_ranges fuel expr1 n found) (more_ranges more expr2 n found)
       unfolding more_ranges
       r_more_ranges zero found = r_pure found
       r_more_ranges (suc n) found = r_sees k.Comma (r_then r_take (λ _. r_then (r_expr 1) (λ low. r_then (r_range_from low) (λ r. r_more_ranges n (found ++ r ∷ []))))) (r_pure found)
 
-      r_ranges_from : (low : Exp) → R (ranges_from turns expr1 low) (ranges_from more expr2 low)
+      r_ranges_from : (low : Exp) → R (ranges_from fuel expr1 low) (ranges_from more expr2 low)
       unfolding ranges_from
       r_ranges_from low = r_then (r_range_from low) (λ r. r_then (r_more_ranges 2 (r ∷ [])) (λ found. r_then (r_expect k.RightBracket) (λ _. r_pure found)))
 
-      r_bracket : (at : Place) → R (bracket turns expr1 at) (bracket more expr2 at)
+      r_bracket : (at : Place) → R (bracket fuel expr1 at) (bracket more expr2 at)
       unfolding bracket
       r_bracket at = r_then (r_expr 1) (λ first. r_sees k.Colon (r_then (r_ranges_from first) (λ rs. r_pure (e.rect at rs))) (r_then (r_parts_from first) (λ xs. r_pure (e.point at xs))))
 
@@ -232,54 +232,54 @@ module _ (Q : (A : Type 0) → Parser A → Parser A → Type 0) (T : ℕ → �
           (λ is_this. r_then (r_expect k.LeftParen) (λ _. r_then (r_expect k.RightParen)
           (λ _. r_pure (if is_this then e.ThisProc at else e.NumProcs at)))))
 
-      r_named : (at : Place) (name : List ℕ) → R (named turns expr1 at name) (named more expr2 at name)
-      unfolding named
+      r_named : (at : Place) (name : List ℕ) → R (name_or_call fuel expr1 at name) (name_or_call more expr2 at name)
+      unfolding name_or_call
       r_named at name = r_sees k.LeftParen (r_then r_take (λ _. r_then r_args (λ xs. r_pure (e.call at name xs, Call)))) (r_pure (e.Name at name, Target))
 
       abbrev member_at : ℕ → (ℕ → Parser Exp) → Exp → Place → Parser Operand
       member_at n expr_one left at i =
-          and_then (any_name i) (λ name i. if◌then◌else◌ {A = Parser Operand} (sees k.LeftParen i)
+          and_then (any_name i) (λ name i. if◌then◌else◌ {A = Parser Operand} (next_is k.LeftParen i)
           (λ i. and_then (take_token i) (λ _ i. and_then (args n expr_one i) (λ xs j. Ok ((e.member at left name xs, Call), j))))
           (λ i. Ok ((e.Select at left name, Target), i)) i)
 
-      r_member : (left : Exp) → R (member turns expr1 left) (member more expr2 left)
+      r_member : (left : Exp) → R (member fuel expr1 left) (member more expr2 left)
       unfolding member
       r_member left =
-          r_place (member_at turns expr1 left) (member_at more expr2 left)
+          r_place (member_at fuel expr1 left) (member_at more expr2 left)
           (λ at. r_then r_name (λ name. r_sees k.LeftParen (r_then r_take (λ _. r_then r_args (λ xs. r_pure (e.member at left name xs, Call)))) (r_pure (e.Select at left name, Target))))
 
-      r_index : (at : Place) (left : Exp) → R (index turns expr1 at left) (index more expr2 at left)
+      r_index : (at : Place) (left : Exp) → R (index fuel expr1 at left) (index more expr2 at left)
       unfolding index
       r_index at left = r_then r_parts (λ xs. r_pure (e.index at left xs, Target))
 
       r_postfix_by : (f g : Operand → Parser Operand) → ((x : Operand) → R (f x) (g x)) → (left : Operand) (q : TokenKind)
-          → R (spec.postfix_by turns expr1 f left q) (spec.postfix_by more expr2 g left q)
+          → R (spec.postfix_by fuel expr1 f left q) (spec.postfix_by more expr2 g left q)
       r_postfix_by f g h left k.Dot = r_then (r_then r_take (λ _. r_member left.0)) h
       r_postfix_by f g h left k.LeftBracket =
-          r_place (λ at i. and_then (take_token i) (λ _ i. and_then (index turns expr1 at left.0 i) f))
+          r_place (λ at i. and_then (take_token i) (λ _ i. and_then (index fuel expr1 at left.0 i) f))
           (λ at i. and_then (take_token i) (λ _ i. and_then (index more expr2 at left.0 i) g))
           (λ at. r_then r_take (λ _. r_then (r_index at left.0) h))
       r_postfix_by f g h left _ = r_pure left
 
-      r_postfix : (m m2 : ℕ) → T m m2 → (left : Operand) → R (postfix turns expr1 m left) (postfix more expr2 m2 left)
+      r_postfix : (m m2 : ℕ) → T m m2 → (left : Operand) → R (postfix fuel expr1 m left) (postfix more expr2 m2 left)
       unfolding postfix
       r_postfix zero m2 h left = r_spent (λ z. postfix more expr2 z left) m2 h refl
       r_postfix (suc m) zero h left = absurd (t_none m h)
       r_postfix (suc m) (suc m2) h left =
-          r_kind (spec.postfix_by turns expr1 (postfix turns expr1 m) left) (spec.postfix_by more expr2 (postfix more expr2 m2) left)
-          (r_postfix_by (postfix turns expr1 m) (postfix more expr2 m2) (r_postfix m m2 (t_less m m2 h)) left)
+          r_kind (spec.postfix_by fuel expr1 (postfix fuel expr1 m) left) (spec.postfix_by more expr2 (postfix more expr2 m2) left)
+          (r_postfix_by (postfix fuel expr1 m) (postfix more expr2 m2) (r_postfix m m2 (t_less m m2 h)) left)
 
-      r_group : R (group turns expr1) (group more expr2)
+      r_group : R (group fuel expr1) (group more expr2)
       unfolding group
-      r_group = r_then (r_expr 1) (λ x. r_then (r_expect k.RightParen) (λ _. r_postfix turns more most (x, Other)))
+      r_group = r_then (r_expr 1) (λ x. r_then (r_expect k.RightParen) (λ _. r_postfix fuel more most (x, Other)))
 
       r_literal : (make : Place → Exp)
-          → R (λ i. and_then (take_token i) (λ _. postfix turns expr1 turns (make (place i), Other))) (λ i. and_then (take_token i) (λ _. postfix more expr2 more (make (place i), Other)))
+          → R (λ i. and_then (take_token i) (λ _. postfix fuel expr1 fuel (make (place i), Other))) (λ i. and_then (take_token i) (λ _. postfix more expr2 more (make (place i), Other)))
       r_literal make =
-          r_place (λ at i. and_then (take_token i) (λ _. postfix turns expr1 turns (make at, Other))) (λ at i. and_then (take_token i) (λ _. postfix more expr2 more (make at, Other)))
-          (λ at. r_then r_take (λ _. r_postfix turns more most (make at, Other)))
+          r_place (λ at i. and_then (take_token i) (λ _. postfix fuel expr1 fuel (make at, Other))) (λ at i. and_then (take_token i) (λ _. postfix more expr2 more (make at, Other)))
+          (λ at. r_then r_take (λ _. r_postfix fuel more most (make at, Other)))
 
-      r_operand_by : (q : TokenKind) → R (spec.operand_by turns expr1 q) (spec.operand_by more expr2 q)
+      r_operand_by : (q : TokenKind) → R (spec.operand_by fuel expr1 q) (spec.operand_by more expr2 q)
       r_operand_by (k.Int n) = r_literal (λ at. e.Int at n)
       r_operand_by (k.LongInt n) = r_literal (λ at. e.Long at n)
       r_operand_by k.KeywordTrue = r_literal (λ at. e.Truth at true)
@@ -287,25 +287,25 @@ module _ (Q : (A : Type 0) → Parser A → Parser A → Type 0) (T : ℕ → �
       r_operand_by k.KeywordNull = r_literal (λ at. e.Null at)
       r_operand_by k.KeywordThis = r_literal (λ at. e.This at)
       r_operand_by (k.Name name) =
-          r_place (λ at i. and_then (take_token i) (λ _ i. and_then (named turns expr1 at name i) (postfix turns expr1 turns)))
-          (λ at i. and_then (take_token i) (λ _ i. and_then (named more expr2 at name i) (postfix more expr2 more)))
-          (λ at. r_then r_take (λ _. r_then (r_named at name) (r_postfix turns more most)))
+          r_place (λ at i. and_then (take_token i) (λ _ i. and_then (name_or_call fuel expr1 at name i) (postfix fuel expr1 fuel)))
+          (λ at i. and_then (take_token i) (λ _ i. and_then (name_or_call more expr2 at name i) (postfix more expr2 more)))
+          (λ at. r_then r_take (λ _. r_then (r_named at name) (r_postfix fuel more most)))
       r_operand_by k.LeftParen = r_then r_take (λ _. r_group)
       r_operand_by k.LeftBracket =
-          r_place (λ at i. and_then (take_token i) (λ _ i. and_then (bracket turns expr1 at i) (λ x. postfix turns expr1 turns (x, Other))))
+          r_place (λ at i. and_then (take_token i) (λ _ i. and_then (bracket fuel expr1 at i) (λ x. postfix fuel expr1 fuel (x, Other))))
           (λ at i. and_then (take_token i) (λ _ i. and_then (bracket more expr2 at i) (λ x. postfix more expr2 more (x, Other))))
-          (λ at. r_then r_take (λ _. r_then (r_bracket at) (λ x. r_postfix turns more most (x, Other))))
+          (λ at. r_then r_take (λ _. r_then (r_bracket at) (λ x. r_postfix fuel more most (x, Other))))
       r_operand_by k.KeywordTi =
-          r_place (λ at i. and_then (take_token i) (λ _ i. and_then (process at i) (λ x. postfix turns expr1 turns (x, Other))))
+          r_place (λ at i. and_then (take_token i) (λ _ i. and_then (process at i) (λ x. postfix fuel expr1 fuel (x, Other))))
           (λ at i. and_then (take_token i) (λ _ i. and_then (process at i) (λ x. postfix more expr2 more (x, Other))))
-          (λ at. r_then r_take (λ _. r_then (r_process at) (λ x. r_postfix turns more most (x, Other))))
+          (λ at. r_then r_take (λ _. r_then (r_process at) (λ x. r_postfix fuel more most (x, Other))))
       r_operand_by _ = r_refuse
 
-      r_operand : R (operand turns expr1) (operand more expr2)
+      r_operand : R (operand fuel expr1) (operand more expr2)
       unfolding operand
-      r_operand = r_kind (spec.operand_by turns expr1) (spec.operand_by more expr2) r_operand_by
+      r_operand = r_kind (spec.operand_by fuel expr1) (spec.operand_by more expr2) r_operand_by
 
-      r_operation : (left : Exp) (op : BinaryOperator) → R (operation turns expr1 left op) (operation more expr2 left op)
+      r_operation : (left : Exp) (op : BinaryOperator) → R (operation fuel expr1 left op) (operation more expr2 left op)
       unfolding operation
       r_operation left op =
           r_place (λ at i. and_then (take_token i) (λ _ i. and_then (expr1 (strength op + 1) i)
@@ -314,123 +314,123 @@ module _ (Q : (A : Type 0) → Parser A → Parser A → Type 0) (T : ℕ → �
           (λ at. r_then r_take (λ _. r_then (r_expr (strength op + 1)) (λ right. r_pure (e.Binary at op left right))))
 
       r_climb_by : (f g : Exp → Parser Exp) → ((x : Exp) → R (f x) (g x)) → (least : ℕ) (left : Exp) (q : Option BinaryOperator)
-          → R (spec.climb_by turns expr1 f least left q) (spec.climb_by more expr2 g least left q)
+          → R (spec.climb_by fuel expr1 f least left q) (spec.climb_by more expr2 g least left q)
       r_climb_by f g h least left None = r_pure left
       r_climb_by f g h least left (Some op) = r_if (nat_lt (strength op) least) (r_pure left) (r_then (r_operation left op) h)
 
-      r_climb : (least m m2 : ℕ) → T m m2 → (left : Exp) → R (climb turns expr1 least m left) (climb more expr2 least m2 left)
+      r_climb : (least m m2 : ℕ) → T m m2 → (left : Exp) → R (climb fuel expr1 least m left) (climb more expr2 least m2 left)
       unfolding climb
       r_climb least zero m2 h left = r_spent (λ z. climb more expr2 least z left) m2 h refl
       r_climb least (suc m) zero h left = absurd (t_none m h)
       r_climb least (suc m) (suc m2) h left =
-          r_kind (λ q. spec.climb_by turns expr1 (climb turns expr1 least m) least left (infix_of q)) (λ q. spec.climb_by more expr2 (climb more expr2 least m2) least left (infix_of q))
-          (λ q. r_climb_by (climb turns expr1 least m) (climb more expr2 least m2) (r_climb least m m2 (t_less m m2 h)) least left (infix_of q))
+          r_kind (λ q. spec.climb_by fuel expr1 (climb fuel expr1 least m) least left (infix_of q)) (λ q. spec.climb_by more expr2 (climb more expr2 least m2) least left (infix_of q))
+          (λ q. r_climb_by (climb fuel expr1 least m) (climb more expr2 least m2) (r_climb least m m2 (t_less m m2 h)) least left (infix_of q))
 
-      r_cast : (at : Place) (ty : TypeTree) → R (cast turns expr1 at ty) (cast more expr2 at ty)
+      r_cast : (at : Place) (ty : TypeTree) → R (cast fuel expr1 at ty) (cast more expr2 at ty)
       unfolding cast
       r_cast at ty = r_then (r_expect k.RightParen) (λ _. r_then (r_expr 11) (λ x. r_pure (e.Cast at ty x)))
 
-      r_cast_from : (at : Place) (begin : Base) → R (cast_from turns expr1 at begin) (cast_from more expr2 at begin)
+      r_cast_from : (at : Place) (begin : Base) → R (cast_from fuel expr1 at begin) (cast_from more expr2 at begin)
       unfolding cast_from
       r_cast_from at begin = r_then (r_field_type begin) (r_cast at)
 
-      r_cast_from_grid : (at : Place) (begin : Base) → R (cast_from_grid turns expr1 at begin) (cast_from_grid more expr2 at begin)
+      r_cast_from_grid : (at : Place) (begin : Base) → R (cast_from_grid fuel expr1 at begin) (cast_from_grid more expr2 at begin)
       unfolding cast_from_grid
       r_cast_from_grid at begin = r_then r_grid (λ g. r_then (r_grids 2 (g ∷ [])) (λ gs. r_cast at (record { base = begin; qualifiers = []; grids = gs })))
 
-      r_group_from : (first : Operand) → R (group_from turns expr1 first) (group_from more expr2 first)
+      r_group_from : (first : Operand) → R (group_from fuel expr1 first) (group_from more expr2 first)
       unfolding group_from
-      r_group_from first = r_then (r_postfix turns more most first)
-          (λ left. r_then (r_climb 1 turns more most left.0) (λ x. r_then (r_expect k.RightParen)
-          (λ _. r_then (r_postfix turns more most (x, Other)) (λ y. r_pure y.0))))
+      r_group_from first = r_then (r_postfix fuel more most first)
+          (λ left. r_then (r_climb 1 fuel more most left.0) (λ x. r_then (r_expect k.RightParen)
+          (λ _. r_then (r_postfix fuel more most (x, Other)) (λ y. r_pure y.0))))
 
       abbrev bracket_at : ℕ → (ℕ → Parser Exp) → Place → Place → List ℕ → Place → Parser Exp
       bracket_at n expr_one at name_at name at_bracket i =
-          and_then (take_token i) (λ _ i. if◌then◌else◌ {A = Parser Exp} (is_dim (kind i))
+          and_then (take_token i) (λ _ i. if◌then◌else◌ {A = Parser Exp} (is_dim_token (kind i))
           (cast_from_grid n expr_one at (b.Named name_at name)) (λ i. and_then (index n expr_one at_bracket (e.Name name_at name) i)
           (group_from n expr_one)) i)
 
-      r_paren_name_bracket : (at name_at : Place) (name : List ℕ) → R (paren_name_bracket turns expr1 at name_at name) (paren_name_bracket more expr2 at name_at name)
+      r_paren_name_bracket : (at name_at : Place) (name : List ℕ) → R (paren_name_bracket fuel expr1 at name_at name) (paren_name_bracket more expr2 at name_at name)
       unfolding paren_name_bracket
       r_paren_name_bracket at name_at name =
-          r_place (bracket_at turns expr1 at name_at name) (bracket_at more expr2 at name_at name)
-          (λ z. r_then r_take (λ _. r_test is_dim (r_cast_from_grid at (b.Named name_at name)) (r_then (r_index z (e.Name name_at name)) r_group_from)))
+          r_place (bracket_at fuel expr1 at name_at name) (bracket_at more expr2 at name_at name)
+          (λ z. r_then r_take (λ _. r_test is_dim_token (r_cast_from_grid at (b.Named name_at name)) (r_then (r_index z (e.Name name_at name)) r_group_from)))
 
       r_paren_name_other : (at name_at : Place) (name : List ℕ) (q : TokenKind)
-          → R (if◌then◌else◌ {A = Parser Exp} (is_some (qualifier_of q)) (cast_from turns expr1 at (b.Named name_at name)) (λ i. and_then (named turns expr1 name_at name i) (group_from turns expr1)))
-          (if◌then◌else◌ {A = Parser Exp} (is_some (qualifier_of q)) (cast_from more expr2 at (b.Named name_at name)) (λ i. and_then (named more expr2 name_at name i) (group_from more expr2)))
+          → R (if◌then◌else◌ {A = Parser Exp} (is_some (qualifier_of q)) (cast_from fuel expr1 at (b.Named name_at name)) (λ i. and_then (name_or_call fuel expr1 name_at name i) (group_from fuel expr1)))
+          (if◌then◌else◌ {A = Parser Exp} (is_some (qualifier_of q)) (cast_from more expr2 at (b.Named name_at name)) (λ i. and_then (name_or_call more expr2 name_at name i) (group_from more expr2)))
       r_paren_name_other at name_at name q = r_if (is_some (qualifier_of q)) (r_cast_from at (b.Named name_at name)) (r_then (r_named name_at name) r_group_from)
 
-      r_paren_name_by : (at name_at : Place) (name : List ℕ) (q : TokenKind) → R (spec.paren_name_by turns expr1 at name_at name q) (spec.paren_name_by more expr2 at name_at name q)
+      r_paren_name_by : (at name_at : Place) (name : List ℕ) (q : TokenKind) → R (spec.paren_name_by fuel expr1 at name_at name q) (spec.paren_name_by more expr2 at name_at name q)
       r_paren_name_by at name_at name k.LeftBracket = r_paren_name_bracket at name_at name
       r_paren_name_by at name_at name q = r_paren_name_other at name_at name q
 
-      r_paren_name : (at name_at : Place) (name : List ℕ) → R (paren_name turns expr1 at name_at name) (paren_name more expr2 at name_at name)
+      r_paren_name : (at name_at : Place) (name : List ℕ) → R (paren_name fuel expr1 at name_at name) (paren_name more expr2 at name_at name)
       unfolding paren_name
-      r_paren_name at name_at name = r_kind (spec.paren_name_by turns expr1 at name_at name) (spec.paren_name_by more expr2 at name_at name) (r_paren_name_by at name_at name)
+      r_paren_name at name_at name = r_kind (spec.paren_name_by fuel expr1 at name_at name) (spec.paren_name_by more expr2 at name_at name) (r_paren_name_by at name_at name)
 
-      r_dropped : R (λ i. and_then (group turns expr1 i) (λ y j. Ok (y.0, j))) (λ i. and_then (group more expr2 i) (λ y j. Ok (y.0, j)))
+      r_dropped : R (λ i. and_then (group fuel expr1 i) (λ y j. Ok (y.0, j))) (λ i. and_then (group more expr2 i) (λ y j. Ok (y.0, j)))
       r_dropped = r_then r_group (λ y. r_pure y.0)
 
       r_paren_other : (at : Place) (q : TokenKind)
-          → R (if◌then◌else◌ {A = Parser Exp} (begins_type q) (λ i. and_then (type_base i) (cast_from turns expr1 at)) (λ i. and_then (group turns expr1 i) (λ y j. Ok (y.0, j))))
+          → R (if◌then◌else◌ {A = Parser Exp} (begins_type q) (λ i. and_then (type_base i) (cast_from fuel expr1 at)) (λ i. and_then (group fuel expr1 i) (λ y j. Ok (y.0, j))))
           (if◌then◌else◌ {A = Parser Exp} (begins_type q) (λ i. and_then (type_base i) (cast_from more expr2 at)) (λ i. and_then (group more expr2 i) (λ y j. Ok (y.0, j))))
       r_paren_other at q = r_if (begins_type q) (r_then r_base (r_cast_from at)) r_dropped
 
-      r_paren_by : (at : Place) (q : TokenKind) → R (spec.paren_by turns expr1 at q) (spec.paren_by more expr2 at q)
+      r_paren_by : (at : Place) (q : TokenKind) → R (spec.paren_by fuel expr1 at q) (spec.paren_by more expr2 at q)
       r_paren_by at (k.Name name) =
-          r_place (λ z i. and_then (take_token i) (λ _. paren_name turns expr1 at z name))
+          r_place (λ z i. and_then (take_token i) (λ _. paren_name fuel expr1 at z name))
           (λ z i. and_then (take_token i) (λ _. paren_name more expr2 at z name)) (λ z. r_then r_take (λ _. r_paren_name at z name))
       r_paren_by at q = r_paren_other at q
 
-      r_paren : (at : Place) → R (paren turns expr1 at) (paren more expr2 at)
+      r_paren : (at : Place) → R (paren fuel expr1 at) (paren more expr2 at)
       unfolding paren
-      r_paren at = r_kind (spec.paren_by turns expr1 at) (spec.paren_by more expr2 at) (r_paren_by at)
+      r_paren at = r_kind (spec.paren_by fuel expr1 at) (spec.paren_by more expr2 at) (r_paren_by at)
 
-      r_unary : (op : UnaryOperator) → R (unary turns expr1 op) (unary more expr2 op)
+      r_unary : (op : UnaryOperator) → R (unary fuel expr1 op) (unary more expr2 op)
       unfolding unary
       r_unary op =
           r_place (λ at i. and_then (take_token i) (λ _ i. and_then (expr1 11 i) (λ x j. Ok (e.Unary at op x, j))))
           (λ at i. and_then (take_token i) (λ _ i. and_then (expr2 11 i) (λ x j. Ok (e.Unary at op x, j))))
           (λ at. r_then r_take (λ _. r_then (r_expr 11) (λ x. r_pure (e.Unary at op x))))
 
-      r_unary_or : (q : Option UnaryOperator) → R (spec.unary_or turns expr1 q) (spec.unary_or more expr2 q)
+      r_unary_or : (q : Option UnaryOperator) → R (spec.unary_or fuel expr1 q) (spec.unary_or more expr2 q)
       r_unary_or (Some op) = r_unary op
       r_unary_or None = r_then r_operand (λ y. r_pure y.0)
 
-      r_prefix_by : (q : TokenKind) → R (spec.prefix_by turns expr1 q) (spec.prefix_by more expr2 q)
-      r_prefix_by k.LeftParen = r_place (λ at i. and_then (take_token i) (λ _. paren turns expr1 at))
+      r_prefix_by : (q : TokenKind) → R (spec.prefix_by fuel expr1 q) (spec.prefix_by more expr2 q)
+      r_prefix_by k.LeftParen = r_place (λ at i. and_then (take_token i) (λ _. paren fuel expr1 at))
           (λ at i. and_then (take_token i) (λ _. paren more expr2 at)) (λ at. r_then r_take (λ _. r_paren at))
       r_prefix_by q = r_unary_or (prefix_of q)
 
-      r_level : (least : ℕ) → R (level turns expr1 least) (level more expr2 least)
+      r_level : (least : ℕ) → R (level fuel expr1 least) (level more expr2 least)
       unfolding level prefix
-      r_level least = r_then (r_kind (spec.prefix_by turns expr1) (spec.prefix_by more expr2) r_prefix_by) (r_climb least turns more most)
+      r_level least = r_then (r_kind (spec.prefix_by fuel expr1) (spec.prefix_by more expr2) r_prefix_by) (r_climb least fuel more most)
 
-  expr_related : (turns more : ℕ) → T turns more → (least : ℕ) → R (expr turns least) (expr more least)
+  expr_related : (fuel more : ℕ) → T fuel more → (least : ℕ) → R (expr fuel least) (expr more least)
   unfolding expr
   expr_related zero more h least = r_spent (λ z. expr z least) more h refl
   expr_related (suc n) zero h least = absurd (t_none n h)
   expr_related (suc n) (suc m) h least = r_level n m (t_less n m h) (expr n) (expr m) (expr_related n m (t_less n m h)) least
 
-  r_behind_name : (turns more : ℕ) → T turns more → (at : Place) (name : List ℕ) → R (behind_name turns at name) (behind_name more at name)
+  r_behind_name : (fuel more : ℕ) → T fuel more → (at : Place) (name : List ℕ) → R (behind_name fuel at name) (behind_name more at name)
   unfolding behind_name
-  r_behind_name turns more h at name =
-      let inner = expr_related turns more h in
-      r_then (r_named turns more h (expr turns) (expr more) inner at name) (r_postfix turns more h (expr turns) (expr more) inner turns more h)
+  r_behind_name fuel more h at name =
+      let inner = expr_related fuel more h in
+      r_then (r_named fuel more h (expr fuel) (expr more) inner at name) (r_postfix fuel more h (expr fuel) (expr more) inner fuel more h)
 
-  r_behind_bracket : (turns more : ℕ) → T turns more → T (suc turns) (suc more) → (bracket_at at : Place) (name : List ℕ)
-      → R (behind_bracket turns bracket_at at name) (behind_bracket more bracket_at at name)
+  r_behind_bracket : (fuel more : ℕ) → T fuel more → T (suc fuel) (suc more) → (bracket_at at : Place) (name : List ℕ)
+      → R (behind_bracket fuel bracket_at at name) (behind_bracket more bracket_at at name)
   unfolding behind_bracket
-  r_behind_bracket turns more h above bracket_at at name =
-      let inner = expr_related (suc turns) (suc more) above in
-      r_then (r_index (suc turns) (suc more) above (expr (suc turns)) (expr (suc more)) inner bracket_at (e.Name at name))
-      (r_postfix (suc turns) (suc more) above (expr (suc turns)) (expr (suc more)) inner turns more h)
+  r_behind_bracket fuel more h above bracket_at at name =
+      let inner = expr_related (suc fuel) (suc more) above in
+      r_then (r_index (suc fuel) (suc more) above (expr (suc fuel)) (expr (suc more)) inner bracket_at (e.Name at name))
+      (r_postfix (suc fuel) (suc more) above (expr (suc fuel)) (expr (suc more)) inner fuel more h)
 
-  pub readers_related : (turns more : ℕ) → T turns more → T (suc turns) (suc more) → Readers Q turns more
-  readers_related turns more h above = record {
-    expr = expr_related turns more h;
-    operand = r_operand turns more h (expr turns) (expr more) (expr_related turns more h);
-    behind_name = r_behind_name turns more h;
-    behind_bracket = r_behind_bracket turns more h above;
+  pub readers_related : (fuel more : ℕ) → T fuel more → T (suc fuel) (suc more) → Readers Q fuel more
+  readers_related fuel more h above = record {
+    expr = expr_related fuel more h;
+    operand = r_operand fuel more h (expr fuel) (expr more) (expr_related fuel more h);
+    behind_name = r_behind_name fuel more h;
+    behind_bracket = r_behind_bracket fuel more h above;
   }

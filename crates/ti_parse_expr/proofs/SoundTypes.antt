@@ -15,19 +15,19 @@ use Rattle.ti_syntax.specs.Spelling.Types.{Arity, Based, Qualified, Gridded, Fie
 use Rattle.ti_syntax.specs.Spelling.Types as grammar
 use Rattle.ti_parse_expr.specs.Mirrors.Input.{Parser, and_then, expect, take_token}
 use Rattle.ti_parse_expr.specs.Mirrors.Types as spec
-use Rattle.ti_parse_expr.specs.Mirrors.Types.{dim_of, dimension, arity, base, qualifiers, grid, grids, field_type}
+use Rattle.ti_parse_expr.specs.Mirrors.Types.{dim_from_int, dimension, arity, base, qualifiers, grid, grids, field_type}
 use Rattle.ti_parse_expr.specs.Mirrors.Exprs.{begins_type}
 use Rattle.ti_parse_expr.proofs.TokenKinds.{less_is, greater_is, bracket_is, shut_is}
 use Rattle.ti_parse_expr.proofs.Law.{BeginsIn, Said, Any, then_said, after_said, as_said, done_said, want_said, last_said, refused_said, spent_said, if_said, append_nil, ended, token}
 
 -- ---- arities
 
-dim_is_by : (m n : ℕ) (low high : Bool) → nat_le 1 m ≡ low → nat_le m 3 ≡ high → dim_of (pos m) ≡ Some n → (m ≡ n) × (1 ≤ m) × (m ≤ 3)
-dim_is_by m n true true l h is = let e : dim_of (pos m) ≡ Some m = rw (l, h) refl in let same : m ≡ n = cc in (same, leb-true 1 m l, leb-true m 3 h)
-dim_is_by m n true false l h is = let e : dim_of (pos m) ≡ None = rw (l, h) refl in cc
-dim_is_by m n false high l h is = let e : dim_of (pos m) ≡ None = rw l refl in cc
+dim_is_by : (m n : ℕ) (low high : Bool) → nat_le 1 m ≡ low → nat_le m 3 ≡ high → dim_from_int (pos m) ≡ Some n → (m ≡ n) × (1 ≤ m) × (m ≤ 3)
+dim_is_by m n true true l h is = let e : dim_from_int (pos m) ≡ Some m = rw (l, h) refl in let same : m ≡ n = cc in (same, leb-true 1 m l, leb-true m 3 h)
+dim_is_by m n true false l h is = let e : dim_from_int (pos m) ≡ None = rw (l, h) refl in cc
+dim_is_by m n false high l h is = let e : dim_from_int (pos m) ≡ None = rw l refl in cc
 
-dim_is : (z : ℤ) (n : ℕ) → dim_of z ≡ Some n → (z ≡ pos n) × (1 ≤ n) × (n ≤ 3)
+dim_is : (z : ℤ) (n : ℕ) → dim_from_int z ≡ Some n → (z ≡ pos n) × (1 ≤ n) × (n ≤ 3)
 dim_is (pos m) n is =
     let (same, low, high) = dim_is_by m n (nat_le 1 m) (nat_le m 3) refl refl is in
     (ap pos same, omega (arith, same, low), omega (arith, same, high))
@@ -40,7 +40,7 @@ arity_begins o ho = (token (k.Int (pos 1)) ∷ token k.Greater ∷ [], 1, gramma
 abbrev rest_of_arity : ℕ → Parser ℕ
 rest_of_arity n i = and_then (expect k.Greater i) (λ _ j. Ok (n, j))
 
-dimension_if_says : {m : ℕ} (o t : Token) (ts : List Token) (z : ℤ) (d : Option ℕ) → o.kind ≡ k.Less → t.kind ≡ k.Int z → dim_of z ≡ d
+dimension_if_says : {m : ℕ} (o t : Token) (ts : List Token) (z : ℤ) (d : Option ℕ) → o.kind ≡ k.Less → t.kind ≡ k.Int z → dim_from_int z ≡ d
     → Said m (λ f n. Arity (o ∷ f) n) Any (t ∷ ts) (and_then (spec.dimension_if d (t ∷ ts)) rest_of_arity)
 dimension_if_says o t ts z None ho ht is = refused_said (arity_begins o ho)
 dimension_if_says {m = m} o t ts z (Some n) ho ht is =
@@ -49,7 +49,7 @@ dimension_if_says {m = m} o t ts z (Some n) ho ht is =
 
 dimension_by_says : {m : ℕ} (o t : Token) (ts : List Token) (q : TokenKind) → o.kind ≡ k.Less → t.kind ≡ q
     → Said m (λ f n. Arity (o ∷ f) n) Any (t ∷ ts) (and_then (spec.dimension_by q (t ∷ ts)) rest_of_arity)
-dimension_by_says o t ts (k.Int z) ho h = dimension_if_says o t ts z (dim_of z) ho h refl
+dimension_by_says o t ts (k.Int z) ho h = dimension_if_says o t ts z (dim_from_int z) ho h refl
 dimension_by_says o t ts _ ho h = refused_said (arity_begins o ho)
 
 number_says : {m : ℕ} (o : Token) (l : List Token) → o.kind ≡ k.Less → Said m (λ f n. Arity (o ∷ f) n) Any l (and_then (dimension l) rest_of_arity)
@@ -133,34 +133,34 @@ grid_made : (o t c : Token) (n : ℕ) (f : List Token) (qs : List Qualifier) →
     → GridRest o (t ∷ c ∷ (f ++ [])) (record { dim = n; qualifiers = qs })
 grid_made o t c n f qs ho ht low high hc s = grammar.more o t c ho ht low high hc s grammar.none
 
-module _ (turns : ℕ) where
+module _ (fuel : ℕ) where
   abbrev rest_of_grid : ℕ → Parser GridTree
-  rest_of_grid n i = and_then (expect k.RightBracket i) (λ _ i. and_then (qualifiers turns [] i) (λ qs j. Ok (record { dim = n; qualifiers = qs }, j)))
+  rest_of_grid n i = and_then (expect k.RightBracket i) (λ _ i. and_then (qualifiers fuel [] i) (λ qs j. Ok (record { dim = n; qualifiers = qs }, j)))
 
-  grid_dimension_if_says : (o t : Token) (ts : List Token) (d : ℕ) (q : Option ℕ) → o.kind ≡ k.LeftBracket → t.kind ≡ k.Dim d → dim_of (pos d) ≡ q
-      → Said turns (GridRest o) Any (t ∷ ts) (and_then (spec.dimension_if q (t ∷ ts)) rest_of_grid)
+  grid_dimension_if_says : (o t : Token) (ts : List Token) (d : ℕ) (q : Option ℕ) → o.kind ≡ k.LeftBracket → t.kind ≡ k.Dim d → dim_from_int (pos d) ≡ q
+      → Said fuel (GridRest o) Any (t ∷ ts) (and_then (spec.dimension_if q (t ∷ ts)) rest_of_grid)
   grid_dimension_if_says o t ts d None ho ht is = refused_said (grid_some o ho)
   grid_dimension_if_says o t ts d (Some n) ho hd is =
       let (same, low, high) = dim_is_by d n (nat_le 1 d) (nat_le d 3) refl refl is in
       let ht : t.kind ≡ k.Dim n = hd ∙ ap k.Dim same in
       let more : 1 ≤ n = omega (arith, same, low) in
       let few : n ≤ 3 = omega (arith, same, high) in
-      after_said {m = turns} (omega arith) (want_said {m = turns} k.RightBracket shut_is refl (omega arith) (
+      after_said {m = fuel} (omega arith) (want_said {m = fuel} k.RightBracket shut_is refl (omega arith) (
         [],
         record { dim = n; qualifiers = [] },
         grid_made o t (token k.RightBracket) n [] [] ho ht more few refl grammar.none,
       ) _
-      (λ c us hc. then_said {m = turns} {S = Qualified} {Q = Any} (λ f x s. omega arith)
+      (λ c us hc. then_said {m = fuel} {S = Qualified} {Q = Any} (λ f x s. omega arith)
       (λ f qs s. ([], record { dim = n; qualifiers = qs }, grid_made o t c n f qs ho ht more few hc s)) _
-      (all_qualifiers_say turns us)
+      (all_qualifiers_say fuel us)
       (λ f r qs s _. done_said (grid_made o t c n f qs ho ht more few hc s) tt)))
 
   grid_dimension_by_says : (o t : Token) (ts : List Token) (q : TokenKind) → o.kind ≡ k.LeftBracket → t.kind ≡ q
-      → Said turns (GridRest o) Any (t ∷ ts) (and_then (spec.grid_dimension_by q (t ∷ ts)) rest_of_grid)
-  grid_dimension_by_says o t ts (k.Dim d) ho ht = grid_dimension_if_says o t ts d (dim_of (pos d)) ho ht refl
+      → Said fuel (GridRest o) Any (t ∷ ts) (and_then (spec.grid_dimension_by q (t ∷ ts)) rest_of_grid)
+  grid_dimension_by_says o t ts (k.Dim d) ho ht = grid_dimension_if_says o t ts d (dim_from_int (pos d)) ho ht refl
   grid_dimension_by_says o t ts _ ho h = refused_said (grid_some o ho)
 
-  pub grid_says : (o : Token) → o.kind ≡ k.LeftBracket → (l : List Token) → Said turns (GridRest o) Any l (grid turns l)
+  pub grid_says : (o : Token) → o.kind ≡ k.LeftBracket → (l : List Token) → Said fuel (GridRest o) Any l (grid fuel l)
   unfolding grid
   grid_says o ho [] = refused_said (grid_some o ho)
   grid_says o ho (t ∷ ts) = grid_dimension_by_says o t ts t.kind ho refl
@@ -180,35 +180,35 @@ no_more_grids n found = ([], sym (append_nil found), grammar.none, omega arith)
 one_more_grid : (n : ℕ) (found : List GridTree) (t : Token) (f : List Token) (g : GridTree) → GridRest t f g → MoreGrids (suc n) found (t ∷ (f ++ [])) (found ++ g ∷ [])
 one_more_grid n found t f g s = (g ∷ [], refl, ended (λ z x. Gridded (t ∷ z) x) f (g ∷ []) s, omega arith)
 
-module _ (turns : ℕ) where
+module _ (fuel : ℕ) where
   grids_more : (n : ℕ) (found : List GridTree) (rec : (found : List GridTree) (l : List Token)
-      → Said turns (MoreGrids n found) Any l (grids turns n found l)) (t : Token) → t.kind ≡ k.LeftBracket → (ts : List Token)
-      → Said turns (λ f r. MoreGrids (suc n) found (t ∷ f) r) Any ts (and_then (grid turns ts) (λ g. grids turns n (found ++ g ∷ [])))
+      → Said fuel (MoreGrids n found) Any l (grids fuel n found l)) (t : Token) → t.kind ≡ k.LeftBracket → (ts : List Token)
+      → Said fuel (λ f r. MoreGrids (suc n) found (t ∷ f) r) Any ts (and_then (grid fuel ts) (λ g. grids fuel n (found ++ g ∷ [])))
   grids_more n found rec t ht ts =
-      then_said {m = turns} {S = GridRest t} {Q = Any} (λ f g s. omega arith) (λ f g s. ([], found ++ g ∷ [], one_more_grid n found t f g s)) _ (grid_says turns t ht ts)
-      (λ f r g s _. as_said {m = turns} (omega arith) (λ h y (ys, e, q, few). (
+      then_said {m = fuel} {S = GridRest t} {Q = Any} (λ f g s. omega arith) (λ f g s. ([], found ++ g ∷ [], one_more_grid n found t f g s)) _ (grid_says fuel t ht ts)
+      (λ f r g s _. as_said {m = fuel} (omega arith) (λ h y (ys, e, q, few). (
         g ∷ ys,
         e ∙ append_assoc found (g ∷ []) ys,
         gridded_append s q,
         omega (arith, few),
       )) (λ _ _. tt) (rec (found ++ g ∷ []) r))
 
-  pub grids_say : (n : ℕ) (found : List GridTree) (l : List Token) → Said turns (MoreGrids n found) Any l (grids turns n found l)
+  pub grids_say : (n : ℕ) (found : List GridTree) (l : List Token) → Said fuel (MoreGrids n found) Any l (grids fuel n found l)
   unfolding grids
   grids_say zero found l = done_said (no_more_grids 0 found) tt
   grids_say (suc n) found [] = done_said (no_more_grids (suc n) found) tt
   grids_say (suc n) found (t ∷ ts) =
-      if_said (same_kind t.kind k.LeftBracket) _ _ (λ h. after_said {m = turns} (omega arith) (grids_more n found (grids_say n) t (bracket_is t.kind h) ts))
+      if_said (same_kind t.kind k.LeftBracket) _ _ (λ h. after_said {m = fuel} (omega arith) (grids_more n found (grids_say n) t (bracket_is t.kind h) ts))
       (λ _. done_said (no_more_grids (suc n) found) tt)
 
   -- the type of a field, which begins with the tokens a, where the qualifiers are so
-  pub field_type_says : (a : List Token) (begin : Base) (P : List Qualifier → Type 0) → Based a begin → (l : List Token) → Said turns (λ f qs. Qualified f qs × P qs) Any l (qualifiers turns [] l)
-      → Said turns (λ f ty. FieldType (a ++ f) ty × (ty.base ≡ begin) × P ty.qualifiers) Any l (field_type turns begin l)
+  pub field_type_says : (a : List Token) (begin : Base) (P : List Qualifier → Type 0) → Based a begin → (l : List Token) → Said fuel (λ f qs. Qualified f qs × P qs) Any l (qualifiers fuel [] l)
+      → Said fuel (λ f ty. FieldType (a ++ f) ty × (ty.base ≡ begin) × P ty.qualifiers) Any l (field_type fuel begin l)
   unfolding field_type
   field_type_says a begin P s l said =
-      then_said {m = turns} {S = λ f qs. Qualified f qs × P qs} {Q = Any} (λ f x q. omega arith)
+      then_said {m = fuel} {S = λ f qs. Qualified f qs × P qs} {Q = Any} (λ f x q. omega arith)
       (λ f qs (q, holds). ([], record { base = begin; qualifiers = qs; grids = [] }, (grammar.field_type s q grammar.none (omega arith), refl, holds))) _ said
-      (λ f r qs (q, holds) _. then_said {m = turns} {S = MoreGrids 3 []} {Q = Any} (λ g x p. omega arith)
+      (λ f r qs (q, holds) _. then_said {m = fuel} {S = MoreGrids 3 []} {Q = Any} (λ g x p. omega arith)
       (λ g gs (ys, e, p, few). (
         [],
         record { base = begin; qualifiers = qs; grids = gs },
@@ -218,8 +218,8 @@ module _ (turns : ℕ) where
       (λ g r2 gs (ys, e, p, few) _. done_said (grammar.field_type s q (ended Gridded g gs (subst (Gridded g) (sym e) p)) (omega (arith, few, ap length e)), refl, holds) tt))
 
   -- qualifiers, whatever they are
-  pub any_qualifiers : (l : List Token) → Said turns (λ f qs. Qualified f qs × Unit {0}) Any l (qualifiers turns [] l)
-  any_qualifiers l = as_said {m = turns} (omega arith) (λ g y s. (s, tt)) (λ _ _. tt) (all_qualifiers_say turns l)
+  pub any_qualifiers : (l : List Token) → Said fuel (λ f qs. Qualified f qs × Unit {0}) Any l (qualifiers fuel [] l)
+  any_qualifiers l = as_said {m = fuel} (omega arith) (λ g y s. (s, tt)) (λ _ _. tt) (all_qualifiers_say fuel l)
 
 -- at a qualifier there is one
 qualified_if : (m : ℕ) (t : Token) (ts : List Token) (word : QualifierWord) → qualifier_of t.kind ≡ Some word → (q : Option QualifierWord) → qualifier_of t.kind ≡ q

@@ -7,7 +7,7 @@ use Rattle.ti_syntax.specs.Spelling.Weights.{counts, arity_behind, weigh, weigh_
 use Rattle.ti_parse_expr.specs.Answers.{EndsAtEnd, IsLight}
 use Rattle.ti_syntax.specs.Spelling.{most_weight}
 use Rattle.ti_parse_expr.proofs.Follows.{last_kind, last_append}
-use Rattle.ti_parse_expr.specs.Mirrors.Reach.{ends_expression, weighed, onward, reach, reach_by, IsCut}
+use Rattle.ti_parse_expr.specs.Mirrors.Reach.{ends_expression, state_after, onward, reach, reach_by, IsCut}
 
 -- ---- lists
 
@@ -61,7 +61,7 @@ own_weight : (t : Token) (c : Bool) → counts t.kind ≡ c → (f : List Token)
 own_weight t c h f = ap (λ z. (if z then 1 else 0) + weigh_behind (arity_behind t.kind) f) h
 
 weighed_reaches : (w : ℕ) (t : Token) (l : List Token) → ((n v : ℕ) → Reaches n v l (reach n v l)) → (c : Bool) → counts t.kind ≡ c
-    → Reaches 0 w (t ∷ l) (suc (reach_by (λ a v. reach a v l) (weighed c (arity_behind t.kind) w)))
+    → Reaches 0 w (t ∷ l) (suc (reach_by (λ a v. reach a v l) (state_after c (arity_behind t.kind) w)))
 weighed_reaches zero t l rec true h = heavy_at [] t l refl refl (omega arith) (omega (arith, own_weight t true h []))
 weighed_reaches (suc w) t l rec true h = one_further 0 (suc w) (arity_behind t.kind) w 1 t (own_weight t true h) (omega arith) l (reach (arity_behind t.kind) w l) (rec (arity_behind t.kind) w)
 weighed_reaches w t l rec false h = one_further 0 w (arity_behind t.kind) w 0 t (own_weight t false h) (omega arith) l (reach (arity_behind t.kind) w l) (rec (arity_behind t.kind) w)

@@ -31,7 +31,7 @@ abbrev pub BeginsPhrase : Form → List Token → Type 0
 BeginsPhrase f l = (more : List Token) × (x : Exp) × Phrase f (l ++ more) x
 
 -- the longest prefix (run) of the list that is a viable prefix of a phrase of the form, and the token after it
-pub record IsRun (f : Form) (list run : List Token) (after : Token) : Type 0 where
+pub record IsViableRun (f : Form) (list run : List Token) (after : Token) : Type 0 where
   pub rest : List Token
   pub is : list ≡ run ++ after ∷ rest
   pub begins : BeginsPhrase f run
@@ -46,7 +46,7 @@ IsLight weight list =
 pub record IsPhrase (f : Form) (weight : ℕ) (list : List Token) (x : Exp) (size used : ℕ) : Type 0 where
   pub run : List Token
   pub after : Token
-  pub is_run : IsRun f list run after
+  pub is_run : IsViableRun f list run after
   pub light : IsLight weight run
   pub phrase : Phrase f run x
   pub only : (y : Exp) → Phrase f run y → y ≡ x
@@ -57,7 +57,7 @@ pub record IsPhrase (f : Form) (weight : ℕ) (list : List Token) (x : Exp) (siz
 pub record IsNoPhrase (f : Form) (weight : ℕ) (list : List Token) (place : Place) : Type 0 where
   pub run : List Token
   pub after : Token
-  pub is_run : IsRun f list run after
+  pub is_run : IsViableRun f list run after
   pub light : IsLight weight run
   pub no_phrase : (x : Exp) → Phrase f run x → ⊥
   pub at : after.place ≡ place
@@ -74,15 +74,15 @@ pub record IsTooHeavy (f : Form) (weight : ℕ) (list : List Token) (place : Pla
   pub at : heavy.place ≡ place
 
 -- the condition of each error
-abbrev pub Refuses : Form → ℕ → List Token → Rule → Place → Type 0
-Refuses f weight list G1 place = IsNoPhrase f weight list place
-Refuses f weight list G2 place = IsTooHeavy f weight list place
-Refuses f weight list _ place = ⊥
+abbrev pub IsParseError : Form → ℕ → List Token → Rule → Place → Type 0
+IsParseError f weight list G1 place = IsNoPhrase f weight list place
+IsParseError f weight list G2 place = IsTooHeavy f weight list place
+IsParseError f weight list _ place = ⊥
 
 -- the result for the list from index `at` on: the tree, the index after its run, and the weight used; or an error
 abbrev pub Answers : List Token → ℕ → Form → ℕ → Result (Expr × ℕ × ℕ) ParseErr → Type 0
 Answers list at f weight (Ok p) = (size : ℕ) × (p.1 ≡ at + size) × IsPhrase f weight (drop at list) (exp_of p.0) size p.2
-Answers list at f weight (Err (Refused r)) = Refuses f weight (drop at list) r.rule r.place
+Answers list at f weight (Err (Refused r)) = IsParseError f weight (drop at list) r.rule r.place
 Answers list at f weight (Err Memory) = Unit {0}
 
 -- the result is this tree, with this index after its run and this weight used, or out of memory

@@ -3,14 +3,14 @@
 
 ghost use Rattle.std.specs.Prelude.{[], ◌∷◌, ◌++◌, ◌≡◌, ◌+◌, ◌<◌, ◌^◌, IfOk};
 ghost use Rattle.ti_syntax.specs.Trees.Views.{exp_of, exps_of, range_of, ranges_of, type_of};
-ghost use Rattle.ti_parse_expr.specs.Mirrors.Input.{Reads, ReadsAs};
+ghost use Rattle.ti_parse_expr.specs.Mirrors.Input.{Parses, ParsesAs};
 ghost use Rattle.ti_parse_expr.specs.Mirrors.Seen.{operand_of};
 ghost use Rattle.ti_parse_expr.specs.Mirrors.Exprs as spec;
 ghost use Rattle.ti_parse_expr.specs.Mirrors.Nests.{Nests};
 
-use crate::operand::{Ending, Operand};
-use crate::operators::{infix_of, prefix_of, qualifier_of, strength};
-use crate::stop::Stop;
+use crate::operators::{infix_of, precedence, prefix_of, qualifier_of};
+use crate::parse_stop::ParseStop;
+use crate::postfix_expr::{PostfixExpr, PostfixKind};
 use crate::tokens::Tokens;
 use crate::types;
 use std::alloc::Global;
@@ -23,45 +23,45 @@ use ti_syntax::{Spelled, TokenKind};
 pub struct Grammar<F> {
     pub alloc: Global,
     /// Fuel: a bound on the iterations of a loop and on the depth of recursion.
-    pub turns: usize,
+    pub fuel: usize,
     /// The parser of nested expressions: allocator, input, fuel, lowest precedence level.
     pub expr: F,
 }
 
-impl<F: Fn(Global, &mut Tokens<'_>, usize, u8) -> Result<Expr, Stop>> Grammar<F> {
-    fn expr(&self, tokens: &mut Tokens<'_>, least: u8) -> Result<Expr, Stop>
-        requires { Nests self.now.turns (F.pre self.now.expr) (F.post self.now.expr) }
-        ensures { ReadsAs exp_of (spec.expr self.now.turns least tokens.old) result tokens.new }
+impl<F: Fn(Global, &mut Tokens<'_>, usize, u8) -> Result<Expr, ParseStop>> Grammar<F> {
+    fn expr(&self, tokens: &mut Tokens<'_>, least: u8) -> Result<Expr, ParseStop>
+        requires { Nests self.now.fuel (F.pre self.now.expr) (F.post self.now.expr) }
+        ensures { ParsesAs exp_of (spec.expr self.now.fuel least tokens.old) result tokens.new }
     {
-        (self.expr)(self.alloc, tokens, self.turns, least)
+        (self.expr)(self.alloc, tokens, self.fuel, least)
     }
 
     // ---- lists
 
     #[tactic(auto, unfolding(crate::specs::Mirrors::Exprs::more_args))]
-    fn more_args(&self, tokens: &mut Tokens<'_>) -> Result<Vec<Expr>, Stop>
-        requires { Nests self.now.turns (F.pre self.now.expr) (F.post self.now.expr) }
-        ensures { ReadsAs exps_of (spec.more_args self.now.turns (spec.expr self.now.turns) self.now.turns [] tokens.old) result
+    fn more_args(&self, tokens: &mut Tokens<'_>) -> Result<Vec<Expr>, ParseStop>
+        requires { Nests self.now.fuel (F.pre self.now.expr) (F.post self.now.expr) }
+        ensures { ParsesAs exps_of (spec.more_args self.now.fuel (spec.expr self.now.fuel) self.now.fuel [] tokens.old) result
             tokens.new }
     {
         let mut found = Vec::with_capacity(self.alloc, 1)?;
-        for _turn in 0..self.turns {
+        for _turn in 0..self.fuel {
             found.push(self.expr(tokens, 1)?)?;
-            if !tokens.sees(TokenKind::Comma) {
+            if !tokens.next_is(TokenKind::Comma) {
                 return Ok(found);
             }
-            tokens.take();
+            tokens.bump();
         }
-        Err(Stop::Spent)
+        Err(ParseStop::OutOfFuel)
     }
 
     #[tactic(auto, unfolding(crate::specs::Mirrors::Exprs::args))]
-    fn args(&self, tokens: &mut Tokens<'_>) -> Result<Vec<Expr>, Stop>
-        requires { Nests self.now.turns (F.pre self.now.expr) (F.post self.now.expr) }
-        ensures { ReadsAs exps_of (spec.args self.now.turns (spec.expr self.now.turns) tokens.old) result tokens.new }
+    fn args(&self, tokens: &mut Tokens<'_>) -> Result<Vec<Expr>, ParseStop>
+        requires { Nests self.now.fuel (F.pre self.now.expr) (F.post self.now.expr) }
+        ensures { ParsesAs exps_of (spec.args self.now.fuel (spec.expr self.now.fuel) tokens.old) result tokens.new }
     {
-        if tokens.sees(TokenKind::RightParen) {
-            tokens.take();
+        if tokens.next_is(TokenKind::RightParen) {
+            tokens.bump();
             return Ok(Vec::new(self.alloc));
         }
         let found = self.more_args(tokens)?;
@@ -75,26 +75,26 @@ impl<F: Fn(Global, &mut Tokens<'_>, usize, u8) -> Result<Expr, Stop>> Grammar<F>
         tokens: &mut Tokens<'_>,
         room: usize,
         found: Vec<Expr>,
-    ) -> Result<Vec<Expr>, Stop>
-        requires { Nests self.now.turns (F.pre self.now.expr) (F.post self.now.expr) }
-        ensures { ReadsAs exps_of (spec.more_parts self.now.turns (spec.expr self.now.turns) room (exps_of found) tokens.old) result
+    ) -> Result<Vec<Expr>, ParseStop>
+        requires { Nests self.now.fuel (F.pre self.now.expr) (F.post self.now.expr) }
+        ensures { ParsesAs exps_of (spec.more_parts self.now.fuel (spec.expr self.now.fuel) room (exps_of found) tokens.old) result
             tokens.new }
     {
         let mut found = found;
         for _turn in 0..room {
-            if !tokens.sees(TokenKind::Comma) {
+            if !tokens.next_is(TokenKind::Comma) {
                 return Ok(found);
             }
-            tokens.take();
+            tokens.bump();
             found.push(self.expr(tokens, 1)?)?;
         }
         Ok(found)
     }
 
     #[tactic(auto, unfolding(crate::specs::Mirrors::Exprs::parts_from))]
-    fn parts_from(&self, tokens: &mut Tokens<'_>, first: Expr) -> Result<Vec<Expr>, Stop>
-        requires { Nests self.now.turns (F.pre self.now.expr) (F.post self.now.expr) }
-        ensures { ReadsAs exps_of (spec.parts_from self.now.turns (spec.expr self.now.turns) (exp_of first) tokens.old) result tokens.new }
+    fn parts_from(&self, tokens: &mut Tokens<'_>, first: Expr) -> Result<Vec<Expr>, ParseStop>
+        requires { Nests self.now.fuel (F.pre self.now.expr) (F.post self.now.expr) }
+        ensures { ParsesAs exps_of (spec.parts_from self.now.fuel (spec.expr self.now.fuel) (exp_of first) tokens.old) result tokens.new }
     {
         let mut found = Vec::with_capacity(self.alloc, 1)?;
         found.push(first)?;
@@ -104,25 +104,25 @@ impl<F: Fn(Global, &mut Tokens<'_>, usize, u8) -> Result<Expr, Stop>> Grammar<F>
     }
 
     #[tactic(auto, unfolding(crate::specs::Mirrors::Exprs::parts))]
-    fn parts(&self, tokens: &mut Tokens<'_>) -> Result<Vec<Expr>, Stop>
-        requires { Nests self.now.turns (F.pre self.now.expr) (F.post self.now.expr) }
-        ensures { ReadsAs exps_of (spec.parts self.now.turns (spec.expr self.now.turns) tokens.old) result tokens.new }
+    fn parts(&self, tokens: &mut Tokens<'_>) -> Result<Vec<Expr>, ParseStop>
+        requires { Nests self.now.fuel (F.pre self.now.expr) (F.post self.now.expr) }
+        ensures { ParsesAs exps_of (spec.parts self.now.fuel (spec.expr self.now.fuel) tokens.old) result tokens.new }
     {
         let first = self.expr(tokens, 1)?;
         self.parts_from(tokens, first)
     }
 
     #[tactic(auto, unfolding(crate::specs::Mirrors::Exprs::range_from))]
-    fn range_from(&self, tokens: &mut Tokens<'_>, low: Expr) -> Result<Range, Stop>
-        requires { Nests self.now.turns (F.pre self.now.expr) (F.post self.now.expr) }
-        ensures { ReadsAs range_of (spec.range_from self.now.turns (spec.expr self.now.turns) (exp_of low) tokens.old) result tokens.new }
+    fn range_from(&self, tokens: &mut Tokens<'_>, low: Expr) -> Result<Range, ParseStop>
+        requires { Nests self.now.fuel (F.pre self.now.expr) (F.post self.now.expr) }
+        ensures { ParsesAs range_of (spec.range_from self.now.fuel (spec.expr self.now.fuel) (exp_of low) tokens.old) result tokens.new }
     {
         tokens.expect(TokenKind::Colon)?;
         let high = self.expr(tokens, 1)?;
-        if !tokens.sees(TokenKind::Colon) {
+        if !tokens.next_is(TokenKind::Colon) {
             return Ok(Range::Plain { low, high });
         }
-        tokens.take();
+        tokens.bump();
         let step = self.expr(tokens, 1)?;
         Ok(Range::Stepped { low, high, step })
     }
@@ -133,17 +133,17 @@ impl<F: Fn(Global, &mut Tokens<'_>, usize, u8) -> Result<Expr, Stop>> Grammar<F>
         tokens: &mut Tokens<'_>,
         room: usize,
         found: Vec<Range>,
-    ) -> Result<Vec<Range>, Stop>
-        requires { Nests self.now.turns (F.pre self.now.expr) (F.post self.now.expr) }
-        ensures { ReadsAs ranges_of (spec.more_ranges self.now.turns (spec.expr self.now.turns) room (ranges_of found) tokens.old) result
+    ) -> Result<Vec<Range>, ParseStop>
+        requires { Nests self.now.fuel (F.pre self.now.expr) (F.post self.now.expr) }
+        ensures { ParsesAs ranges_of (spec.more_ranges self.now.fuel (spec.expr self.now.fuel) room (ranges_of found) tokens.old) result
             tokens.new }
     {
         let mut found = found;
         for _turn in 0..room {
-            if !tokens.sees(TokenKind::Comma) {
+            if !tokens.next_is(TokenKind::Comma) {
                 return Ok(found);
             }
-            tokens.take();
+            tokens.bump();
             let low = self.expr(tokens, 1)?;
             found.push(self.range_from(tokens, low)?)?;
         }
@@ -151,9 +151,9 @@ impl<F: Fn(Global, &mut Tokens<'_>, usize, u8) -> Result<Expr, Stop>> Grammar<F>
     }
 
     #[tactic(auto, unfolding(crate::specs::Mirrors::Exprs::ranges_from))]
-    fn ranges_from(&self, tokens: &mut Tokens<'_>, low: Expr) -> Result<Vec<Range>, Stop>
-        requires { Nests self.now.turns (F.pre self.now.expr) (F.post self.now.expr) }
-        ensures { ReadsAs ranges_of (spec.ranges_from self.now.turns (spec.expr self.now.turns) (exp_of low) tokens.old) result tokens.new }
+    fn ranges_from(&self, tokens: &mut Tokens<'_>, low: Expr) -> Result<Vec<Range>, ParseStop>
+        requires { Nests self.now.fuel (F.pre self.now.expr) (F.post self.now.expr) }
+        ensures { ParsesAs ranges_of (spec.ranges_from self.now.fuel (spec.expr self.now.fuel) (exp_of low) tokens.old) result tokens.new }
     {
         let mut found = Vec::with_capacity(self.alloc, 1)?;
         found.push(self.range_from(tokens, low)?)?;
@@ -165,12 +165,12 @@ impl<F: Fn(Global, &mut Tokens<'_>, usize, u8) -> Result<Expr, Stop>> Grammar<F>
     // ---- a Postfix
 
     #[tactic(auto, unfolding(crate::specs::Mirrors::Exprs::bracket), using(ti_syntax::proofs::Lemmas::bridges))]
-    fn bracket(&self, tokens: &mut Tokens<'_>, place: Place) -> Result<Expr, Stop>
-        requires { Nests self.now.turns (F.pre self.now.expr) (F.post self.now.expr) }
-        ensures { ReadsAs exp_of (spec.bracket self.now.turns (spec.expr self.now.turns) place tokens.old) result tokens.new }
+    fn bracket(&self, tokens: &mut Tokens<'_>, place: Place) -> Result<Expr, ParseStop>
+        requires { Nests self.now.fuel (F.pre self.now.expr) (F.post self.now.expr) }
+        ensures { ParsesAs exp_of (spec.bracket self.now.fuel (spec.expr self.now.fuel) place tokens.old) result tokens.new }
     {
         let first = self.expr(tokens, 1)?;
-        if tokens.sees(TokenKind::Colon) {
+        if tokens.next_is(TokenKind::Colon) {
             Ok(Expr::Rect(place, self.ranges_from(tokens, first)?))
         } else {
             Ok(Expr::Point(place, self.parts_from(tokens, first)?))
@@ -178,185 +178,190 @@ impl<F: Fn(Global, &mut Tokens<'_>, usize, u8) -> Result<Expr, Stop>> Grammar<F>
     }
 
     /// A name or a call, after the name.
-    #[tactic(auto, unfolding(crate::specs::Mirrors::Exprs::named), using(ti_syntax::proofs::Lemmas::bridges))]
-    pub fn named(
+    #[tactic(auto, unfolding(crate::specs::Mirrors::Exprs::name_or_call), using(ti_syntax::proofs::Lemmas::bridges))]
+    pub fn name_or_call(
         &self,
         tokens: &mut Tokens<'_>,
         place: Place,
         name: Spelled,
-    ) -> Result<Operand, Stop>
-        requires { Nests self.now.turns (F.pre self.now.expr) (F.post self.now.expr) }
-        ensures { ReadsAs operand_of (spec.named self.now.turns (spec.expr self.now.turns) place name tokens.old) result tokens.new }
+    ) -> Result<PostfixExpr, ParseStop>
+        requires { Nests self.now.fuel (F.pre self.now.expr) (F.post self.now.expr) }
+        ensures { ParsesAs operand_of (spec.name_or_call self.now.fuel (spec.expr self.now.fuel) place name tokens.old) result tokens.new }
     {
-        if !tokens.sees(TokenKind::LeftParen) {
-            return Ok(Operand {
+        if !tokens.next_is(TokenKind::LeftParen) {
+            return Ok(PostfixExpr {
                 expr: Expr::Name(place, name),
-                ending: Ending::Target,
+                kind: PostfixKind::Target,
             });
         }
-        tokens.take();
+        tokens.bump();
         let args = self.args(tokens)?;
-        Ok(Operand {
+        Ok(PostfixExpr {
             expr: Expr::Call { place, name, args },
-            ending: Ending::Call,
+            kind: PostfixKind::Call,
         })
     }
 
     #[tactic(auto, unfolding(crate::specs::Mirrors::Exprs::member), using(ti_syntax::proofs::Lemmas::bridges))]
-    fn member(&self, tokens: &mut Tokens<'_>, left: Expr) -> Result<Operand, Stop>
-        requires { Nests self.now.turns (F.pre self.now.expr) (F.post self.now.expr) }
-        ensures { ReadsAs operand_of (spec.member self.now.turns (spec.expr self.now.turns) (exp_of left) tokens.old) result tokens.new }
+    fn member(&self, tokens: &mut Tokens<'_>, left: Expr) -> Result<PostfixExpr, ParseStop>
+        requires { Nests self.now.fuel (F.pre self.now.expr) (F.post self.now.expr) }
+        ensures { ParsesAs operand_of (spec.member self.now.fuel (spec.expr self.now.fuel) (exp_of left) tokens.old) result tokens.new }
     {
         let left = Box::new(self.alloc, left)?;
         let place = tokens.place();
         let name = tokens.name(self.alloc)?;
-        if !tokens.sees(TokenKind::LeftParen) {
-            return Ok(Operand {
+        if !tokens.next_is(TokenKind::LeftParen) {
+            return Ok(PostfixExpr {
                 expr: Expr::Select {
                     place,
                     receiver: left,
                     name,
                 },
-                ending: Ending::Target,
+                kind: PostfixKind::Target,
             });
         }
-        tokens.take();
+        tokens.bump();
         let args = self.args(tokens)?;
-        Ok(Operand {
+        Ok(PostfixExpr {
             expr: Expr::Member {
                 place,
                 receiver: left,
                 name,
                 args,
             },
-            ending: Ending::Call,
+            kind: PostfixKind::Call,
         })
     }
 
     /// An index, after its `[`. `place` is the position of the `[`.
     #[tactic(auto, unfolding(crate::specs::Mirrors::Exprs::index), using(ti_syntax::proofs::Lemmas::bridges))]
-    pub fn index(&self, tokens: &mut Tokens<'_>, place: Place, left: Expr) -> Result<Operand, Stop>
-        requires { Nests self.now.turns (F.pre self.now.expr) (F.post self.now.expr) }
-        ensures { ReadsAs operand_of (spec.index self.now.turns (spec.expr self.now.turns) place (exp_of left) tokens.old) result
+    pub fn index(
+        &self,
+        tokens: &mut Tokens<'_>,
+        place: Place,
+        left: Expr,
+    ) -> Result<PostfixExpr, ParseStop>
+        requires { Nests self.now.fuel (F.pre self.now.expr) (F.post self.now.expr) }
+        ensures { ParsesAs operand_of (spec.index self.now.fuel (spec.expr self.now.fuel) place (exp_of left) tokens.old) result
             tokens.new }
     {
         let left = Box::new(self.alloc, left)?;
         let indices = self.parts(tokens)?;
-        Ok(Operand {
+        Ok(PostfixExpr {
             expr: Expr::Index {
                 place,
                 receiver: left,
                 indices,
             },
-            ending: Ending::Target,
+            kind: PostfixKind::Target,
         })
     }
 
-    /// The postfix parts that follow an operand, at most `turns` of them.
+    /// The postfix parts that follow an operand, at most `fuel` of them.
     #[tactic(auto, unfolding(crate::specs::Mirrors::Exprs::postfix))]
     pub fn postfix(
         &self,
         tokens: &mut Tokens<'_>,
-        turns: usize,
-        first: Operand,
-    ) -> Result<Operand, Stop>
-        requires { Nests self.now.turns (F.pre self.now.expr) (F.post self.now.expr) }
-        ensures { ReadsAs operand_of (spec.postfix self.now.turns (spec.expr self.now.turns) turns (operand_of first) tokens.old) result
+        fuel: usize,
+        first: PostfixExpr,
+    ) -> Result<PostfixExpr, ParseStop>
+        requires { Nests self.now.fuel (F.pre self.now.expr) (F.post self.now.expr) }
+        ensures { ParsesAs operand_of (spec.postfix self.now.fuel (spec.expr self.now.fuel) fuel (operand_of first) tokens.old) result
             tokens.new }
     {
         let mut left = first;
-        for _turn in 0..turns {
+        for _turn in 0..fuel {
             match tokens.peek() {
                 TokenKind::Dot => {
-                    tokens.take();
+                    tokens.bump();
                     left = self.member(tokens, left.expr)?;
                 }
                 TokenKind::LeftBracket => {
                     let place = tokens.place();
-                    tokens.take();
+                    tokens.bump();
                     left = self.index(tokens, place, left.expr)?;
                 }
                 _ => return Ok(left),
             }
         }
-        Err(Stop::Spent)
+        Err(ParseStop::OutOfFuel)
     }
 
     #[tactic(auto, unfolding(crate::specs::Mirrors::Exprs::group))]
-    fn group(&self, tokens: &mut Tokens<'_>) -> Result<Operand, Stop>
-        requires { Nests self.now.turns (F.pre self.now.expr) (F.post self.now.expr) }
-        ensures { ReadsAs operand_of (spec.group self.now.turns (spec.expr self.now.turns) tokens.old) result tokens.new }
+    fn group(&self, tokens: &mut Tokens<'_>) -> Result<PostfixExpr, ParseStop>
+        requires { Nests self.now.fuel (F.pre self.now.expr) (F.post self.now.expr) }
+        ensures { ParsesAs operand_of (spec.group self.now.fuel (spec.expr self.now.fuel) tokens.old) result tokens.new }
     {
         let expr = self.expr(tokens, 1)?;
         tokens.expect(TokenKind::RightParen)?;
         self.postfix(
             tokens,
-            self.turns,
-            Operand {
+            self.fuel,
+            PostfixExpr {
                 expr,
-                ending: Ending::Other,
+                kind: PostfixKind::Other,
             },
         )
     }
 
     /// A Postfix: a primary expression with its postfix parts.
     #[tactic(auto, unfolding(crate::specs::Mirrors::Exprs::operand))]
-    pub fn operand(&self, tokens: &mut Tokens<'_>) -> Result<Operand, Stop>
-        requires { Nests self.now.turns (F.pre self.now.expr) (F.post self.now.expr) }
-        ensures { ReadsAs operand_of (spec.operand self.now.turns (spec.expr self.now.turns) tokens.old) result tokens.new }
+    pub fn operand(&self, tokens: &mut Tokens<'_>) -> Result<PostfixExpr, ParseStop>
+        requires { Nests self.now.fuel (F.pre self.now.expr) (F.post self.now.expr) }
+        ensures { ParsesAs operand_of (spec.operand self.now.fuel (spec.expr self.now.fuel) tokens.old) result tokens.new }
     {
         let place = tokens.place();
         let expr = match tokens.peek() {
             TokenKind::Int(n) => {
-                tokens.take();
+                tokens.bump();
                 Expr::Int(place, *n)
             }
             TokenKind::LongInt(n) => {
-                tokens.take();
+                tokens.bump();
                 Expr::Long(place, *n)
             }
             TokenKind::KeywordTrue => {
-                tokens.take();
-                Expr::Truth(place, true)
+                tokens.bump();
+                Expr::Bool(place, true)
             }
             TokenKind::KeywordFalse => {
-                tokens.take();
-                Expr::Truth(place, false)
+                tokens.bump();
+                Expr::Bool(place, false)
             }
             TokenKind::KeywordNull => {
-                tokens.take();
+                tokens.bump();
                 Expr::Null(place)
             }
             TokenKind::KeywordThis => {
-                tokens.take();
+                tokens.bump();
                 Expr::This(place)
             }
             TokenKind::Name(name) => {
                 let name = name.copy(self.alloc)?;
-                tokens.take();
-                let first = self.named(tokens, place, name)?;
-                return self.postfix(tokens, self.turns, first);
+                tokens.bump();
+                let first = self.name_or_call(tokens, place, name)?;
+                return self.postfix(tokens, self.fuel, first);
             }
             TokenKind::LeftParen => {
-                tokens.take();
+                tokens.bump();
                 return self.group(tokens);
             }
             TokenKind::LeftBracket => {
-                tokens.take();
+                tokens.bump();
                 self.bracket(tokens, place)?
             }
             TokenKind::KeywordTi => {
-                tokens.take();
+                tokens.bump();
                 process(tokens, place)?
             }
-            _ => return Err(Stop::Refused),
+            _ => return Err(ParseStop::Refused),
         };
         self.postfix(
             tokens,
-            self.turns,
-            Operand {
+            self.fuel,
+            PostfixExpr {
                 expr,
-                ending: Ending::Other,
+                kind: PostfixKind::Other,
             },
         )
     }
@@ -369,14 +374,14 @@ impl<F: Fn(Global, &mut Tokens<'_>, usize, u8) -> Result<Expr, Stop>> Grammar<F>
         tokens: &mut Tokens<'_>,
         left: Expr,
         op: BinaryOperator,
-    ) -> Result<Expr, Stop>
-        requires { Nests self.now.turns (F.pre self.now.expr) (F.post self.now.expr) }
-        ensures { ReadsAs exp_of (spec.operation self.now.turns (spec.expr self.now.turns) (exp_of left) op tokens.old) result tokens.new }
+    ) -> Result<Expr, ParseStop>
+        requires { Nests self.now.fuel (F.pre self.now.expr) (F.post self.now.expr) }
+        ensures { ParsesAs exp_of (spec.operation self.now.fuel (spec.expr self.now.fuel) (exp_of left) op tokens.old) result tokens.new }
     {
         let left = Box::new(self.alloc, left)?;
         let place = tokens.place();
-        tokens.take();
-        let right = Box::new(self.alloc, self.expr(tokens, strength(op) + 1)?)?;
+        tokens.bump();
+        let right = Box::new(self.alloc, self.expr(tokens, precedence(op) + 1)?)?;
         Ok(Expr::Binary {
             place,
             operator: op,
@@ -386,28 +391,28 @@ impl<F: Fn(Global, &mut Tokens<'_>, usize, u8) -> Result<Expr, Stop>> Grammar<F>
     }
 
     #[tactic(auto, unfolding(crate::specs::Mirrors::Exprs::climb))]
-    fn climb(&self, tokens: &mut Tokens<'_>, least: u8, first: Expr) -> Result<Expr, Stop>
-        requires { Nests self.now.turns (F.pre self.now.expr) (F.post self.now.expr) }
-        ensures { ReadsAs exp_of (spec.climb self.now.turns (spec.expr self.now.turns) least self.now.turns (exp_of first) tokens.old)
+    fn climb(&self, tokens: &mut Tokens<'_>, least: u8, first: Expr) -> Result<Expr, ParseStop>
+        requires { Nests self.now.fuel (F.pre self.now.expr) (F.post self.now.expr) }
+        ensures { ParsesAs exp_of (spec.climb self.now.fuel (spec.expr self.now.fuel) least self.now.fuel (exp_of first) tokens.old)
             result tokens.new }
     {
         let mut left = first;
-        for _turn in 0..self.turns {
+        for _turn in 0..self.fuel {
             let Some(op) = infix_of(tokens.peek()) else {
                 return Ok(left);
             };
-            if strength(op) < least {
+            if precedence(op) < least {
                 return Ok(left);
             }
             left = self.operation(tokens, left, op)?;
         }
-        Err(Stop::Spent)
+        Err(ParseStop::OutOfFuel)
     }
 
     #[tactic(auto, unfolding(crate::specs::Mirrors::Exprs::cast))]
-    fn cast(&self, tokens: &mut Tokens<'_>, place: Place, ty: TypeName) -> Result<Expr, Stop>
-        requires { Nests self.now.turns (F.pre self.now.expr) (F.post self.now.expr) }
-        ensures { ReadsAs exp_of (spec.cast self.now.turns (spec.expr self.now.turns) place (type_of ty) tokens.old) result tokens.new }
+    fn cast(&self, tokens: &mut Tokens<'_>, place: Place, ty: TypeName) -> Result<Expr, ParseStop>
+        requires { Nests self.now.fuel (F.pre self.now.expr) (F.post self.now.expr) }
+        ensures { ParsesAs exp_of (spec.cast self.now.fuel (spec.expr self.now.fuel) place (type_of ty) tokens.old) result tokens.new }
     {
         tokens.expect(TokenKind::RightParen)?;
         let to = Box::new(self.alloc, ty)?;
@@ -416,11 +421,16 @@ impl<F: Fn(Global, &mut Tokens<'_>, usize, u8) -> Result<Expr, Stop>> Grammar<F>
     }
 
     #[tactic(auto, unfolding(crate::specs::Mirrors::Exprs::cast_from))]
-    fn cast_from(&self, tokens: &mut Tokens<'_>, place: Place, base: Base) -> Result<Expr, Stop>
-        requires { Nests self.now.turns (F.pre self.now.expr) (F.post self.now.expr) }
-        ensures { ReadsAs exp_of (spec.cast_from self.now.turns (spec.expr self.now.turns) place base tokens.old) result tokens.new }
+    fn cast_from(
+        &self,
+        tokens: &mut Tokens<'_>,
+        place: Place,
+        base: Base,
+    ) -> Result<Expr, ParseStop>
+        requires { Nests self.now.fuel (F.pre self.now.expr) (F.post self.now.expr) }
+        ensures { ParsesAs exp_of (spec.cast_from self.now.fuel (spec.expr self.now.fuel) place base tokens.old) result tokens.new }
     {
-        let ty = types::field_type(self.alloc, tokens, self.turns, base)?;
+        let ty = types::field_type(self.alloc, tokens, self.fuel, base)?;
         self.cast(tokens, place, ty)
     }
 
@@ -430,13 +440,13 @@ impl<F: Fn(Global, &mut Tokens<'_>, usize, u8) -> Result<Expr, Stop>> Grammar<F>
         tokens: &mut Tokens<'_>,
         place: Place,
         base: Base,
-    ) -> Result<Expr, Stop>
-        requires { Nests self.now.turns (F.pre self.now.expr) (F.post self.now.expr) }
-        ensures { ReadsAs exp_of (spec.cast_from_grid self.now.turns (spec.expr self.now.turns) place base tokens.old) result tokens.new }
+    ) -> Result<Expr, ParseStop>
+        requires { Nests self.now.fuel (F.pre self.now.expr) (F.post self.now.expr) }
+        ensures { ParsesAs exp_of (spec.cast_from_grid self.now.fuel (spec.expr self.now.fuel) place base tokens.old) result tokens.new }
     {
         let mut grids = Vec::new(self.alloc);
-        grids.push(types::grid(self.alloc, tokens, self.turns)?)?;
-        let grids = types::grids(self.alloc, tokens, self.turns, 2, grids)?;
+        grids.push(types::grid(self.alloc, tokens, self.fuel)?)?;
+        let grids = types::grids(self.alloc, tokens, self.fuel, 2, grids)?;
         let ty = TypeName {
             base,
             qualifiers: Vec::new(self.alloc),
@@ -446,19 +456,19 @@ impl<F: Fn(Global, &mut Tokens<'_>, usize, u8) -> Result<Expr, Stop>> Grammar<F>
     }
 
     #[tactic(auto, unfolding(crate::specs::Mirrors::Exprs::group_from))]
-    fn group_from(&self, tokens: &mut Tokens<'_>, first: Operand) -> Result<Expr, Stop>
-        requires { Nests self.now.turns (F.pre self.now.expr) (F.post self.now.expr) }
-        ensures { ReadsAs exp_of (spec.group_from self.now.turns (spec.expr self.now.turns) (operand_of first) tokens.old) result
+    fn group_from(&self, tokens: &mut Tokens<'_>, first: PostfixExpr) -> Result<Expr, ParseStop>
+        requires { Nests self.now.fuel (F.pre self.now.expr) (F.post self.now.expr) }
+        ensures { ParsesAs exp_of (spec.group_from self.now.fuel (spec.expr self.now.fuel) (operand_of first) tokens.old) result
             tokens.new }
     {
-        let left = self.postfix(tokens, self.turns, first)?;
+        let left = self.postfix(tokens, self.fuel, first)?;
         let expr = self.climb(tokens, 1, left.expr)?;
         tokens.expect(TokenKind::RightParen)?;
-        let inner = Operand {
+        let inner = PostfixExpr {
             expr,
-            ending: Ending::Other,
+            kind: PostfixKind::Other,
         };
-        Ok(self.postfix(tokens, self.turns, inner)?.expr)
+        Ok(self.postfix(tokens, self.fuel, inner)?.expr)
     }
 
     #[tactic(auto, unfolding(crate::specs::Mirrors::Exprs::paren_name))]
@@ -468,18 +478,18 @@ impl<F: Fn(Global, &mut Tokens<'_>, usize, u8) -> Result<Expr, Stop>> Grammar<F>
         place: Place,
         name_place: Place,
         name: Spelled,
-    ) -> Result<Expr, Stop>
-        requires { Nests self.now.turns (F.pre self.now.expr) (F.post self.now.expr) }
-        ensures { ReadsAs exp_of (spec.paren_name self.now.turns (spec.expr self.now.turns) place name_place name tokens.old) result
+    ) -> Result<Expr, ParseStop>
+        requires { Nests self.now.fuel (F.pre self.now.expr) (F.post self.now.expr) }
+        ensures { ParsesAs exp_of (spec.paren_name self.now.fuel (spec.expr self.now.fuel) place name_place name tokens.old) result
             tokens.new }
     {
-        if tokens.sees(TokenKind::LeftBracket) {
+        if tokens.next_is(TokenKind::LeftBracket) {
             return self.paren_name_bracket(tokens, place, name_place, name);
         }
         if qualifier_of(tokens.peek()).is_some() {
             return self.cast_from(tokens, place, Base::Named(name_place, name));
         }
-        let first = self.named(tokens, name_place, name)?;
+        let first = self.name_or_call(tokens, name_place, name)?;
         self.group_from(tokens, first)
     }
 
@@ -490,13 +500,13 @@ impl<F: Fn(Global, &mut Tokens<'_>, usize, u8) -> Result<Expr, Stop>> Grammar<F>
         place: Place,
         name_place: Place,
         name: Spelled,
-    ) -> Result<Expr, Stop>
-        requires { Nests self.now.turns (F.pre self.now.expr) (F.post self.now.expr) }
-        ensures { ReadsAs exp_of (spec.paren_name_bracket self.now.turns (spec.expr self.now.turns) place name_place name tokens.old) result
+    ) -> Result<Expr, ParseStop>
+        requires { Nests self.now.fuel (F.pre self.now.expr) (F.post self.now.expr) }
+        ensures { ParsesAs exp_of (spec.paren_name_bracket self.now.fuel (spec.expr self.now.fuel) place name_place name tokens.old) result
             tokens.new }
     {
         let bracket_place = tokens.place();
-        tokens.take();
+        tokens.bump();
         match tokens.peek() {
             TokenKind::Dim(_) => self.cast_from_grid(tokens, place, Base::Named(name_place, name)),
             _ => {
@@ -507,15 +517,15 @@ impl<F: Fn(Global, &mut Tokens<'_>, usize, u8) -> Result<Expr, Stop>> Grammar<F>
     }
 
     #[tactic(auto, unfolding(crate::specs::Mirrors::Exprs::paren))]
-    fn paren(&self, tokens: &mut Tokens<'_>, place: Place) -> Result<Expr, Stop>
-        requires { Nests self.now.turns (F.pre self.now.expr) (F.post self.now.expr) }
-        ensures { ReadsAs exp_of (spec.paren self.now.turns (spec.expr self.now.turns) place tokens.old) result tokens.new }
+    fn paren(&self, tokens: &mut Tokens<'_>, place: Place) -> Result<Expr, ParseStop>
+        requires { Nests self.now.fuel (F.pre self.now.expr) (F.post self.now.expr) }
+        ensures { ParsesAs exp_of (spec.paren self.now.fuel (spec.expr self.now.fuel) place tokens.old) result tokens.new }
     {
         match tokens.peek() {
             TokenKind::Name(name) => {
                 let name_place = tokens.place();
                 let name = name.copy(self.alloc)?;
-                tokens.take();
+                tokens.bump();
                 self.paren_name(tokens, place, name_place, name)
             }
             TokenKind::KeywordInt
@@ -531,12 +541,12 @@ impl<F: Fn(Global, &mut Tokens<'_>, usize, u8) -> Result<Expr, Stop>> Grammar<F>
     }
 
     #[tactic(auto, unfolding(crate::specs::Mirrors::Exprs::unary))]
-    fn unary(&self, tokens: &mut Tokens<'_>, op: UnaryOperator) -> Result<Expr, Stop>
-        requires { Nests self.now.turns (F.pre self.now.expr) (F.post self.now.expr) }
-        ensures { ReadsAs exp_of (spec.unary self.now.turns (spec.expr self.now.turns) op tokens.old) result tokens.new }
+    fn unary(&self, tokens: &mut Tokens<'_>, op: UnaryOperator) -> Result<Expr, ParseStop>
+        requires { Nests self.now.fuel (F.pre self.now.expr) (F.post self.now.expr) }
+        ensures { ParsesAs exp_of (spec.unary self.now.fuel (spec.expr self.now.fuel) op tokens.old) result tokens.new }
     {
         let place = tokens.place();
-        tokens.take();
+        tokens.bump();
         let operand = Box::new(self.alloc, self.expr(tokens, 11)?)?;
         Ok(Expr::Unary {
             place,
@@ -546,13 +556,13 @@ impl<F: Fn(Global, &mut Tokens<'_>, usize, u8) -> Result<Expr, Stop>> Grammar<F>
     }
 
     #[tactic(auto, unfolding(crate::specs::Mirrors::Exprs::prefix))]
-    fn prefix(&self, tokens: &mut Tokens<'_>) -> Result<Expr, Stop>
-        requires { Nests self.now.turns (F.pre self.now.expr) (F.post self.now.expr) }
-        ensures { ReadsAs exp_of (spec.prefix self.now.turns (spec.expr self.now.turns) tokens.old) result tokens.new }
+    fn prefix(&self, tokens: &mut Tokens<'_>) -> Result<Expr, ParseStop>
+        requires { Nests self.now.fuel (F.pre self.now.expr) (F.post self.now.expr) }
+        ensures { ParsesAs exp_of (spec.prefix self.now.fuel (spec.expr self.now.fuel) tokens.old) result tokens.new }
     {
-        if tokens.sees(TokenKind::LeftParen) {
+        if tokens.next_is(TokenKind::LeftParen) {
             let place = tokens.place();
-            tokens.take();
+            tokens.bump();
             return self.paren(tokens, place);
         }
         match prefix_of(tokens.peek()) {
@@ -562,9 +572,9 @@ impl<F: Fn(Global, &mut Tokens<'_>, usize, u8) -> Result<Expr, Stop>> Grammar<F>
     }
 
     #[tactic(auto, unfolding(crate::specs::Mirrors::Exprs::level))]
-    fn level(&self, tokens: &mut Tokens<'_>, least: u8) -> Result<Expr, Stop>
-        requires { Nests self.now.turns (F.pre self.now.expr) (F.post self.now.expr) }
-        ensures { ReadsAs exp_of (spec.level self.now.turns (spec.expr self.now.turns) least tokens.old) result tokens.new }
+    fn level(&self, tokens: &mut Tokens<'_>, least: u8) -> Result<Expr, ParseStop>
+        requires { Nests self.now.fuel (F.pre self.now.expr) (F.post self.now.expr) }
+        ensures { ParsesAs exp_of (spec.level self.now.fuel (spec.expr self.now.fuel) least tokens.old) result tokens.new }
     {
         let first = self.prefix(tokens)?;
         self.climb(tokens, least, first)
@@ -573,8 +583,8 @@ impl<F: Fn(Global, &mut Tokens<'_>, usize, u8) -> Result<Expr, Stop>> Grammar<F>
 
 /// The rest of `Ti.thisProc()` or `Ti.numProcs()`, after `Ti`.
 #[tactic(auto, unfolding(crate::specs::Mirrors::Exprs::process))]
-fn process(tokens: &mut Tokens<'_>, place: Place) -> Result<Expr, Stop>
-    ensures { ReadsAs exp_of (spec.process place tokens.old) result tokens.new }
+fn process(tokens: &mut Tokens<'_>, place: Place) -> Result<Expr, ParseStop>
+    ensures { ParsesAs exp_of (spec.process place tokens.old) result tokens.new }
 {
     tokens.expect(TokenKind::Dot)?;
     let is_this = process_name(tokens)?;
@@ -589,41 +599,50 @@ fn process(tokens: &mut Tokens<'_>, place: Place) -> Result<Expr, Stop>
 
 /// Reads `thisProc` (true) or `numProcs` (false).
 #[tactic(auto, unfolding(crate::specs::Mirrors::Exprs::process_name))]
-fn process_name(tokens: &mut Tokens<'_>) -> Result<bool, Stop>
-    ensures { Reads (spec.process_name tokens.old) result tokens.new }
+fn process_name(tokens: &mut Tokens<'_>) -> Result<bool, ParseStop>
+    ensures { Parses (spec.process_name tokens.old) result tokens.new }
 {
-    if tokens.sees_word(b"thisProc") {
-        tokens.take();
+    if tokens.next_is_name(b"thisProc") {
+        tokens.bump();
         return Ok(true);
     }
-    if tokens.sees_word(b"numProcs") {
-        tokens.take();
+    if tokens.next_is_name(b"numProcs") {
+        tokens.bump();
         return Ok(false);
     }
-    Err(Stop::Refused)
+    Err(ParseStop::Refused)
 }
 
 /// An expression whose operators have at least precedence level `least`.
 #[tactic(auto, unfolding(crate::specs::Mirrors::Exprs::expr))]
-pub fn expr(alloc: Global, tokens: &mut Tokens<'_>, turns: usize, least: u8) -> Result<Expr, Stop>
-    ensures { ReadsAs exp_of (spec.expr turns least tokens.old) result tokens.new }
+pub fn expr(
+    alloc: Global,
+    tokens: &mut Tokens<'_>,
+    fuel: usize,
+    least: u8,
+) -> Result<Expr, ParseStop>
+    ensures { ParsesAs exp_of (spec.expr fuel least tokens.old) result tokens.new }
 {
-    if turns == 0 {
-        return Err(Stop::Spent);
+    if fuel == 0 {
+        return Err(ParseStop::OutOfFuel);
     }
     Grammar {
         alloc,
-        turns: turns - 1,
+        fuel: fuel - 1,
         expr,
     }
     .level(tokens, least)
 }
 
 /// A Postfix, with its ending.
-pub fn operand(alloc: Global, tokens: &mut Tokens<'_>, turns: usize) -> Result<Operand, Stop>
-    ensures { ReadsAs operand_of (spec.operand turns (spec.expr turns) tokens.old) result tokens.new }
+pub fn operand(
+    alloc: Global,
+    tokens: &mut Tokens<'_>,
+    fuel: usize,
+) -> Result<PostfixExpr, ParseStop>
+    ensures { ParsesAs operand_of (spec.operand fuel (spec.expr fuel) tokens.old) result tokens.new }
 {
-    Grammar { alloc, turns, expr }.operand(tokens)
+    Grammar { alloc, fuel, expr }.operand(tokens)
 }
 
 /// A Postfix, after its first name.
@@ -631,35 +650,35 @@ pub fn operand(alloc: Global, tokens: &mut Tokens<'_>, turns: usize) -> Result<O
 pub fn behind_name(
     alloc: Global,
     tokens: &mut Tokens<'_>,
-    turns: usize,
+    fuel: usize,
     place: Place,
     name: Spelled,
-) -> Result<Operand, Stop>
-    ensures { ReadsAs operand_of (spec.behind_name turns place name tokens.old) result tokens.new }
+) -> Result<PostfixExpr, ParseStop>
+    ensures { ParsesAs operand_of (spec.behind_name fuel place name tokens.old) result tokens.new }
 {
-    let grammar = Grammar { alloc, turns, expr };
-    let first = grammar.named(tokens, place, name)?;
-    grammar.postfix(tokens, turns, first)
+    let grammar = Grammar { alloc, fuel, expr };
+    let first = grammar.name_or_call(tokens, place, name)?;
+    grammar.postfix(tokens, fuel, first)
 }
 
-/// A Postfix, after its first name and `[`. `turns` is the fuel for the postfix parts after the index.
+/// A Postfix, after its first name and `[`. `fuel` is the fuel for the postfix parts after the index.
 #[tactic(auto, unfolding(crate::specs::Mirrors::Exprs::behind_bracket))]
 pub fn behind_bracket(
     alloc: Global,
     tokens: &mut Tokens<'_>,
-    turns: usize,
+    fuel: usize,
     bracket: Place,
     place: Place,
     name: Spelled,
-) -> Result<Operand, Stop>
-    requires { turns + 1 < 2 ^ 64 }
-    ensures { ReadsAs operand_of (spec.behind_bracket turns bracket place name tokens.old) result tokens.new }
+) -> Result<PostfixExpr, ParseStop>
+    requires { fuel + 1 < 2 ^ 64 }
+    ensures { ParsesAs operand_of (spec.behind_bracket fuel bracket place name tokens.old) result tokens.new }
 {
     let grammar = Grammar {
         alloc,
-        turns: turns + 1,
+        fuel: fuel + 1,
         expr,
     };
     let first = grammar.index(tokens, bracket, Expr::Name(place, name))?;
-    grammar.postfix(tokens, turns, first)
+    grammar.postfix(tokens, fuel, first)
 }

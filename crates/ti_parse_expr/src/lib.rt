@@ -4,16 +4,16 @@
 pub mod error;
 pub mod exprs;
 pub mod full;
-pub mod operand;
 pub mod operators;
 pub mod parse;
-pub mod reach;
-mod stop;
+mod parse_stop;
+pub mod postfix_expr;
 mod tokens;
 pub mod types;
+pub mod weight;
 
 pub use error::ParseErr;
-pub use operand::{Ending, Operand};
 pub use parse::{Form, one_tree, parse_expr};
-pub use stop::Stop;
+pub use parse_stop::ParseStop;
+pub use postfix_expr::{PostfixExpr, PostfixKind};
 pub use tokens::Tokens;

@@ -49,10 +49,10 @@ pub fn infix_of(kind: &TokenKind) -> Option<BinaryOperator>
 }
 
 /// The precedence level of a binary operator, from 1 (loosest) to 10.
-pub fn strength(op: BinaryOperator) -> u8
-    ensures { result ≡ spec.strength op }
+pub fn precedence(operator: BinaryOperator) -> u8
+    ensures { result ≡ spec.strength operator }
 {
-    match op {
+    match operator {
         BinaryOperator::OrElse => 1,
         BinaryOperator::AndThen => 2,
         BinaryOperator::Or => 3,

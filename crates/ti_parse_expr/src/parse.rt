@@ -7,15 +7,15 @@ ghost use Rattle.ti_syntax.specs.declared.token.Token.{Token as TokenSeen};
 ghost use Rattle.ti_syntax.specs.Trees.Views.{exp_of};
 ghost use Rattle.ti_syntax.specs.Trees.Expressions.{Exp};
 ghost use Rattle.ti_parse_expr.specs.declared.parse.Form.{Form as FormSeen};
-ghost use Rattle.ti_parse_expr.specs.Answers.{Answers, EndsAtEnd, GivesOnly, IsPhrase, Phrase, Refuses, RefusesOnly};
-ghost use Rattle.ti_parse_expr.specs.Mirrors.Input.{ReadsAs};
+ghost use Rattle.ti_parse_expr.specs.Answers.{Answers, EndsAtEnd, GivesOnly, IsPhrase, Phrase, IsParseError, RefusesOnly};
+ghost use Rattle.ti_parse_expr.specs.Mirrors.Input.{ParsesAs};
 ghost use Rattle.ti_parse_expr.specs.Mirrors.Exprs as spec;
 
 use crate::error::ParseErr;
 use crate::exprs::{expr, operand};
-use crate::reach::{cut, weigh};
-use crate::stop::Stop;
+use crate::parse_stop::ParseStop;
 use crate::tokens::Tokens;
+use crate::weight::{cut, weigh};
 use std::alloc::Global;
 use ti_base::Place;
 use ti_rules::{Refusal, Rule};
@@ -33,19 +33,19 @@ pub enum Form {
     Postfix,
 }
 
-/// Parses a phrase of this form, with fuel `turns`.
+/// Parses a phrase of this form, with fuel `fuel`.
 pub fn phrase(
     alloc: Global,
     tokens: &mut Tokens<'_>,
-    turns: usize,
+    fuel: usize,
     form: Form,
-) -> Result<Expr, Stop>
-    ensures { ReadsAs exp_of (spec.phrase turns form tokens.old) result tokens.new }
+) -> Result<Expr, ParseStop>
+    ensures { ParsesAs exp_of (spec.phrase fuel form tokens.old) result tokens.new }
 {
     match form {
-        Form::Whole => expr(alloc, tokens, turns, 1),
-        Form::Mul => expr(alloc, tokens, turns, 10),
-        Form::Postfix => Ok(operand(alloc, tokens, turns)?.expr),
+        Form::Whole => expr(alloc, tokens, fuel, 1),
+        Form::Mul => expr(alloc, tokens, fuel, 10),
+        Form::Postfix => Ok(operand(alloc, tokens, fuel)?.expr),
     }
 }
 
@@ -57,7 +57,7 @@ fn last_place(list: &[Token]) -> Place
     list[list.len() - 1].place
 }
 
-fn refused(rule: Rule, place: Place) -> ParseErr
+fn parse_error(rule: Rule, place: Place) -> ParseErr
     ensures { result ≡ ParseErr.Refused (record { rule = rule; place = place }) }
 {
     ParseErr::Refused(Refusal { rule, place })
@@ -69,7 +69,7 @@ fn too_heavy(front: &[Token]) -> ParseErr
     ensures { (before : List TokenSeen) (last : TokenSeen) → front.now ≡ before ++ last ∷ [] → result
         ≡ ParseErr.Refused (record { rule = Rule.G2; place = last.place }) }
 {
-    refused(Rule::G2, last_place(front))
+    parse_error(Rule::G2, last_place(front))
 }
 
 /// For the prover: `parse_expr` with only its first postcondition.
@@ -89,7 +89,7 @@ fn read_phrase(
     let mut tokens = Tokens::new(front, &end);
     match phrase(alloc, &mut tokens, front.len() + 1, form) {
         Ok(tree) => {
-            let unread = tokens.left();
+            let unread = tokens.remaining();
             if unread == 0 {
                 return Err(too_heavy(front));
             }
@@ -97,15 +97,15 @@ fn read_phrase(
             let used = weight + weigh(&front[..size]);
             Ok((tree, at + size, used))
         }
-        Err(Stop::Memory) => Err(ParseErr::Memory),
-        Err(Stop::Refused) => {
-            if tokens.left() == 0 {
+        Err(ParseStop::Memory) => Err(ParseErr::Memory),
+        Err(ParseStop::Refused) => {
+            if tokens.remaining() == 0 {
                 return Err(too_heavy(front));
             }
-            Err(refused(Rule::G1, tokens.place()))
+            Err(parse_error(Rule::G1, tokens.place()))
         }
-        Err(Stop::TooDeep) => unreachable!(),
-        Err(Stop::Spent) => unreachable!(),
+        Err(ParseStop::TooDeep) => unreachable!(),
+        Err(ParseStop::OutOfFuel) => unreachable!(),
     }
 }
 
@@ -126,7 +126,7 @@ pub fn parse_expr(
     // The result is unique: tokens with a tree get only this tree, tokens with an error only this error, up to Memory.
     ensures only_tree { (tree : Exp) (size used : ℕ) → IsPhrase form weight (drop at toks.now) tree size used
         → GivesOnly result tree (at + size) used }
-    ensures only_refusal { (rule : RuleSeen) (place : PlaceSeen) → Refuses form weight (drop at toks.now) rule place
+    ensures only_refusal { (rule : RuleSeen) (place : PlaceSeen) → IsParseError form weight (drop at toks.now) rule place
         → RefusesOnly result rule place }
 {
     read_phrase(alloc, toks, at, form, weight)

@@ -2,10 +2,10 @@
 
 ghost use Rattle.std.specs.Prelude.{◌≡◌, ◌≤◌, length, drop};
 ghost use Rattle.ti_parse_expr.specs.Mirrors.Input as spec;
-ghost use Rattle.ti_parse_expr.specs.Mirrors.Input.{Reads};
+ghost use Rattle.ti_parse_expr.specs.Mirrors.Input.{Parses};
 ghost use Rattle.ti_syntax.specs.declared.token.TokenKind.TheVariants.{End};
 
-use crate::stop::Stop;
+use crate::parse_stop::ParseStop;
 use std::alloc::Global;
 use std::marker::Model;
 use ti_base::Place;
@@ -71,8 +71,8 @@ impl<'a> Tokens<'a> {
     }
 
     /// Consumes the next token.
-    pub fn take(&mut self)
-        ensures { self.new ≡ spec.next self.old }
+    pub fn bump(&mut self)
+        ensures { self.new ≡ spec.after_next self.old }
     {
         match self.list {
             [_, rest @ ..] => self.list = rest,
@@ -81,26 +81,26 @@ impl<'a> Tokens<'a> {
     }
 
     /// Whether the next token is of this kind.
-    pub fn sees(&self, kind: TokenKind) -> bool
-        ensures { result ≡ spec.sees kind self.now }
+    pub fn next_is(&self, kind: TokenKind) -> bool
+        ensures { result ≡ spec.next_is kind self.now }
     {
         self.peek().same_kind(&kind)
     }
 
     /// Consumes the next token, which must be of this kind.
-    pub fn expect(&mut self, kind: TokenKind) -> Result<(), Stop>
-        ensures { Reads (spec.expect kind self.old) result self.new }
+    pub fn expect(&mut self, kind: TokenKind) -> Result<(), ParseStop>
+        ensures { Parses (spec.expect kind self.old) result self.new }
     {
-        if !self.sees(kind) {
-            return Err(Stop::Refused);
+        if !self.next_is(kind) {
+            return Err(ParseStop::Refused);
         }
-        self.take();
+        self.bump();
         Ok(())
     }
 
     /// Whether the next token is this name.
-    pub fn sees_word(&self, word: &[u8]) -> bool
-        ensures { result ≡ spec.sees_word word.now self.now }
+    pub fn next_is_name(&self, word: &[u8]) -> bool
+        ensures { result ≡ spec.next_is_name word.now self.now }
     {
         match self.peek() {
             TokenKind::Name(name) => name.as_bytes() == word,
@@ -109,32 +109,32 @@ impl<'a> Tokens<'a> {
     }
 
     /// Consumes the next token, which must be this name.
-    pub fn expect_word(&mut self, word: &[u8]) -> Result<(), Stop>
-        ensures { Reads (spec.expect_word word.now self.old) result self.new }
+    pub fn expect_word(&mut self, word: &[u8]) -> Result<(), ParseStop>
+        ensures { Parses (spec.expect_word word.now self.old) result self.new }
     {
-        if !self.sees_word(word) {
-            return Err(Stop::Refused);
+        if !self.next_is_name(word) {
+            return Err(ParseStop::Refused);
         }
-        self.take();
+        self.bump();
         Ok(())
     }
 
     /// Consumes a name and returns a copy of it.
-    pub fn name(&mut self, alloc: Global) -> Result<Spelled, Stop>
-        ensures { Reads (spec.any_name self.old) result self.new }
+    pub fn name(&mut self, alloc: Global) -> Result<Spelled, ParseStop>
+        ensures { Parses (spec.any_name self.old) result self.new }
     {
         match self.peek() {
             TokenKind::Name(name) => {
                 let name = name.copy(alloc)?;
-                self.take();
+                self.bump();
                 Ok(name)
             }
-            _ => Err(Stop::Refused),
+            _ => Err(ParseStop::Refused),
         }
     }
 
     /// The number of tokens left.
-    pub fn left(&self) -> usize
+    pub fn remaining(&self) -> usize
         ensures { result ≡ length self.now }
     {
         self.list.len()

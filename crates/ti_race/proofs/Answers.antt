@@ -15,14 +15,14 @@ use Rattle.ti_base.specs.declared.entry.Answer.TheVariants.{Done, Val}
 use Rattle.ti_base.specs.declared.entry.Entry.{Entry}
 use Rattle.ti_base.specs.Rects.{is_in}
 use Rattle.ti_base.specs.Cells.{Cell, Field, Grid, cell_of, suits, view_fault}
-use Rattle.ti_lang.specs.Program.Classes.{NumberedProgram}
+use Rattle.ti_lang.specs.Program.Classes.{ProgramView}
 use Rattle.ti_lang.specs.Meaning.Zeros.{zeros_of_class}
 use Rattle.ti_base.specs.Forms.{is_dim}
 use Rattle.ti_lang.specs.Meaning.Histories.{History, is_making, is_departure, entries_of, arrivals, departures}
-use Rattle.ti_lang.specs.Meaning.RoundsOf.{Arrival, round_of, arrival_at, last_arrival, value_in, given, was_left, makes_region}
+use Rattle.ti_lang.specs.Meaning.RoundsOf.{Arrival, round_of, arrival_at, last_arrival, value_in, deposit_from, was_left, makes_region}
 use Rattle.ti_lang.specs.Meaning.RegionsOf.{is_made, is_gone}
 use Rattle.ti_lang.specs.Meaning.RegionUse.{is_in_use}
-use Rattle.ti_lang.specs.Meaning.HeapOf.{grid_of, new_id, view_id, last_written, zero_of, cell_value, cost_of, cost_of_making, region_made_in, most_cells}
+use Rattle.ti_lang.specs.Meaning.HeapOf.{grid_of_id, new_id, view_id, last_written, zero_of, cell_value, cost_of, cost_of_making, region_made_in, most_cells}
 use Rattle.ti_lang.specs.Meaning.HeapAnswers.{Outcome, Answers, Faults, Impossible, where_some, possible_if, faults_if, answers_value, makes, places, at_point, views, leaves_delete, departs, heap_answer}
 use Rattle.ti_align.proofs.Lemmas.{true_false, none_some, some_same}
 use Rattle.ti_lang.specs.Meaning.Races.{cell_used}
@@ -80,7 +80,7 @@ level a d h = omega arith
 
 -- ---- one entry of the kept history, and the same process behind another history
 
-module _ (p : NumberedProgram) (n : ℕ) (kept : History) (whole : Course p n kept) (like : Alike kept) (free : NoRace kept)
+module _ (p : ProgramView) (n : ℕ) (kept : History) (whole : Course p n kept) (like : Alike kept) (free : NoRace kept)
     (before : List Entry) (e : Entry) (k : History) (stands : kept ≡ before ++ e ∷ k)
     (h : History) (course : Course p n h) (on : (j : ℕ) → GoesOn j h kept) (on_k : (j : ℕ) → GoesOn j k kept) (same : entries_of e.proc h ≡ entries_of e.proc k) where
   abbrev i : ℕ
@@ -147,16 +147,16 @@ module _ (p : NumberedProgram) (n : ℕ) (kept : History) (whole : Course p n ke
         some_both r (cell_value p c k) (cell_value p c h) (λ x. Answers (Val x)) (λ x. Answers (Val x))
         (λ x y a b. equal r _ _ (ap (λ u. Answers (Val u)) (some_same y x (sym b ∙ value_like c u x y a b ∙ a))))
 
-  grid_like : (id : Id) (a b : Grid) → grid_of id k ≡ Some a → grid_of id h ≡ Some b → a ≡ b
+  grid_like : (id : Id) (a b : Grid) → grid_of_id id k ≡ Some a → grid_of_id id h ≡ Some b → a ≡ b
   grid_like id a b x y = some_same a b (sym (grid_kept p n kept whole k at_k on_k id a x) ∙ grid_kept p n kept whole h course on id b y)
 
   -- what was given
-  given_like : (r : Answer) (who : ℕ) → Same r (answers_value (given i who k)) (answers_value (given i who h))
+  given_like : (r : Answer) (who : ℕ) → Same r (answers_value (deposit_from i who k)) (answers_value (deposit_from i who h))
   given_like r who =
-      some_both r (given i who k) (given i who h) (λ x. Answers (Val x)) (λ x. Answers (Val x))
+      some_both r (deposit_from i who k) (deposit_from i who h) (λ x. Answers (Val x)) (λ x. Answers (Val x))
       (λ x y a b. equal r _ _ (ap (λ u. Answers (Val u)) (one x y a b)))
     where
-      one : (x y : Value) → given i who k ≡ Some x → given i who h ≡ Some y → y ≡ x
+      one : (x y : Value) → deposit_from i who k ≡ Some x → deposit_from i who h ≡ Some y → y ≡ x
       one x y a b =
           let u = some_given (arrival_at who (arrivals i k) k) x a in
           let w = some_given (arrival_at who (arrivals i h) h) y b in
@@ -191,7 +191,7 @@ module _ (p : NumberedProgram) (n : ℕ) (kept : History) (whole : Course p n ke
     departs_like x coll.Barrier a d l z = equal x _ _ refl
     departs_like x coll.Exchange a d l z = equal x _ _ refl
     departs_like x coll.Broadcast a d l z = some_both x a.arg a.arg _ _
-        (λ root other y w. subst (λ m. Same x (answers_value (given i root k)) (answers_value (given i m h)))
+        (λ root other y w. subst (λ m. Same x (answers_value (deposit_from i root k)) (answers_value (deposit_from i m h)))
         (some_same root other (sym y ∙ w)) (given_like x root))
     departs_like x coll.MakeRegion a d l z = equal x _ _ (ap (λ (es : List Entry). Answers (Val (v.Region (count_by (λ (y : Entry). makes_region y.act) es)))) same)
     departs_like x coll.DeleteRegion a d l z = leaves_like x a.arg a d l z refl
@@ -209,7 +209,7 @@ module _ (p : NumberedProgram) (n : ℕ) (kept : History) (whole : Course p n ke
         (places_like s x region _ _ (makes_like s x (act.NewGrid zero d region) _ _ (ap (λ (id : Id). v.Grid (Some id)) (new_like s region))))
     answer_with x (act.GetElem grid at) z =
         let s = ap is_departure z in
-        some_both x (grid_of grid k) (grid_of grid h) _ _ (λ a b y w.
+        some_both x (grid_of_id grid k) (grid_of_id grid h) _ _ (λ a b y w.
         let one : a ≡ b = grid_like grid a b y w in
         let used : cell_used e.act k ≡ Some (cell_of a at) = ap (λ q. cell_used q k) z ∙ ap (option_map (λ (g : Grid). cell_of g at)) y in
         subst (λ (g : Grid). Same x (at_point a at (answers_value (cell_value p (cell_of a at) k))) (at_point g at (answers_value (cell_value p (cell_of g at) h)))) one
@@ -217,17 +217,17 @@ module _ (p : NumberedProgram) (n : ℕ) (kept : History) (whole : Course p n ke
         (faults_same x (not (is_in a.domain at)) (not (is_in a.domain at)) fault.Bounds _ _ refl
         (read_like s x (cell_of a at) used))))
     answer_with x (act.PutElem grid at value) z =
-        some_both x (grid_of grid k) (grid_of grid h) _ _ (λ a b y w. equal x _ _ (ap (λ (g : Grid). at_point g at (Answers Done)) (sym (grid_like grid a b y w))))
+        some_both x (grid_of_id grid k) (grid_of_id grid h) _ _ (λ a b y w. equal x _ _ (ap (λ (g : Grid). at_point g at (Answers Done)) (sym (grid_like grid a b y w))))
     answer_with x (act.MakeView grid how) z =
         let s = ap is_departure z in
-        some_both x (grid_of grid k) (grid_of grid h) _ _ (λ a b y w.
+        some_both x (grid_of_id grid k) (grid_of_id grid h) _ _ (λ a b y w.
         subst (λ (g : Grid). Same x (possible_if (suits how a.domain) (views (view_fault how a.domain) (makes p k i (act.MakeView grid how) (v.Grid (Some (view_id i grid k))))))
         (possible_if (suits how g.domain) (views (view_fault how g.domain) (makes p h i (act.MakeView grid how) (v.Grid (Some (view_id i grid h))))))) (grid_like grid a b y w)
         (possible_same x (suits how a.domain) (suits how a.domain) _ _
         (views_same x (view_fault how a.domain) _ _ (makes_like s x (act.MakeView grid how) _ _
         (ap (λ (id : Id). v.Grid (Some id)) (view_like s grid))))))
     answer_with x (act.DomainOf grid) z =
-        some_both x (grid_of grid k) (grid_of grid h) _ _ (λ a b y w. equal x _ _ (ap (λ (g : Grid). Answers (Val (v.Rc g.domain))) (sym (grid_like grid a b y w))))
+        some_both x (grid_of_id grid k) (grid_of_id grid h) _ _ (λ a b y w. equal x _ _ (ap (λ (g : Grid). Answers (Val (v.Rc g.domain))) (sym (grid_like grid a b y w))))
     answer_with x (act.Arrive coll.DeleteRegion arg d) z =
         let s = ap is_departure z in
         some_both x arg arg _ _ (λ r q y w. subst (λ m. Same x (possible_if (is_made r k)

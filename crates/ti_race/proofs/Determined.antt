@@ -9,12 +9,12 @@ use Rattle.ti_base.specs.declared.action.Action.TheVariants as act
 use Rattle.ti_base.specs.declared.entry.Entry.{Entry}
 use Rattle.ti_base.specs.declared.entry.Next.{Next}
 use Rattle.ti_base.specs.declared.entry.Next.TheVariants as next
-use Rattle.ti_lang.specs.Meaning.Processes.{Setting, begin}
+use Rattle.ti_lang.specs.Meaning.Processes.{RunConfig, begin}
 use Rattle.ti_lang.specs.Meaning.NextStep.{IsNext, After}
 use Rattle.ti_lang.specs.Meaning.Histories.{History, history_of, is_end, is_fault, is_departure, is_answered, entries_of, answers_of, arrivals, departures, has_end, has_fault}
 use Rattle.ti_lang.specs.Meaning.HeapAnswers.{Outcome, Answers, Impossible, heap_answer}
 use Rattle.ti_lang.specs.Meaning.HeapAnswers as heap
-use Rattle.ti_lang.specs.Meaning.Runs.{World, IsReady, CanTake, IsRun, AllEnded, entry_with, entry_of}
+use Rattle.ti_lang.specs.Meaning.Runs.{ProcAfter, IsReady, CanTake, IsRun, AllEnded, entry_with, entry_of}
 use Rattle.ti_lang.specs.Meaning.Runs as run
 use Rattle.ti_lang.proofs.Lemmas.{next_same, after_same, taker, history_grows, some_entry, fronts}
 use Rattle.ti_align.specs.Alignment.{ArrivalsAgree}
@@ -66,7 +66,7 @@ last_of (x ∷ xs) = inr (by (last_of xs))
     by (inr z) = (x ∷ z.0, z.1, ap (λ zs. x ∷ zs) z.2)
 
 -- the last entry of a run was one that its process could take
-last_taken : (s : Setting) (es all : List Entry) (e : Entry) → IsRun s all → all ≡ es ++ e ∷ [] → CanTake s es e.proc e
+last_taken : (s : RunConfig) (es all : List Entry) (e : Entry) → IsRun s all → all ≡ es ++ e ∷ [] → CanTake s es e.proc e
 last_taken s es all e run.none z = absurd (none es z)
   where
     none_more : (x : Entry) (xs : List Entry) → [] ≡ x ∷ xs → ⊥
@@ -118,7 +118,7 @@ end_no_fault act.End k = refl
 end_no_fault _ k = absurd (true_false (sym k))
 
 -- where all have their end there is no fault
-pub no_fault : (s : Setting) (es : List Entry) → IsRun s es → AllEnded s es → has_fault es ≡ false
+pub no_fault : (s : RunConfig) (es : List Entry) → IsRun s es → AllEnded s es → has_fault es ≡ false
 no_fault s es run.none ends = refl
 no_fault s all (run.more {es = es} {i = i} {e = e} ran t z) ends =
     ap has_fault z ∙ list_any-append (λ (e : Entry). is_fault e.act) es (e ∷ [])
@@ -127,7 +127,7 @@ no_fault s all (run.more {es = es} {i = i} {e = e} ran t z) ends =
 -- ---- the same step
 
 -- the entry of the kept run is taken in the other one
-same_entry : (s : Setting) (ks es : List Entry) (i : ℕ) (n : Next) (x e : Entry) → entry_of s ks i n ≡ Some x → is_fault x.act ≡ false → entry_of s es i n ≡ Some e
+same_entry : (s : RunConfig) (ks es : List Entry) (i : ℕ) (n : Next) (x e : Entry) → entry_of s ks i n ≡ Some x → is_fault x.act ≡ false → entry_of s es i n ≡ Some e
     → ((heap_answer s.program (history_of es) x.proc x.act ≡ Impossible → ⊥) → heap_answer s.program (history_of es) x.proc x.act ≡ Answers x.answer) → e ≡ x
 same_entry s ks es i (next.End at) x e a k b f = some_entry e x (sym b ∙ a)
 same_entry s ks es i (next.Fault kind at) x e a k b f = absurd (true_false (ap (λ (y : Entry). is_fault y.act) (some_entry _ x a) ∙ k))
@@ -149,7 +149,7 @@ same_entry s ks es i (next.Act at d) x e a k b f = by (heap_answer s.program (hi
         ∙ ap (λ (z : Entry). Answers z.answer) (sym is) in
         some_entry e x (sym b ∙ ap (entry_with i at d) told ∙ y)
 
-module _ (s : Setting) (kept : List Entry) (ran : IsRun s kept) (agree : ArrivalsAgree s kept) (ended : AllEnded s kept) (free : races kept ≡ []) where
+module _ (s : RunConfig) (kept : List Entry) (ran : IsRun s kept) (agree : ArrivalsAgree s kept) (ended : AllEnded s kept) (free : races kept ≡ []) where
   abbrev h : History
   h = history_of kept
 
@@ -259,7 +259,7 @@ module _ (s : Setting) (kept : List Entry) (ran : IsRun s kept) (agree : Arrival
               subst (λ a. entries_of a h ≡ y.0 ++ e ∷ entries_of a (history_of es)) who (later ∙ ap (λ x. y.0 ++ x ∷ entries_of i (history_of es)) (sym same)) in
               (y.0, now ∙ ap (λ xs. y.0 ++ xs) (sym (own_more j e (history_of es) k)))
 
-pub determines : (s : Setting) (kept : List Entry) → IsRun s kept → ArrivalsAgree s kept → Determines s kept
+pub determines : (s : RunConfig) (kept : List Entry) → IsRun s kept → ArrivalsAgree s kept → Determines s kept
 determines s kept ran agree ended free other i others =
     let on = goes_on s kept ran agree ended free other others i in (
       reverse on.0,

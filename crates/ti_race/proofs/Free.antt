@@ -9,12 +9,12 @@ use Rattle.ti_base.specs.declared.action.Action.TheVariants as act
 use Rattle.ti_base.specs.declared.entry.Entry.{Entry}
 use Rattle.ti_base.specs.Cells.{Cell, Field, Element, same_cell, Grid, cell_of}
 use Rattle.ti_base.proofs.Lemmas.{same_self}
-use Rattle.ti_lang.specs.Program.Classes.{NumberedProgram}
+use Rattle.ti_lang.specs.Program.Classes.{ProgramView}
 use Rattle.ti_lang.specs.Meaning.Histories.{History, history_of, departures}
-use Rattle.ti_lang.specs.Meaning.HeapOf.{grid_of, written_by, written_to}
+use Rattle.ti_lang.specs.Meaning.HeapOf.{grid_of_id, written_by, written_to}
 use Rattle.ti_align.proofs.Lemmas.{true_false, or_false, or_right, none_some}
 use Rattle.ti_align.proofs.Lemmas as heaping
-use Rattle.ti_lang.specs.Meaning.Races.{is_put, cell_used, Access, access_of, added, accesses, race, races_among, races}
+use Rattle.ti_lang.specs.Meaning.Races.{is_put, cell_used, Access, access_of, prepend_option, accesses, race, races_among, races}
 use Rattle.ti_race.proofs.Lists.{Member, Mark}
 use Rattle.ti_race.proofs.Courses.{Course, none, more}
 use Rattle.ti_race.proofs.Own.{GoesOn}
@@ -73,19 +73,19 @@ written_where c d value x z = by (same_cell c d) refl z
 
 pub used_of : (a : Action) (h : History) (c : Cell) (x : Value) → written_to c (written_by a h) ≡ Some x → (cell_used a h ≡ Some c) × (is_put a ≡ true)
 used_of (act.PutField o f value) h c x z = (ap Some (sym (written_where c (Field o f) value x z)), refl)
-used_of (act.PutElem grid at value) h c x z = (by (grid_of grid h) z, refl)
+used_of (act.PutElem grid at value) h c x z = (by (grid_of_id grid h) z, refl)
   where
     by : (o : Option Grid) → written_to c (option_map (λ (g : Grid). (cell_of g at, value)) o) ≡ Some x → option_map (λ (g : Grid). cell_of g at) o ≡ Some c
     by None z = absurd (none_some x z)
     by (Some g) z = ap Some (sym (written_where c (cell_of g at) value x z))
 used_of _ h c x z = absurd (none_some x z)
 
-member_added : (o : Option Access) (xs : List Access) (a : Access) → Member a xs → Member a (added o xs)
+member_added : (o : Option Access) (xs : List Access) (a : Access) → Member a xs → Member a (prepend_option o xs)
 member_added None xs a z = z
 member_added (Some x) xs a z = inr z
 
-member_new : (o : Option Access) (xs : List Access) (a : Access) → o ≡ Some a → Member a (added o xs)
-member_new o xs a z = subst (λ p. Member a (added p xs)) (sym z) (inl refl)
+member_new : (o : Option Access) (xs : List Access) (a : Access) → o ≡ Some a → Member a (prepend_option o xs)
+member_new o xs a z = subst (λ p. Member a (prepend_option p xs)) (sym z) (inl refl)
 
 -- the access of an entry that stands in the history
 pub access_there : (before : List Entry) (e : Entry) (h : History) (a : Access) → access_of e h ≡ Some a → Member a (accesses (before ++ e ∷ h))
@@ -112,7 +112,7 @@ one_owner a b c r p x y w = by (a.proc == b.proc) refl
     by true k = eqb-true a.proc b.proc k
     by false k = absurd (true_false (sym (all false k) ∙ r))
 
-module _ (p : NumberedProgram) (n : ℕ) (kept : History) (whole : Course p n kept) (c : Cell) where
+module _ (p : ProgramView) (n : ℕ) (kept : History) (whole : Course p n kept) (c : Cell) where
   -- what a mark says is said by an access
   pub record Wrote (h : History) (m : Mark) : Type 0 where
     pub access : Access

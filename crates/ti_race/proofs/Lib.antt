@@ -15,7 +15,7 @@ pub mod SameSpots
 pub mod Seen
 pub mod Splits
 pub mod Things
-pub mod ToldRaces
-pub mod ToldThings
+pub mod EntryRaces
+pub mod IndexedObjects
 pub mod ToldUses
 pub mod Writes

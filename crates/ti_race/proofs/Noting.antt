@@ -7,16 +7,16 @@ use Rattle.std.specs.Ordering.{int_eq}
 use Rattle.std.specs.Cmp.{signed_Decides}
 use Rattle.std.proofs.lemmas.Cmp.{int_eq_equiv}
 use Rattle.ti_race.specs.declared.spots.Use.{Use}
-use Rattle.ti_race.specs.declared.spots.Name.{Name}
-use Rattle.ti_race.specs.declared.spots.At.{At}
+use Rattle.ti_race.specs.declared.spots.IdKey.{IdKey}
+use Rattle.ti_race.specs.declared.spots.PointKey.{PointKey}
 use Rattle.ti_race.specs.declared.spots.Thing.{Thing}
 use Rattle.ti_race.specs.declared.spots.Thing.TheVariants.{Made, Untold}
 use Rattle.ti_race.specs.declared.spots.Spot.{Spot}
 use Rattle.ti_race.specs.declared.spots.Spot.TheVariants.{FieldOf, CellOf, PointOf}
 use Rattle.ti_race.specs.contracts.spots.ThingPartialEq.TheImpl as thing_eq
 use Rattle.ti_race.specs.declared.table.Procs.{Procs}
-use Rattle.ti_race.specs.declared.table.Seen.{Seen}
-use Rattle.ti_race.specs.Mirrors.Table.{same_spot, clash, others, Key, same_key, key_of, users_in, writers_in, used_by_others, written_by_others, racing_by, Tells}
+use Rattle.ti_race.specs.declared.table.Accessors.{Accessors}
+use Rattle.ti_race.specs.Mirrors.AccessTable.{same_spot, clash, others, LocationKey, same_location_key, access_key, users_in, writers_in, used_by_others, written_by_others, racing_by, IsTableOf}
 
 or_none : (a : Bool) → a ≡ (a || false)
 or_none true = refl
@@ -33,10 +33,10 @@ both_right false b k = cc
 pub int_eq-true : (x y : ℤ) → int_eq x y ≡ true → x ≡ y
 int_eq-true x y k = (signed_Decides x y).0 k
 
-abbrev pub same_name : Name → Name → Bool
+abbrev pub same_name : IdKey → IdKey → Bool
 same_name a b = a.maker == b.maker && (a.serial == b.serial && (a.owner == b.owner && a.region == b.region))
 
-pub name_same : (a b : Name) → same_name a b ≡ true → a ≡ b
+pub name_same : (a b : IdKey) → same_name a b ≡ true → a ≡ b
 name_same a b k =
     let x = both_right (a.maker == b.maker) _ k in
     let y = both_right (a.serial == b.serial) _ x in λ i. record {
@@ -46,7 +46,7 @@ name_same a b k =
       region = eqb-true a.region b.region (both_right (a.owner == b.owner) _ y) i;
     }
 
-at_same : (a b : At) → (a.dim == b.dim && (int_eq a.x1 b.x1 && (int_eq a.x2 b.x2 && int_eq a.x3 b.x3))) ≡ true → a ≡ b
+at_same : (a b : PointKey) → (a.dim == b.dim && (int_eq a.x1 b.x1 && (int_eq a.x2 b.x2 && int_eq a.x3 b.x3))) ≡ true → a ≡ b
 at_same a b k =
     let x = both_right (a.dim == b.dim) _ k in
     let y = both_right (int_eq a.x1 b.x1) _ x in λ i. record {
@@ -73,12 +73,12 @@ spot_same (CellOf m i) (PointOf b q) k = cc
 spot_same (PointOf a p) (FieldOf u g) k = cc
 spot_same (PointOf a p) (CellOf n j) k = cc
 
-pub name_self : (a : Name) → same_name a a ≡ true
+pub name_self : (a : IdKey) → same_name a a ≡ true
 name_self a = ap₂ (λ x y. x && y) (eq-eqb a.maker a.maker refl)
     (ap₂ (λ x y. x && y) (eq-eqb a.serial a.serial refl) (ap₂ (λ x y. x && y) (eq-eqb a.owner a.owner refl)
     (eq-eqb a.region a.region refl)))
 
-pub at_self : (p : At) → (p.dim == p.dim && (int_eq p.x1 p.x1 && (int_eq p.x2 p.x2 && int_eq p.x3 p.x3))) ≡ true
+pub at_self : (p : PointKey) → (p.dim == p.dim && (int_eq p.x1 p.x1 && (int_eq p.x2 p.x2 && int_eq p.x3 p.x3))) ≡ true
 at_self p = ap₂ (λ x y. x && y) (eq-eqb p.dim p.dim refl) (ap₂ (λ x y. x && y) (int_eq_equiv.refl p.x1) (ap₂ (λ x y. x && y) (int_eq_equiv.refl p.x2) (int_eq_equiv.refl p.x3)))
 
 thing_self : (a : Thing) → (thing_eq.ghosts).eq a a ≡ true
@@ -98,7 +98,7 @@ spot_turned a b = by (same_spot a b) refl (same_spot b a) refl
     by false p true q = subst (λ c. same_spot c b ≡ same_spot b c) (spot_same b a q) refl
     by false p false q = p ∙ sym q
 
-pub key_same : (a b : Key) → same_key a b ≡ true → a ≡ b
+pub key_same : (a b : LocationKey) → same_location_key a b ≡ true → a ≡ b
 key_same a b k = λ i. (spot_same a.0 b.0 (both_left (same_spot a.0 b.0) _ k) i, eqb-true a.1 b.1 (both_right (same_spot a.0 b.0) _ k) i)
 
 turned : (a b : ℕ) → (a == b) ≡ (b == a)
@@ -110,18 +110,18 @@ turned a b = by (a == b) refl (b == a) refl
     by false p false q = p ∙ sym q
 
 -- a value at a key, which comes from the old one there by a test more
-pub updated : {S : Type 0} (part : Option Seen → Option Procs) (m n : HashMap Key Seen S) (k : Key) (w : Seen) (new : ℕ → Bool) → Updates same_key m n k (Some w)
-    → ((i : ℕ) → others (part (Some w)) i ≡ (others (part (get same_key m k)) i || new i))
-    → (key : Key) (i : ℕ) → others (part (get same_key n key)) i ≡ (others (part (get same_key m key)) i || (same_key k key && new i))
-updated part m n k w new u h key i = by (same_key k key) refl
+pub updated : {S : Type 0} (part : Option Accessors → Option Procs) (m n : HashMap LocationKey Accessors S) (k : LocationKey) (w : Accessors) (new : ℕ → Bool) → Updates same_location_key m n k (Some w)
+    → ((i : ℕ) → others (part (Some w)) i ≡ (others (part (get same_location_key m k)) i || new i))
+    → (key : LocationKey) (i : ℕ) → others (part (get same_location_key n key)) i ≡ (others (part (get same_location_key m key)) i || (same_location_key k key && new i))
+updated part m n k w new u h key i = by (same_location_key k key) refl
   where
-    by : (b : Bool) → same_key k key ≡ b → others (part (get same_key n key)) i ≡ (others (part (get same_key m key)) i || (same_key k key && new i))
+    by : (b : Bool) → same_location_key k key ≡ b → others (part (get same_location_key n key)) i ≡ (others (part (get same_location_key m key)) i || (same_location_key k key && new i))
     by true z =
         let same : k ≡ key = key_same k key z in
-        subst (λ q. others (part (get same_key n q)) i ≡ (others (part (get same_key m q)) i || (same_key k key && new i))) same
-        (ap (λ o. others (part o) i) u.1 ∙ h i ∙ ap (λ b. others (part (get same_key m k)) i || (b && new i)) (sym z))
+        subst (λ q. others (part (get same_location_key n q)) i ≡ (others (part (get same_location_key m q)) i || (same_location_key k key && new i))) same
+        (ap (λ o. others (part o) i) u.1 ∙ h i ∙ ap (λ b. others (part (get same_location_key m k)) i || (b && new i)) (sym z))
     by false z =
-        ap (λ o. others (part o) i) (u.2 key z) ∙ or_none _ ∙ ap (λ b. others (part (get same_key m key)) i || (b && new i)) (sym z)
+        ap (λ o. others (part o) i) (u.2 key z) ∙ or_none _ ∙ ap (λ b. others (part (get same_location_key m key)) i || (b && new i)) (sym z)
 
 -- ---- one use more
 
@@ -129,22 +129,22 @@ one_more : (test : Use → Bool) (us : List Use) (u : Use) → list_any test (us
 one_more test us u = list_any-append test us (u ∷ []) ∙ ap (λ b. list_any test us || b) (sym (or_none (test u)))
 
 -- the table tells of one use more, where it is noted
-pub tells_more : {S : Type 0} (m n : HashMap Key Seen S) (us : List Use) (u : Use)
-    → ((key : Key) (i : ℕ) → others (users_in (get same_key n key)) i ≡ (others (users_in (get same_key m key)) i || (same_key (key_of u) key && not (u.proc == i))))
-    → ((key : Key) (i : ℕ) → others (writers_in (get same_key n key)) i ≡ (others (writers_in (get same_key m key)) i || (same_key (key_of u) key && (u.writes && not (u.proc == i)))))
-    → Tells m us → Tells n (us ++ u ∷ [])
+pub tells_more : {S : Type 0} (m n : HashMap LocationKey Accessors S) (us : List Use) (u : Use)
+    → ((key : LocationKey) (i : ℕ) → others (users_in (get same_location_key n key)) i ≡ (others (users_in (get same_location_key m key)) i || (same_location_key (access_key u) key && not (u.proc == i))))
+    → ((key : LocationKey) (i : ℕ) → others (writers_in (get same_location_key n key)) i ≡ (others (writers_in (get same_location_key m key)) i || (same_location_key (access_key u) key && (u.writes && not (u.proc == i)))))
+    → IsTableOf m us → IsTableOf n (us ++ u ∷ [])
 tells_more m n us u f g t key i = (
-  f key i ∙ ap (λ b. b || (same_key (key_of u) key && not (u.proc == i))) (t key i).0 ∙ sym (one_more (λ (w : Use). same_key (key_of w) key && not (w.proc == i)) us u),
-  g key i ∙ ap (λ b. b || (same_key (key_of u) key && (u.writes && not (u.proc == i)))) (t key i).1 ∙ sym (one_more (λ (w : Use). same_key (key_of w) key && (w.writes && not (w.proc == i))) us u),
+  f key i ∙ ap (λ b. b || (same_location_key (access_key u) key && not (u.proc == i))) (t key i).0 ∙ sym (one_more (λ (w : Use). same_location_key (access_key w) key && not (w.proc == i)) us u),
+  g key i ∙ ap (λ b. b || (same_location_key (access_key u) key && (u.writes && not (u.proc == i)))) (t key i).1 ∙ sym (one_more (λ (w : Use). same_location_key (access_key w) key && (w.writes && not (w.proc == i))) us u),
 )
 
 -- ---- what the table says
 
-clash_writing : (u : Use) → u.writes ≡ true → (us : List Use) → list_any (clash u) us ≡ used_by_others us (key_of u) u.proc
+clash_writing : (u : Use) → u.writes ≡ true → (us : List Use) → list_any (clash u) us ≡ used_by_others us (access_key u) u.proc
 clash_writing u k [] = refl
 clash_writing u k (w ∷ us) = ap₂ (λ a b. a || b) one (clash_writing u k us)
   where
-    one : clash u w ≡ (same_key (key_of w) (key_of u) && not (w.proc == u.proc))
+    one : clash u w ≡ (same_location_key (access_key w) (access_key u) && not (w.proc == u.proc))
     one =
         ap (λ b. not (u.proc == w.proc) && u.phase == w.phase && same_spot u.spot w.spot && (b || w.writes)) k
         ∙ ap₂ (λ a b. not a && b && same_spot u.spot w.spot && true) (turned u.proc w.proc) (turned u.phase w.phase)
@@ -161,11 +161,11 @@ clash_writing u k (w ∷ us) = ap₂ (λ a b. a || b) one (clash_writing u k us)
         order false false true = refl
         order false false false = refl
 
-clash_reading : (u : Use) → u.writes ≡ false → (us : List Use) → list_any (clash u) us ≡ written_by_others us (key_of u) u.proc
+clash_reading : (u : Use) → u.writes ≡ false → (us : List Use) → list_any (clash u) us ≡ written_by_others us (access_key u) u.proc
 clash_reading u k [] = refl
 clash_reading u k (w ∷ us) = ap₂ (λ a b. a || b) one (clash_reading u k us)
   where
-    one : clash u w ≡ (same_key (key_of w) (key_of u) && (w.writes && not (w.proc == u.proc)))
+    one : clash u w ≡ (same_location_key (access_key w) (access_key u) && (w.writes && not (w.proc == u.proc)))
     one =
         ap (λ b. not (u.proc == w.proc) && u.phase == w.phase && same_spot u.spot w.spot && (b || w.writes)) k
         ∙ ap₂ (λ a b. not a && b && same_spot u.spot w.spot && w.writes) (turned u.proc w.proc) (turned u.phase w.phase)
@@ -184,12 +184,12 @@ clash_reading u k (w ∷ us) = ap₂ (λ a b. a || b) one (clash_reading u k us)
         order false false true d = refl
         order false false false d = refl
 
-racing_is : {S : Type 0} (table : HashMap Key Seen S) (us : List Use) → Tells table us → (u : Use) → racing_by table u ≡ list_any (clash u) us
+racing_is : {S : Type 0} (table : HashMap LocationKey Accessors S) (us : List Use) → IsTableOf table us → (u : Use) → racing_by table u ≡ list_any (clash u) us
 racing_is table us t u = by u.writes refl
   where
-    by : (b : Bool) → u.writes ≡ b → (if b then others (users_in (get same_key table (key_of u))) u.proc else others (writers_in (get same_key table (key_of u))) u.proc) ≡ list_any (clash u) us
-    by true k = (t (key_of u) u.proc).0 ∙ sym (clash_writing u k us)
-    by false k = (t (key_of u) u.proc).1 ∙ sym (clash_reading u k us)
+    by : (b : Bool) → u.writes ≡ b → (if b then others (users_in (get same_location_key table (access_key u))) u.proc else others (writers_in (get same_location_key table (access_key u))) u.proc) ≡ list_any (clash u) us
+    by true k = (t (access_key u) u.proc).0 ∙ sym (clash_writing u k us)
+    by false k = (t (access_key u) u.proc).1 ∙ sym (clash_reading u k us)
 
-pub racing_all : {S : Type 0} (table : HashMap Key Seen S) (us xs : List Use) → Tells table us → filter (racing_by table) xs ≡ filter (λ u. list_any (clash u) us) xs
+pub racing_all : {S : Type 0} (table : HashMap LocationKey Accessors S) (us xs : List Use) → IsTableOf table us → filter (racing_by table) xs ≡ filter (λ u. list_any (clash u) us) xs
 racing_all table us xs t = ap (λ (test : Use → Bool). filter test xs) (λ i u. racing_is table us t u i)

@@ -24,11 +24,11 @@ use Rattle.ti_race.specs.declared.spots.Spot.TheVariants.{FieldOf, CellOf, Point
 use Rattle.ti_race.specs.declared.spots.Thing.{Thing}
 use Rattle.ti_race.specs.declared.spots.Thing.TheVariants.{Made, Untold}
 use Rattle.ti_race.specs.declared.spots.Use.{Use}
-use Rattle.ti_race.specs.contracts.spots.NamePartialEq.TheImpl as name_eq
+use Rattle.ti_race.specs.contracts.spots.IdKeyPartialEq.TheImpl as name_eq
 use Rattle.ti_race.specs.contracts.spots.ThingPartialEq.TheImpl as thing_eq
-use Rattle.ti_race.specs.contracts.spots.AtPartialEq.TheImpl as at_eq
-use Rattle.ti_race.specs.Mirrors.Table.{same_spot, clash, racing_in}
-use Rattle.ti_race.specs.Mirrors.Told.{name_key, point_key, whole_at, IsThing, IsSpot, IsUse, AreUses, HasUses, IsListed, use_line, report_of}
+use Rattle.ti_race.specs.contracts.spots.PointKeyPartialEq.TheImpl as at_eq
+use Rattle.ti_race.specs.Mirrors.AccessTable.{same_spot, clash, racing_in}
+use Rattle.ti_race.specs.Mirrors.HistoryIndex.{id_key, point_key, whole_at, IsThing, IsSpot, IsUse, AreUses, HasUses, IsListed, use_line, report_of}
 use Rattle.ti_race.proofs.Noting.{int_eq-true}
 use Rattle.ti_race.proofs.Seen.{true_false, not_true}
 use Rattle.std.proofs.lemmas.Cmp.{int_eq_equiv}
@@ -40,7 +40,7 @@ regroup true true c d = refl
 regroup true false c d = refl
 regroup false b c d = refl
 
-names_like : (a b : Id) → (name_eq.ghosts).eq (name_key a) (name_key b) ≡ same_id a b
+names_like : (a b : Id) → (name_eq.ghosts).eq (id_key a) (id_key b) ≡ same_id a b
 names_like a b = regroup (a.maker == b.maker) (a.serial == b.serial) (a.owner == b.owner) (a.region == b.region)
 
 numbers_like : (x y : ℤ) → int_eq x y ≡ same_number x y

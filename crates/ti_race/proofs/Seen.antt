@@ -13,8 +13,8 @@ use Rattle.ti_rect.specs.Views.{IsView}
 use Rattle.ti_grid.specs.declared.layout.Layout.{Layout}
 use Rattle.ti_grid.specs.Views.{IsSeen}
 use Rattle.ti_lang.specs.Meaning.Spots.{Block, no_fault, viewed_told}
-use Rattle.ti_race.specs.declared.lying.Lying.{Lying}
-use Rattle.ti_race.specs.Mirrors.Lying.{Keeps, KeepsView, SeenIf}
+use Rattle.ti_race.specs.declared.grid_layout.GridLayout.{GridLayout}
+use Rattle.ti_race.specs.Mirrors.GridLayout.{LaysOut, LaysOutIf, SeenIf}
 
 pub true_false : true ≡ false → ⊥
 true_false e = cc
@@ -60,15 +60,15 @@ pub if_false : {A : Type 0} → (b : Bool) (x y : A) → b ≡ false → (if b t
 if_false b x y e = rw e refl
 
 -- of a view of a grid that was told
-pub keeps_none : (how : ViewHow) (whole : Rect) (g : Lying) (b : Block) → Keeps whole g b → SeenIf how g.view None → KeepsView whole None (viewed_told how (Some b))
+pub keeps_none : (how : ViewHow) (whole : Rect) (g : GridLayout) (b : Block) → LaysOut whole g b → SeenIf how g.view None → LaysOutIf whole None (viewed_told how (Some b))
 keeps_none how whole g b k s =
-    subst (KeepsView whole None) (sym (if_false _ _ _ (ap (λ d. suits how d && no_fault (view_fault how d)) (sym k.domain) ∙ s))) tt
+    subst (LaysOutIf whole None) (sym (if_false _ _ _ (ap (λ d. suits how d && no_fault (view_fault how d)) (sym k.domain) ∙ s))) tt
 
-pub keeps_some : (how : ViewHow) (whole : Rect) (g : Lying) (b : Block) (new : Layout) → Keeps whole g b → SeenIf how g.view (Some new)
+pub keeps_some : (how : ViewHow) (whole : Rect) (g : GridLayout) (b : Block) (new : Layout) → LaysOut whole g b → SeenIf how g.view (Some new)
     → ((p : Point) → is_in (view_domain how g.view.dom) p ≡ true → is_in g.view.dom (seen_point how p) ≡ true)
-    → KeepsView whole (Some (record { number = g.number; view = new })) (viewed_told how (Some b))
+    → LaysOutIf whole (Some (record { number = g.number; view = new })) (viewed_told how (Some b))
 keeps_some how whole g b new k s inside =
-    subst (KeepsView whole (Some (record { number = g.number; view = new }))) (sym (if_true _ _ _ (ap (λ d. suits how d && no_fault (view_fault how d)) (sym k.domain) ∙ s.0)))
+    subst (LaysOutIf whole (Some (record { number = g.number; view = new }))) (sym (if_true _ _ _ (ap (λ d. suits how d && no_fault (view_fault how d)) (sym k.domain) ∙ s.0)))
     (record {
       number = k.number;
       domain = s.1.domain ∙ ap (view_domain how) k.domain;

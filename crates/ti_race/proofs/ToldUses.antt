@@ -4,15 +4,15 @@ use Rattle.std.proofs.lemmas.List.{reverse-append, length-reverse, append-nil}
 use Rattle.std.proofs.lemmas.List.Elements.{All-append, All-nil, All-cons}
 use Rattle.ti_base.specs.declared.entry.Entry.{Entry}
 use Rattle.ti_lang.specs.Meaning.Histories.{History, history_of}
-use Rattle.ti_lang.specs.Meaning.Races.{added}
+use Rattle.ti_lang.specs.Meaning.Races.{prepend_option}
 use Rattle.ti_lang.specs.Meaning.Spots as told
 use Rattle.ti_lang.specs.Meaning.Spots.{uses, use_of}
 use Rattle.ti_race.specs.declared.spots.Spot.{Spot}
 use Rattle.ti_race.specs.declared.spots.Spot.TheVariants.{FieldOf, CellOf, PointOf}
 use Rattle.ti_race.specs.declared.spots.Use.{Use}
 use Rattle.ti_race.specs.declared.uses.Uses.{Uses}
-use Rattle.ti_race.specs.Mirrors.Told.{Tells, IsSpot, IsUse, IsUseIf, AreUses, HasUses, one_or_none, IsListed, Gathers}
-use Rattle.ti_race.proofs.ToldThings.{whole_on}
+use Rattle.ti_race.specs.Mirrors.HistoryIndex.{IndexesHistory, IsSpot, IsUse, IsUseIf, AreUses, HasUses, one_or_none, IsListed, Gathers}
+use Rattle.ti_race.proofs.IndexedObjects.{whole_on}
 
 spot_on : (e : Entry) (h : History) (s : Spot) (t : told.Spot) → IsSpot h s t → IsSpot (e ∷ h) s t
 spot_on e h (FieldOf t f) (told.FieldOf u g) is = is
@@ -34,7 +34,7 @@ uses_on e h [] (a ∷ all) are = absurd are
 uses_on e h (u ∷ us) [] are = absurd are
 
 -- with the use of the entry, where it is one
-pub uses_more : (e : Entry) (h : History) (us : List Use) (all : List told.Use) (u : Option Use) (a : Option told.Use) → AreUses h us all → IsUseIf h u a → AreUses (e ∷ h) (added u us) (added a all)
+pub uses_more : (e : Entry) (h : History) (us : List Use) (all : List told.Use) (u : Option Use) (a : Option told.Use) → AreUses h us all → IsUseIf h u a → AreUses (e ∷ h) (prepend_option u us) (prepend_option a all)
 uses_more e h us all None None are is = uses_on e h us all are
 uses_more e h us all (Some u) (Some a) are is = (use_on e h u a is, uses_on e h us all are)
 uses_more e h us all None (Some a) are is = absurd is
@@ -44,7 +44,7 @@ uses_more e h us all (Some u) None are is = absurd is
 one_more : (es : List Entry) (e : Entry) → history_of (es ++ e ∷ []) ≡ e ∷ history_of es
 one_more es e = reverse-append es (e ∷ [])
 
-back_more : (us : List Use) (u : Option Use) → reverse (us ++ one_or_none u) ≡ added u (reverse us)
+back_more : (us : List Use) (u : Option Use) → reverse (us ++ one_or_none u) ≡ prepend_option u (reverse us)
 back_more us None = ap reverse (append-nil us)
 back_more us (Some u) = reverse-append us (u ∷ [])
 
@@ -82,18 +82,18 @@ listed_more es e n us u counted all of = All-append (IsListed (es ++ e ∷ [])) 
 -- ---- what is kept
 
 -- of one entry more
-pub gathers_more : (was is : Uses) (es : List Entry) (e : Entry) (u : Option Use) → Gathers was es → ((h : History) → Tells was.told h → Tells is.told (e ∷ h))
-    → ((h : History) → Tells was.told h → IsUseIf h u (use_of e h)) → IfSome u (IsOf was.told.count e) → is.found.items ≡ was.found.items ++ one_or_none u → Gathers is (es ++ e ∷ [])
+pub gathers_more : (was is : Uses) (es : List Entry) (e : Entry) (u : Option Use) → Gathers was es → ((h : History) → IndexesHistory was.told h → IndexesHistory is.told (e ∷ h))
+    → ((h : History) → IndexesHistory was.told h → IsUseIf h u (use_of e h)) → IfSome u (IsOf was.told.count e) → is.found.items ≡ was.found.items ++ one_or_none u → Gathers is (es ++ e ∷ [])
 gathers_more was is es e u gathers tells one of grew =
     let h = history_of es in
     let counted : was.told.count ≡ length es = gathers.told.count ∙ length-reverse es in record {
-      told = subst (Tells is.told) (sym (one_more es e)) (tells h gathers.told);
+      told = subst (IndexesHistory is.told) (sym (one_more es e)) (tells h gathers.told);
       uses = subst (λ (g : History). HasUses g is.found.items) (sym (one_more es e)) (subst (HasUses (e ∷ h)) (sym grew) (has_more e h was.found.items u gathers.uses (one h gathers.told)));
       listed = subst (All (IsListed (es ++ e ∷ []))) (sym grew) (listed_more es e was.told.count was.found.items u counted gathers.listed of);
     }
 
 -- the same as before
-pub gathers_still : (was is : Uses) (es : List Entry) → Gathers was es → ((h : History) → Tells was.told h → Tells is.told h) → is.found.items ≡ was.found.items → Gathers is es
+pub gathers_still : (was is : Uses) (es : List Entry) → Gathers was es → ((h : History) → IndexesHistory was.told h → IndexesHistory is.told h) → is.found.items ≡ was.found.items → Gathers is es
 gathers_still was is es gathers tells same = record {
   told = tells (history_of es) gathers.told;
   uses = subst (HasUses (history_of es)) (sym same) gathers.uses;

@@ -1,4 +1,4 @@
 -- Definitions that mirror the code. Only contracts of private functions and invariants cite them; callers rely on none of them.
-pub mod Lying
-pub mod Table
-pub mod Told
+pub mod GridLayout
+pub mod AccessTable
+pub mod HistoryIndex

@@ -28,7 +28,7 @@ fn numbers_of(alloc: Global, uses: &[Use]) -> Result<Vec<u32>, Memory>
 
 /// The numbers of the entries that race, of any list of entries, from 0 and increasing. Which memory location an access refers to is
 /// determined by the entries before it only. Errors if it runs out of memory, or if there are more than 2^32 - 1 entries.
-pub fn told_races(alloc: Global, entries: &[Entry]) -> Result<Vec<u32>, Memory>
+pub fn entry_races(alloc: Global, entries: &[Entry]) -> Result<Vec<u32>, Memory>
     ensures { IfOk result (λ numbers. numbers.items ≡ races_told entries.now) }
 {
     let uses = uses_of(alloc, entries)?;
@@ -42,17 +42,17 @@ pub fn told_races(alloc: Global, entries: &[Entry]) -> Result<Vec<u32>, Memory>
 /// entries.
 pub fn races(
     alloc: Global,
-    p: &Program,
+    program: &Program,
     procs: u32,
     fuel: u32,
     entries: &[Entry],
 ) -> Result<Vec<u32>, Memory>
-    requires is_run { IsRun (record { program = program_of p.now.parts; procs = procs; fuel = fuel }) entries.now }
-    requires formed { (es : List Listed) → IsRun (record { program = program_of p.now.parts; procs = procs; fuel = fuel }) es
-        → ActionsFormed (record { program = program_of p.now.parts; procs = procs; fuel = fuel }) es }
+    requires is_run { IsRun (record { program = program_of program.now.parts; procs = procs; fuel = fuel }) entries.now }
+    requires formed { (es : List Listed) → IsRun (record { program = program_of program.now.parts; procs = procs; fuel = fuel }) es
+        → ActionsFormed (record { program = program_of program.now.parts; procs = procs; fuel = fuel }) es }
     ensures { IfOk result (λ numbers. numbers.items ≡ race_numbers entries.now) }
 {
     races_are_told();
-    let numbers = told_races(alloc, entries)?;
+    let numbers = entry_races(alloc, entries)?;
     Ok(numbers)
 }

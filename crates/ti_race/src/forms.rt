@@ -18,38 +18,42 @@ fn is_dim(dim: u8) -> bool
 }
 
 // Whether the number of dimensions is from 1 to 3 and all unused coordinates are 0.
-fn is_point(p: &Point) -> bool
-    ensures { IsTrue result ↔ IsPoint p.now }
+fn is_point(point: &Point) -> bool
+    ensures { IsTrue result ↔ IsPoint point.now }
 {
-    is_dim(p.dim) && (p.dim >= 2 || p.x2 == 0) && (p.dim >= 3 || p.x3 == 0)
+    is_dim(point.dim) && (point.dim >= 2 || point.x2 == 0) && (point.dim >= 3 || point.x3 == 0)
 }
 
 // Whether a range is canonical: its upper bound is one of its elements, and its stride is 1 if there is only one element.
-fn is_range(a: Axis) -> bool
-    ensures { IsTrue result ↔ IsRange (range a) }
+fn is_range(axis: Axis) -> bool
+    ensures { IsTrue result ↔ IsRange (range axis) }
 {
-    if a.step == 0 || a.high < a.low {
+    if axis.step == 0 || axis.high < axis.low {
         return false;
     }
-    let span = distance(a.low, i64::from(a.high));
+    let span = distance(axis.low, i64::from(axis.high));
     if span == 0 {
-        return a.step == 1;
+        return axis.step == 1;
     }
-    span % u64::from(a.step) == 0
+    span % u64::from(axis.step) == 0
 }
 
 // Whether all three ranges are canonical.
-fn are_ranges(r: &Rect) -> bool
-    ensures { IsTrue result ↔ (IsRange (first_range r.now) × IsRange (second_range r.now) × IsRange (third_range r.now)) }
+fn are_ranges(rect: &Rect) -> bool
+    ensures { IsTrue result ↔ (IsRange (first_range rect.now) × IsRange (second_range rect.now) × IsRange (third_range rect.now)) }
 {
-    is_range(first(r)) && is_range(second(r)) && is_range(third(r))
+    is_range(first(rect)) && is_range(second(rect)) && is_range(third(rect))
 }
 
 // Whether a non-empty rectangle is canonical.
-fn has_points(r: &Rect) -> bool
-    ensures { IsTrue result ↔ HasPoints r.now }
+fn has_points(rect: &Rect) -> bool
+    ensures { IsTrue result ↔ HasPoints rect.now }
 {
-    is_point(&r.lo) && r.lo.dim == r.dim && is_point(&r.hi) && r.hi.dim == r.dim && are_ranges(r)
+    is_point(&rect.lo)
+        && rect.lo.dim == rect.dim
+        && is_point(&rect.hi)
+        && rect.hi.dim == rect.dim
+        && are_ranges(rect)
 }
 
 // The canonical empty rectangle with this number of dimensions.
@@ -77,10 +81,10 @@ fn empty(dim: u8) -> Rect
 }
 
 /// Whether a rectangle, empty or not, is canonical.
-pub fn is_rect(r: &Rect) -> bool
-    ensures { IsTrue result ↔ IsRect r.now }
+pub fn is_rect(rect: &Rect) -> bool
+    ensures { IsTrue result ↔ IsRect rect.now }
 {
-    is_dim(r.dim) && (*r == empty(r.dim) || has_points(r))
+    is_dim(rect.dim) && (*rect == empty(rect.dim) || has_points(rect))
 }
 
 /// Whether the parameters of a view are canonical. Those of a slice always are.

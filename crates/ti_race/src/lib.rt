@@ -4,15 +4,15 @@
 
 mod finding;
 mod forms;
-mod heard;
+mod ghost_entries;
+mod grid_layout;
+mod history_index;
 mod laws;
-mod lying;
 mod spots;
 mod table;
-mod told;
 mod uses;
 mod watch;
 
-pub use finding::{races, told_races};
+pub use finding::{entry_races, races};
 pub use laws::{determinate, races_are_told};
 pub use watch::RaceWatch;

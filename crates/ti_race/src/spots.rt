@@ -5,7 +5,7 @@ use ti_base::{Id, Place, Point};
 
 /// The identity of an object or grid, as a key.
 #[derive(Clone, Copy, PartialEq, Eq, Hash, Drop)]
-pub struct Name {
+pub struct IdKey {
     pub maker: u32,
     pub serial: u32,
     pub owner: u32,
@@ -16,12 +16,12 @@ pub struct Name {
 #[derive(Clone, Copy, PartialEq, Eq, Hash, Drop)]
 pub enum Thing {
     Made(u32),
-    Untold(Name),
+    Untold(IdKey),
 }
 
 /// A point of a grid, as a key.
 #[derive(Clone, Copy, PartialEq, Eq, Hash, Drop)]
-pub struct At {
+pub struct PointKey {
     pub dim: u8,
     pub x1: i32,
     pub x2: i32,
@@ -36,7 +36,7 @@ pub enum Spot {
     /// A cell of a block: the number of the entry that created the block, and that of the cell.
     CellOf(u32, u64),
     /// A point of a grid that no observed entry created, or outside the grid's domain.
-    PointOf(Name, At),
+    PointOf(IdKey, PointKey),
 }
 
 /// A read or a write of a memory location by an entry.
@@ -54,10 +54,10 @@ pub struct Use {
 }
 
 /// An identity as a key.
-pub fn name_of(id: Id) -> Name
+pub fn id_key(id: Id) -> IdKey
     ensures { result ≡ record { maker = id.maker; serial = id.serial; owner = id.owner; region = id.region } }
 {
-    Name {
+    IdKey {
         maker: id.maker,
         serial: id.serial,
         owner: id.owner,
@@ -66,13 +66,13 @@ pub fn name_of(id: Id) -> Name
 }
 
 /// A point as a key.
-pub fn at_of(p: Point) -> At
-    ensures { result ≡ record { dim = p.dim; x1 = p.x1; x2 = p.x2; x3 = p.x3 } }
+pub fn point_key(point: Point) -> PointKey
+    ensures { result ≡ record { dim = point.dim; x1 = point.x1; x2 = point.x2; x3 = point.x3 } }
 {
-    At {
-        dim: p.dim,
-        x1: p.x1,
-        x2: p.x2,
-        x3: p.x3,
+    PointKey {
+        dim: point.dim,
+        x1: point.x1,
+        x2: point.x2,
+        x3: point.x3,
     }
 }

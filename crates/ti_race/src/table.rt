@@ -2,7 +2,7 @@
 // fills it, another one looks each of them up.
 ghost use Rattle.std.specs.Prelude.{◌≡◌, filter, ◌||◌, ◌&&◌, ◌==◌, not, ℕ, if◌then◌else◌, take, OnOk, IfOk};
 ghost use Rattle.std.specs.HashMap.{get};
-ghost use Rattle.ti_race.specs.Mirrors.Table.{others, Key, same_key, key_of, users_in, writers_in, used_by_others, written_by_others, racing_by, Tells, racing_in};
+ghost use Rattle.ti_race.specs.Mirrors.AccessTable.{others, LocationKey, same_location_key, access_key, users_in, writers_in, used_by_others, written_by_others, racing_by, IsTableOf, racing_in};
 
 use crate::spots::{Spot, Use};
 use indexmap::IndexMap;
@@ -18,16 +18,16 @@ pub enum Procs {
 
 /// Which processes have accessed a memory location in a phase, and which have written it. `None` is the empty set.
 #[derive(Clone, Copy)]
-pub struct Seen {
+pub struct Accessors {
     pub users: Option<Procs>,
     pub writers: Option<Procs>,
 }
 
 // The record of each memory location in each phase.
-type Table = IndexMap<(Spot, u32), Seen>;
+type AccessTable = IndexMap<(Spot, u32), Accessors>;
 
 /// This set with one more process.
-fn joined(procs: Option<Procs>, proc: u32) -> Option<Procs>
+fn with_process(procs: Option<Procs>, proc: u32) -> Option<Procs>
     ensures { (i : ℕ) → others result i ≡ (others procs i || not (proc == i)) }
 {
     match procs {
@@ -55,18 +55,18 @@ fn has_others(procs: Option<Procs>, proc: u32) -> bool
 }
 
 /// The record of a location with one more access.
-fn noted(seen: Option<Seen>, u: Use) -> Seen
-    ensures users { (i : ℕ) → others result.users i ≡ (others (users_in seen) i || not (u.proc == i)) }
-    ensures writers { (i : ℕ) → others result.writers i ≡ (others (writers_in seen) i || (u.writes && not (u.proc == i))) }
+fn with_access(seen: Option<Accessors>, access: Use) -> Accessors
+    ensures users { (i : ℕ) → others result.users i ≡ (others (users_in seen) i || not (access.proc == i)) }
+    ensures writers { (i : ℕ) → others result.writers i ≡ (others (writers_in seen) i || (access.writes && not (access.proc == i))) }
 {
     let (users, writers) = match seen {
         None => (None, None),
         Some(seen) => (seen.users, seen.writers),
     };
-    Seen {
-        users: joined(users, u.proc),
-        writers: if u.writes {
-            joined(writers, u.proc)
+    Accessors {
+        users: with_process(users, access.proc),
+        writers: if access.writes {
+            with_process(writers, access.proc)
         } else {
             writers
         },
@@ -74,21 +74,21 @@ fn noted(seen: Option<Seen>, u: Use) -> Seen
 }
 
 /// Enters one more access, and returns the index of its record in the table.
-fn note(table: &mut Table, u: Use) -> Result<usize, Memory>
-    ensures users { OnOk result ((key : Key) (i : ℕ) → others (users_in (get same_key table.new key)) i
-        ≡ (others (users_in (get same_key table.old key)) i || (same_key (key_of u) key && not (u.proc == i)))) }
-    ensures writers { OnOk result ((key : Key) (i : ℕ) → others (writers_in (get same_key table.new key)) i
-        ≡ (others (writers_in (get same_key table.old key)) i || (same_key (key_of u) key && (u.writes && not (u.proc == i))))) }
+fn note(table: &mut AccessTable, access: Use) -> Result<usize, Memory>
+    ensures users { OnOk result ((key : LocationKey) (i : ℕ) → others (users_in (get same_location_key table.new key)) i
+        ≡ (others (users_in (get same_location_key table.old key)) i || (same_location_key (access_key access) key && not (access.proc == i)))) }
+    ensures writers { OnOk result ((key : LocationKey) (i : ℕ) → others (writers_in (get same_location_key table.new key)) i
+        ≡ (others (writers_in (get same_location_key table.old key)) i || (same_location_key (access_key access) key && (access.writes && not (access.proc == i))))) }
 {
-    let key = (u.spot, u.phase);
+    let key = (access.spot, access.phase);
     let seen = table.get(&key).copied();
-    let (place, _) = table.insert_full(key, noted(seen, u))?;
+    let (place, _) = table.insert_full(key, with_access(seen, access))?;
     Ok(place)
 }
 
 /// The table of all accesses, and for each access the index of its record.
-fn table_of(alloc: Global, uses: &[Use]) -> Result<(Table, Vec<usize>), Memory>
-    ensures { IfOk result (λ made. Tells made.0 uses.now) }
+fn table_of(alloc: Global, uses: &[Use]) -> Result<(AccessTable, Vec<usize>), Memory>
+    ensures { IfOk result (λ made. IsTableOf made.0 uses.now) }
 {
     let mut table = IndexMap::new(alloc);
     let mut places = Vec::new(alloc);
@@ -101,24 +101,31 @@ fn table_of(alloc: Global, uses: &[Use]) -> Result<(Table, Vec<usize>), Memory>
 
 /// The record of the location of an access. `place` is the index at which it is expected; this saves a lookup, but a wrong index does no
 /// harm.
-fn seen_by(table: &Table, u: Use, place: usize) -> Option<Seen>
-    ensures { result ≡ get same_key table.now (key_of u) }
+fn accessors_of(table: &AccessTable, access: Use, place: usize) -> Option<Accessors>
+    ensures { result ≡ get same_location_key table.now (access_key access) }
 {
     if let Some((key, seen)) = table.get_index(place) {
-        if key.0 == u.spot && key.1 == u.phase {
+        if key.0 == access.spot && key.1 == access.phase {
             return Some(*seen);
         }
     }
-    table.get(&(u.spot, u.phase)).copied()
+    table.get(&(access.spot, access.phase)).copied()
 }
 
 /// Whether an access races with any of those in the table. A write races with each access, a read with each write, of another process.
-fn is_racing(table: &Table, u: Use, place: usize) -> bool
-    ensures { result ≡ racing_by table.now u }
+fn is_racing(table: &AccessTable, access: Use, place: usize) -> bool
+    ensures { result ≡ racing_by table.now access }
 {
-    match seen_by(table, u, place) {
+    match accessors_of(table, access, place) {
         None => false,
-        Some(seen) => has_others(if u.writes { seen.users } else { seen.writers }, u.proc),
+        Some(seen) => has_others(
+            if access.writes {
+                seen.users
+            } else {
+                seen.writers
+            },
+            access.proc,
+        ),
     }
 }
 
@@ -134,7 +141,7 @@ pub fn racing_of(alloc: Global, uses: &[Use]) -> Result<Vec<Use>, Memory>
 /// The accesses that race with one in the table, in their order.
 fn racing_among(
     alloc: Global,
-    table: &Table,
+    table: &AccessTable,
     places: &[usize],
     uses: &[Use],
 ) -> Result<Vec<Use>, Memory>

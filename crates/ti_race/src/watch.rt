@@ -1,8 +1,8 @@
 // The report of races: one line for each entry that races.
 ghost use Rattle.std.specs.Prelude.{◌≡◌, [], ◌∷◌, ◌++◌, codes, decimal, flat_map, take, vec_len, OnOk};
-ghost use Rattle.ti_race.specs.Mirrors.Told.{use_line, report_of};
+ghost use Rattle.ti_race.specs.Mirrors.HistoryIndex.{use_line, report_of};
 
-use crate::heard::Heard;
+use crate::ghost_entries::GhostEntries;
 use crate::spots::Use;
 use crate::table::racing_of;
 use crate::uses::Uses;
@@ -13,18 +13,18 @@ use ti_watch::{Line, Watch};
 
 /// A watcher that lists the entries that race, one line for each. Its kind is 2.
 ///
-/// It stores only the reads and writes, and the index of the history (`SoFar`), not all entries.
+/// It stores only the reads and writes, and the index of the history (`HistoryIndex`), not all entries.
 #[derive(Drop)]
 pub struct RaceWatch {
     uses: Uses,
-    heard: Heard,
+    heard: GhostEntries,
     alloc: Global,
 }
 
 impl Model for RaceWatch {
     ghost use Rattle.std.specs.Prelude.{List};
     ghost use Rattle.ti_base.specs.declared.entry.Entry.{Entry};
-    ghost use Rattle.ti_race.specs.Mirrors.Told.{Gathers};
+    ghost use Rattle.ti_race.specs.Mirrors.HistoryIndex.{Gathers};
 
     ghost Value = { List Entry };
 
@@ -40,7 +40,7 @@ impl RaceWatch {
     {
         RaceWatch {
             uses: Uses::new(alloc),
-            heard: Heard::new(),
+            heard: GhostEntries::new(),
             alloc,
         }
     }
@@ -51,20 +51,20 @@ fn count_line(count: usize) -> Line
     ensures { result ≡ codes "races " ++ decimal count ++ 10 ∷ [] }
 {
     let mut line = Line::new();
-    line.labelled(b"races ", count);
+    line.labelled_number(b"races ", count);
     line.text(b"\n");
     line
 }
 
 // The line of the entry of an access: its number, process and source location.
-fn race_line(u: &Use) -> Line
-    ensures { result ≡ use_line u.now }
+fn race_line(access: &Use) -> Line
+    ensures { result ≡ use_line access.now }
 {
     let mut line = Line::new();
-    line.number(u.number);
-    line.labelled(b" p", u.proc);
-    line.labelled(b" ", u.place.line);
-    line.labelled(b":", u.place.col);
+    line.number(access.number);
+    line.labelled_number(b" p", access.proc);
+    line.labelled_number(b" ", access.place.line);
+    line.labelled_number(b":", access.place.col);
     line.text(b"\n");
     line
 }
@@ -99,9 +99,9 @@ impl Watch for RaceWatch {
         2
     }
 
-    fn see(&mut self, e: &Entry) -> Result<(), Memory> {
-        self.uses.see(e)?;
-        self.heard = self.heard.and(e);
+    fn see(&mut self, entry: &Entry) -> Result<(), Memory> {
+        self.uses.see(entry)?;
+        self.heard = self.heard.and(entry);
         Ok(())
     }
 

@@ -6,7 +6,7 @@ use Rattle.ti_base.specs.Cells.{named_by}
 use Rattle.ti_region.specs.declared.region.Region.{Region}
 
 -- a region with this number was made
-pub record IsMade (regions : List Region) (r : ℕ) : Type 0 where
+pub record IsMadeRegion (regions : List Region) (r : ℕ) : Type 0 where
   pub first : 1 ≤ r
   pub last : r ≤ length regions
 
@@ -23,8 +23,8 @@ abbrev pub with_region : List Region → ℕ → Region → List Region
 with_region regions r region = slice_set regions (r - 1) region
 
 -- the regions, with the one under this number deleted
-abbrev pub deleted : List Region → ℕ → List Region
-deleted regions r = with_region regions r (record { is_live = false; count = (region_at regions r).count })
+abbrev pub with_deleted : List Region → ℕ → List Region
+with_deleted regions r = with_region regions r (record { is_live = false; count = (region_at regions r).count })
 
 -- ---- counts
 
@@ -43,18 +43,18 @@ one_less regions None = regions
 one_less regions (Some r) = with_count regions r ((region_at regions r).count - 1)
 
 -- the count of the region is one more, if one is given
-abbrev pub one_more : List Region → Option ℕ → List Region
-one_more regions None = regions
-one_more regions (Some r) = with_count regions r ((region_at regions r).count + 1)
+abbrev pub with_one_more : List Region → Option ℕ → List Region
+with_one_more regions None = regions
+with_one_more regions (Some r) = with_count regions r ((region_at regions r).count + 1)
 
 -- the region, if one is given, was made and has a count above 0
 abbrev pub CanLose : List Region → Option ℕ → Type 0
-CanLose regions region = IfSome region (λ r. IsMade regions r × (0 < (region_at regions r).count))
+CanLose regions region = IfSome region (λ r. IsMadeRegion regions r × (0 < (region_at regions r).count))
 
 -- the region, if one is given, was made and its count can increase by one
 abbrev pub CanGain : List Region → Option ℕ → Type 0
-CanGain regions region = IfSome region (λ r. IsMade regions r × ((region_at regions r).count + 1 < 2 ^ 64))
+CanGain regions region = IfSome region (λ r. IsMadeRegion regions r × ((region_at regions r).count + 1 < 2 ^ 64))
 
 -- the counts after a write to a cell of this region: the old value counts no longer, and the new one does
 abbrev pub after_put : ℕ → Value → Value → List Region → List Region
-after_put cell_region before after regions = one_more (one_less regions (counted_for cell_region before)) (counted_for cell_region after)
+after_put cell_region before after regions = with_one_more (one_less regions (counted_for cell_region before)) (counted_for cell_region after)

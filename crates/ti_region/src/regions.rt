@@ -27,7 +27,7 @@ impl Model for Regions {
 
 impl Regions {
     ghost use Rattle.std.specs.Prelude.{◌≡◌, ◌+◌, ◌-◌, ◌^◌, ◌<◌, true, [], ◌∷◌, ◌++◌, length, Some, IfOk, OnOk, OnErr};
-    ghost use Rattle.ti_region.specs.Counting.{IsMade, region_at, new_region, deleted, counted_for, one_less, one_more, CanLose, CanGain, after_put};
+    ghost use Rattle.ti_region.specs.Counting.{IsMadeRegion, region_at, new_region, with_deleted, counted_for, one_less, with_one_more, CanLose, CanGain, after_put};
 
     /// No regions.
     pub fn new(alloc: Global) -> Self
@@ -61,37 +61,37 @@ impl Regions {
         self.regions.len() as u32
     }
 
-    /// Whether region `r`, which was made, isn't deleted.
-    pub fn is_live(&self, r: u32) -> bool
-        requires { IsMade self.now r }
-        ensures { result ≡ (region_at self.now r).is_live }
+    /// Whether region `number`, which was made, isn't deleted.
+    pub fn is_live(&self, number: u32) -> bool
+        requires { IsMadeRegion self.now number }
+        ensures { result ≡ (region_at self.now number).is_live }
     {
-        self.regions[r as usize - 1].is_live
+        self.regions[number as usize - 1].is_live
     }
 
-    /// How many cells outside region `r`, which was made, refer into it.
-    pub fn outside_refs(&self, r: u32) -> u64
-        requires { IsMade self.now r }
-        ensures { result ≡ (region_at self.now r).count }
+    /// How many cells outside region `number`, which was made, refer into it.
+    pub fn outside_refs(&self, number: u32) -> u64
+        requires { IsMadeRegion self.now number }
+        ensures { result ≡ (region_at self.now number).count }
     {
-        self.regions[r as usize - 1].count
+        self.regions[number as usize - 1].count
     }
 
-    // Subtracts 1 from the count of region `r`.
-    fn lose_one(&mut self, r: u32)
-        requires { CanLose self.old (Some r) }
-        ensures { self.new ≡ one_less self.old (Some r) }
+    // Subtracts 1 from the count of region `number`.
+    fn lose_one(&mut self, number: u32)
+        requires { CanLose self.old (Some number) }
+        ensures { self.new ≡ one_less self.old (Some number) }
     {
-        let region = &mut self.regions[r as usize - 1];
+        let region = &mut self.regions[number as usize - 1];
         region.count -= 1;
     }
 
-    // Adds 1 to the count of region `r`.
-    fn gain_one(&mut self, r: u32)
-        requires { CanGain self.old (Some r) }
-        ensures { self.new ≡ one_more self.old (Some r) }
+    // Adds 1 to the count of region `number`.
+    fn gain_one(&mut self, number: u32)
+        requires { CanGain self.old (Some number) }
+        ensures { self.new ≡ with_one_more self.old (Some number) }
     {
-        let region = &mut self.regions[r as usize - 1];
+        let region = &mut self.regions[number as usize - 1];
         region.count += 1;
     }
 
@@ -115,14 +115,14 @@ impl Regions {
         }
     }
 
-    /// Deletes region `r`, which must be live and have the count 0.
-    pub fn delete(&mut self, r: u32)
-        requires made { IsMade self.old r }
-        requires live { (region_at self.old r).is_live ≡ true }
-        requires unused { (region_at self.old r).count ≡ 0 }
-        ensures { self.new ≡ deleted self.old r }
+    /// Deletes region `number`, which must be live and have the count 0.
+    pub fn delete(&mut self, number: u32)
+        requires made { IsMadeRegion self.old number }
+        requires live { (region_at self.old number).is_live ≡ true }
+        requires unused { (region_at self.old number).count ≡ 0 }
+        ensures { self.new ≡ with_deleted self.old number }
     {
-        let region = &mut self.regions[r as usize - 1];
+        let region = &mut self.regions[number as usize - 1];
         region.is_live = false;
     }
 }

@@ -7,10 +7,10 @@ use Rattle.ti_base.specs.declared.action.CollKind.{CollKind}
 use Rattle.ti_base.specs.declared.place.Place.{Place}
 use Rattle.std.proofs.lemmas.Bool.Decides.{eqb_tells}
 use Rattle.ti_rounds.specs.declared.arrival.Arrival.{Arrival}
-use Rattle.ti_rounds.specs.declared.seat.Seat.{Seat}
+use Rattle.ti_rounds.specs.declared.proc_rounds.ProcRounds.{ProcRounds}
 use Rattle.ti_rounds.specs.Seats.{new_seat, seat_at, round_at, collective_of}
 use Rattle.ti_rounds.specs.Courses.{Course, no_course, course_at, seat_of, Keeps, arrival_at, said_at, AllSay, with_arrival, with_departure}
-use Rattle.ti_rounds.specs.Mirrors.{arrived, departed, kept_at, AreInStep}
+use Rattle.ti_rounds.specs.Mirrors.{after_arrival, after_departure, kept_at, AreInStep}
 use Rattle.ti_rounds.proofs.InStep.{near}
 
 -- what is kept of the course at a place
@@ -26,18 +26,18 @@ new_kept (suc n) = ap (λ seats. new_seat ∷ seats) (new_kept n)
 
 -- ---- steps
 
-pub keeps_arrival : (seats : List Seat) (courses : List Course) (p : ℕ) (a : Arrival) → Keeps seats courses → Keeps (set seats p (arrived (seat_at seats p) a)) (with_arrival courses p a)
+pub keeps_arrival : (seats : List ProcRounds) (courses : List Course) (p : ℕ) (a : Arrival) → Keeps seats courses → Keeps (set seats p (after_arrival (seat_at seats p) a)) (with_arrival courses p a)
 keeps_arrival seats courses p a keeps =
     let c = course_at courses p in
     let next : Course = record { arrivals = a ∷ c.arrivals; departures = c.departures } in
-    let here : arrived (seat_at seats p) a ≡ seat_of next = ap (λ s. arrived (seat_at s p) a) keeps ∙ ap (λ s. arrived s a) (seat_kept courses p) ∙ rw add-one refl in
+    let here : after_arrival (seat_at seats p) a ≡ seat_of next = ap (λ s. after_arrival (seat_at s p) a) keeps ∙ ap (λ s. after_arrival s a) (seat_kept courses p) ∙ rw add-one refl in
     rw here (rw keeps (sym (map-set seat_of courses p next)))
 
-pub keeps_departure : (seats : List Seat) (courses : List Course) (p : ℕ) → Keeps seats courses → Keeps (set seats p (departed (seat_at seats p))) (with_departure courses p)
+pub keeps_departure : (seats : List ProcRounds) (courses : List Course) (p : ℕ) → Keeps seats courses → Keeps (set seats p (after_departure (seat_at seats p))) (with_departure courses p)
 keeps_departure seats courses p keeps =
     let c = course_at courses p in
     let next : Course = record { arrivals = c.arrivals; departures = c.departures + 1 } in
-    let here : departed (seat_at seats p) ≡ seat_of next = ap (λ s. departed (seat_at s p)) keeps ∙ ap departed (seat_kept courses p) in
+    let here : after_departure (seat_at seats p) ≡ seat_of next = ap (λ s. after_departure (seat_at s p)) keeps ∙ ap after_departure (seat_kept courses p) in
     rw here (rw keeps (sym (map-set seat_of courses p next)))
 
 -- ---- arrivals
@@ -85,19 +85,19 @@ kept_is_arrival c round few = kept_in c.arrivals c.departures round few where
       ]
 
 -- what a seat keeps of a round is the arrival of its course
-pub kept_arrival : (seats : List Seat) (courses : List Course) (q round : ℕ) → Keeps seats courses → round_at seats q ≤ round + 1
+pub kept_arrival : (seats : List ProcRounds) (courses : List Course) (q round : ℕ) → Keeps seats courses → round_at seats q ≤ round + 1
     → kept_at round (seat_at seats q) ≡ arrival_at round (course_at courses q).arrivals
 kept_arrival seats courses q round keeps few =
     let here : seat_at seats q ≡ seat_of (course_at courses q) = ap (λ s. seat_at s q) keeps ∙ seat_kept courses q in
-    ap (kept_at round) here ∙ kept_is_arrival (course_at courses q) round (subst (λ (s : Seat). s.arrivals ≤ round + 1) here few)
+    ap (kept_at round) here ∙ kept_is_arrival (course_at courses q) round (subst (λ (s : ProcRounds). s.arrivals ≤ round + 1) here few)
 
 -- ---- what was said
 
-kept_latest : (s : Seat) → kept_at s.arrivals s ≡ s.latest
+kept_latest : (s : ProcRounds) → kept_at s.arrivals s ≡ s.latest
 kept_latest s = rw (eq-eqb s.arrivals s.arrivals refl) refl
 
 -- the process that waits said what is kept last
-pub latest_said : (seats : List Seat) (courses : List Course) (p : ℕ) (a : Arrival) → Keeps seats courses → (seat_at seats p).latest ≡ Some a
+pub latest_said : (seats : List ProcRounds) (courses : List Course) (p : ℕ) (a : Arrival) → Keeps seats courses → (seat_at seats p).latest ≡ Some a
     → said_at courses p (round_at seats p) ≡ Some (collective_of a)
 latest_said seats courses p a keeps is =
     ap (option_map collective_of) (sym (kept_arrival seats courses p (round_at seats p) keeps (omega arith)) ∙ kept_latest (seat_at seats p) ∙ is)
@@ -108,7 +108,7 @@ said_if None said all = tt
 said_if (Some b) said all = all b refl
 
 -- all who have arrived at the round in which a process waits said what it said
-pub all_said : (seats : List Seat) (courses : List Course) (p : ℕ) (a : Arrival) → Keeps seats courses → p < length seats → AreInStep seats
+pub all_said : (seats : List ProcRounds) (courses : List Course) (p : ℕ) (a : Arrival) → Keeps seats courses → p < length seats → AreInStep seats
     → (seat_at seats p).latest ≡ Some a → AllSay courses (round_at seats p) (collective_of a)
 all_said seats courses p a keeps inside in_step is q =
     let round = round_at seats p in
@@ -122,7 +122,7 @@ all_said seats courses p a keeps inside in_step is q =
     (cases_lt q (length seats)))
 
 -- who is kept to have arrived at the next round of a process said what all said at it
-pub agrees_kept : (seats : List Seat) (courses : List Course) (p : ℕ) (a : Arrival) → Keeps seats courses → p < length seats → AreInStep seats
+pub agrees_kept : (seats : List ProcRounds) (courses : List Course) (p : ℕ) (a : Arrival) → Keeps seats courses → p < length seats → AreInStep seats
     → AllSay courses (round_at seats p + 1) (collective_of a)
     → (q : ℕ) (b : Arrival) → q < length seats → kept_at (round_at seats p + 1) (seat_at seats q) ≡ Some b → collective_of b ≡ collective_of a
 agrees_kept seats courses p a keeps inside in_step all q b within is =

@@ -7,7 +7,7 @@ use Rattle.ti_base.specs.declared.action.Deposit.{Deposit}
 use Rattle.ti_base.specs.declared.action.Deposit.TheVariants.{Nothing}
 use Rattle.ti_base.specs.declared.place.Place.{Place}
 use Rattle.ti_rounds.specs.declared.arrival.Arrival.{Arrival}
-use Rattle.ti_rounds.specs.declared.seat.Seat.{Seat}
+use Rattle.ti_rounds.specs.declared.proc_rounds.ProcRounds.{ProcRounds}
 use Rattle.ti_rounds.specs.Seats.{collective_of}
 
 -- the arrivals and departures of a process
@@ -26,12 +26,12 @@ abbrev pub course_at : List Course → ℕ → Course
 course_at courses p = slice_index_or courses p no_course
 
 -- the stored part of a course
-abbrev pub seat_of : Course → Seat
+abbrev pub seat_of : Course → ProcRounds
 seat_of c =
     record { arrivals = length c.arrivals; departures = c.departures; latest = slice_get c.arrivals 0; before = slice_get c.arrivals 1 }
 
 -- the stored state is that of these courses
-abbrev pub Keeps : List Seat → List Course → Type 0
+abbrev pub Keeps : List ProcRounds → List Course → Type 0
 Keeps seats courses = seats ≡ map seat_of courses
 
 -- ---- arrivals at a round

@@ -3,7 +3,7 @@
 #![tactic(auto)]
 
 mod arrival;
+mod proc_rounds;
 mod rounds;
-mod seat;
 
 pub use rounds::Rounds;

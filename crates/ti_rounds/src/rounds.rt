@@ -1,7 +1,7 @@
 // The state of all collectives of a run. Contracts speak of all arrivals; stored are the latest two of each process.
 
 use crate::arrival::Arrival;
-use crate::seat::{Seat, all_reach, none_left};
+use crate::proc_rounds::{ProcRounds, all_reach, none_left};
 use std::alloc::Global;
 use std::marker::Model;
 use ti_base::{CollKind, Deposit, Memory, Place};
@@ -13,15 +13,15 @@ use ti_base::{CollKind, Deposit, Memory, Place};
 /// be more than one round ahead of another.
 #[derive(Drop)]
 pub struct Rounds {
-    seats: Vec<Seat>,
+    seats: Vec<ProcRounds>,
 }
 
 impl Model for Rounds {
     ghost use Rattle.std.specs.Prelude.{List};
-    ghost use Rattle.ti_rounds.specs.declared.seat.Seat.{Seat};
+    ghost use Rattle.ti_rounds.specs.declared.proc_rounds.ProcRounds.{ProcRounds};
     ghost use Rattle.ti_rounds.specs.Mirrors.{AreInStep};
 
-    ghost Value = { List Seat };
+    ghost Value = { List ProcRounds };
 
     ghost view = { λ r. r.seats.items };
 
@@ -32,7 +32,7 @@ impl Rounds {
     ghost use Rattle.std.specs.Prelude.{◌≡◌, ℕ, ◌+◌, ◌-◌, ◌^◌, ◌<◌, ◌≤◌, ◌↔◌, List, length, replicate, slice_set, Some, IsTrue, IfOk};
     ghost use Rattle.ti_base.specs.declared.action.Deposit.TheVariants.{Nothing};
     ghost use Rattle.ti_rounds.specs.declared.arrival.Arrival.{Arrival as ArrivalRecord};
-    ghost use Rattle.ti_rounds.specs.Seats.{seat_at, round_at, left_by, Goes, Waits, IsReached, IsUnleft, collective_of};
+    ghost use Rattle.ti_rounds.specs.Seats.{seat_at, round_at, left_by, HasLeft, Waits, IsReached, IsUnleft, collective_of};
     ghost use Rattle.ti_rounds.specs.Courses.{Course, no_course, Keeps, AllSay, said_at, given_at, departure_of, with_arrival, with_departure};
     ghost use Rattle.ti_rounds.specs.Mirrors.{AreInStep};
 
@@ -41,26 +41,26 @@ impl Rounds {
         ensures { IfOk result (λ rounds. Keeps rounds (replicate procs no_course)) }
     {
         let mut seats = Vec::new(alloc);
-        seats.resize(procs as usize, Seat::new())?;
+        seats.resize(procs as usize, ProcRounds::new())?;
         Ok(Rounds { seats })
     }
 
-    // The stored state of process `p`; its contract also states that all processes are in step.
-    fn seat(&self, p: u32) -> Seat
-        requires { p < length self.now }
-        ensures value { result ≡ seat_at self.now p }
+    // The stored state of `process`; its contract also states that all processes are in step.
+    fn seat(&self, process: u32) -> ProcRounds
+        requires { process < length self.now }
+        ensures value { result ≡ seat_at self.now process }
         ensures in_step { AreInStep self.now }
     {
-        self.seats[p as usize]
+        self.seats[process as usize]
     }
 
-    // Replaces the stored state of process `p`.
-    fn keep(&mut self, p: u32, seat: Seat)
-        requires process { p < length self.old }
-        requires in_step { AreInStep (slice_set self.old p seat) }
-        ensures { self.new ≡ slice_set self.old p seat }
+    // Replaces the stored state of `process`.
+    fn keep(&mut self, process: u32, seat: ProcRounds)
+        requires process { process < length self.old }
+        requires in_step { AreInStep (slice_set self.old process seat) }
+        ensures { self.new ≡ slice_set self.old process seat }
     {
-        self.seats[p as usize] = seat;
+        self.seats[process as usize] = seat;
     }
 
     // What process `who` contributed at a round that all have reached, and beyond which nobody is by more than one.
@@ -75,62 +75,69 @@ impl Rounds {
         }
     }
 
-    /// Process `p` arrives at its next round.
+    /// `process` arrives at its next round.
     ///
     /// It must not be waiting, processes that have already arrived at this round must have stated the same kind, place and argument, and
     /// it must have arrived fewer than 2^64 - 1 times.
-    pub fn arrive(&mut self, p: u32, kind: CollKind, place: Place, arg: Option<u32>, d: Deposit)
-        requires process { p < length self.old }
-        requires goes { Goes self.old p }
-        requires agrees { (courses : List Course) × Keeps self.old courses × AllSay courses (round_at self.old p + 1) (kind, place, arg) }
-        requires countable { round_at self.old p < 2 ^ 64 - 1 }
-        ensures { (courses : List Course) → Keeps self.old courses → Keeps self.new (with_arrival courses p (record {
+    pub fn arrive(
+        &mut self,
+        process: u32,
+        kind: CollKind,
+        place: Place,
+        arg: Option<u32>,
+        contribution: Deposit,
+    )
+        requires process { process < length self.old }
+        requires goes { HasLeft self.old process }
+        requires agrees { (courses : List Course) × Keeps self.old courses × AllSay courses (round_at self.old process + 1) (kind, place, arg) }
+        requires countable { round_at self.old process < 2 ^ 64 - 1 }
+        ensures { (courses : List Course) → Keeps self.old courses → Keeps self.new (with_arrival courses process (record {
           kind = kind;
           place = place;
           arg = arg;
-          deposit = d;
+          deposit = contribution;
         })) }
     {
-        let seat = self.seat(p);
+        let seat = self.seat(process);
         self.keep(
-            p,
-            seat.arrived(Arrival {
+            process,
+            seat.after_arrival(Arrival {
                 kind,
                 place,
                 arg,
-                deposit: d,
+                deposit: contribution,
             }),
         );
     }
 
-    /// Whether all processes have arrived at the round in which process `p` waits.
-    pub fn complete(&self, p: u32) -> bool
-        requires process { p < length self.now }
-        requires waits { Waits self.now p }
-        ensures { IsTrue result ↔ IsReached self.now (round_at self.now p) }
+    /// Whether all processes have arrived at the round in which `process` waits.
+    pub fn complete(&self, process: u32) -> bool
+        requires process { process < length self.now }
+        requires waits { Waits self.now process }
+        ensures { IsTrue result ↔ IsReached self.now (round_at self.now process) }
     {
-        let seat = self.seat(p);
+        let seat = self.seat(process);
         all_reach(&self.seats, seat.arrivals)
     }
 
-    /// Whether no process has left the round in which process `p` waits.
-    pub fn first_out(&self, p: u32) -> bool
-        requires process { p < length self.now }
-        requires waits { Waits self.now p }
-        ensures { IsTrue result ↔ IsUnleft self.now (round_at self.now p) }
+    /// Whether no process has left the round in which `process` waits.
+    pub fn first_out(&self, process: u32) -> bool
+        requires process { process < length self.now }
+        requires waits { Waits self.now process }
+        ensures { IsTrue result ↔ IsUnleft self.now (round_at self.now process) }
     {
-        let seat = self.seat(p);
+        let seat = self.seat(process);
         none_left(&self.seats, seat.arrivals)
     }
 
-    // What process `p` will receive at its departure from the round in which it waits.
-    fn handed_out(&self, p: u32) -> Deposit
-        requires process { p < length self.now }
-        requires waits { Waits self.now p }
-        requires complete { IsReached self.now (round_at self.now p) }
-        ensures { (courses : List Course) → Keeps self.now courses → result ≡ departure_of courses p }
+    // What `process` will receive at its departure from the round in which it waits.
+    fn handed_out(&self, process: u32) -> Deposit
+        requires process { process < length self.now }
+        requires waits { Waits self.now process }
+        requires complete { IsReached self.now (round_at self.now process) }
+        ensures { (courses : List Course) → Keeps self.now courses → result ≡ departure_of courses process }
     {
-        let seat = self.seat(p);
+        let seat = self.seat(process);
         let Some(arrival) = seat.latest else {
             return Deposit::Nothing;
         };
@@ -143,55 +150,55 @@ impl Rounds {
         }
     }
 
-    /// Process `p` leaves the round in which it waits, which all must have reached. It receives what the root contributed if this is a
+    /// `process` leaves the round in which it waits, which all must have reached. It receives what the root contributed if this is a
     /// broadcast, and `Nothing` otherwise.
-    pub fn depart(&mut self, p: u32) -> Deposit
-        requires process { p < length self.old }
-        requires waits { Waits self.old p }
-        requires complete { IsReached self.old (round_at self.old p) }
-        ensures left { (courses : List Course) → Keeps self.old courses → Keeps self.new (with_departure courses p) }
-        ensures value { (courses : List Course) → Keeps self.old courses → result ≡ departure_of courses p }
+    pub fn depart(&mut self, process: u32) -> Deposit
+        requires process { process < length self.old }
+        requires waits { Waits self.old process }
+        requires complete { IsReached self.old (round_at self.old process) }
+        ensures left { (courses : List Course) → Keeps self.old courses → Keeps self.new (with_departure courses process) }
+        ensures value { (courses : List Course) → Keeps self.old courses → result ≡ departure_of courses process }
     {
-        let deposit = self.handed_out(p);
-        let seat = self.seat(p);
-        self.keep(p, seat.departed());
+        let deposit = self.handed_out(process);
+        let seat = self.seat(process);
+        self.keep(process, seat.after_departure());
         deposit
     }
 
-    /// What process `who` contributed in the round that process `p` left last. Process `p` must not be waiting.
-    pub fn take(&self, p: u32, who: u32) -> Deposit
-        requires process { p < length self.now }
+    /// What process `who` contributed in the round that `process` left last. `process` must not be waiting.
+    pub fn take(&self, process: u32, who: u32) -> Deposit
+        requires process { process < length self.now }
         requires giver { who < length self.now }
-        requires goes { Goes self.now p }
-        requires left { 0 < left_by self.now p }
-        ensures { (courses : List Course) → Keeps self.now courses → result ≡ given_at courses who (left_by self.now p) }
+        requires goes { HasLeft self.now process }
+        requires left { 0 < left_by self.now process }
+        ensures { (courses : List Course) → Keeps self.now courses → result ≡ given_at courses who (left_by self.now process) }
     {
-        let seat = self.seat(p);
+        let seat = self.seat(process);
         self.given_in(who, seat.departures)
     }
 
-    /// Kind, place and argument of the round in which process `p` waits. All processes that have arrived there stated the same.
-    pub fn round_of(&self, p: u32) -> (CollKind, Place, Option<u32>)
-        requires process { p < length self.now }
-        requires waits { Waits self.now p }
-        ensures own { (courses : List Course) → Keeps self.now courses → said_at courses p (round_at self.now p) ≡ Some result }
-        ensures all { (courses : List Course) → Keeps self.now courses → AllSay courses (round_at self.now p) result }
+    /// Kind, place and argument of the round in which `process` waits. All processes that have arrived there stated the same.
+    pub fn round_of(&self, process: u32) -> (CollKind, Place, Option<u32>)
+        requires process { process < length self.now }
+        requires waits { Waits self.now process }
+        ensures own { (courses : List Course) → Keeps self.now courses → said_at courses process (round_at self.now process) ≡ Some result }
+        ensures all { (courses : List Course) → Keeps self.now courses → AllSay courses (round_at self.now process) result }
     {
-        match self.seat(p).latest {
+        match self.seat(process).latest {
             Some(arrival) => arrival.collective(),
             None => unreachable!(),
         }
     }
 
-    /// What process `who` contributed in the round in which process `p` waits, which all must have reached.
-    pub fn given(&self, p: u32, who: u32) -> Deposit
-        requires process { p < length self.now }
+    /// What process `who` contributed in the round in which `process` waits, which all must have reached.
+    pub fn given(&self, process: u32, who: u32) -> Deposit
+        requires process { process < length self.now }
         requires giver { who < length self.now }
-        requires waits { Waits self.now p }
-        requires complete { IsReached self.now (round_at self.now p) }
-        ensures { (courses : List Course) → Keeps self.now courses → result ≡ given_at courses who (round_at self.now p) }
+        requires waits { Waits self.now process }
+        requires complete { IsReached self.now (round_at self.now process) }
+        ensures { (courses : List Course) → Keeps self.now courses → result ≡ given_at courses who (round_at self.now process) }
     {
-        let seat = self.seat(p);
+        let seat = self.seat(process);
         self.given_in(who, seat.arrivals)
     }
 }

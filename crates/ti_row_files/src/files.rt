@@ -1,8 +1,8 @@
 // Runs files of rows and prints the results.
 
 use crate::judge::Judge;
-use crate::judging::judged;
-use crate::lines::{Line, read_line};
+use crate::judging::judge_row;
+use crate::lines::{RowLine, read_line};
 use std::env::Env;
 use std::rt::Files;
 use std::{env, fs, io};
@@ -15,7 +15,7 @@ fn row_holds<R: Files + Print + AllocGlobal, J: Judge>(
     row: &str,
     expected: &str,
 ) -> io::Result<bool> {
-    match judged(rt, judge, heading, row, expected) {
+    match judge_row(rt, judge, heading, row, expected) {
         Ok(None) => return Ok(true),
         Ok(Some(found)) => {
             println!(rt; "{row}\n  expected {expected}\n  found    {found}")?;
@@ -36,13 +36,13 @@ fn judge_section<R: Files + Print + AllocGlobal, J: Judge>(
     let mut holding = 0u64;
     for line in rows.lines() {
         match read_line(line) {
-            Line::Row(row, expected) => {
+            RowLine::Row(row, expected) => {
                 if row_holds(rt, judge, heading, row, expected)? {
                     holding = holding.wrapping_add(1);
                 }
             }
-            Line::Comment => {}
-            Line::Other => println!(rt; "{file}: no row: {line}")?,
+            RowLine::Comment => {}
+            RowLine::Other => println!(rt; "{file}: no row: {line}")?,
         }
     }
     Ok(holding)

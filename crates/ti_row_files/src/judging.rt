@@ -2,13 +2,13 @@
 
 use crate::error::RowErr;
 use crate::judge::{Judge, Row};
-use crate::lines::{fits, parted, wanted_by};
-use crate::texts::{bytes_of, escaped, text_of};
+use crate::lines::{fits, split_row, wanted_by};
+use crate::texts::{bytes_of, row_text, text_of};
 use std::alloc::Global;
 use std::rt::Files;
 
 /// The result of a row below a heading such as `tokens whole`: what is requested, and the context of inputs.
-fn found<R: Files + AllocGlobal, J: Judge>(
+fn row_result<R: Files + AllocGlobal, J: Judge>(
     rt: &R,
     judge: &J,
     heading: &str,
@@ -17,7 +17,7 @@ fn found<R: Files + AllocGlobal, J: Judge>(
     let Some((asked, frame)) = heading.split_once(' ') else {
         return Err(RowErr::Heading);
     };
-    let (given, spelled) = parted(row);
+    let (given, spelled) = split_row(row);
     let text = text_of(rt, frame, spelled)?;
     judge.answer(
         asked,
@@ -37,22 +37,22 @@ fn holds(alloc: Global, found: &[u8], expected: &str) -> Result<bool, RowErr> {
 }
 
 /// The actual result in the notation of rows if it isn't as expected; otherwise `None`.
-pub fn differing(alloc: Global, found: &[u8], expected: &str) -> Result<Option<String>, RowErr> {
+pub fn mismatch(alloc: Global, found: &[u8], expected: &str) -> Result<Option<String>, RowErr> {
     if holds(alloc, found, expected)? {
         Ok(None)
     } else {
-        Ok(Some(escaped(alloc, found)?))
+        Ok(Some(row_text(alloc, found)?))
     }
 }
 
 /// The actual result of a row, in the notation of rows, if the row expects something else; otherwise `None`.
-pub(crate) fn judged<R: Files + AllocGlobal, J: Judge>(
+pub(crate) fn judge_row<R: Files + AllocGlobal, J: Judge>(
     rt: &R,
     judge: &J,
     heading: &str,
     row: &str,
     expected: &str,
 ) -> Result<Option<String>, RowErr> {
-    let found = found(rt, judge, heading, row)?;
-    differing(rt.alloc(), &found, expected)
+    let found = row_result(rt, judge, heading, row)?;
+    mismatch(rt.alloc(), &found, expected)
 }

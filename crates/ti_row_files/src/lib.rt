@@ -13,6 +13,6 @@ mod texts;
 pub use error::RowErr;
 pub use files::judge_files;
 pub use judge::{Judge, Row};
-pub use judging::differing;
-pub use lines::{Line, parted, read_line};
+pub use judging::mismatch;
+pub use lines::{RowLine, read_line, split_row};
 pub use texts::{bytes_of, text_of};

@@ -2,26 +2,26 @@
 
 /// A line below a heading: a row such as `: a b => 1:1=Name(a) 1:3=Name(b) 1:4=End`, as its input and its expected result; an empty line
 /// or a comment; or neither.
-pub enum Line<'a> {
+pub enum RowLine<'a> {
     Row(&'a str, &'a str),
     Comment,
     Other,
 }
 
 /// Classifies a line below a heading.
-pub fn read_line(line: &str) -> Line {
+pub fn read_line(line: &str) -> RowLine {
     match line.strip_prefix(": ") {
         Some(row) => match row.split_once(" => ") {
-            Some((text, expected)) => Line::Row(text, expected),
-            None => Line::Other,
+            Some((text, expected)) => RowLine::Row(text, expected),
+            None => RowLine::Other,
         },
-        None if line.is_empty() || line.starts_with('#') => Line::Comment,
-        None => Line::Other,
+        None if line.is_empty() || line.starts_with('#') => RowLine::Comment,
+        None => RowLine::Other,
     }
 }
 
 /// What a row's input has before `<-`, if there is one, and the input proper.
-pub fn parted(row: &str) -> (Option<&str>, &str) {
+pub fn split_row(row: &str) -> (Option<&str>, &str) {
     if let Some(text) = row.strip_prefix("<- ") {
         return (Some(""), text);
     }

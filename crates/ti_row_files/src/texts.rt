@@ -7,55 +7,55 @@ use std::rt::Files;
 
 /// What a context puts before and after each input.
 #[derive(Clone, Copy)]
-struct Ends {
+struct SourceFrame {
     before: &'static str,
     after: &'static str,
 }
 
 /// No context: the input is a whole source file.
-const WHOLE: Ends = Ends {
+const WHOLE: SourceFrame = SourceFrame {
     before: "",
     after: "",
 };
 
 /// The input is statements of a method; it begins in line 2.
-const STATEMENTS: Ends = Ends {
+const STATEMENTS: SourceFrame = SourceFrame {
     before: "class C { void f() {\n",
     after: "\n} }",
 };
 
 /// The input is statements of `main`; it begins in column 62.
-const MAIN: Ends = Ends {
+const MAIN: SourceFrame = SourceFrame {
     before: "class Main { public static single void main(String[] args) { ",
     after: " } }",
 };
 
 /// The input is an expression; it begins in column 100. An `int` variable `x` and a null grid variable `a` are in scope.
-const PRINTED: Ends = Ends {
+const PRINTED: SourceFrame = SourceFrame {
     before: "class Main { public static single void main(String[] args) { int x = 5; int [1d] a = null; println(",
     after: "); } }",
 };
 
 /// The input is classes; the class `Main` follows them.
-const WITH_MAIN: Ends = Ends {
+const WITH_MAIN: SourceFrame = SourceFrame {
     before: "",
     after: " class Main { public static single void main(String[] args) {  } }",
 };
 
 /// The input is members of the class `Main`; it begins in column 14. A `main` that prints 7 follows them.
-const WITH_METHOD: Ends = Ends {
+const WITH_METHOD: SourceFrame = SourceFrame {
     before: "class Main { ",
     after: " public static single void main(String[] args) { println(7); } }",
 };
 
 /// The input is statements of `main` after a class with two fields; it begins in column 95.
-const WITH_CLASS: Ends = Ends {
+const WITH_CLASS: SourceFrame = SourceFrame {
     before: "class C { int v; C local near; } class Main { public static single void main(String[] args) { ",
     after: " } }",
 };
 
 /// The context with this name.
-fn ends_of(frame: &str) -> Option<Ends> {
+fn ends_of(frame: &str) -> Option<SourceFrame> {
     match frame {
         "whole" => Some(WHOLE),
         "statements" => Some(STATEMENTS),
@@ -200,7 +200,7 @@ pub fn bytes_of(alloc: Global, spelled: &str) -> Result<Vec<u8>, RowErr> {
 }
 
 /// An input in its context.
-fn between(alloc: Global, ends: Ends, spelled: &str) -> Result<Vec<u8>, RowErr> {
+fn in_frame(alloc: Global, ends: SourceFrame, spelled: &str) -> Result<Vec<u8>, RowErr> {
     let mut bytes = Vec::new(alloc);
     bytes.extend_from_slice(ends.before.as_bytes())?;
     push_bytes(alloc, &mut bytes, spelled)?;
@@ -221,7 +221,7 @@ pub fn text_of<R: Files + AllocGlobal>(
         };
     }
     match ends_of(frame) {
-        Some(ends) => between(rt.alloc(), ends, spelled),
+        Some(ends) => in_frame(rt.alloc(), ends, spelled),
         None => Err(RowErr::Heading),
     }
 }
@@ -237,7 +237,7 @@ fn push_escaped(text: &mut String, byte: u8) -> Result<(), AllocError> {
 }
 
 /// Bytes in the notation of rows.
-pub(crate) fn escaped(alloc: Global, bytes: &[u8]) -> Result<String, AllocError> {
+pub(crate) fn row_text(alloc: Global, bytes: &[u8]) -> Result<String, AllocError> {
     let mut text = String::new(alloc);
     for byte in bytes {
         push_escaped(&mut text, *byte)?;

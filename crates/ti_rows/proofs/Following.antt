@@ -13,7 +13,7 @@ use Rattle.ti_base.specs.declared.entry.Next.TheVariants as next
 use Rattle.ti_base.specs.declared.value.Value.TheVariants as v
 use Rattle.ti_lang.specs.Typing.BuiltIn.{built_in}
 use Rattle.ti_lang.specs.Typing.Declared.{named_field_type, instance_method}
-use Rattle.ti_lang.specs.Meaning.Processes.{Setting, Process, begin}
+use Rattle.ti_lang.specs.Meaning.Processes.{RunConfig, Process, begin}
 use Rattle.ti_lang.specs.Meaning.NextStep.{IsNext, After}
 use Rattle.ti_lang.specs.Meaning.Histories.{is_end, is_answered, entries_of}
 use Rattle.ti_lang.specs.Meaning.Runs.{CanTake, IsRun, entry_of}
@@ -27,7 +27,7 @@ use Rattle.ti_rows.specs.Simulation.{solo}
 use Rattle.ti_rows.specs.Refuted.Programs as programs
 use Rattle.ti_rows.proofs.Reached.{reached, behind, next_of, rest_of, settles}
 
-abbrev prints : Setting
+abbrev prints : RunConfig
 prints = by_two 1000 programs.a_print
 
 -- a process prints, and has its end

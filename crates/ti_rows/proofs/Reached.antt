@@ -8,17 +8,17 @@ use Rattle.ti_base.specs.declared.entry.Answer.{Answer}
 use Rattle.ti_base.specs.declared.entry.Entry.{Entry}
 use Rattle.ti_base.specs.declared.entry.Next.{Next}
 use Rattle.ti_base.specs.declared.entry.Next.TheVariants as next
-use Rattle.ti_lang.specs.Program.Classes.{NumberedProgram}
-use Rattle.ti_lang.specs.Meaning.Asking.{Request}
-use Rattle.ti_lang.specs.Meaning.Processes.{Setting, Process, begin}
+use Rattle.ti_lang.specs.Program.Classes.{ProgramView}
+use Rattle.ti_lang.specs.Meaning.Comp.{Request}
+use Rattle.ti_lang.specs.Meaning.Processes.{RunConfig, Process, begin}
 use Rattle.ti_lang.specs.Meaning.Steps.{Step, To, At, Ends, Faults, step}
-use Rattle.ti_lang.specs.Meaning.NextStep.{Reaches, here, later, shown, Settles, IsNext, After, none, more}
+use Rattle.ti_lang.specs.Meaning.NextStep.{Reaches, here, later, step_label, RunsTo, IsNext, After, none, more}
 use Rattle.ti_lang.specs.Meaning.Histories.{arrivals, answers_of}
-use Rattle.ti_lang.specs.Meaning.Runs.{World, CanTake, IsReady}
+use Rattle.ti_lang.specs.Meaning.Runs.{ProcAfter, CanTake, IsReady}
 use Rattle.ti_lang.proofs.Lemmas.{settled_same, settles_at, next_same, after_same, solo_run}
 use Rattle.ti_lang.specs.Program.Types.{ValueType}
 use Rattle.ti_align.specs.SinglePart.{single_part}
-use Rattle.ti_align.specs.Given.{given_by}
+use Rattle.ti_align.specs.Given.{contribution_by}
 use Rattle.ti_align.specs.Typed.{GivesAt}
 use Rattle.ti_align.specs.Alignment.{ArrivesAt}
 use Rattle.ti_rows.specs.Simulation.{settle_by, settle, most_silent, solo}
@@ -87,33 +87,33 @@ reached (r ∷ rs) p q h = reached_by r rs p q (λ z k. reached rs z q k) (settl
 -- ---- the world after entries
 
 -- a process after these entries
-abbrev pub process_after : Setting → List Entry → ℕ → Option Process
+abbrev pub process_after : RunConfig → List Entry → ℕ → Option Process
 process_after s es i = behind (answers_of i es) (begin s i)
 
-pub world : (s : Setting) (es : List Entry) (i : ℕ) (p : Process) → process_after s es i ≡ Some p → World s es i p
+pub world : (s : RunConfig) (es : List Entry) (i : ℕ) (p : Process) → process_after s es i ≡ Some p → ProcAfter s es i p
 world s es i p h = reached (answers_of i es) (begin s i) p h
 
 -- what it has next
 abbrev pub next_of : Process → Option Next
-next_of p = shown (settle most_silent p)
+next_of p = step_label (settle most_silent p)
 
-pub settles : (p : Process) (n : Next) → next_of p ≡ Some n → Settles p (rest_of p) n
-settles p n h = let w = stopped most_silent p in record { reaches = w.0; stands = ap shown w.1 ∙ h }
+pub settles : (p : Process) (n : Next) → next_of p ≡ Some n → RunsTo p (rest_of p) n
+settles p n h = let w = stopped most_silent p in record { reaches = w.0; stands = ap step_label w.1 ∙ h }
 
 -- what the process has next after these entries
-abbrev pub next_after : Setting → List Entry → ℕ → Option Next
+abbrev pub next_after : RunConfig → List Entry → ℕ → Option Next
 next_after s es i = option_and_then next_of (process_after s es i)
 
 -- a process after these entries that has this next
-pub record HasNext (s : Setting) (es : List Entry) (i : ℕ) (n : Next) : Type 0 where
+pub record HasNext (s : RunConfig) (es : List Entry) (i : ℕ) (n : Next) : Type 0 where
   pub process : Process
-  pub world : World s es i process
+  pub world : ProcAfter s es i process
   pub next : IsNext process n
 
 no_next : (n : Next) → ◌≡◌ {A = Option Next} None (Some n) → ⊥
 no_next n e = cc
 
-pub has_next : (s : Setting) (es : List Entry) (i : ℕ) (n : Next) → next_after s es i ≡ Some n → HasNext s es i n
+pub has_next : (s : RunConfig) (es : List Entry) (i : ℕ) (n : Next) → next_after s es i ≡ Some n → HasNext s es i n
 has_next s es i n h = by (process_after s es i) refl h
   where
     by : (o : Option Process) → process_after s es i ≡ o → option_and_then next_of o ≡ Some n → HasNext s es i n
@@ -130,13 +130,13 @@ asked_by (Ends place) = None
 asked_by (Faults kind place) = None
 
 -- what a process asks for after these entries
-abbrev pub request_after : Setting → List Entry → ℕ → Option Request
+abbrev pub request_after : RunConfig → List Entry → ℕ → Option Request
 request_after s es i = option_and_then (λ p. asked_by (settle most_silent p)) (process_after s es i)
 
 -- a process after these entries that asks for this
-pub record HasAsked (s : Setting) (es : List Entry) (i : ℕ) (request : Request) : Type 0 where
+pub record HasAsked (s : RunConfig) (es : List Entry) (i : ℕ) (request : Request) : Type 0 where
   pub process : Process
-  pub world : World s es i process
+  pub world : ProcAfter s es i process
   pub settled : Process
   pub reaches : Reaches process settled
   pub go : Answer → Process
@@ -148,10 +148,10 @@ no_request q e = cc
 one_request : (q r : Request) → Some q ≡ Some r → q ≡ r
 one_request q r e = cc
 
-pub has_asked : (s : Setting) (es : List Entry) (i : ℕ) (request : Request) → request_after s es i ≡ Some request → HasAsked s es i request
+pub has_asked : (s : RunConfig) (es : List Entry) (i : ℕ) (request : Request) → request_after s es i ≡ Some request → HasAsked s es i request
 has_asked s es i request h = by (process_after s es i) refl h
   where
-    by_step : (p : Process) → World s es i p → (t : Step) → settle most_silent p ≡ t → asked_by t ≡ Some request → HasAsked s es i request
+    by_step : (p : Process) → ProcAfter s es i p → (t : Step) → settle most_silent p ≡ t → asked_by t ≡ Some request → HasAsked s es i request
     by_step p w (To q) e h = absurd (no_request request h)
     by_step p w (At q go) e h =
         let rest = stopped most_silent p in
@@ -175,7 +175,7 @@ asks_once p a b q r g h x e y f =
 -- ---- arrivals
 
 -- the process arrives here behind the entries before
-pub arrives : (s : Setting) (es before rest : List Entry) (i k : ℕ) (p : Process) (at : Place) (kind : CollKind) (arg : Option ℕ) (given : Deposit) (r : Answer)
+pub arrives : (s : RunConfig) (es before rest : List Entry) (i k : ℕ) (p : Process) (at : Place) (kind : CollKind) (arg : Option ℕ) (given : Deposit) (r : Answer)
     → es ≡ before ++ record { proc = i; place = at; act = act.Arrive kind arg given; answer = r } ∷ rest → arrivals i before ≡ k → process_after s before i ≡ Some p
     → next_of p ≡ Some (next.Act at (act.Arrive kind arg given)) → ArrivesAt s es i k (record { place = at; kind = kind; arg = arg; single = single_part (rest_of p) })
 arrives s es before rest i k p at kind arg given r e n w h = record {
@@ -193,21 +193,21 @@ arrives s es before rest i k p at kind arg given r e n w h = record {
 }
 
 -- the same of an arrival at which values of a type are handed in
-pub gives : (s : Setting) (es before rest : List Entry) (i k : ℕ) (p : Process) (at : Place) (kind : CollKind) (arg : Option ℕ) (given : Deposit) (r : Answer) (type : ValueType)
+pub gives : (s : RunConfig) (es before rest : List Entry) (i k : ℕ) (p : Process) (at : Place) (kind : CollKind) (arg : Option ℕ) (given : Deposit) (r : Answer) (type : ValueType)
     → es ≡ before ++ record { proc = i; place = at; act = act.Arrive kind arg given; answer = r } ∷ rest → arrivals i before ≡ k → process_after s before i ≡ Some p
-    → next_of p ≡ Some (next.Act at (act.Arrive kind arg given)) → given_by (rest_of p) ≡ Some type → GivesAt s es i k type
+    → next_of p ≡ Some (next.Act at (act.Arrive kind arg given)) → contribution_by (rest_of p) ≡ Some type → GivesAt s es i k type
 unfolding arrives
 gives s es before rest i k p at kind arg given r type e n w h g = record { arrival = _; arrives = arrives s es before rest i k p at kind arg given r e n w h; gives = g }
 
 -- ---- runs
 
 -- a fact that is false of some entries of the run of the lowest-numbered process is no fact of every run
-pub fails : (fact : Setting → List Entry → Type 0) (p : NumberedProgram) (turns : ℕ) → (fact (by_two 1000 p) (solo (by_two 1000 p) turns) → ⊥) → FailsFor fact p
+pub fails : (fact : RunConfig → List Entry → Type 0) (p : ProgramView) (turns : ℕ) → (fact (by_two 1000 p) (solo (by_two 1000 p) turns) → ⊥) → FailsFor fact p
 fails fact p turns against h =
     against (h 2 1000 (solo (by_two 1000 p) turns) (omega arith) (omega arith) (omega arith) (omega arith) (solo_run (by_two 1000 p) _ (simulated.solo_run (by_two 1000 p) turns)))
 
 -- a process can take no entry while it waits for another
-pub can_take_next : (s : Setting) (es : List Entry) (i : ℕ) (n : Next) (e : Entry) → HasNext s es i n → CanTake s es i e → IsReady s es i n
+pub can_take_next : (s : RunConfig) (es : List Entry) (i : ℕ) (n : Next) (e : Entry) → HasNext s es i n → CanTake s es i e → IsReady s es i n
 can_take_next s es i n e w c =
     let same : c.process ≡ w.process = after_same _ _ _ _ c.world w.world in
     let one : c.next ≡ n = next_same w.process _ _ (subst (λ p. IsNext p c.next) same c.is_next) w.next in

@@ -13,17 +13,17 @@ use Rattle.ti_base.specs.declared.entry.Answer.TheVariants.{Done}
 use Rattle.ti_base.specs.declared.entry.Entry.{Entry}
 use Rattle.ti_base.specs.declared.entry.Next.{Next}
 use Rattle.ti_base.specs.declared.entry.Next.TheVariants as next
-use Rattle.ti_lang.specs.Meaning.Asking.{Request}
-use Rattle.ti_lang.specs.Meaning.Processes.{Setting, Process, begin}
+use Rattle.ti_lang.specs.Meaning.Comp.{Request}
+use Rattle.ti_lang.specs.Meaning.Processes.{RunConfig, Process, begin}
 use Rattle.ti_lang.specs.Meaning.Steps.{Step, To, At, Ends, Faults, step}
-use Rattle.ti_lang.specs.Meaning.NextStep.{Reaches, here, later, shown, IsNext, After, none, more}
+use Rattle.ti_lang.specs.Meaning.NextStep.{Reaches, here, later, step_label, IsNext, After, none, more}
 use Rattle.ti_lang.specs.Meaning.Histories.{is_end, is_fault, is_answered, entries_of, answers_of, arrivals, departures, has_end, has_fault, history_of}
 use Rattle.ti_lang.specs.Meaning.HeapAnswers.{Outcome, Answers, Impossible, heap_answer}
 use Rattle.ti_lang.specs.Meaning.HeapAnswers as heap
-use Rattle.ti_lang.specs.Meaning.Runs.{World, IsReady, entry_with, entry_of, CanTake, IsSolo}
+use Rattle.ti_lang.specs.Meaning.Runs.{ProcAfter, IsReady, entry_with, entry_of, CanTake, IsSolo}
 use Rattle.ti_lang.specs.Meaning.Runs as r
 use Rattle.ti_lang.proofs.Lemmas.{no_end_asked, next_same, after_same}
-use Rattle.ti_rows.specs.Simulation.{settle_by, settle, most_silent, Slot, slots, have_arrived, is_ready, Taking, Waits, Takes, Unknown, by_outcome, by_request, by_step, takes, Turn, Taken, Untold, put_before, first_of, turn, run_by, run_from, solo}
+use Rattle.ti_rows.specs.Simulation.{settle_by, settle, most_silent, Slot, slots, have_arrived, is_ready, Taking, Waits, Takes, Unknown, by_outcome, by_request, by_step, next_taking, SoloTurn, Taken, Untold, put_before, first_of, solo_turn, run_by, run_from, solo}
 use Rattle.ti_rows.specs.Simulation as sim
 
 -- ---- silent steps
@@ -83,13 +83,13 @@ all_arrived es t j (suc n) f =
     let same : j + suc d ≡ j + 1 + d = omega arith in
     subst (λ i. t < arrivals i es) same (f (suc d) (omega arith))))
 
-ready : (s : Setting) (es : List Entry) (i : ℕ) (at : Place) (a : Action) → is_ready s es i a ≡ true → IsReady s es i (next.Act at a)
+ready : (s : RunConfig) (es : List Entry) (i : ℕ) (at : Place) (a : Action) → is_ready s es i a ≡ true → IsReady s es i (next.Act at a)
 ready s es i at act.Depart e = λ j l.
     let same : 0 + j ≡ j = omega arith in
     subst (λ k. departures i es < arrivals k es) same (arrived_all es (departures i es) 0 s.procs j e l)
 ready s es i at _ e = tt
 
-is_ready_then : (s : Setting) (es : List Entry) (i : ℕ) (at : Place) (a : Action) → IsReady s es i (next.Act at a) → is_ready s es i a ≡ true
+is_ready_then : (s : RunConfig) (es : List Entry) (i : ℕ) (at : Place) (a : Action) → IsReady s es i (next.Act at a) → is_ready s es i a ≡ true
 is_ready_then s es i at act.Depart f = all_arrived es (departures i es) 0 s.procs (λ d l.
     let same : d ≡ 0 + d = omega arith in
     subst (λ k. departures i es < arrivals k es) same (f d l))
@@ -158,15 +158,15 @@ end_own i es e k = end_more i es e ∙ ap (λ b. has_end i es || b) (own_end e (
 -- ---- slots
 
 -- the slot is the process of this number in the world of the entries
-abbrev IsSlot : Setting → List Entry → ℕ → Slot → Type 0
-IsSlot s es i x = (x.number ≡ i) × World s es i x.process × (has_end i es ≡ x.ended)
+abbrev IsSlot : RunConfig → List Entry → ℕ → Slot → Type 0
+IsSlot s es i x = (x.number ≡ i) × ProcAfter s es i x.process × (has_end i es ≡ x.ended)
 
 -- the slots are the processes from a number on
-abbrev AreSlots : Setting → List Entry → ℕ → List Slot → Type 0
+abbrev AreSlots : RunConfig → List Entry → ℕ → List Slot → Type 0
 AreSlots s es k [] = Unit {0}
 AreSlots s es k (x ∷ xs) = (k < s.procs) × IsSlot s es k x × AreSlots s es (k + 1) xs
 
-slot_other : (s : Setting) (es : List Entry) (e : Entry) (i : ℕ) (x : Slot) → (e.proc == i) ≡ false → IsSlot s es i x → IsSlot s (es ++ e ∷ []) i x
+slot_other : (s : RunConfig) (es : List Entry) (e : Entry) (i : ℕ) (x : Slot) → (e.proc == i) ≡ false → IsSlot s es i x → IsSlot s (es ++ e ∷ []) i x
 slot_other s es e i x k w = (w.0, subst (λ rs. After (begin s i) rs x.process) (sym (answers_other i es e k)) w.1, end_other i es e k ∙ w.2)
 
 apart : (i j : ℕ) → i < j → (i == j) ≡ false
@@ -176,27 +176,27 @@ apart i j l = by (i == j) refl
     by true e = absurd (omega (arith, eqb-true i j e))
     by false e = refl
 
-slots_other : (s : Setting) (es : List Entry) (e : Entry) (k : ℕ) (xs : List Slot) → e.proc < k → AreSlots s es k xs → AreSlots s (es ++ e ∷ []) k xs
+slots_other : (s : RunConfig) (es : List Entry) (e : Entry) (k : ℕ) (xs : List Slot) → e.proc < k → AreSlots s es k xs → AreSlots s (es ++ e ∷ []) k xs
 slots_other s es e k [] l w = tt
 slots_other s es e k (x ∷ xs) l w = (w.0, slot_other s es e k x (apart e.proc k l) w.1, slots_other s es e (k + 1) xs (omega arith) w.2)
 
 -- ---- what a process takes
 
 -- after its entry, unless this is a fault
-abbrev Taking_is : Setting → List Entry → ℕ → Taking → Type 0
+abbrev Taking_is : RunConfig → List Entry → ℕ → Taking → Type 0
 Taking_is s es i Waits = (e : Entry) → CanTake s es i e → ⊥
 Taking_is s es i (Takes y e) = CanTake s es i e × (e.proc ≡ i) × (is_fault e.act ≡ false → IsSlot s (es ++ e ∷ []) i y)
 Taking_is s es i Unknown = Unit {0}
 
 -- a process that stands at something
-record Stands (s : Setting) (es : List Entry) (i : ℕ) (x : Slot) (n : Next) : Type 0 where
+record Stands (s : RunConfig) (es : List Entry) (i : ℕ) (x : Slot) (n : Next) : Type 0 where
   within : i < s.procs
   goes_on : has_fault es ≡ false
   slot : IsSlot s es i x
   unended : x.ended ≡ false
   is_next : IsNext x.process n
 
-can : (s : Setting) (es : List Entry) (i : ℕ) (x : Slot) (n : Next) (e : Entry) → Stands s es i x n → IsReady s es i n → entry_of s es i n ≡ Some e → CanTake s es i e
+can : (s : RunConfig) (es : List Entry) (i : ℕ) (x : Slot) (n : Next) (e : Entry) → Stands s es i x n → IsReady s es i n → entry_of s es i n ≡ Some e → CanTake s es i e
 can s es i x n e w u k = record {
   within = w.within;
   goes_on = w.goes_on;
@@ -210,7 +210,7 @@ can s es i x n e w u k = record {
 }
 
 -- what it can take is the entry of what it stands at
-taken_is : (s : Setting) (es : List Entry) (i : ℕ) (x : Slot) (n : Next) (e : Entry) → Stands s es i x n → CanTake s es i e → IsReady s es i n × (entry_of s es i n ≡ Some e)
+taken_is : (s : RunConfig) (es : List Entry) (i : ℕ) (x : Slot) (n : Next) (e : Entry) → Stands s es i x n → CanTake s es i e → IsReady s es i n × (entry_of s es i n ≡ Some e)
 taken_is s es i x n e w c =
     let same : c.process ≡ x.process = after_same _ _ _ _ c.world w.slot.1 in
     let one : c.next ≡ n = next_same x.process _ _ (subst (λ p. IsNext p c.next) same c.is_next) w.is_next in
@@ -219,7 +219,7 @@ taken_is s es i x n e w c =
 none_some : (e : Entry) → ◌≡◌ {A = Option Entry} None (Some e) → ⊥
 none_some e k = cc
 
-outcome_taking : (s : Setting) (es : List Entry) (x : Slot) (request : Request) (go : Answer → Process) (q : Process) → Reaches x.process q → step q ≡ At request go
+outcome_taking : (s : RunConfig) (es : List Entry) (x : Slot) (request : Request) (go : Answer → Process) (q : Process) → Reaches x.process q → step q ≡ At request go
     → Stands s es x.number x (next.Act request.place request.action) → is_last request.action ≡ false → IsReady s es x.number (next.Act request.place request.action)
     → (o : Outcome) → heap_answer s.program (history_of es) x.number request.action ≡ o → Taking_is s es x.number (by_outcome x request go o)
 outcome_taking s es x request go q reach stands w last ready (Answers a) k =
@@ -239,7 +239,7 @@ outcome_taking s es x request go q reach stands w last ready (heap.Faults kind) 
 outcome_taking s es x request go q reach stands w last ready Impossible k =
     λ e c. none_some e (sym (ap (entry_with x.number request.place request.action) k) ∙ (taken_is s es x.number x _ e w c).1)
 
-request_taking : (s : Setting) (es : List Entry) (x : Slot) (request : Request) (go : Answer → Process) (q : Process) → Reaches x.process q → step q ≡ At request go
+request_taking : (s : RunConfig) (es : List Entry) (x : Slot) (request : Request) (go : Answer → Process) (q : Process) → Reaches x.process q → step q ≡ At request go
     → Stands s es x.number x (next.Act request.place request.action) → is_last request.action ≡ false
     → (t : Bool) → is_ready s es x.number request.action ≡ t → Taking_is s es x.number (by_request s es x request go t)
 request_taking s es x request go q reach stands w last true k =
@@ -247,17 +247,17 @@ request_taking s es x request go q reach stands w last true k =
 request_taking s es x request go q reach stands w last false k =
     λ e c. let u = is_ready_then s es x.number request.place request.action (taken_is s es x.number x _ e w c).0 in cc
 
-step_taking : (s : Setting) (es : List Entry) (x : Slot) → x.number < s.procs → has_fault es ≡ false → IsSlot s es x.number x → x.ended ≡ false
+step_taking : (s : RunConfig) (es : List Entry) (x : Slot) → x.number < s.procs → has_fault es ≡ false → IsSlot s es x.number x → x.ended ≡ false
     → (t : Step) (q : Process) → Reaches x.process q → step q ≡ t → Taking_is s es x.number (by_step s es x t)
 step_taking s es x l g w u (To p) q reach stands = tt
 step_taking s es x l g w u (At request go) q reach stands =
     let end = no_end_asked q request go stands in
-    request_taking s es x request go q reach stands (record { within = l; goes_on = g; slot = w; unended = u; is_next = (q, record { reaches = reach; stands = ap shown stands }) })
+    request_taking s es x request go q reach stands (record { within = l; goes_on = g; slot = w; unended = u; is_next = (q, record { reaches = reach; stands = ap step_label stands }) })
     (false_both (is_end request.action) (is_fault request.action) end.0 end.1) (is_ready s es x.number request.action) refl
 step_taking s es x l g w u (Ends at) q reach stands =
     let e : Entry = record { proc = x.number; place = at; act = act.End; answer = Done } in
     let own : (x.number == x.number) ≡ true = eq-eqb x.number x.number refl in
-    let here : Stands s es x.number x (next.End at) = record { within = l; goes_on = g; slot = w; unended = u; is_next = (q, record { reaches = reach; stands = ap shown stands }) } in (
+    let here : Stands s es x.number x (next.End at) = record { within = l; goes_on = g; slot = w; unended = u; is_next = (q, record { reaches = reach; stands = ap step_label stands }) } in (
       can s es x.number x _ e here tt refl,
       refl,
       λ f. (
@@ -277,12 +277,12 @@ step_taking s es x l g w u (Ends at) q reach stands =
     ends true = refl
     ends false = refl
 step_taking s es x l g w u (Faults kind at) q reach stands = (
-  can s es x.number x (next.Fault kind at) _ (record { within = l; goes_on = g; slot = w; unended = u; is_next = (q, record { reaches = reach; stands = ap shown stands }) }) tt refl,
+  can s es x.number x (next.Fault kind at) _ (record { within = l; goes_on = g; slot = w; unended = u; is_next = (q, record { reaches = reach; stands = ap step_label stands }) }) tt refl,
   refl,
   λ f. cc,
 )
 
-taking : (s : Setting) (es : List Entry) (x : Slot) → x.number < s.procs → has_fault es ≡ false → IsSlot s es x.number x → Taking_is s es x.number (takes s es x)
+taking : (s : RunConfig) (es : List Entry) (x : Slot) → x.number < s.procs → has_fault es ≡ false → IsSlot s es x.number x → Taking_is s es x.number (next_taking s es x)
 taking s es x l g w = by x.ended refl
   where
     by : (t : Bool) → x.ended ≡ t → Taking_is s es x.number (if t then Waits else by_step s es x (settle most_silent x.process))
@@ -294,10 +294,10 @@ taking s es x l g w = by x.ended refl
 -- ---- a turn
 
 -- none of these processes can take an entry
-abbrev NoneBelow : Setting → List Entry → ℕ → Type 0
+abbrev NoneBelow : RunConfig → List Entry → ℕ → Type 0
 NoneBelow s es k = (j : ℕ) (d : Entry) → j < k → CanTake s es j d → ⊥
 
-none_up_to : (s : Setting) (es : List Entry) (k : ℕ) → NoneBelow s es k → ((d : Entry) → CanTake s es k d → ⊥) → NoneBelow s es (k + 1)
+none_up_to : (s : RunConfig) (es : List Entry) (k : ℕ) → NoneBelow s es k → ((d : Entry) → CanTake s es k d → ⊥) → NoneBelow s es (k + 1)
 none_up_to s es k below own j d l c = by (split j k l)
   where
     split : (j k : ℕ) → j < k + 1 → (j < k) ⊎ (j ≡ k)
@@ -311,13 +311,13 @@ none_up_to s es k below own j d l c = by (split j k l)
     by (inl m) = below j d m c
     by (inr m) = own d (subst (λ i. CanTake s es i d) m c)
 
-abbrev Turn_is : Setting → List Entry → ℕ → Turn → Type 0
+abbrev Turn_is : RunConfig → List Entry → ℕ → SoloTurn → Type 0
 Turn_is s es k sim.None = Unit {0}
 Turn_is s es k (Taken ys e) =
     (i : ℕ) × (k ≤ i) × CanTake s es i e × (e.proc ≡ i) × NoneBelow s es i × (is_fault e.act ≡ false → AreSlots s (es ++ e ∷ []) k ys)
 Turn_is s es k Untold = Unit {0}
 
-put_turn : (s : Setting) (es : List Entry) (k : ℕ) (x : Slot) → k < s.procs → IsSlot s es k x → (t : Turn) → Turn_is s es (k + 1) t → Turn_is s es k (put_before x t)
+put_turn : (s : RunConfig) (es : List Entry) (k : ℕ) (x : Slot) → k < s.procs → IsSlot s es k x → (t : SoloTurn) → Turn_is s es (k + 1) t → Turn_is s es k (put_before x t)
 put_turn s es k x l w sim.None h = tt
 put_turn s es k x l w (Taken ys e) h = (
   h.0,
@@ -336,25 +336,25 @@ put_turn s es k x l w (Taken ys e) h = (
         by false e = refl
 put_turn s es k x l w Untold h = tt
 
-first_turn : (s : Setting) (es : List Entry) (k : ℕ) (x : Slot) (xs : List Slot) → k < s.procs → IsSlot s es k x → AreSlots s es (k + 1) xs → NoneBelow s es k
-    → (t : Taking) → Taking_is s es k t → (rest : Turn) → (NoneBelow s es (k + 1) → Turn_is s es (k + 1) rest) → Turn_is s es k (first_of t x xs rest)
+first_turn : (s : RunConfig) (es : List Entry) (k : ℕ) (x : Slot) (xs : List Slot) → k < s.procs → IsSlot s es k x → AreSlots s es (k + 1) xs → NoneBelow s es k
+    → (t : Taking) → Taking_is s es k t → (rest : SoloTurn) → (NoneBelow s es (k + 1) → Turn_is s es (k + 1) rest) → Turn_is s es k (first_of t x xs rest)
 first_turn s es k x xs l w ws below Waits h rest m = put_turn s es k x l w rest (m (none_up_to s es k below h))
 first_turn s es k x xs l w ws below (Takes y e) h rest m =
     (k, omega arith, h.0, h.1, below, λ f. (l, h.2 f, slots_other s es e (k + 1) xs (omega (arith, h.1)) ws))
 first_turn s es k x xs l w ws below Unknown h rest m = tt
 
-turned : (s : Setting) (es : List Entry) (k : ℕ) (xs : List Slot) → has_fault es ≡ false → AreSlots s es k xs → NoneBelow s es k → Turn_is s es k (turn s es xs)
+turned : (s : RunConfig) (es : List Entry) (k : ℕ) (xs : List Slot) → has_fault es ≡ false → AreSlots s es k xs → NoneBelow s es k → Turn_is s es k (solo_turn s es xs)
 turned s es k [] g w below = tt
 turned s es k (x ∷ xs) g w below =
     let at : IsSlot s es x.number x = subst (λ i. IsSlot s es i x) (sym w.1.0) w.1 in
-    let taken : Taking_is s es k (takes s es x) = subst (λ i. Taking_is s es i (takes s es x)) w.1.0 (taking s es x (subst (λ i. i < s.procs) (sym w.1.0) w.0) g at) in
-    first_turn s es k x xs w.0 w.1 w.2 below (takes s es x) taken (turn s es xs) (λ none. turned s es (k + 1) xs g w.2 none)
+    let taken : Taking_is s es k (next_taking s es x) = subst (λ i. Taking_is s es i (next_taking s es x)) w.1.0 (taking s es x (subst (λ i. i < s.procs) (sym w.1.0) w.0) g at) in
+    first_turn s es k x xs w.0 w.1 w.2 below (next_taking s es x) taken (solo_turn s es xs) (λ none. turned s es (k + 1) xs g w.2 none)
 
 -- ---- the run
 
-run_goes : (s : Setting) (n : ℕ) (es : List Entry) → IsSolo s es → has_fault es ≡ false
+run_goes : (s : RunConfig) (n : ℕ) (es : List Entry) → IsSolo s es → has_fault es ≡ false
     → ((xs : List Slot) (ds : List Entry) → IsSolo s ds → has_fault ds ≡ false → AreSlots s ds 0 xs → IsSolo s (run_from s n xs ds))
-    → (t : Turn) → Turn_is s es 0 t → IsSolo s (run_by (run_from s n) es t)
+    → (t : SoloTurn) → Turn_is s es 0 t → IsSolo s (run_by (run_from s n) es t)
 run_goes s n es run g go sim.None h = run
 run_goes s n es run g go (Taken ys e) h = by (is_fault e.act) refl
   where
@@ -366,14 +366,14 @@ run_goes s n es run g go (Taken ys e) h = by (is_fault e.act) refl
     by false f = go ys (es ++ e ∷ []) grown (fault_more es e g f) (h.5 f)
 run_goes s n es run g go Untold h = run
 
-run_solo : (s : Setting) (n : ℕ) (xs : List Slot) (es : List Entry) → IsSolo s es → has_fault es ≡ false → AreSlots s es 0 xs → IsSolo s (run_from s n xs es)
+run_solo : (s : RunConfig) (n : ℕ) (xs : List Slot) (es : List Entry) → IsSolo s es → has_fault es ≡ false → AreSlots s es 0 xs → IsSolo s (run_from s n xs es)
 run_solo s zero xs es run g w = run
 run_solo s (suc n) xs es run g w =
-    run_goes s n es run g (run_solo s n) (turn s es xs) (turned s es 0 xs g w (λ j d l c. absurd (omega arith)))
+    run_goes s n es run g (run_solo s n) (solo_turn s es xs) (turned s es 0 xs g w (λ j d l c. absurd (omega arith)))
 
-first_slots : (s : Setting) (i n : ℕ) → i + n ≤ s.procs → AreSlots s [] i (slots s i n)
+first_slots : (s : RunConfig) (i n : ℕ) → i + n ≤ s.procs → AreSlots s [] i (slots s i n)
 first_slots s i zero l = tt
 first_slots s i (suc n) l = (omega arith, (refl, none, refl), first_slots s (i + 1) n (omega arith))
 
-pub solo_run : (s : Setting) (turns : ℕ) → IsSolo s (solo s turns)
+pub solo_run : (s : RunConfig) (turns : ℕ) → IsSolo s (solo s turns)
 solo_run s turns = run_solo s turns (slots s 0 s.procs) [] r.none refl (first_slots s 0 s.procs (omega arith))

@@ -15,16 +15,16 @@ use Rattle.ti_lang.proofs.Lemmas.{decided, solo_run}
 use Rattle.ti_rows.specs.Texts.{pl}
 use Rattle.ti_rows.specs.Simulation.{solo}
 use Rattle.ti_rows.specs.Refuted.Entries as entries
-use Rattle.ti_rows.specs.Refuted.Things.{both}
+use Rattle.ti_rows.specs.Refuted.Things.{two_at_barrier}
 use Rattle.ti_rows.proofs.Reached.{has_next}
 use Rattle.ti_rows.proofs.Simulated as simulated
 
 -- process 0 can arrive
-pub first_can : CanTake both [] 0 (record { proc = 0; place = pl 1 65; act = act.Arrive coll.Barrier None deposit.Nothing; answer = Done })
+pub first_can : CanTake two_at_barrier [] 0 (record { proc = 0; place = pl 1 65; act = act.Arrive coll.Barrier None deposit.Nothing; answer = Done })
 unfolding int_wrap built_in named_field_type instance_method
 first_can =
     let a = next.Act (pl 1 65) (act.Arrive coll.Barrier None deposit.Nothing) in
-    let w = has_next both [] 0 a refl in
+    let w = has_next two_at_barrier [] 0 a refl in
     record {
       within = omega arith;
       goes_on = refl;
@@ -45,7 +45,7 @@ pub no_arrival : act.End ≡ act.Arrive coll.Barrier None deposit.Nothing → �
 no_arrival e = cc
 
 -- but not end
-pub no_end_first : IsRun both entries.an_end_too_early → ⊥
+pub no_end_first : IsRun two_at_barrier entries.an_end_too_early → ⊥
 unfolding int_wrap built_in named_field_type instance_method
 no_end_first run =
-    no_arrival (ap act_of_first (decided both entries.an_end_too_early (solo both 1) run (solo_run both _ (simulated.solo_run both 1)) refl))
+    no_arrival (ap act_of_first (decided two_at_barrier entries.an_end_too_early (solo two_at_barrier 1) run (solo_run two_at_barrier _ (simulated.solo_run two_at_barrier 1)) refl))

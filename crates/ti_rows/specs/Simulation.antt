@@ -5,8 +5,8 @@ use Rattle.ti_base.specs.declared.action.Action.TheVariants as act
 use Rattle.ti_base.specs.declared.entry.Answer.TheVariants.{Done}
 use Rattle.ti_base.specs.declared.entry.Answer.{Answer}
 use Rattle.ti_base.specs.declared.entry.Entry.{Entry}
-use Rattle.ti_lang.specs.Meaning.Asking.{Request}
-use Rattle.ti_lang.specs.Meaning.Processes.{Setting, Process, begin}
+use Rattle.ti_lang.specs.Meaning.Comp.{Request}
+use Rattle.ti_lang.specs.Meaning.Processes.{RunConfig, Process, begin}
 use Rattle.ti_lang.specs.Meaning.Steps.{Step, To, At, Ends, Faults, step}
 use Rattle.ti_lang.specs.Meaning.Histories.{is_fault, history_of, arrivals, departures}
 use Rattle.ti_lang.specs.Meaning.HeapAnswers.{Outcome, Answers, Impossible, heap_answer}
@@ -37,7 +37,7 @@ pub record Slot : Type 0 where
   pub process : Process
 
 -- n processes before their first steps, numbered from i on
-abbrev pub slots : Setting → ℕ → ℕ → List Slot
+abbrev pub slots : RunConfig → ℕ → ℕ → List Slot
 slots s i zero = []
 slots s i (suc n) = record { number = i; ended = false; process = begin s i } ∷ slots s (i + 1) n
 
@@ -47,7 +47,7 @@ have_arrived es times j zero = true
 have_arrived es times j (suc n) = nat_lt times (arrivals j es) && have_arrived es times (j + 1) n
 
 -- a departure waits until all processes have arrived
-abbrev pub is_ready : Setting → List Entry → ℕ → Action → Bool
+abbrev pub is_ready : RunConfig → List Entry → ℕ → Action → Bool
 is_ready s es i act.Depart = have_arrived es (departures i es) 0 s.procs
 is_ready s es i a = true
 
@@ -66,57 +66,57 @@ by_outcome x request go (heap.Faults kind) =
 by_outcome x request go Impossible = Waits
 
 -- the entry of an action, if it is ready
-abbrev pub by_request : Setting → List Entry → Slot → Request → (Answer → Process) → Bool → Taking
+abbrev pub by_request : RunConfig → List Entry → Slot → Request → (Answer → Process) → Bool → Taking
 by_request s es x request go true = by_outcome x request go (heap_answer s.program (history_of es) x.number request.action)
 by_request s es x request go false = Waits
 
 -- the entry of a step
-abbrev pub by_step : Setting → List Entry → Slot → Step → Taking
+abbrev pub by_step : RunConfig → List Entry → Slot → Step → Taking
 by_step s es x (To p) = Unknown
 by_step s es x (At request go) = by_request s es x request go (is_ready s es x.number request.action)
 by_step s es x (Ends at) = Takes (record x { ended = true }) (record { proc = x.number; place = at; act = act.End; answer = Done })
 by_step s es x (Faults kind at) = Takes x (record { proc = x.number; place = at; act = act.Fault kind; answer = Done })
 
 -- what a process does next
-abbrev pub takes : Setting → List Entry → Slot → Taking
-takes s es x = if x.ended then Waits else by_step s es x (settle most_silent x.process)
+abbrev pub next_taking : RunConfig → List Entry → Slot → Taking
+next_taking s es x = if x.ended then Waits else by_step s es x (settle most_silent x.process)
 
 -- ---- all processes
 
 -- what the lowest-numbered process that can take an entry does, and the processes after it
-pub data Turn : Type 0 where
-  None : Turn
-  Taken : (slots : List Slot) (e : Entry) → Turn
-  Untold : Turn
+pub data SoloTurn : Type 0 where
+  None : SoloTurn
+  Taken : (slots : List Slot) (e : Entry) → SoloTurn
+  Untold : SoloTurn
 
 -- puts a process before those of the result
-abbrev pub put_before : Slot → Turn → Turn
+abbrev pub put_before : Slot → SoloTurn → SoloTurn
 put_before x None = None
 put_before x (Taken xs e) = Taken (x ∷ xs) e
 put_before x Untold = Untold
 
 -- what a process does, or else what the later processes do
-abbrev pub first_of : Taking → Slot → List Slot → Turn → Turn
+abbrev pub first_of : Taking → Slot → List Slot → SoloTurn → SoloTurn
 first_of Waits x xs more = put_before x more
 first_of (Takes y e) x xs more = Taken (y ∷ xs) e
 first_of Unknown x xs more = Untold
 
 -- what the first process that can take an entry does
-abbrev pub turn : Setting → List Entry → List Slot → Turn
-turn s es [] = None
-turn s es (x ∷ xs) = first_of (takes s es x) x xs (turn s es xs)
+abbrev pub solo_turn : RunConfig → List Entry → List Slot → SoloTurn
+solo_turn s es [] = None
+solo_turn s es (x ∷ xs) = first_of (next_taking s es x) x xs (solo_turn s es xs)
 
 -- continues after an entry, unless it is a fault
-abbrev pub run_by : (List Slot → List Entry → List Entry) → List Entry → Turn → List Entry
+abbrev pub run_by : (List Slot → List Entry → List Entry) → List Entry → SoloTurn → List Entry
 run_by go es None = es
 run_by go es (Taken xs e) = if is_fault e.act then es ++ e ∷ [] else go xs (es ++ e ∷ [])
 run_by go es Untold = es
 
 -- the entries of a run after at most n more, from given processes and entries on
-abbrev pub run_from : Setting → ℕ → List Slot → List Entry → List Entry
+abbrev pub run_from : RunConfig → ℕ → List Slot → List Entry → List Entry
 run_from s zero xs es = es
-run_from s (suc n) xs es = run_by (run_from s n) es (turn s es xs)
+run_from s (suc n) xs es = run_by (run_from s n) es (solo_turn s es xs)
 
 -- the first entries of the canonical run, at most the given number
-abbrev pub solo : Setting → ℕ → List Entry
+abbrev pub solo : RunConfig → ℕ → List Entry
 solo s turns = run_from s turns (slots s 0 s.procs) []

@@ -8,17 +8,17 @@ use Rattle.ti_lang.specs.Program.Types.{ValueType, NumberedType, VariableUse}
 use Rattle.ti_lang.specs.Program.Types as t
 use Rattle.ti_lang.specs.Program.Expressions.{NumberedExp, NumberedExps, numbered_exps, Variable}
 use Rattle.ti_lang.specs.Program.Statements.{NumberedStm, NumberedStms, numbered_stms}
-use Rattle.ti_lang.specs.Program.Classes.{NumberedField, NumberedClass, NumberedParam, NumberedParams, NumberedResult, NumberedMethod, NumberedProgram}
+use Rattle.ti_lang.specs.Program.Classes.{NumberedField, NumberedClass, NumberedParam, NumberedParams, NumberedResult, NumberedMethod, ProgramView}
 use Rattle.ti_lang.specs.Program.Classes as c
-use Rattle.ti_lang.specs.Meaning.Processes.{Setting}
+use Rattle.ti_lang.specs.Meaning.Processes.{RunConfig}
 
 -- a place, by its line and its column
 abbrev pub pl : ℕ → ℕ → Place
 pl line col = record { line = line; col = col }
 
 -- a non-single type
-abbrev pub plain : ValueType → NumberedType
-plain type = record { type = type; is_single = false; qualifiers = []; grids = [] }
+abbrev pub nonsingle_type : ValueType → NumberedType
+nonsingle_type type = record { type = type; is_single = false; qualifiers = []; grids = [] }
 
 -- a single type
 abbrev pub single : ValueType → NumberedType
@@ -47,12 +47,12 @@ stms l = numbered_stms l
 -- ---- classes
 
 -- a class with fields
-abbrev pub class_of : List NumberedField → NumberedClass
-class_of fields = record { modifiers = []; fields = fields }
+abbrev pub class_with_fields : List NumberedField → NumberedClass
+class_with_fields fields = record { modifiers = []; fields = fields }
 
 -- a field of this type and name
 abbrev pub field : ValueType → ℕ → NumberedField
-field type name = record { modifiers = []; ty = plain type; name = name }
+field type name = record { modifiers = []; ty = nonsingle_type type; name = name }
 
 -- a parameter of this type
 abbrev pub param : Place → NumberedType → NumberedParam
@@ -63,8 +63,8 @@ abbrev pub static_word : List Modifier
 static_word = record { word = word.Static; place = pl 1 1 } ∷ []
 
 -- a method of a class with these modifiers, single or not
-abbrev pub method_of : List Modifier → Bool → ℕ → NumberedResult → ℕ → NumberedParams → List NumberedStm → Place → NumberedMethod
-method_of words is_single class result name params body end =
+abbrev pub method_with : List Modifier → Bool → ℕ → NumberedResult → ℕ → NumberedParams → List NumberedStm → Place → NumberedMethod
+method_with words is_single class result name params body end =
     record {
       class = class;
       modifiers = words;
@@ -79,15 +79,15 @@ method_of words is_single class result name params body end =
 
 -- an instance method
 abbrev pub instance_method : ℕ → NumberedResult → ℕ → NumberedParams → List NumberedStm → Place → NumberedMethod
-instance_method class result name params body end = method_of [] false class result name params body end
+instance_method class result name params body end = method_with [] false class result name params body end
 
 -- a static method
 abbrev pub static_method : ℕ → NumberedResult → ℕ → NumberedParams → List NumberedStm → Place → NumberedMethod
-static_method class result name params body end = method_of static_word false class result name params body end
+static_method class result name params body end = method_with static_word false class result name params body end
 
 -- a single method
 abbrev pub single_method : ℕ → NumberedResult → ℕ → NumberedParams → List NumberedStm → Place → NumberedMethod
-single_method class result name params body end = method_of static_word true class result name params body end
+single_method class result name params body end = method_with static_word true class result name params body end
 
 -- ---- programs
 
@@ -99,7 +99,7 @@ names_with names =
 
 -- a run with the given number of processes and ticks of fuel, of a program with these classes, methods (of which one is `main`), names
 -- and literals
-abbrev pub text : ℕ → ℕ → List NumberedClass → List NumberedMethod → ℕ → List (List ℕ) → List (List ℕ) → Setting
+abbrev pub text : ℕ → ℕ → List NumberedClass → List NumberedMethod → ℕ → List (List ℕ) → List (List ℕ) → RunConfig
 text procs fuel classes methods main names literals =
     record {
       procs = procs;
@@ -114,6 +114,6 @@ text procs fuel classes methods main names literals =
     }
 
 -- a run of a program that has only `main`, which ends at a place
-abbrev pub alone : ℕ → ℕ → List (List ℕ) → List NumberedStm → Place → Setting
-alone procs fuel literals body end =
-    text procs fuel (class_of [] ∷ []) (single_method 0 c.Void 11 c.Words body end ∷ []) 0 (codes "main" ∷ []) literals
+abbrev pub main_only_run : ℕ → ℕ → List (List ℕ) → List NumberedStm → Place → RunConfig
+main_only_run procs fuel literals body end =
+    text procs fuel (class_with_fields [] ∷ []) (single_method 0 c.Void 11 c.MainArgs body end ∷ []) 0 (codes "main" ∷ []) literals

@@ -10,7 +10,7 @@ use Rattle.ti_lang.specs.Members.{is_single}
 use Rattle.ti_lang.specs.Scopes.{has_single}
 use Rattle.ti_lang.specs.Program.Types.{ValueType, NumberedType, VariableUse, Declaration}
 use Rattle.ti_lang.specs.Program.Statements.{NumberedStm}
-use Rattle.ti_lang.specs.Program.Classes.{NumberedField, NumberedClass, NumberedParam, NumberedParams, NumberedResult, NumberedMethod, NumberedProgram}
+use Rattle.ti_lang.specs.Program.Classes.{NumberedField, NumberedClass, NumberedParam, NumberedParams, NumberedResult, NumberedMethod, ProgramView}
 use Rattle.ti_rows.specs.Texts.{names_with}
 
 -- a qualifier of a type
@@ -30,8 +30,8 @@ abbrev pub type_with : ValueType → List Qualifier → List GridTree → Number
 type_with type words grids = record { type = type; is_single = has_single words; qualifiers = words; grids = grids }
 
 -- a variable with this number, where it is used
-abbrev pub used : ℕ → Declaration → VariableUse
-used number declared = record { number = number; declared = declared }
+abbrev pub variable_use : ℕ → Declaration → VariableUse
+variable_use number declared = record { number = number; declared = declared }
 
 -- a field with this name
 abbrev pub field_with : List Modifier → NumberedType → ℕ → NumberedField
@@ -61,6 +61,6 @@ method_with class words result at name params body end =
     }
 
 -- a program of classes and methods (of which one is `main`), with names after those of the language and without string literals
-abbrev pub program_of : List NumberedClass → List NumberedMethod → ℕ → List (List ℕ) → NumberedProgram
-program_of classes methods main names =
+abbrev pub program_with_names : List NumberedClass → List NumberedMethod → ℕ → List (List ℕ) → ProgramView
+program_with_names classes methods main names =
     record { classes = classes; methods = methods; main = main; names = names_with names; literals = [] }

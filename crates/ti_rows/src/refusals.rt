@@ -70,7 +70,7 @@ pub fn single_values()
 {}
 
 /// The programs of the worked examples, by topic, break no rule.
-pub fn accepted()
+pub fn examples_accepted()
     ensures numbers { AreAccepted (numbers_rows.sums_and_quotients ∷ numbers_rows.shifts ∷ numbers_rows.bits ∷
         numbers_rows.long_sums ∷ numbers_rows.long_shifts ∷ numbers_rows.an_update_narrows ∷ numbers_rows.remainders ∷
         numbers_rows.an_empty_print ∷ numbers_rows.a_literal_and_a_value ∷ numbers_rows.a_literal_alone ∷
@@ -80,7 +80,7 @@ pub fn accepted()
     ensures calls { AreAccepted (calls_rows.an_early_return ∷ calls_rows.a_return_out_of_loops ∷ calls_rows.a_return_of_nothing ∷
         calls_rows.recursion ∷ calls_rows.instance_methods ∷ calls_rows.a_method_of_the_own_object ∷ calls_rows.long_parameters ∷
         calls_rows.a_domain_as_parameter ∷ calls_rows.a_call_comes_before_its_target ∷ calls_rows.a_single_method ∷
-        calls_rows.too_deep ∷ calls_rows.fuel_at_a_call ∷ calls_rows.a_call_on_null ∷ []) }
+        calls_rows.endless_recursion ∷ calls_rows.fuel_at_a_call ∷ calls_rows.a_call_on_null ∷ []) }
     ensures objects { AreAccepted (objects_rows.a_local_field ∷ objects_rows.a_field_of_null ∷ objects_rows.a_write_to_null ∷
         objects_rows.a_cast_to_local ∷ []) }
     ensures domains { AreAccepted (domains_rows.points ∷ domains_rows.a_coordinate_out_of_bounds ∷ domains_rows.a_meet ∷
@@ -88,7 +88,7 @@ pub fn accepted()
         domains_rows.the_least_point_of_no_points ∷ domains_rows.a_bad_stride ∷ domains_rows.too_many_points_to_count ∷
         domains_rows.too_many_points_for_a_domain ∷ []) }
     ensures grids { AreAccepted (grids_rows.elements ∷ grids_rows.grids_of_grids ∷ grids_rows.a_member_form_alone ∷
-        grids_rows.the_domain_of_a_grid ∷ grids_rows.views ∷ grids_rows.a_translated_view ∷ grids_rows.a_translation_too_far ∷
+        grids_rows.the_domain_of_a_grid ∷ grids_rows.grid_views ∷ grids_rows.a_translated_view ∷ grids_rows.a_translation_too_far ∷
         grids_rows.a_slice_outside ∷ grids_rows.a_write_outside ∷ grids_rows.a_copy ∷ grids_rows.a_copy_of_null ∷
         grids_rows.a_grid_that_is_too_large ∷ []) }
     ensures collectives { AreAccepted (collectives_rows.barriers ∷ collectives_rows.a_break_under_a_single_condition ∷

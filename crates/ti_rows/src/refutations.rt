@@ -5,11 +5,11 @@ ghost use Rattle.ti_base.specs.declared.action.Action.TheVariants as act;
 ghost use Rattle.ti_base.specs.declared.value.Value.TheVariants as v;
 ghost use Rattle.ti_lang.specs.Program.Types.{Int};
 ghost use Rattle.ti_lang.specs.Meaning.Answers.{HasForm};
-ghost use Rattle.ti_lang.specs.Meaning.Asking.{ToBeDone};
+ghost use Rattle.ti_lang.specs.Meaning.Comp.{ToBeDone};
 ghost use Rattle.ti_lang.specs.Meaning.Histories.{history_of};
 ghost use Rattle.ti_lang.specs.Meaning.HeapAnswers.{IsAnswered};
 ghost use Rattle.ti_lang.specs.Meaning.Runs.{IsRun, IsSolo};
-ghost use Rattle.ti_lang.specs.Typing.Expressions.{typed};
+ghost use Rattle.ti_lang.specs.Typing.Expressions.{expr_type};
 ghost use Rattle.ti_rules.specs.Known.{IsThere};
 ghost use Rattle.ti_rules.specs.ProgramRefusals.{BreaksNothing};
 ghost use Rattle.ti_rules.specs.declared.rule.Rule.TheVariants.{Y2, Q1, S1, S4};
@@ -39,7 +39,7 @@ ghost use Rattle.ti_rows.specs.Refuted.Programs as programs;
 ghost use Rattle.ti_rows.specs.Refuted.Entries as entries;
 
 /// These programs, for which facts of every run are false, are rejected, each by this rule at this place.
-pub fn refused()
+pub fn examples_refused()
     ensures barriers_at_two_places { Refuses programs.barriers_at_two_places S1 (pl 1 62) }
     ensures a_barrier_behind_own_numbers { Refuses programs.a_barrier_behind_own_numbers S4 (pl 1 73) }
     ensures no_region_is_deleted { Refuses programs.no_region_is_deleted Y2 (pl 1 82) }
@@ -103,5 +103,5 @@ pub fn runs()
 pub fn rules()
     ensures operands_of_two_kinds { BreaksNothing types_refused.operands_of_two_kinds → ⊥ }
     ensures a_barrier_under_the_own_number { BreaksNothing singles.a_barrier_under_the_own_number → ⊥ }
-    ensures a_sum_of_a_boolean { IsThere (typed types_refused.operands_of_two_kinds programs.no_scope programs.a_sum_of_a_boolean) → ⊥ }
+    ensures a_sum_of_a_boolean { IsThere (expr_type types_refused.operands_of_two_kinds programs.no_scope programs.a_sum_of_a_boolean) → ⊥ }
 {}

@@ -6,13 +6,13 @@ ghost use Rattle.ti_base.specs.declared.action.ViewHow.TheVariants.{Translate, S
 ghost use Rattle.ti_base.specs.WholeNumbers.{IsWrapped, IsDivided, IsRoundedDown};
 ghost use Rattle.ti_base.specs.Points.{IsPoint};
 ghost use Rattle.ti_base.specs.PointSets.{IsAmong, Rises, IsDomain, IsListOf, IsNextAfter, NoneAfter, meet, minus, union};
-ghost use Rattle.ti_base.specs.Ranges.{IsOn, IsTidy, IsRange, both, range_of, numbers_on};
+ghost use Rattle.ti_base.specs.Ranges.{IsOn, IsTidy, IsRange, meet_ranges, range_of, numbers_on};
 ghost use Rattle.ti_base.specs.Rects.{points_of, size_of, IsRect, IsIn, LeavesRange, is_in};
 ghost use Rattle.ti_base.specs.Rects as rects;
 ghost use Rattle.ti_base.specs.Forms.{is_point, is_rect};
 ghost use Rattle.ti_base.specs.Cells.{leaves, suits, view_fault, seen_point};
 ghost use Rattle.ti_rect.specs.Views.{IsView};
-ghost use Rattle.ti_rows.specs.Refuted.Sets.{on_line, two_coordinates, rising, falling, middle, twos_to, all_to_four, evens, loose, all};
+ghost use Rattle.ti_rows.specs.Refuted.Sets.{on_line, two_coordinates, rising_points, falling_points, middle, twos_to, all_to_four, evens, loose, all};
 
 /// Wrapping of integers to 32 bits, quotients and remainders.
 pub fn numbers()
@@ -26,17 +26,17 @@ pub fn numbers()
 
 /// Lists of points, and the next point of a list.
 pub fn lists()
-    ensures a_list_that_rises { IsDomain 1 rising }
-    ensures a_list_that_falls { Rises falling → ⊥ }
-    ensures the_same_points { (p : Point) → IsAmong rising p ↔ IsAmong falling p }
-    ensures another_list { rising ≡ falling → ⊥ }
-    ensures all_for_both { IsListOf (λ p. IsAmong rising p × IsAmong middle p) (union rising middle) → ⊥ }
-    ensures both_for_the_first_alone { IsListOf (λ p. IsAmong rising p × (IsAmong middle p → ⊥)) (meet rising middle) → ⊥ }
-    ensures the_first_alone_for_either { IsListOf (λ p. IsAmong rising p ⊎ IsAmong middle p) (minus rising middle) → ⊥ }
-    ensures the_second_is_first { IsNextAfter (IsAmong rising) None (on_line (pos 1)) → ⊥ }
-    ensures the_second_is_next_to_the_first { IsNextAfter (IsAmong rising) (Some (on_line (pos 0))) (on_line (pos 1)) }
-    ensures the_third_is_next_to_the_first { IsNextAfter (IsAmong rising) (Some (on_line (pos 0))) (on_line (pos 2)) → ⊥ }
-    ensures none_behind_the_second { NoneAfter (IsAmong rising) (Some (on_line (pos 1))) → ⊥ }
+    ensures a_list_that_rises { IsDomain 1 rising_points }
+    ensures a_list_that_falls { Rises falling_points → ⊥ }
+    ensures the_same_points { (p : Point) → IsAmong rising_points p ↔ IsAmong falling_points p }
+    ensures another_list { rising_points ≡ falling_points → ⊥ }
+    ensures all_for_both { IsListOf (λ p. IsAmong rising_points p × IsAmong middle p) (union rising_points middle) → ⊥ }
+    ensures both_for_the_first_alone { IsListOf (λ p. IsAmong rising_points p × (IsAmong middle p → ⊥)) (meet rising_points middle) → ⊥ }
+    ensures the_first_alone_for_either { IsListOf (λ p. IsAmong rising_points p ⊎ IsAmong middle p) (minus rising_points middle) → ⊥ }
+    ensures the_second_is_first { IsNextAfter (IsAmong rising_points) None (on_line (pos 1)) → ⊥ }
+    ensures the_second_is_next_to_the_first { IsNextAfter (IsAmong rising_points) (Some (on_line (pos 0))) (on_line (pos 1)) }
+    ensures the_third_is_next_to_the_first { IsNextAfter (IsAmong rising_points) (Some (on_line (pos 0))) (on_line (pos 2)) → ⊥ }
+    ensures none_behind_the_second { NoneAfter (IsAmong rising_points) (Some (on_line (pos 1))) → ⊥ }
 {}
 
 /// Canonical forms of points, ranges and rectangles.
@@ -61,7 +61,7 @@ pub fn rectangles()
     ensures another_value { loose ≡ evens → ⊥ }
     ensures a_point_between { IsIn evens (on_line (pos 1)) → ⊥ }
     ensures a_point_between_is_told { is_in evens (on_line (pos 1)) ≡ true → ⊥ }
-    ensures a_number_on_one { IsOn (both (twos_to (pos 4)) all_to_four) (pos 1) → ⊥ }
+    ensures a_number_on_one { IsOn (meet_ranges (twos_to (pos 4)) all_to_four) (pos 1) → ⊥ }
     ensures a_point_in_one { IsIn (rects.meet evens all) (on_line (pos 1)) → ⊥ }
 {}
 

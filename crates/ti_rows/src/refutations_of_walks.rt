@@ -11,22 +11,22 @@ ghost use Rattle.ti_lang.specs.Meaning.Answers.{FitsAction};
 ghost use Rattle.ti_lang.specs.Meaning.Evaluation.{eval};
 ghost use Rattle.ti_lang.specs.Meaning.Scoping.{Env};
 ghost use Rattle.ti_eval.specs.Forms.{IsFormedAnswer};
-ghost use Rattle.ti_exec.specs.Standing.{TreeStanding, HasNext};
+ghost use Rattle.ti_exec.specs.Standing.{TreeProcView, HasNext};
 ghost use Rattle.ti_code.specs.Follows as code;
 ghost use Rattle.ti_code.specs.Machine.{Machine, first};
 ghost use Rattle.ti_code.specs.Programs.{Code};
-ghost use Rattle.ti_lower_expr.specs.Doing.{Does, Pushes, who_in};
+ghost use Rattle.ti_lower_expr.specs.Doing.{Implements, Pushes, who_in};
 ghost use Rattle.ti_lower.specs.Programs.{program_code};
-ghost use Rattle.ti_machine.specs.Standing as machine;
-ghost use Rattle.ti_rows.specs.Refuted.Codes.{prints_at, pushes, standing, start, stops, the_end, the_print};
+ghost use Rattle.ti_machine.specs.ProcView as machine;
+ghost use Rattle.ti_rows.specs.Refuted.Codes.{prints_at, pushes, standing_view, start, stops, the_end, the_print};
 ghost use Rattle.ti_rows.specs.Refuted.Programs as programs;
 ghost use Rattle.ti_rows.specs.Refuted.Sets.{two_coordinates};
 ghost use Rattle.ti_rows.specs.Refuted.Things.{a_number, fresh};
 
 /// What a process does next, and which answers fit it.
 pub fn processes()
-    ensures something_is_next { (s : TreeStanding) → s.told ≡ [] → (n : Next) × HasNext s n }
-    ensures an_end_as_an_action { (s : TreeStanding) (at : Place) → HasNext s (next.Act at act.End) → ⊥ }
+    ensures something_is_next { (s : TreeProcView) → s.told ≡ [] → (n : Next) × HasNext s n }
+    ensures an_end_as_an_action { (s : TreeProcView) (at : Place) → HasNext s (next.Act at act.End) → ⊥ }
     ensures an_answer { FitsAction (fresh 0) Done }
     ensures a_number_for_an_arrival { FitsAction (fresh 0) (Val (v.Int (pos 1))) → ⊥ }
     ensures a_point_without_its_form { IsFormedAnswer (Val (v.Pt two_coordinates)) → ⊥ }
@@ -34,8 +34,8 @@ pub fn processes()
 
 /// Which bytecode evaluates an expression.
 pub fn pushes()
-    ensures the_number { (env : Env) → Does (who_in env) (pushes 7) start (eval env a_number) (Pushes [] 1 []) }
-    ensures another_number { (env : Env) → Does (who_in env) (pushes 8) start (eval env a_number) (Pushes [] 1 []) → ⊥ }
+    ensures the_number { (env : Env) → Implements (who_in env) (pushes 7) start (eval env a_number) (Pushes [] 1 []) }
+    ensures another_number { (env : Env) → Implements (who_in env) (pushes 8) start (eval env a_number) (Pushes [] 1 []) → ⊥ }
 {}
 
 /// Which bytecode follows a program.
@@ -52,14 +52,14 @@ pub fn counts()
     ensures two_instructions { code.Finishes (prints_at 62) (first (prints_at 62) 2 1000 0) (Done ∷ []) 2 }
     ensures three_instructions { code.Finishes (prints_at 62) (first (prints_at 62) 2 1000 0) (Done ∷ []) 3 → ⊥ }
     ensures an_answer_to_an_end { (k : ℕ) → code.Finishes stops (first stops 2 1000 0) (Done ∷ []) k → ⊥ }
-    ensures two_as_counted { machine.HasFinished (record (standing (prints_at 62)) { told = Done ∷ [] }) 2 }
-    ensures one_as_counted { machine.HasFinished (record (standing (prints_at 62)) { told = Done ∷ [] }) 1 → ⊥ }
+    ensures two_as_counted { machine.HasFinished (record (standing_view (prints_at 62)) { answers = Done ∷ [] }) 2 }
+    ensures one_as_counted { machine.HasFinished (record (standing_view (prints_at 62)) { answers = Done ∷ [] }) 1 → ⊥ }
 {}
 
 /// What a process of bytecode does next: it is unique, and if the bytecode follows no program, it isn't what the program does.
 pub fn machines()
-    ensures the_print { machine.HasNext (standing (prints_at 62)) the_print }
-    ensures an_end_beside_it { machine.HasNext (standing (prints_at 62)) the_end → ⊥ }
-    ensures an_end { machine.HasNext (standing stops) the_end }
-    ensures no_print { machine.HasNext (standing stops) the_print → ⊥ }
+    ensures the_print { machine.HasNext (standing_view (prints_at 62)) the_print }
+    ensures an_end_beside_it { machine.HasNext (standing_view (prints_at 62)) the_end → ⊥ }
+    ensures an_end { machine.HasNext (standing_view stops) the_end }
+    ensures no_print { machine.HasNext (standing_view stops) the_print → ⊥ }
 {}

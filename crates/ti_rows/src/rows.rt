@@ -53,7 +53,7 @@ pub fn calls()
     ensures a_domain_as_parameter { Prints calls_rows.a_domain_as_parameter (codes "5\n") }
     ensures a_call_comes_before_its_target { Prints calls_rows.a_call_comes_before_its_target (codes "7\n0\n14\n0\n") }
     ensures a_single_method { Prints calls_rows.a_single_method (codes "1\n1\n") }
-    ensures too_deep { FaultsBehind calls_rows.too_deep [] Depth 0 (pl 1 32) }
+    ensures too_deep { FaultsBehind calls_rows.endless_recursion [] Depth 0 (pl 1 32) }
     ensures fuel_at_a_call { FaultsBehind calls_rows.fuel_at_a_call [] Fuel 0 (pl 1 92) }
     ensures a_call_on_null { FaultsBehind calls_rows.a_call_on_null [] NullRef 0 (pl 1 122) }
 {}
@@ -86,7 +86,7 @@ pub fn grids()
     ensures grids_of_grids { Prints grids_rows.grids_of_grids (codes "4\ntrue\n") }
     ensures a_member_form_alone { Prints grids_rows.a_member_form_alone (codes "1\n") }
     ensures the_domain_of_a_grid { Prints grids_rows.the_domain_of_a_grid (codes "6\n") }
-    ensures views { Prints grids_rows.views (codes "5\n4\n5\n") }
+    ensures views { Prints grids_rows.grid_views (codes "5\n4\n5\n") }
     ensures a_translated_view { FaultsBehind grids_rows.a_translated_view (codes "7\n") Bounds 0 (pl 1 194) }
     ensures a_translation_too_far { FaultsBehind grids_rows.a_translation_too_far [] Range 0 (pl 1 105) }
     ensures a_slice_outside { FaultsBehind grids_rows.a_slice_outside [] Bounds 0 (pl 1 110) }

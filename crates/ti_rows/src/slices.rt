@@ -80,7 +80,7 @@ pub fn others()
     ensures a_single_method { SliceAnswers calls_rows.a_single_method [] (At Barrier (pl 1 94) None) }
     ensures a_single_method_turns { SliceAnswers calls_rows.a_single_method (Done ∷ []) (At Barrier (pl 1 94) None) }
     ensures a_single_method_ends { SliceAnswers calls_rows.a_single_method (Done ∷ Done ∷ []) Ended }
-    ensures a_plain_recursion { SliceAnswers calls_rows.too_deep [] Ended }
+    ensures a_plain_recursion { SliceAnswers calls_rows.endless_recursion [] Ended }
     ensures no_collective { SliceAnswers numbers_rows.sums_and_quotients [] Ended }
     ensures an_outcome_without_a_collective { SliceAnswers numbers_rows.sums_and_quotients (Done ∷ []) (Unfit 0) }
     ensures a_zero_divisor_in_plain_values { SliceAnswers numbers_rows.a_zero_divisor [] Ended }

@@ -2,7 +2,7 @@
 
 ghost use Rattle.std.specs.Prelude.{◌≡◌, ◌<◌, ◌^◌, IfSome};
 
-use crate::course::{Limits, told};
+use crate::course::{Limits, answer_of};
 use std::alloc::Global;
 use ti_base::{Entry, Next};
 use ti_code::Code;
@@ -16,11 +16,11 @@ fn go_on(alloc: Global, code: &Code, process: &mut Proc, entry: &Entry) -> Optio
     requires { code.now ≡ process.old.code }
     ensures { IfSome result (λ _. code.now ≡ process.new.code) }
 {
-    let Ok(Some(next)) = process.advance_within(alloc, code, TURNS) else {
+    let Ok(Some(next)) = process.advance_bounded(alloc, code, TURNS) else {
         return None;
     };
     if let Next::Act(_, _) = next {
-        if let Some(answer) = told(entry) {
+        if let Some(answer) = answer_of(entry) {
             process.answer(answer);
         }
     }
@@ -39,13 +39,13 @@ pub(crate) fn next_by_code(
     requires number { number < 2 ^ 31 }
     requires procs { limits.procs < 2 ^ 31 }
 {
-    let mut process = Proc::start_there(alloc, code, number, limits.procs, limits.fuel)?;
+    let mut process = Proc::try_start(alloc, code, number, limits.procs, limits.fuel)?;
     for entry in history {
         if entry.proc == number {
             go_on(alloc, code, &mut process, entry)?;
         }
     }
-    match process.advance_within(alloc, code, TURNS) {
+    match process.advance_bounded(alloc, code, TURNS) {
         Ok(next) => next,
         Err(_) => None,
     }

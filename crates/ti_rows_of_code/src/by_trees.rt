@@ -3,7 +3,7 @@
 ghost use Rattle.std.specs.Prelude.{◌≡◌, ◌<◌, ◌^◌, IfOk};
 ghost use Rattle.ti_lang.specs.Program.Views.{program_of};
 
-use crate::course::{Course, Limits, Stray, fits, told};
+use crate::course::{Course, Limits, Stray, answer_of, fits};
 use std::alloc::Global;
 use ti_base::{Entry, Next};
 use ti_exec::TreeProc;
@@ -26,7 +26,7 @@ fn take(
         return Err(Some(next));
     }
     if let Next::Act(_, _) = next {
-        if let Some(answer) = told(entry) {
+        if let Some(answer) = answer_of(entry) {
             process.answer(answer);
         }
     }

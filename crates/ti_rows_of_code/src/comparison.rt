@@ -4,7 +4,7 @@
 ghost use Rattle.std.specs.Prelude.{◌≤◌, ◌<◌, IfSome};
 ghost use Rattle.ti_code.specs.Follows.{Follows};
 ghost use Rattle.ti_lang.specs.Program.Views.{program_of};
-ghost use Rattle.ti_store.specs.Conditions.{IsWithin};
+ghost use Rattle.ti_store.specs.Conditions.{IsWithinRunLimits};
 
 use crate::by_code::next_by_code;
 use crate::by_trees::follow;
@@ -36,7 +36,7 @@ pub(crate) struct Parting {
 
 /// The result of comparing the two executions of a program.
 #[derive(Clone, Copy)]
-pub(crate) enum Outcome {
+pub(crate) enum Comparison {
     /// The trees agree with all events, of which this is the number, and the replay yields the same history.
     Agrees(usize),
     /// The trees of a process differ from its code.
@@ -76,7 +76,7 @@ fn ran_of<R: AllocGlobal + Threads + Wait + Sync>(
     limits: Limits,
     workers: u32,
 ) -> Option<Ran>
-    requires limits { IsWithin limits.procs limits.fuel }
+    requires limits { IsWithinRunLimits limits.procs limits.fuel }
     requires workers { 1 ≤ workers }
 {
     let alloc = rt.alloc();
@@ -112,7 +112,7 @@ fn expected_at(history: &[Entry], n: usize) -> Option<Next> {
 }
 
 /// The number of events of process `number`, if its trees agree with them and, after them, with its code. Error: the first difference.
-fn compared(alloc: Global, ran: &Ran, limits: Limits, number: u32) -> Result<usize, Parting>
+fn compare_process(alloc: Global, ran: &Ran, limits: Limits, number: u32) -> Result<usize, Parting>
     requires few { limits.procs ≤ 32 }
     requires number { number < limits.procs }
 {
@@ -146,51 +146,51 @@ fn all_compared(alloc: Global, ran: &Ran, limits: Limits) -> Result<usize, Parti
 {
     let mut entries = 0usize;
     for number in 0..limits.procs {
-        entries = entries.wrapping_add(compared(alloc, ran, limits, number)?);
+        entries = entries.wrapping_add(compare_process(alloc, ran, limits, number)?);
     }
     Ok(entries)
 }
 
 /// The result for a run whose trees agree with this number of events: checks that these are all events, and replays the history.
-fn judged_whole(alloc: Global, ran: &Ran, limits: Limits, entries: usize) -> Outcome
-    requires { IsWithin limits.procs limits.fuel }
+fn judged_whole(alloc: Global, ran: &Ran, limits: Limits, entries: usize) -> Comparison
+    requires { IsWithinRunLimits limits.procs limits.fuel }
 {
     let history = ran.end.history.as_slice();
     if entries != history.len() {
-        return Outcome::Stranger;
+        return Comparison::Stranger;
     }
     if is_replayed(alloc, &ran.checked, limits, history) {
-        Outcome::Agrees(entries)
+        Comparison::Agrees(entries)
     } else {
-        Outcome::Other
+        Comparison::Other
     }
 }
 
 /// The result for a run: compares all processes, and then the history as a whole.
-fn judged_run(alloc: Global, ran: &Ran, limits: Limits) -> Outcome
-    requires { IsWithin limits.procs limits.fuel }
+fn judged_run(alloc: Global, ran: &Ran, limits: Limits) -> Comparison
+    requires { IsWithinRunLimits limits.procs limits.fuel }
 {
     if matches!(ran.end.how, How::Memory) {
-        return Outcome::Memory;
+        return Comparison::Memory;
     }
     match all_compared(alloc, ran, limits) {
         Ok(entries) => judged_whole(alloc, ran, limits, entries),
-        Err(parting) => Outcome::Parts(parting),
+        Err(parting) => Comparison::Parts(parting),
     }
 }
 
 /// Compiles a source, runs it within these limits with `workers` workers, and compares the two executions.
-pub(crate) fn judged<R: AllocGlobal + Threads + Wait + Sync>(
+pub(crate) fn compare_source<R: AllocGlobal + Threads + Wait + Sync>(
     rt: &R,
     text: &[u8],
     limits: Limits,
     workers: u32,
-) -> Outcome
-    requires limits { IsWithin limits.procs limits.fuel }
+) -> Comparison
+    requires limits { IsWithinRunLimits limits.procs limits.fuel }
     requires workers { 1 ≤ workers }
 {
     match ran_of(rt, text, limits, workers) {
         Some(ran) => judged_run(rt.alloc(), &ran, limits),
-        None => Outcome::Refused,
+        None => Comparison::Refused,
     }
 }

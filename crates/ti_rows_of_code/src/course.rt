@@ -3,7 +3,7 @@
 ghost use Rattle.std.specs.Prelude.{IfSome};
 ghost use Rattle.ti_eval.specs.Forms.{IsFormedAnswer};
 
-use crate::forms::formed;
+use crate::forms::canonical_answer;
 use ti_base::{Action, Answer, Entry, Next};
 
 /// The number of processes of a run, and the tick budget of each (`fuel`).
@@ -30,12 +30,12 @@ pub(crate) struct Stray {
 }
 
 /// The result that the process of an event receives; none for an end or a fault, or if the result isn't in canonical form.
-pub(crate) fn told(entry: &Entry) -> Option<Answer>
+pub(crate) fn answer_of(entry: &Entry) -> Option<Answer>
     ensures { IfSome result IsFormedAnswer }
 {
     match entry.act {
         Action::End | Action::Fault { .. } => None,
-        _ => formed(entry.answer),
+        _ => canonical_answer(entry.answer),
     }
 }
 

@@ -41,7 +41,7 @@ fn steps_of(r: &Rect) -> Option<Point> {
 }
 
 /// The rectangle from `lo` to `hi` by `step`; none if a point is malformed, the dimensions differ, or `rect_make` fails.
-fn spanned(lo: Point, hi: Point, step: Point) -> Option<Rect>
+fn rect_from(lo: Point, hi: Point, step: Point) -> Option<Rect>
     ensures { IfSome result IsRect }
 {
     if is_point(lo) && is_point(hi) && is_point(step) && lo.dim == hi.dim && lo.dim == step.dim {
@@ -55,7 +55,7 @@ fn spanned(lo: Point, hi: Point, step: Point) -> Option<Rect>
 fn formed_rect(r: &Rect) -> Option<Answer>
     ensures { IfSome result IsFormedAnswer }
 {
-    let made = spanned(r.lo, r.hi, steps_of(r)?)?;
+    let made = rect_from(r.lo, r.hi, steps_of(r)?)?;
     if made == *r {
         Some(Answer::Val(Value::Rc(made)))
     } else {
@@ -64,7 +64,7 @@ fn formed_rect(r: &Rect) -> Option<Answer>
 }
 
 /// The result itself if it is in canonical form, or none. Only points and rectangles can fail to be.
-pub(crate) fn formed(answer: Answer) -> Option<Answer>
+pub(crate) fn canonical_answer(answer: Answer) -> Option<Answer>
     ensures { IfSome result IsFormedAnswer }
 {
     match answer {

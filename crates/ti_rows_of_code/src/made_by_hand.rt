@@ -17,7 +17,7 @@ fn at(line: u32, col: u32) -> Place {
 }
 
 /// The code of a single static method without parameters.
-fn alone(alloc: Global, instrs: Vec<Instr>) -> Result<Code, AllocError>
+fn single_method(alloc: Global, instrs: Vec<Instr>) -> Result<Code, AllocError>
     requires rule { IsTrue (jumps_fit (record { instance = false; params = 0; instrs = instrs.items })) }
     requires formed { All IsFormedInstr instrs.items }
 {
@@ -32,17 +32,17 @@ fn alone(alloc: Global, instrs: Vec<Instr>) -> Result<Code, AllocError>
 }
 
 /// Code that prints 3 once.
-fn printing(alloc: Global) -> Result<Code, AllocError> {
+fn print_once(alloc: Global) -> Result<Code, AllocError> {
     let instrs = vec![in alloc;
         Instr::Const(Value::Int(3)),
         Instr::Print(None, true, at(1, 62)),
         Instr::Stop(at(1, 74)),
     ]?;
-    alone(alloc, instrs)
+    single_method(alloc, instrs)
 }
 
 /// Code that prints the number of its process in a loop until it runs out of ticks.
-fn turning(alloc: Global) -> Result<Code, AllocError> {
+fn print_forever(alloc: Global) -> Result<Code, AllocError> {
     let instrs = vec![in alloc;
         Instr::Tick(at(1, 1)),
         Instr::ThisProc,
@@ -51,7 +51,7 @@ fn turning(alloc: Global) -> Result<Code, AllocError> {
         Instr::JumpIf(0),
         Instr::Stop(at(1, 9)),
     ]?;
-    alone(alloc, instrs)
+    single_method(alloc, instrs)
 }
 
 /// Executes a process up to its next operation, end or fault, and prints how many instructions it has finished and what is next.
@@ -60,7 +60,7 @@ fn tell_next(rt: &HostRuntime, code: &Code, process: &mut Proc) -> io::Result<bo
     requires code { code.now ≡ process.old.code }
     ensures { IfOk result (λ _. code.now ≡ process.new.code) }
 {
-    let Ok(next) = process.advance_within(rt.alloc(), code, 100) else {
+    let Ok(next) = process.advance_bounded(rt.alloc(), code, 100) else {
         return Ok(false);
     };
     let finished = process.finished();
@@ -75,7 +75,7 @@ fn tell_next(rt: &HostRuntime, code: &Code, process: &mut Proc) -> io::Result<bo
 
 /// Prints up to 9 steps of the only process of a run with 4 ticks.
 fn tell_course(rt: &HostRuntime, code: &Code) -> io::Result<()> {
-    let Some(mut process) = Proc::start_there(rt.alloc(), code, 0, 1, 4) else {
+    let Some(mut process) = Proc::try_start(rt.alloc(), code, 0, 1, 4) else {
         return Ok(());
     };
     for _ in 0..9 {
@@ -105,8 +105,8 @@ fn tell_code(rt: &HostRuntime, code: &Code) -> io::Result<()> {
 
 /// Prints the two hand-written programs and their executions.
 pub(crate) fn tell_made(rt: &HostRuntime) -> io::Result<()> {
-    let printing = printing(rt.alloc())?;
+    let printing = print_once(rt.alloc())?;
     tell_code(rt, &printing)?;
-    let turning = turning(rt.alloc())?;
+    let turning = print_forever(rt.alloc())?;
     tell_code(rt, &turning)
 }

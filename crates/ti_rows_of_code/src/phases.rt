@@ -15,58 +15,58 @@ use ti_syntax::tree::Tree;
 
 /// The source is rejected, or memory runs out.
 #[derive(Clone, Copy)]
-pub(crate) struct Stopped;
+pub(crate) struct FrontEndError;
 
-impl From<LexErr> for Stopped {
-    fn from(_error: LexErr) -> Stopped {
-        Stopped
+impl From<LexErr> for FrontEndError {
+    fn from(_error: LexErr) -> FrontEndError {
+        FrontEndError
     }
 }
 
-impl From<ParseErr> for Stopped {
-    fn from(_error: ParseErr) -> Stopped {
-        Stopped
+impl From<ParseErr> for FrontEndError {
+    fn from(_error: ParseErr) -> FrontEndError {
+        FrontEndError
     }
 }
 
-impl From<NameErr> for Stopped {
-    fn from(_error: NameErr) -> Stopped {
-        Stopped
+impl From<NameErr> for FrontEndError {
+    fn from(_error: NameErr) -> FrontEndError {
+        FrontEndError
     }
 }
 
-impl From<CheckErr> for Stopped {
-    fn from(_error: CheckErr) -> Stopped {
-        Stopped
+impl From<CheckErr> for FrontEndError {
+    fn from(_error: CheckErr) -> FrontEndError {
+        FrontEndError
     }
 }
 
 /// Lexes a source.
-fn tokens(alloc: Global, text: &[u8]) -> Result<Vec<Token>, Stopped>
+fn tokens(alloc: Global, text: &[u8]) -> Result<Vec<Token>, FrontEndError>
     ensures { IfOk result (λ list. EndsAtEnd list.items) }
 {
     Ok(lex(alloc, text)?)
 }
 
 /// Lexes and parses a source.
-fn parsed(alloc: Global, text: &[u8]) -> Result<Tree, Stopped> {
+fn parse_source(alloc: Global, text: &[u8]) -> Result<Tree, FrontEndError> {
     let list = tokens(alloc, text)?;
     Ok(parse(alloc, &list)?)
 }
 
 /// Lexes, parses and resolves a source. Types and `single` are not checked.
-pub(crate) fn resolved(alloc: Global, text: &[u8]) -> Result<Program, Stopped> {
-    let tree = parsed(alloc, text)?;
+pub(crate) fn resolve_source(alloc: Global, text: &[u8]) -> Result<Program, FrontEndError> {
+    let tree = parse_source(alloc, text)?;
     Ok(resolve(alloc, &tree)?)
 }
 
 /// Compiles a source up to its checked program.
-fn accepted(alloc: Global, text: &[u8]) -> Result<Checked, Stopped> {
-    let program = resolved(alloc, text)?;
+fn check_source(alloc: Global, text: &[u8]) -> Result<Checked, FrontEndError> {
+    let program = resolve_source(alloc, text)?;
     Ok(check(alloc, program)?)
 }
 
 /// The checked program of a source; none if the source is rejected or memory runs out.
 pub(crate) fn checked_of(alloc: Global, text: &[u8]) -> Option<Checked> {
-    accepted(alloc, text).ok()
+    check_source(alloc, text).ok()
 }

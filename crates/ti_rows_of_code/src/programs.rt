@@ -1,9 +1,9 @@
 // Reads files of test programs, compares the two executions of each program and counts those that agree.
 
 ghost use Rattle.std.specs.Prelude.{◌≤◌, IfSome};
-ghost use Rattle.ti_store.specs.Conditions.{IsWithin};
+ghost use Rattle.ti_store.specs.Conditions.{IsWithinRunLimits};
 
-use crate::comparison::{Outcome, judged};
+use crate::comparison::{Comparison, compare_source};
 use crate::course::Limits;
 use crate::inferred::is_remarked;
 use crate::telling::tell_parting;
@@ -27,7 +27,7 @@ pub(crate) struct Count {
 
 /// Parses limits; none unless there are 1 to 32 processes and 1 to 4,000,000 ticks.
 fn limits_of(procs: &str, fuel: &str) -> Option<Limits>
-    ensures { IfSome result (λ limits. IsWithin limits.procs limits.fuel) }
+    ensures { IfSome result (λ limits. IsWithinRunLimits limits.procs limits.fuel) }
 {
     let procs = procs.parse::<u32>().ok()?;
     let fuel = fuel.parse::<u32>().ok()?;
@@ -39,8 +39,8 @@ fn limits_of(procs: &str, fuel: &str) -> Option<Limits>
 }
 
 /// Parses a heading such as `2 1000 a barrier`: the number of processes, the ticks of each, and a name.
-fn heading(line: &str) -> Option<(Limits, &str)>
-    ensures { IfSome result (λ found. IsWithin found.0.procs found.0.fuel) }
+fn read_heading(line: &str) -> Option<(Limits, &str)>
+    ensures { IfSome result (λ found. IsWithinRunLimits found.0.procs found.0.fuel) }
 {
     let (procs, behind) = line.split_once(' ')?;
     let (fuel, name) = behind.split_once(' ')?;
@@ -48,23 +48,23 @@ fn heading(line: &str) -> Option<(Limits, &str)>
 }
 
 /// Compares the two executions of a program with `workers` workers. Returns the number of events if they agree; else prints the result.
-fn agreeing<R: Print + AllocGlobal + Threads + Wait + Sync>(
+fn compare_program<R: Print + AllocGlobal + Threads + Wait + Sync>(
     rt: &R,
     name: &str,
     text: &str,
     limits: Limits,
     workers: u32,
 ) -> io::Result<Option<usize>>
-    requires limits { IsWithin limits.procs limits.fuel }
+    requires limits { IsWithinRunLimits limits.procs limits.fuel }
     requires workers { 1 ≤ workers }
 {
-    match judged(rt, text.as_bytes(), limits, workers) {
-        Outcome::Agrees(entries) => return Ok(Some(entries)),
-        Outcome::Parts(parting) => tell_parting(rt, name, parting)?,
-        Outcome::Refused => println!(rt; "{name}: no program")?,
-        Outcome::Memory => println!(rt; "{name}: the run wants memory")?,
-        Outcome::Stranger => println!(rt; "{name}: an entry is of no process")?,
-        Outcome::Other => println!(rt; "{name}: the order of the history makes other entries")?,
+    match compare_source(rt, text.as_bytes(), limits, workers) {
+        Comparison::Agrees(entries) => return Ok(Some(entries)),
+        Comparison::Parts(parting) => tell_parting(rt, name, parting)?,
+        Comparison::Refused => println!(rt; "{name}: no program")?,
+        Comparison::Memory => println!(rt; "{name}: the run wants memory")?,
+        Comparison::Stranger => println!(rt; "{name}: an entry is of no process")?,
+        Comparison::Other => println!(rt; "{name}: the order of the history makes other entries")?,
     }
     Ok(None)
 }
@@ -78,14 +78,14 @@ fn judge<R: Print + AllocGlobal + Threads + Wait + Sync>(
     limits: Limits,
     count: Count,
 ) -> io::Result<Count>
-    requires { IsWithin limits.procs limits.fuel }
+    requires { IsWithinRunLimits limits.procs limits.fuel }
 {
     let mut found = count;
-    if let Some(entries) = agreeing(rt, name, text, limits, 1)? {
+    if let Some(entries) = compare_program(rt, name, text, limits, 1)? {
         found.programs = found.programs.wrapping_add(1);
         found.entries = found.entries.wrapping_add(entries);
     }
-    if agreeing(rt, name, text, limits, limits.procs)?.is_some() {
+    if compare_program(rt, name, text, limits, limits.procs)?.is_some() {
         found.on_threads = found.on_threads.wrapping_add(1);
     }
     if is_remarked(rt.alloc(), text.as_bytes()) {
@@ -104,7 +104,7 @@ fn judge_piece<R: Files + Print + AllocGlobal + Threads + Wait + Sync>(
         Some(parts) => parts,
         None => (piece, ""),
     };
-    match heading(line) {
+    match read_heading(line) {
         Some((limits, name)) => judge(rt, name, text, limits, count),
         None => {
             println!(rt; "no heading: {line}")?;

@@ -1,6 +1,6 @@
 // Replays a history on one thread: processes by code and a store, scheduled in the order of the history's events.
 
-ghost use Rattle.ti_store.specs.Conditions.{IsWithin};
+ghost use Rattle.ti_store.specs.Conditions.{IsWithinRunLimits};
 
 use crate::course::Limits;
 use std::alloc::Global;
@@ -34,8 +34,13 @@ fn source_of(alloc: Global, text: Vec<u8>) -> Option<MemSource> {
 
 /// The events of a run in which each line of a trace schedules the process that it names; none if a line differs from the event of that
 /// process, the run isn't complete, or memory runs out.
-fn made(alloc: Global, checked: &Checked, limits: Limits, text: Vec<u8>) -> Option<Vec<Entry>>
-    requires { IsWithin limits.procs limits.fuel }
+fn replay_trace(
+    alloc: Global,
+    checked: &Checked,
+    limits: Limits,
+    text: Vec<u8>,
+) -> Option<Vec<Entry>>
+    requires { IsWithinRunLimits limits.procs limits.fuel }
 {
     let mut source = source_of(alloc, text)?;
     match check_trace(alloc, checked, limits.procs, limits.fuel, &mut source) {
@@ -51,12 +56,12 @@ pub(crate) fn is_replayed(
     limits: Limits,
     history: &[Entry],
 ) -> bool
-    requires { IsWithin limits.procs limits.fuel }
+    requires { IsWithinRunLimits limits.procs limits.fuel }
 {
     let Ok(text) = text_of(alloc, history) else {
         return false;
     };
-    match made(alloc, checked, limits, text) {
+    match replay_trace(alloc, checked, limits, text) {
         Some(entries) => entries.as_slice() == history,
         None => false,
     }

@@ -22,7 +22,7 @@ fn entry_of(number: u32, next: Next) -> Entry {
 }
 
 /// Renders an event as the only line of a trace.
-fn traced(alloc: Global, entry: &Entry) -> Result<Vec<u8>, Memory> {
+fn trace_line(alloc: Global, entry: &Entry) -> Result<Vec<u8>, Memory> {
     let mut trace = TraceWatch::new(alloc);
     trace.see(entry)?;
     let mut text = Vec::new(alloc);
@@ -31,7 +31,7 @@ fn traced(alloc: Global, entry: &Entry) -> Result<Vec<u8>, Memory> {
 }
 
 /// The part of a trace line after the event's number and before its result.
-fn short(line: &str) -> &str {
+fn line_middle(line: &str) -> &str {
     let behind = match line.split_once(' ') {
         Some((_, behind)) => behind,
         None => line,
@@ -45,7 +45,7 @@ fn short(line: &str) -> &str {
 /// Prints a label and the short form of a trace line.
 fn tell_next<R: Print + AllocGlobal>(rt: &R, label: &str, line: &[u8]) -> io::Result<()> {
     let line = String::from_utf8_lossy(rt.alloc(), line)?;
-    let shown = short(line.as_str());
+    let shown = line_middle(line.as_str());
     println!(rt; "  {label} {shown}")
 }
 
@@ -59,7 +59,7 @@ pub(crate) fn tell<R: Print + AllocGlobal>(
     let Some(next) = next else {
         return println!(rt; "  {label} nothing");
     };
-    match traced(rt.alloc(), &entry_of(number, next)) {
+    match trace_line(rt.alloc(), &entry_of(number, next)) {
         Ok(line) => tell_next(rt, label, &line),
         Err(_) => println!(rt; "  {label} what wants memory"),
     }

@@ -5,8 +5,8 @@ use Rattle.ti_blame.specs.declared.mark.Mark.{Mark}
 use Rattle.ti_rows_of_laws.specs.Texts.{pl}
 
 -- no annotation
-abbrev pub nothing : List Mark
-nothing = []
+abbrev pub no_marks : List Mark
+no_marks = []
 
 -- the method `main` is annotated
 abbrev pub main : List Mark
@@ -21,8 +21,8 @@ abbrev pub the_second : List Mark
 the_second = record { place = pl 1 77; kind = kind.Variable } ∷ []
 
 -- both variables of `two_numbers` are annotated, listed in increasing order of location
-abbrev pub both : List Mark
-both = record { place = pl 1 66; kind = kind.Variable } ∷ record { place = pl 1 77; kind = kind.Variable } ∷ []
+abbrev pub both_marks : List Mark
+both_marks = record { place = pl 1 66; kind = kind.Variable } ∷ record { place = pl 1 77; kind = kind.Variable } ∷ []
 
 -- both variables of `two_numbers` are annotated, listed in decreasing order of location
 abbrev pub both_falling : List Mark

@@ -7,7 +7,7 @@ use Rattle.ti_syntax.specs.declared.tree.classes.Modifier.{Modifier}
 use Rattle.ti_lang.specs.Program.Types.{ValueType, NumberedType, Typed}
 use Rattle.ti_lang.specs.Program.Expressions.{NumberedExp, Variable}
 use Rattle.ti_lang.specs.Program.Statements.{NumberedStm}
-use Rattle.ti_lang.specs.Program.Classes.{NumberedMethod, NumberedProgram}
+use Rattle.ti_lang.specs.Program.Classes.{NumberedMethod, ProgramView}
 use Rattle.ti_lang.specs.Program.Classes as c
 
 -- a source location, by its line and its column
@@ -15,8 +15,8 @@ abbrev pub pl : ℕ → ℕ → Place
 pl line col = record { line = line; col = col }
 
 -- a type without `single`, qualifiers and grid dimensions
-abbrev pub plain : ValueType → NumberedType
-plain type = record { type = type; is_single = false; qualifiers = []; grids = [] }
+abbrev pub nonsingle_type : ValueType → NumberedType
+nonsingle_type type = record { type = type; is_single = false; qualifiers = []; grids = [] }
 
 -- a use of a non-single variable, by its location, number and type
 abbrev pub var : Place → ℕ → ValueType → NumberedExp
@@ -36,12 +36,12 @@ main_with body end =
       result = c.Void;
       place = pl 1 40;
       name = 0;
-      params = c.Words;
+      params = c.MainArgs;
       body = body;
       end = pl 1 end;
     }
 
 -- a program of one class, `Main`, with the method `main` only
-abbrev pub main_alone : List NumberedStm → ℕ → NumberedProgram
+abbrev pub main_alone : List NumberedStm → ℕ → ProgramView
 main_alone body end =
     record { classes = record { modifiers = []; fields = [] } ∷ []; methods = main_with body end ∷ []; main = 0; names = codes "main" ∷ []; literals = [] }

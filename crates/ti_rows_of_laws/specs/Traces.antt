@@ -1,11 +1,11 @@
 -- The trace of a run of a program that prints, and byte strings that are not the trace of a complete run of it.
 use Rattle.std.specs.Prelude.{ℕ, List, [], ◌∷◌, ◌++◌, codes}
-use Rattle.ti_lang.specs.Meaning.Processes.{Setting}
+use Rattle.ti_lang.specs.Meaning.Processes.{RunConfig}
 use Rattle.ti_rows.specs.Failing.{by_two}
 use Rattle.ti_rows.specs.Refuted.Programs.{a_print}
 
 -- a program that prints 7, run by two processes with 1000 ticks each
-abbrev pub two_prints : Setting
+abbrev pub two_prints : RunConfig
 two_prints = by_two 1000 a_print
 
 -- a line with its terminating line feed

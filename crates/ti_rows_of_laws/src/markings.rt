@@ -4,20 +4,20 @@ ghost use Rattle.std.specs.Prelude.{◌≡◌, [], ◌∷◌, false, true, None}
 ghost use Rattle.std.specs.List.{list_any};
 ghost use Rattle.ti_base.specs.declared.place.Place.{Place};
 ghost use Rattle.ti_lang.specs.Numbering.{IsNumbered};
-ghost use Rattle.ti_blame.specs.Falling.{KeepsEdges, stands};
-ghost use Rattle.ti_blame.specs.Marks.{IsPart, marks_of, union};
+ghost use Rattle.ti_blame.specs.Implications.{Satisfies, holds_conditionally};
+ghost use Rattle.ti_blame.specs.Marks.{IsSubset, marks_of, marks_union};
 ghost use Rattle.ti_infer.specs.Accepted.{IsAccepted};
 ghost use Rattle.ti_infer.specs.Answer.{IsGreatest, IsFirstUnaligned};
-ghost use Rattle.ti_infer.specs.Blame.{KeepsSingle, program_blamed};
+ghost use Rattle.ti_infer.specs.Reason.{KeepsSingle, program_blamed};
 ghost use Rattle.ti_infer.specs.Collectives.{collectives};
-ghost use Rattle.ti_infer.specs.Descent.{is_always, is_fixed, without};
+ghost use Rattle.ti_infer.specs.Descent.{is_always, is_fixed, marks_without};
 ghost use Rattle.ti_infer.specs.Fitting.{MarksFit};
 ghost use Rattle.ti_infer.specs.Inferred.{IsInferred};
 ghost use Rattle.ti_infer.specs.Limited.{every_one, limited_refusals};
 ghost use Rattle.ti_infer.specs.Marked.{marked};
-ghost use Rattle.ti_infer.specs.Mirrors.Edges.{all_reasons, program_edges};
+ghost use Rattle.ti_infer.specs.Mirrors.Implications.{all_reasons, program_edges};
 ghost use Rattle.ti_infer.specs.Mirrors.Fits.{fit_edges};
-ghost use Rattle.ti_infer.specs.Names.{names_of};
+ghost use Rattle.ti_infer.specs.Candidates.{candidate_marks};
 ghost use Rattle.ti_infer.specs.Stripped.{stripped};
 ghost use Rattle.ti_rows_of_laws.specs.Texts.{pl};
 ghost use Rattle.ti_rows_of_laws.specs.Markings as marks;
@@ -25,23 +25,23 @@ ghost use Rattle.ti_rows_of_laws.specs.Programs as programs;
 
 /// Accepted markings (`IsAccepted`): the marked program breaks no rule of types, qualifiers or `single`. Includes the union of two accepted
 /// markings, and markings that are rejected.
-pub fn accepted()
+pub fn markings_accepted()
     ensures the_variable { IsAccepted programs.a_sent_number (marks_of marks.the_first) }
-    ensures nothing { IsAccepted programs.a_sent_number (marks_of marks.nothing) → ⊥ }
+    ensures nothing { IsAccepted programs.a_sent_number (marks_of marks.no_marks) → ⊥ }
     ensures each_of_two { IsAccepted programs.two_numbers (marks_of marks.the_second) }
-    ensures both { IsAccepted programs.two_numbers (union (marks_of marks.the_first) (marks_of marks.the_second)) }
-    ensures a_union_with_main { IsAccepted programs.two_numbers (union (marks_of marks.the_first) (marks_of marks.main)) → ⊥ }
+    ensures both { IsAccepted programs.two_numbers (marks_union (marks_of marks.the_first) (marks_of marks.the_second)) }
+    ensures a_union_with_main { IsAccepted programs.two_numbers (marks_union (marks_of marks.the_first) (marks_of marks.main)) → ⊥ }
 {}
 
 /// The greatest accepted marking of a program (`IsGreatest`, `IsInferred`); not greatest are a smaller, an unsorted and a rejected marking.
 pub fn greatest()
     ensures the_variable { IsGreatest programs.a_sent_number marks.the_first }
-    ensures both { IsGreatest programs.two_numbers marks.both }
+    ensures both { IsGreatest programs.two_numbers marks.both_marks }
     ensures one_of_two { IsGreatest programs.two_numbers marks.the_first → ⊥ }
     ensures not_in_order { IsGreatest programs.two_numbers marks.both_falling → ⊥ }
     ensures one_that_is_not_accepted { IsGreatest programs.an_own_number marks.the_first → ⊥ }
-    ensures inferred { IsInferred programs.a_sent_number (names_of programs.a_sent_number) marks.the_first None }
-    ensures less { IsInferred programs.a_sent_number (names_of programs.a_sent_number) marks.nothing None → ⊥ }
+    ensures inferred { IsInferred programs.a_sent_number (candidate_marks programs.a_sent_number) marks.the_first None }
+    ensures less { IsInferred programs.a_sent_number (candidate_marks programs.a_sent_number) marks.no_marks None → ⊥ }
 {}
 
 /// The first collective that no marking aligns (`IsFirstUnaligned`); it is neither a later collective nor a location without one, and
@@ -58,33 +58,33 @@ pub fn first_unaligned()
 /// rules themselves (`limited_refusals`).
 pub fn rules()
     ensures by_reasons { KeepsSingle every_one programs.a_sent_number (marks_of marks.the_first) }
-    ensures against_reasons { KeepsSingle every_one programs.an_own_number (marks_of marks.nothing) → ⊥ }
+    ensures against_reasons { KeepsSingle every_one programs.an_own_number (marks_of marks.no_marks) → ⊥ }
     ensures by_rules { limited_refusals every_one (marked (marks_of marks.the_first) programs.a_sent_number) ≡ [] }
     ensures against_rules { limited_refusals every_one programs.an_own_number ≡ [] → ⊥ }
     ensures no_collective_counts { limited_refusals (λ at. false) programs.an_own_number ≡ [] }
-    ensures no_reason_counts { KeepsSingle (λ at. false) programs.an_own_number (marks_of marks.nothing) }
+    ensures no_reason_counts { KeepsSingle (λ at. false) programs.an_own_number (marks_of marks.no_marks) }
 {}
 
-/// Steps of the descent to the greatest marking: an annotation that a violation removes (`without`), one that stays, and violations that
+/// Steps of the descent to the greatest marking: an annotation that a violation removes (`marks_without`), one that stays, and violations that
 /// removing annotations can't resolve (`is_fixed`, `is_always`).
 pub fn descent()
-    ensures the_variable_falls { IsPart (marks_of marks.the_first)
-        (without (program_blamed programs.an_own_number (marks_of marks.the_first)) (marks_of marks.the_first)) → ⊥ }
-    ensures the_variable_stays { IsPart (marks_of marks.the_first)
-        (without (program_blamed programs.a_sent_number (marks_of marks.the_first)) (marks_of marks.the_first)) }
-    ensures a_barrier_is_fixed { list_any (is_fixed every_one) (program_blamed programs.an_own_number (marks_of marks.nothing)) ≡ true }
-    ensures a_jump_is_always { list_any is_always (program_blamed programs.an_update_that_jumps (marks_of marks.nothing)) ≡ true }
+    ensures the_variable_falls { IsSubset (marks_of marks.the_first)
+        (marks_without (program_blamed programs.an_own_number (marks_of marks.the_first)) (marks_of marks.the_first)) → ⊥ }
+    ensures the_variable_stays { IsSubset (marks_of marks.the_first)
+        (marks_without (program_blamed programs.a_sent_number (marks_of marks.the_first)) (marks_of marks.the_first)) }
+    ensures a_barrier_is_fixed { list_any (is_fixed every_one) (program_blamed programs.an_own_number (marks_of marks.no_marks)) ≡ true }
+    ensures a_jump_is_always { list_any is_always (program_blamed programs.an_update_that_jumps (marks_of marks.no_marks)) ≡ true }
 {}
 
-/// Declarations that can be annotated (`MarksFit`), and dependencies between annotations that a marking keeps or breaks (`KeepsEdges`).
+/// Declarations that can be annotated (`MarksFit`), and dependencies between annotations that a marking keeps or breaks (`Satisfies`).
 pub fn edges()
     ensures a_mark_fits { MarksFit (marks_of marks.the_first) programs.a_sent_number }
     ensures main_is_marked { MarksFit (marks_of marks.main) programs.a_sent_number → ⊥ }
-    ensures kept { KeepsEdges (stands every_one (marks_of marks.the_first)) (all_reasons programs.a_sent_number)
+    ensures kept { Satisfies (holds_conditionally every_one (marks_of marks.the_first)) (all_reasons programs.a_sent_number)
         (program_edges programs.a_sent_number) }
-    ensures broken { KeepsEdges (stands every_one (marks_of marks.nothing)) (all_reasons programs.an_own_number)
+    ensures broken { Satisfies (holds_conditionally every_one (marks_of marks.no_marks)) (all_reasons programs.an_own_number)
         (program_edges programs.an_own_number) → ⊥ }
-    ensures main_falls { KeepsEdges (stands every_one (marks_of marks.main)) (all_reasons programs.a_sent_number)
+    ensures main_falls { Satisfies (holds_conditionally every_one (marks_of marks.main)) (all_reasons programs.a_sent_number)
         (fit_edges programs.a_sent_number) → ⊥ }
 {}
 
@@ -94,5 +94,5 @@ pub fn stripped_programs()
     ensures nothing_to_take_off { stripped programs.two_numbers ≡ programs.two_numbers }
     ensures a_mark_to_take_off { stripped (marked (marks_of marks.the_first) programs.two_numbers)
         ≡ marked (marks_of marks.the_first) programs.two_numbers → ⊥ }
-    ensures of_no_text { ∥ IsNumbered (stripped programs.no_method) ∥₁ → ⊥ }
+    ensures of_no_text { ∥ IsNumbered (stripped programs.program_without_methods) ∥₁ → ⊥ }
 {}

@@ -1,7 +1,7 @@
 // Worked examples of the definitions about traces and instruction counts, for a program that prints a number.
 ghost use Rattle.std.specs.Prelude.{ℕ, List, [], ◌∷◌};
 ghost use Rattle.ti_base.specs.declared.entry.Entry.{Entry};
-ghost use Rattle.ti_runtime.specs.Ran.{IsDone};
+ghost use Rattle.ti_runtime.specs.Ran.{AreFinishedCounts};
 ghost use Rattle.ti_trace_check.specs.Verdicts.{IsTraceOf, IsWrongAt};
 ghost use Rattle.ti_rows.specs.Simulation.{solo};
 ghost use Rattle.ti_rows.specs.Refuted.Codes.{prints_at};
@@ -25,11 +25,11 @@ pub fn verdicts()
     one_verdict();
 }
 
-/// The numbers of instructions that the processes have finished (`IsDone`): two each, one that pushes the number and one that prints it.
+/// The numbers of instructions that the processes have finished (`AreFinishedCounts`): two each, one that pushes the number and one that prints it.
 pub fn counts()
-    ensures two_each { IsDone (prints_at 62) traces.two_prints (solo traces.two_prints 4) (2 ∷ 2 ∷ []) }
-    ensures another_number { IsDone (prints_at 62) traces.two_prints (solo traces.two_prints 4) (2 ∷ 3 ∷ []) → ⊥ }
-    ensures of_one_process { IsDone (prints_at 62) traces.two_prints (solo traces.two_prints 4) (2 ∷ []) → ⊥ }
+    ensures two_each { AreFinishedCounts (prints_at 62) traces.two_prints (solo traces.two_prints 4) (2 ∷ 2 ∷ []) }
+    ensures another_number { AreFinishedCounts (prints_at 62) traces.two_prints (solo traces.two_prints 4) (2 ∷ 3 ∷ []) → ⊥ }
+    ensures of_one_process { AreFinishedCounts (prints_at 62) traces.two_prints (solo traces.two_prints 4) (2 ∷ []) → ⊥ }
 {
     finished();
 }

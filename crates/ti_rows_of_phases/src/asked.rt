@@ -1,10 +1,10 @@
 // Dispatches a row by its kind to the function that computes its result.
 
 use crate::evaluation::value;
+use crate::no_result::NoResult;
 use crate::phases::phase;
 use crate::slices::slice;
-use crate::stopped::Stopped;
-use crate::tables::{job, numbered};
+use crate::tables::{job, table_row};
 use crate::walks::walk;
 use std::alloc::{AllocError, Global};
 use ti_row_files::{Judge, Row, RowErr};
@@ -25,10 +25,10 @@ impl Phases {
 
 impl Judge for Phases {
     fn answer(&self, asked: &str, row: Row) -> Result<Vec<u8>, RowErr> {
-        match found(self.alloc, asked, row) {
+        match row_result(self.alloc, asked, row) {
             Ok(found) => Ok(found),
-            Err(Stopped::Refused(refusal)) => Ok(shown_refusal(self.alloc, refusal)?.into_bytes()),
-            Err(Stopped::Row(error)) => Err(error),
+            Err(NoResult::Refused(refusal)) => Ok(shown_refusal(self.alloc, refusal)?.into_bytes()),
+            Err(NoResult::Row(error)) => Err(error),
         }
     }
 }
@@ -39,20 +39,20 @@ fn shown_refusal(alloc: Global, refusal: Refusal) -> Result<String, AllocError> 
 }
 
 /// The result of a row of the kind `asked`. `RowErr::Row` if the kind needs what is before `<-` and the row has no `<-`.
-fn found(alloc: Global, asked: &str, row: Row) -> Result<Vec<u8>, Stopped> {
+fn row_result(alloc: Global, asked: &str, row: Row) -> Result<Vec<u8>, NoResult> {
     match asked {
         "job" => job(alloc, row.spelled),
-        "rule" | "fault" | "seed" | "source" => numbered(alloc, asked, row.spelled),
+        "rule" | "fault" | "seed" | "source" => table_row(alloc, asked, row.spelled),
         "value" | "walk" | "slice" => match row.given {
-            Some(given) => after(alloc, asked, given, row.text),
-            None => Err(Stopped::Row(RowErr::Row)),
+            Some(given) => given_result(alloc, asked, given, row.text),
+            None => Err(NoResult::Row(RowErr::Row)),
         },
         _ => phase(alloc, asked, row.text),
     }
 }
 
 /// The result of a row of the kind `value`, `walk` or `slice` on a source, with what the row gives before `<-`.
-fn after(alloc: Global, asked: &str, given: &str, text: &[u8]) -> Result<Vec<u8>, Stopped> {
+fn given_result(alloc: Global, asked: &str, given: &str, text: &[u8]) -> Result<Vec<u8>, NoResult> {
     match asked {
         "value" => value(alloc, given, text),
         "walk" => walk(alloc, given, text),

@@ -1,13 +1,13 @@
 // Evaluates an expression, given the answers to the actions that it has requested so far. It is evaluated in process 1 of 3, where
 // variable 0 is an int with the value 5 and variable 1 is a one-dimensional grid of ints.
 
-use crate::phases::resolved;
-use crate::stopped::{MEMORY, NO_ROW, Stopped};
+use crate::no_result::{MEMORY, NO_ROW, NoResult};
+use crate::phases::resolve_source;
 use crate::things::answer_of;
 use std::alloc::{AllocError, Global};
 use ti_base::{Action, Id, Place, Value, fault_name};
-use ti_eval::{Env, Held, Level, Slot, Stop, Team, Told, evaluate};
-use ti_lang::program::{Declared, Expr, Method, Parts, Printed, Stmt, Ty, Variable};
+use ti_eval::{CanonicalAnswer, Env, Interrupt, Rank, Slot, StmtFrame, VarValue, evaluate};
+use ti_lang::program::{Declared, Expr, Method, Printed, ProgramData, Stmt, Ty, Variable};
 
 /// The grid that variable 1 holds.
 const GRID: Id = Id {
@@ -18,7 +18,7 @@ const GRID: Id = Id {
 };
 
 /// The expression that the last statement of the last method prints. `None` if that statement isn't a print of only a value.
-pub(crate) fn printed(parts: &Parts) -> Option<&Expr> {
+pub(crate) fn printed_expr(parts: &ProgramData) -> Option<&Expr> {
     match parts.methods.last()?.body.last()? {
         Stmt::Print(_, Printed::Value(e)) => Some(e),
         _ => None,
@@ -26,7 +26,7 @@ pub(crate) fn printed(parts: &Parts) -> Option<&Expr> {
 }
 
 /// A variable that isn't single, with its value.
-fn slot(number: u32, ty: Ty, held: Held) -> Slot {
+fn slot(number: u32, ty: Ty, held: VarValue) -> Slot {
     Slot {
         variable: Variable {
             number,
@@ -46,22 +46,22 @@ fn grid_type(alloc: Global) -> Result<Ty, AllocError> {
 }
 
 /// The variables of the method: 0 holds 5, 1 holds a grid.
-fn slots(alloc: Global) -> Result<Vec<Slot>, Stopped> {
+fn slots(alloc: Global) -> Result<Vec<Slot>, NoResult> {
     let mut found = Vec::new(alloc);
-    found.push(slot(0, Ty::Int, Held::plain(Value::Int(5))))?;
-    let grid = Held::plain(Value::Grid(Some(GRID)));
+    found.push(slot(0, Ty::Int, VarValue::plain(Value::Int(5))))?;
+    let grid = VarValue::plain(Value::Grid(Some(GRID)));
     found.push(slot(1, grid_type(alloc)?, grid))?;
     Ok(found)
 }
 
 /// Reads the answers that a row gives, separated by whitespace. `NO_ROW` if one is malformed.
-fn told(alloc: Global, given: &str) -> Result<Vec<Told>, Stopped> {
+fn read_answers(alloc: Global, given: &str) -> Result<Vec<CanonicalAnswer>, NoResult> {
     let mut found = Vec::new(alloc);
     for word in given.split_ascii_whitespace() {
         let Some(answer) = answer_of(word) else {
             return Err(NO_ROW);
         };
-        found.push(Told::of(answer))?;
+        found.push(CanonicalAnswer::of(answer))?;
     }
     Ok(found)
 }
@@ -78,32 +78,35 @@ fn shown_action(alloc: Global, place: Place, action: Action) -> Result<String, A
 }
 
 /// The result of an evaluation: the value and the number of unused answers, the action that is requested, or the fault.
-fn shown(alloc: Global, came: Result<(Held, &[Told]), Stop>) -> Result<String, Stopped> {
+fn result_text(
+    alloc: Global,
+    came: Result<(VarValue, &[CanonicalAnswer]), Interrupt>,
+) -> Result<String, NoResult> {
     match came {
         Ok((h, left)) => {
             let value = h.value();
             let count = left.len();
             Ok(format!(in alloc; "{value:?}, {count} left")?)
         }
-        Err(Stop::Asks(place, action)) => Ok(shown_action(alloc, place, action)?),
-        Err(Stop::Fails(kind, place)) => {
+        Err(Interrupt::Request(place, action)) => Ok(shown_action(alloc, place, action)?),
+        Err(Interrupt::Fault(kind, place)) => {
             let name = fault_name(kind);
             Ok(format!(in alloc; "{name} {place:?}")?)
         }
-        Err(Stop::Memory) => Err(MEMORY),
+        Err(Interrupt::Memory) => Err(MEMORY),
     }
 }
 
 /// The environment of process 1 of 3 with these variables: no method, no `this`, and no statement that has been entered.
-fn env<'a>(program: &'a Parts, variables: &'a [Slot]) -> Env<'a> {
+fn env<'a>(program: &'a ProgramData, variables: &'a [Slot]) -> Env<'a> {
     let method: Option<&'a Method> = None;
-    let levels: &'a [Level] = &[];
-    let team = Team {
+    let levels: &'a [StmtFrame] = &[];
+    let rank = Rank {
         number: 1,
         procs: 3,
     };
     Env {
-        team,
+        rank,
         program,
         method,
         this: None,
@@ -115,25 +118,25 @@ fn env<'a>(program: &'a Parts, variables: &'a [Slot]) -> Env<'a> {
 /// Evaluates the expression that a program's last statement prints. `NO_ROW` if it prints none.
 fn comes(
     alloc: Global,
-    program: &Parts,
+    program: &ProgramData,
     variables: &[Slot],
-    answers: &[Told],
-) -> Result<String, Stopped> {
-    match printed(program) {
-        Some(e) => shown(alloc, evaluate(alloc, &env(program, variables), e, answers)),
+    answers: &[CanonicalAnswer],
+) -> Result<String, NoResult> {
+    match printed_expr(program) {
+        Some(e) => result_text(alloc, evaluate(alloc, &env(program, variables), e, answers)),
         None => Err(NO_ROW),
     }
 }
 
 /// Evaluates the expression that a program's last statement prints, given the answers that a row spells.
-fn behind(alloc: Global, program: &Parts, given: &str) -> Result<String, Stopped> {
+fn evaluate_given(alloc: Global, program: &ProgramData, given: &str) -> Result<String, NoResult> {
     let slots = slots(alloc)?;
-    let told = told(alloc, given)?;
+    let told = read_answers(alloc, given)?;
     comes(alloc, program, &slots, &told)
 }
 
 /// Row kind `value`: evaluates the expression that the last statement of a source prints, given the answers that the row spells.
-pub(crate) fn value(alloc: Global, given: &str, text: &[u8]) -> Result<Vec<u8>, Stopped> {
-    let program = resolved(alloc, text)?;
-    Ok(behind(alloc, &program.parts, given)?.into_bytes())
+pub(crate) fn value(alloc: Global, given: &str, text: &[u8]) -> Result<Vec<u8>, NoResult> {
+    let program = resolve_source(alloc, text)?;
+    Ok(evaluate_given(alloc, &program.parts, given)?.into_bytes())
 }

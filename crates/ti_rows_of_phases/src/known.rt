@@ -6,18 +6,18 @@ ghost use Rattle.ti_lang.specs.Program.Scope.{contents_of};
 ghost use Rattle.ti_lang.specs.Program.Views.{expression_of, program_of};
 ghost use Rattle.ti_rules.specs.Known.{IsKnown};
 
-use ti_lang::program::{Expr, Parts, Scope};
+use ti_lang::program::{Expr, ProgramData, Scope};
 use ti_lang::typing::variable_type;
 
 /// Whether the names of an expression are declared in a program and a scope. False for `this`, fields of `this`, calls, points, domains and
 /// indexing, even if their names are declared.
-pub(crate) fn is_known(p: &Parts, s: &Scope, e: &Expr) -> bool
+pub(crate) fn is_known(p: &ProgramData, s: &Scope, e: &Expr) -> bool
     ensures { IsTrue result → IsKnown (program_of p.now) (contents_of s.now) (expression_of e.now) }
 {
     match e {
         Expr::Int(_, _) => true,
         Expr::Long(_, _) => true,
-        Expr::Truth(_, _) => true,
+        Expr::Bool(_, _) => true,
         Expr::Null(_) => true,
         Expr::ThisProc(_) => true,
         Expr::NumProcs(_) => true,

@@ -5,10 +5,10 @@
 mod asked;
 mod evaluation;
 mod known;
+mod no_result;
 mod phases;
 mod program_text;
 mod slices;
-mod stopped;
 mod tables;
 mod things;
 mod tree_text;

@@ -4,13 +4,13 @@
 ghost use Rattle.std.specs.Prelude.{IfOk};
 ghost use Rattle.ti_parse_expr.specs.Answers.{EndsAtEnd};
 
-use crate::stopped::{NO_ROW, Stopped};
+use crate::no_result::{NO_ROW, NoResult};
 use crate::typing::type_printed;
 use crate::{program_text, tree_text};
 use std::alloc::{AllocError, Global};
 use ti_base::Place;
 use ti_check::check;
-use ti_lang::program::{Parts, Program, Scope, Ty};
+use ti_lang::program::{Program, ProgramData, Scope, Ty};
 use ti_lex::lex;
 use ti_names::resolve;
 use ti_parse::parse;
@@ -21,27 +21,27 @@ use ti_syntax::Token;
 use ti_syntax::tree::{Class, Expr, Member, Tree};
 
 /// Lexes a source. The last token is the end of the source.
-fn tokens(alloc: Global, text: &[u8]) -> Result<Vec<Token>, Stopped>
+fn tokens(alloc: Global, text: &[u8]) -> Result<Vec<Token>, NoResult>
     ensures { IfOk result (λ list. EndsAtEnd list.items) }
 {
     Ok(lex(alloc, text)?)
 }
 
 /// Lexes and parses a source.
-fn parsed(alloc: Global, text: &[u8]) -> Result<Tree, Stopped> {
+fn parse_source(alloc: Global, text: &[u8]) -> Result<Tree, NoResult> {
     let list = tokens(alloc, text)?;
     Ok(parse(alloc, &list)?)
 }
 
 /// Compiles a source up to name resolution.
-pub(crate) fn resolved(alloc: Global, text: &[u8]) -> Result<Program, Stopped> {
-    let tree = parsed(alloc, text)?;
+pub(crate) fn resolve_source(alloc: Global, text: &[u8]) -> Result<Program, NoResult> {
+    let tree = parse_source(alloc, text)?;
     Ok(resolve(alloc, &tree)?)
 }
 
 /// Compiles a source up to name resolution and checks all further rules.
-pub(crate) fn checked(alloc: Global, text: &[u8]) -> Result<Checked, Stopped> {
-    let program = resolved(alloc, text)?;
+pub(crate) fn check_source(alloc: Global, text: &[u8]) -> Result<Checked, NoResult> {
+    let program = resolve_source(alloc, text)?;
     Ok(check(alloc, program)?)
 }
 
@@ -52,7 +52,7 @@ fn push_token(alloc: Global, listed: &mut String, token: &Token) -> Result<(), A
 }
 
 /// Tokens with their places, in order, separated by spaces.
-fn listed(alloc: Global, tokens: &[Token]) -> Result<String, AllocError> {
+fn tokens_text(alloc: Global, tokens: &[Token]) -> Result<String, AllocError> {
     let mut listed = String::new(alloc);
     for token in tokens {
         push_token(alloc, &mut listed, token)?;
@@ -61,20 +61,20 @@ fn listed(alloc: Global, tokens: &[Token]) -> Result<String, AllocError> {
 }
 
 /// Row kind `tokens`: the tokens of a source with their places.
-fn token_list(alloc: Global, text: &[u8]) -> Result<String, Stopped> {
+fn token_list(alloc: Global, text: &[u8]) -> Result<String, NoResult> {
     let list = tokens(alloc, text)?;
-    Ok(listed(alloc, &list)?)
+    Ok(tokens_text(alloc, &list)?)
 }
 
 /// Parses the longest expression of a form that starts at token `at`, with `weight` used before it. Returns its tree, the index of the
 /// token after it, and the weight used up to there. `NO_ROW` if there is no token `at`.
-fn read(
+fn read_expr(
     alloc: Global,
     text: &[u8],
     form: Form,
     at: usize,
     weight: u32,
-) -> Result<(Expr, usize, u32), Stopped> {
+) -> Result<(Expr, usize, u32), NoResult> {
     let list = tokens(alloc, text)?;
     if at < list.len() {
         Ok(parse_expr(alloc, &list, at, form, weight)?)
@@ -84,22 +84,22 @@ fn read(
 }
 
 /// Appends to a result the index of the token after the expression, as `tokens`, and the weight used up to there.
-fn measured(alloc: Global, text: &str, behind: usize, used: u32) -> Result<String, AllocError> {
+fn with_weight(alloc: Global, text: &str, behind: usize, used: u32) -> Result<String, AllocError> {
     format!(in alloc; "{text}, {behind} tokens, weight {used}")
 }
 
 /// The tree of the longest expression of a form at the start of a source, with the number of its tokens and the weight used.
-fn expression(alloc: Global, text: &[u8], form: Form, weight: u32) -> Result<String, Stopped> {
-    let (tree, behind, used) = read(alloc, text, form, 0, weight)?;
-    let text = tree_text::text_of(alloc, tree_text::Item::Expr(&tree))?;
-    Ok(measured(alloc, text.as_str(), behind, used)?)
+fn expression(alloc: Global, text: &[u8], form: Form, weight: u32) -> Result<String, NoResult> {
+    let (tree, behind, used) = read_expr(alloc, text, form, 0, weight)?;
+    let text = tree_text::text_of(alloc, tree_text::TreeItem::Expr(&tree))?;
+    Ok(with_weight(alloc, text.as_str(), behind, used)?)
 }
 
 /// The place of the longest expression that starts at token `at`, with the index of the token after it and the weight used.
-fn extent(alloc: Global, text: &[u8], at: usize, weight: u32) -> Result<String, Stopped> {
-    let (tree, behind, used) = read(alloc, text, Form::Whole, at, weight)?;
+fn extent(alloc: Global, text: &[u8], at: usize, weight: u32) -> Result<String, NoResult> {
+    let (tree, behind, used) = read_expr(alloc, text, Form::Whole, at, weight)?;
     let place = format!(in alloc; "{:?}", tree.place())?;
-    Ok(measured(alloc, place.as_str(), behind, used)?)
+    Ok(with_weight(alloc, place.as_str(), behind, used)?)
 }
 
 /// The statements of the only member of the only class, if that is a method; else nothing.
@@ -110,32 +110,39 @@ fn body(alloc: Global, tree: &Tree) -> Result<String, AllocError> {
     let [Member::Method(method)] = members.as_slice() else {
         return Ok(String::new(alloc));
     };
-    tree_text::text_of(alloc, tree_text::Item::Stmts(&method.body))
+    tree_text::text_of(alloc, tree_text::TreeItem::Stmts(&method.body))
 }
 
 /// Row kind `statements`: the trees of the statements of a source whose only class has one method and no other member.
-fn statements(alloc: Global, text: &[u8]) -> Result<String, Stopped> {
-    let tree = parsed(alloc, text)?;
+fn statements(alloc: Global, text: &[u8]) -> Result<String, NoResult> {
+    let tree = parse_source(alloc, text)?;
     Ok(body(alloc, &tree)?)
 }
 
 /// Row kind `tree`: the syntax tree of a source.
-fn tree(alloc: Global, text: &[u8]) -> Result<String, Stopped> {
-    let tree = parsed(alloc, text)?;
-    let classes = tree_text::text_of(alloc, tree_text::Item::Classes(&tree.classes))?;
+fn tree(alloc: Global, text: &[u8]) -> Result<String, NoResult> {
+    let tree = parse_source(alloc, text)?;
+    let classes = tree_text::text_of(alloc, tree_text::TreeItem::Classes(&tree.classes))?;
     Ok(format!(in alloc; "Tree {{ classes: {classes} }}")?)
 }
 
 /// Row kind `program`: the parts of a program after name resolution.
-fn program(alloc: Global, text: &[u8]) -> Result<String, Stopped> {
-    let program = resolved(alloc, text)?;
-    Ok(program_text::text_of(alloc, program_text::Item::Parts(&program.parts))?)
+fn program(alloc: Global, text: &[u8]) -> Result<String, NoResult> {
+    let program = resolve_source(alloc, text)?;
+    Ok(program_text::text_of(
+        alloc,
+        program_text::ProgramItem::ProgramData(&program.parts),
+    )?)
 }
 
 /// Compares a copy with its original as they are printed: `the same`, or else the printed copy.
-fn compared(alloc: Global, parts: &Parts, copy: &Parts) -> Result<String, AllocError> {
-    let original = program_text::text_of(alloc, program_text::Item::Parts(parts))?;
-    let copied = program_text::text_of(alloc, program_text::Item::Parts(copy))?;
+fn compare_copy(
+    alloc: Global,
+    parts: &ProgramData,
+    copy: &ProgramData,
+) -> Result<String, AllocError> {
+    let original = program_text::text_of(alloc, program_text::ProgramItem::ProgramData(parts))?;
+    let copied = program_text::text_of(alloc, program_text::ProgramItem::ProgramData(copy))?;
     if copied == original {
         String::from_str(alloc, "the same")
     } else {
@@ -144,23 +151,23 @@ fn compared(alloc: Global, parts: &Parts, copy: &Parts) -> Result<String, AllocE
 }
 
 /// Row kind `copy`: whether a copy of a resolved program is printed like the original.
-fn copy(alloc: Global, text: &[u8]) -> Result<String, Stopped> {
-    let program = resolved(alloc, text)?;
+fn copy(alloc: Global, text: &[u8]) -> Result<String, NoResult> {
+    let program = resolve_source(alloc, text)?;
     let copy = program.copy(alloc)?;
-    Ok(compared(alloc, &program.parts, &copy.parts)?)
+    Ok(compare_copy(alloc, &program.parts, &copy.parts)?)
 }
 
 /// `accepted` if a phase succeeded; else its error.
-fn accepted<T: Drop>(alloc: Global, answer: Result<T, Stopped>) -> Result<String, Stopped> {
+fn phase_result<T: Drop>(alloc: Global, answer: Result<T, NoResult>) -> Result<String, NoResult> {
     answer?;
     Ok(String::from_str(alloc, "accepted")?)
 }
 
 /// The error with which the lexer or parser rejects a source; `None` if they accept it.
-fn refusal_of(alloc: Global, text: &[u8]) -> Result<Option<Refusal>, Stopped> {
-    match parsed(alloc, text) {
+fn refusal_of(alloc: Global, text: &[u8]) -> Result<Option<Refusal>, NoResult> {
+    match parse_source(alloc, text) {
         Ok(_) => Ok(None),
-        Err(Stopped::Refused(refusal)) => Ok(Some(refusal)),
+        Err(NoResult::Refused(refusal)) => Ok(Some(refusal)),
         Err(stopped) => Err(stopped),
     }
 }
@@ -197,7 +204,7 @@ fn push_front(
 
 /// Row kind `fronts`: checks every prefix of a source, from the empty one to the whole, by the grammar. Lists the lengths in bytes of those
 /// that are accepted and, after `!`, of those that are rejected for something other than their end.
-fn fronts(alloc: Global, text: &[u8]) -> Result<String, Stopped> {
+fn fronts(alloc: Global, text: &[u8]) -> Result<String, NoResult> {
     let mut fronts = String::from_str(alloc, "accepted")?;
     let mut end = Place::first();
     for count in 0..=text.len() {
@@ -211,7 +218,7 @@ fn fronts(alloc: Global, text: &[u8]) -> Result<String, Stopped> {
 }
 
 /// The scope at the first statement of the first method. `NO_ROW` if the program has no method.
-pub(crate) fn scope_of(alloc: Global, program: &Program) -> Result<Scope, Stopped> {
+pub(crate) fn scope_of(alloc: Global, program: &Program) -> Result<Scope, NoResult> {
     if program.parts.methods.is_empty() {
         Err(NO_ROW)
     } else {
@@ -220,15 +227,15 @@ pub(crate) fn scope_of(alloc: Global, program: &Program) -> Result<Scope, Stoppe
 }
 
 /// The scope at the first statement of the first method of a source.
-fn first_scope(alloc: Global, text: &[u8]) -> Result<Scope, Stopped> {
-    let program = resolved(alloc, text)?;
+fn first_scope(alloc: Global, text: &[u8]) -> Result<Scope, NoResult> {
+    let program = resolve_source(alloc, text)?;
     scope_of(alloc, &program)
 }
 
 /// Adds variable 2, a boolean that isn't single, and prints the scope.
-fn grown(alloc: Global, scope: &mut Scope) -> Result<String, Stopped> {
+fn grown(alloc: Global, scope: &mut Scope) -> Result<String, NoResult> {
     scope.push(2, Ty::Bool, false)?;
-    Ok(program_text::text_of(alloc, program_text::Item::Scope(scope))?)
+    Ok(program_text::text_of(alloc, program_text::ProgramItem::Scope(scope))?)
 }
 
 /// Truncates a scope to its first variable, sets an innermost loop and resets it. Appends to `grown` the scope after that, the previous
@@ -237,7 +244,7 @@ fn cut(alloc: Global, scope: &mut Scope, grown: &str) -> Result<String, AllocErr
     scope.cut(1);
     let none = scope.set_loop(Some(Place { line: 2, col: 3 }));
     let set = scope.set_loop(None);
-    let left = program_text::text_of(alloc, program_text::Item::Scope(scope))?;
+    let left = program_text::text_of(alloc, program_text::ProgramItem::Scope(scope))?;
     format!(in alloc;
         "{grown}; {left}; {none:?} {set:?} {:?}",
         scope.innermost_loop
@@ -245,7 +252,7 @@ fn cut(alloc: Global, scope: &mut Scope, grown: &str) -> Result<String, AllocErr
 }
 
 /// Row kind `scope`: the scope at the first method's first statement, after a variable is added, and after that is undone.
-fn scope(alloc: Global, text: &[u8]) -> Result<String, Stopped> {
+fn scope(alloc: Global, text: &[u8]) -> Result<String, NoResult> {
     let mut scope = first_scope(alloc, text)?;
     let grown = grown(alloc, &mut scope)?;
     Ok(cut(alloc, &mut scope, grown.as_str())?)
@@ -265,43 +272,43 @@ fn read_as(asked: &str) -> Option<(Form, u32)> {
 }
 
 /// Runs a row kind that parses one expression. `RowErr::Heading` if there is no such kind.
-fn shown_expression(alloc: Global, asked: &str, text: &[u8]) -> Result<String, Stopped> {
+fn shown_expression(alloc: Global, asked: &str, text: &[u8]) -> Result<String, NoResult> {
     match asked {
         "extent" => extent(alloc, text, 0, 0),
         "extent-at-2-behind-7" => extent(alloc, text, 2, 7),
         _ => match read_as(asked) {
             Some((form, weight)) => expression(alloc, text, form, weight),
-            None => Err(Stopped::Row(RowErr::Heading)),
+            None => Err(NoResult::Row(RowErr::Heading)),
         },
     }
 }
 
 /// Runs a row kind that needs a resolved program, or one that parses one expression.
-fn shown_program(alloc: Global, asked: &str, text: &[u8]) -> Result<String, Stopped> {
+fn shown_program(alloc: Global, asked: &str, text: &[u8]) -> Result<String, NoResult> {
     match asked {
-        "names" => accepted(alloc, resolved(alloc, text)),
+        "names" => phase_result(alloc, resolve_source(alloc, text)),
         "program" => program(alloc, text),
         "copy" => copy(alloc, text),
         "scope" => scope(alloc, text),
         "type" => type_printed(alloc, text),
-        "rules" => accepted(alloc, checked(alloc, text)),
+        "rules" => phase_result(alloc, check_source(alloc, text)),
         _ => shown_expression(alloc, asked, text),
     }
 }
 
 /// Runs any row kind that only needs a source, such as `tokens`.
-fn shown(alloc: Global, asked: &str, text: &[u8]) -> Result<String, Stopped> {
+fn source_result(alloc: Global, asked: &str, text: &[u8]) -> Result<String, NoResult> {
     match asked {
         "tokens" => token_list(alloc, text),
         "tree" => tree(alloc, text),
         "statements" => statements(alloc, text),
-        "grammar" => accepted(alloc, parsed(alloc, text)),
+        "grammar" => phase_result(alloc, parse_source(alloc, text)),
         "fronts" => fronts(alloc, text),
         _ => shown_program(alloc, asked, text),
     }
 }
 
 /// The result of the row kind `asked` on a source, as bytes. Stops at the first phase that rejects the source.
-pub(crate) fn phase(alloc: Global, asked: &str, text: &[u8]) -> Result<Vec<u8>, Stopped> {
-    Ok(shown(alloc, asked, text)?.into_bytes())
+pub(crate) fn phase(alloc: Global, asked: &str, text: &[u8]) -> Result<Vec<u8>, NoResult> {
+    Ok(source_result(alloc, asked, text)?.into_bytes())
 }

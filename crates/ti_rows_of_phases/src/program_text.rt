@@ -5,7 +5,7 @@
 use std::alloc::{AllocError, Global};
 use ti_base::Place;
 use ti_lang::program::{
-    Class, Declared, Dims, Expr, Field, InScope, Init, Method, Param, Params, Parts, Printed,
+    Class, Declared, Dims, Expr, Field, InScope, Init, Method, Param, Params, Printed, ProgramData,
     Range, ResultType, Scope, Stmt, Ty, TypeUse, Variable,
 };
 use ti_syntax::Spelled;
@@ -13,7 +13,7 @@ use ti_syntax::tree::{BinaryOperator, Brackets, Modifier, Qualifier, StepOperato
 
 /// A pending item of the output: a literal, a value, a node of the tree or a list of nodes.
 #[derive(Clone, Copy)]
-pub(crate) enum Item<'a> {
+pub(crate) enum ProgramItem<'a> {
     /// Literal output, such as the name of a variant.
     Text(&'static str),
     Number(i64),
@@ -44,7 +44,7 @@ pub(crate) enum Item<'a> {
     Method(&'a Method),
     InScope(&'a InScope),
     Scope(&'a Scope),
-    Parts(&'a Parts),
+    ProgramData(&'a ProgramData),
     Exprs(&'a [Expr]),
     Ranges(&'a [Range]),
     Stmts(&'a [Stmt]),
@@ -65,14 +65,14 @@ pub(crate) enum Item<'a> {
 
 /// The items that are still to be written.
 #[derive(Drop)]
-pub(crate) struct Stack<'a> {
+pub(crate) struct ProgramStack<'a> {
     /// The last item is written next.
-    items: Vec<Item<'a>>,
+    items: Vec<ProgramItem<'a>>,
 }
 
-impl<'a> Stack<'a> {
+impl<'a> ProgramStack<'a> {
     /// Pushes items in reverse, so that they are written next and in the given order.
-    pub(crate) fn put(&mut self, items: &[Item<'a>]) -> Result<(), AllocError> {
+    pub(crate) fn put(&mut self, items: &[ProgramItem<'a>]) -> Result<(), AllocError> {
         for item in items.iter().rev() {
             self.items.push(*item)?;
         }
@@ -80,112 +80,112 @@ impl<'a> Stack<'a> {
     }
 
     /// Pushes a list, with its brackets and the commas between its elements, so that it is written next.
-    fn list<T: Part>(&mut self, parts: &'a [T]) -> Result<(), AllocError> {
-        self.items.push(Item::Text("]"))?;
+    fn list<T: ProgramPart>(&mut self, parts: &'a [T]) -> Result<(), AllocError> {
+        self.items.push(ProgramItem::Text("]"))?;
         for (number, part) in parts.iter().enumerate().rev() {
             self.items.push(part.item())?;
             if number > 0 {
-                self.items.push(Item::Text(", "))?;
+                self.items.push(ProgramItem::Text(", "))?;
             }
         }
-        self.items.push(Item::Text("["))?;
+        self.items.push(ProgramItem::Text("["))?;
         Ok(())
     }
 }
 
 /// A node that occurs in lists.
-trait Part {
+trait ProgramPart {
     /// The item that writes this node.
-    fn item(&self) -> Item<'_>;
+    fn item(&self) -> ProgramItem<'_>;
 }
 
-impl Part for Expr {
-    fn item(&self) -> Item<'_> {
-        Item::Expr(self)
+impl ProgramPart for Expr {
+    fn item(&self) -> ProgramItem<'_> {
+        ProgramItem::Expr(self)
     }
 }
 
-impl Part for Range {
-    fn item(&self) -> Item<'_> {
-        Item::Range(self)
+impl ProgramPart for Range {
+    fn item(&self) -> ProgramItem<'_> {
+        ProgramItem::Range(self)
     }
 }
 
-impl Part for Stmt {
-    fn item(&self) -> Item<'_> {
-        Item::Stmt(self)
+impl ProgramPart for Stmt {
+    fn item(&self) -> ProgramItem<'_> {
+        ProgramItem::Stmt(self)
     }
 }
 
-impl Part for Modifier {
-    fn item(&self) -> Item<'_> {
-        Item::Modifier(*self)
+impl ProgramPart for Modifier {
+    fn item(&self) -> ProgramItem<'_> {
+        ProgramItem::Modifier(*self)
     }
 }
 
-impl Part for Qualifier {
-    fn item(&self) -> Item<'_> {
-        Item::Qualifier(*self)
+impl ProgramPart for Qualifier {
+    fn item(&self) -> ProgramItem<'_> {
+        ProgramItem::Qualifier(*self)
     }
 }
 
-impl Part for Brackets {
-    fn item(&self) -> Item<'_> {
-        Item::Brackets(self)
+impl ProgramPart for Brackets {
+    fn item(&self) -> ProgramItem<'_> {
+        ProgramItem::Brackets(self)
     }
 }
 
-impl Part for Param {
-    fn item(&self) -> Item<'_> {
-        Item::Param(self)
+impl ProgramPart for Param {
+    fn item(&self) -> ProgramItem<'_> {
+        ProgramItem::Param(self)
     }
 }
 
-impl Part for Field {
-    fn item(&self) -> Item<'_> {
-        Item::Field(self)
+impl ProgramPart for Field {
+    fn item(&self) -> ProgramItem<'_> {
+        ProgramItem::Field(self)
     }
 }
 
-impl Part for Class {
-    fn item(&self) -> Item<'_> {
-        Item::Class(self)
+impl ProgramPart for Class {
+    fn item(&self) -> ProgramItem<'_> {
+        ProgramItem::Class(self)
     }
 }
 
-impl Part for Method {
-    fn item(&self) -> Item<'_> {
-        Item::Method(self)
+impl ProgramPart for Method {
+    fn item(&self) -> ProgramItem<'_> {
+        ProgramItem::Method(self)
     }
 }
 
-impl Part for Spelled {
-    fn item(&self) -> Item<'_> {
-        Item::Spelled(self)
+impl ProgramPart for Spelled {
+    fn item(&self) -> ProgramItem<'_> {
+        ProgramItem::Spelled(self)
     }
 }
 
-impl Part for InScope {
-    fn item(&self) -> Item<'_> {
-        Item::InScope(self)
+impl ProgramPart for InScope {
+    fn item(&self) -> ProgramItem<'_> {
+        ProgramItem::InScope(self)
     }
 }
 
 /// Writes a literal or a value. Writes nothing for any other item.
-fn write_leaf(alloc: Global, out: &mut String, item: Item) -> Result<(), AllocError> {
+fn write_leaf(alloc: Global, out: &mut String, item: ProgramItem) -> Result<(), AllocError> {
     match item {
-        Item::Text(text) => out.push_str(text),
-        Item::Number(number) => out.push_str(&format!(in alloc; "{number}")?),
-        Item::Truth(truth) => out.push_str(&format!(in alloc; "{truth}")?),
-        Item::Place(place) => out.push_str(&format!(in alloc; "{place:?}")?),
-        Item::Spelled(spelled) => out.push_str(&format!(in alloc; "{spelled:?}")?),
-        Item::Unary(operator) => out.push_str(&format!(in alloc; "{operator:?}")?),
-        Item::Binary(operator) => out.push_str(&format!(in alloc; "{operator:?}")?),
-        Item::StepOperator(operator) => out.push_str(&format!(in alloc; "{operator:?}")?),
-        Item::Modifier(modifier) => out.push_str(&format!(in alloc; "{modifier:?}")?),
-        Item::Qualifier(qualifier) => out.push_str(&format!(in alloc; "{qualifier:?}")?),
-        Item::MaybeNumber(maybe) => out.push_str(&format!(in alloc; "{maybe:?}")?),
-        Item::MaybePlace(maybe) => out.push_str(&format!(in alloc; "{maybe:?}")?),
+        ProgramItem::Text(text) => out.push_str(text),
+        ProgramItem::Number(number) => out.push_str(&format!(in alloc; "{number}")?),
+        ProgramItem::Truth(truth) => out.push_str(&format!(in alloc; "{truth}")?),
+        ProgramItem::Place(place) => out.push_str(&format!(in alloc; "{place:?}")?),
+        ProgramItem::Spelled(spelled) => out.push_str(&format!(in alloc; "{spelled:?}")?),
+        ProgramItem::Unary(operator) => out.push_str(&format!(in alloc; "{operator:?}")?),
+        ProgramItem::Binary(operator) => out.push_str(&format!(in alloc; "{operator:?}")?),
+        ProgramItem::StepOperator(operator) => out.push_str(&format!(in alloc; "{operator:?}")?),
+        ProgramItem::Modifier(modifier) => out.push_str(&format!(in alloc; "{modifier:?}")?),
+        ProgramItem::Qualifier(qualifier) => out.push_str(&format!(in alloc; "{qualifier:?}")?),
+        ProgramItem::MaybeNumber(maybe) => out.push_str(&format!(in alloc; "{maybe:?}")?),
+        ProgramItem::MaybePlace(maybe) => out.push_str(&format!(in alloc; "{maybe:?}")?),
         _ => Ok(()),
     }
 }
@@ -193,55 +193,55 @@ fn write_leaf(alloc: Global, out: &mut String, item: Item) -> Result<(), AllocEr
 /// Processes one item: pushes the parts of a node, list or option, and writes a literal or a value.
 fn write_item<'a>(
     alloc: Global,
-    stack: &mut Stack<'a>,
+    stack: &mut ProgramStack<'a>,
     out: &mut String,
-    item: Item<'a>,
+    item: ProgramItem<'a>,
 ) -> Result<(), AllocError> {
     match item {
-        Item::Ty(node) => ty(stack, node),
-        Item::TypeUse(node) => type_use(stack, node),
-        Item::Declared(node) => declared(stack, node),
-        Item::Variable(node) => variable(stack, node),
-        Item::Brackets(node) => brackets(stack, node),
-        Item::Expr(node) => expr(stack, node),
-        Item::Range(node) => range(stack, node),
-        Item::Dims(node) => dims(stack, node),
-        Item::Init(node) => init(stack, node),
-        Item::Printed(node) => printed(stack, node),
-        Item::Stmt(node) => stmt(stack, node),
-        Item::Field(node) => field(stack, node),
-        Item::Class(node) => class(stack, node),
-        Item::Param(node) => param(stack, node),
-        Item::Params(node) => params(stack, node),
-        Item::ResultType(node) => result_type(stack, node),
-        Item::Method(node) => method(stack, node),
-        Item::InScope(node) => in_scope(stack, node),
-        Item::Scope(node) => scope(stack, node),
-        Item::Parts(node) => parts(stack, node),
-        Item::Exprs(list) => stack.list(list),
-        Item::Ranges(list) => stack.list(list),
-        Item::Stmts(list) => stack.list(list),
-        Item::Modifiers(list) => stack.list(list),
-        Item::Qualifiers(list) => stack.list(list),
-        Item::Grids(list) => stack.list(list),
-        Item::ParamList(list) => stack.list(list),
-        Item::Fields(list) => stack.list(list),
-        Item::Classes(list) => stack.list(list),
-        Item::Methods(list) => stack.list(list),
-        Item::Names(list) => stack.list(list),
-        Item::InScopes(list) => stack.list(list),
-        Item::MaybeExpr(Some(node)) => stack.put(&[
-            Item::Text("Some("),
-            Item::Expr(node),
-            Item::Text(")"),
+        ProgramItem::Ty(node) => ty(stack, node),
+        ProgramItem::TypeUse(node) => type_use(stack, node),
+        ProgramItem::Declared(node) => push_declared(stack, node),
+        ProgramItem::Variable(node) => variable(stack, node),
+        ProgramItem::Brackets(node) => brackets(stack, node),
+        ProgramItem::Expr(node) => expr(stack, node),
+        ProgramItem::Range(node) => range(stack, node),
+        ProgramItem::Dims(node) => dims(stack, node),
+        ProgramItem::Init(node) => init(stack, node),
+        ProgramItem::Printed(node) => push_printed(stack, node),
+        ProgramItem::Stmt(node) => stmt(stack, node),
+        ProgramItem::Field(node) => field(stack, node),
+        ProgramItem::Class(node) => class(stack, node),
+        ProgramItem::Param(node) => param(stack, node),
+        ProgramItem::Params(node) => params(stack, node),
+        ProgramItem::ResultType(node) => result_type(stack, node),
+        ProgramItem::Method(node) => method(stack, node),
+        ProgramItem::InScope(node) => in_scope(stack, node),
+        ProgramItem::Scope(node) => scope(stack, node),
+        ProgramItem::ProgramData(node) => parts(stack, node),
+        ProgramItem::Exprs(list) => stack.list(list),
+        ProgramItem::Ranges(list) => stack.list(list),
+        ProgramItem::Stmts(list) => stack.list(list),
+        ProgramItem::Modifiers(list) => stack.list(list),
+        ProgramItem::Qualifiers(list) => stack.list(list),
+        ProgramItem::Grids(list) => stack.list(list),
+        ProgramItem::ParamList(list) => stack.list(list),
+        ProgramItem::Fields(list) => stack.list(list),
+        ProgramItem::Classes(list) => stack.list(list),
+        ProgramItem::Methods(list) => stack.list(list),
+        ProgramItem::Names(list) => stack.list(list),
+        ProgramItem::InScopes(list) => stack.list(list),
+        ProgramItem::MaybeExpr(Some(node)) => stack.put(&[
+            ProgramItem::Text("Some("),
+            ProgramItem::Expr(node),
+            ProgramItem::Text(")"),
         ]),
-        Item::MaybeExpr(None) => stack.put(&[Item::Text("None")]),
-        Item::MaybeStmt(Some(node)) => stack.put(&[
-            Item::Text("Some("),
-            Item::Stmt(node),
-            Item::Text(")"),
+        ProgramItem::MaybeExpr(None) => stack.put(&[ProgramItem::Text("None")]),
+        ProgramItem::MaybeStmt(Some(node)) => stack.put(&[
+            ProgramItem::Text("Some("),
+            ProgramItem::Stmt(node),
+            ProgramItem::Text(")"),
         ]),
-        Item::MaybeStmt(None) => stack.put(&[Item::Text("None")]),
+        ProgramItem::MaybeStmt(None) => stack.put(&[ProgramItem::Text("None")]),
         leaf => write_leaf(alloc, out, leaf),
     }
 }
@@ -250,8 +250,8 @@ fn write_item<'a>(
 const MOST: u32 = 100_000_000;
 
 /// An item in the format of a derived `Debug`. The output is cut off after `MOST` items.
-pub(crate) fn text_of(alloc: Global, item: Item) -> Result<String, AllocError> {
-    let mut stack = Stack {
+pub(crate) fn text_of(alloc: Global, item: ProgramItem) -> Result<String, AllocError> {
+    let mut stack = ProgramStack {
         items: Vec::new(alloc),
     };
     stack.put(&[item])?;
@@ -266,198 +266,201 @@ pub(crate) fn text_of(alloc: Global, item: Item) -> Result<String, AllocError> {
 }
 
 /// Pushes the parts of a resolved type.
-fn ty<'a>(stack: &mut Stack<'a>, ty: &'a Ty) -> Result<(), AllocError> {
+fn ty<'a>(stack: &mut ProgramStack<'a>, ty: &'a Ty) -> Result<(), AllocError> {
     match ty {
-        Ty::Int => stack.put(&[Item::Text("Int")]),
-        Ty::Long => stack.put(&[Item::Text("Long")]),
-        Ty::Bool => stack.put(&[Item::Text("Bool")]),
+        Ty::Int => stack.put(&[ProgramItem::Text("Int")]),
+        Ty::Long => stack.put(&[ProgramItem::Text("Long")]),
+        Ty::Bool => stack.put(&[ProgramItem::Text("Bool")]),
         Ty::Pt(dim) => stack.put(&[
-            Item::Text("Pt("),
-            Item::Number(i64::from(*dim)),
-            Item::Text(")"),
+            ProgramItem::Text("Pt("),
+            ProgramItem::Number(i64::from(*dim)),
+            ProgramItem::Text(")"),
         ]),
         Ty::Rc(dim) => stack.put(&[
-            Item::Text("Rc("),
-            Item::Number(i64::from(*dim)),
-            Item::Text(")"),
+            ProgramItem::Text("Rc("),
+            ProgramItem::Number(i64::from(*dim)),
+            ProgramItem::Text(")"),
         ]),
         Ty::Dm(dim) => stack.put(&[
-            Item::Text("Dm("),
-            Item::Number(i64::from(*dim)),
-            Item::Text(")"),
+            ProgramItem::Text("Dm("),
+            ProgramItem::Number(i64::from(*dim)),
+            ProgramItem::Text(")"),
         ]),
-        Ty::Region => stack.put(&[Item::Text("Region")]),
+        Ty::Region => stack.put(&[ProgramItem::Text("Region")]),
         Ty::Class { class, local } => stack.put(&[
-            Item::Text("Class { class: "),
-            Item::Number(i64::from(*class)),
-            Item::Text(", local: "),
-            Item::Truth(*local),
-            Item::Text(" }"),
+            ProgramItem::Text("Class { class: "),
+            ProgramItem::Number(i64::from(*class)),
+            ProgramItem::Text(", local: "),
+            ProgramItem::Truth(*local),
+            ProgramItem::Text(" }"),
         ]),
         Ty::Grid { elem, dim, local } => stack.put(&[
-            Item::Text("Grid { elem: "),
-            Item::Ty(elem),
-            Item::Text(", dim: "),
-            Item::Number(i64::from(*dim)),
-            Item::Text(", local: "),
-            Item::Truth(*local),
-            Item::Text(" }"),
+            ProgramItem::Text("Grid { elem: "),
+            ProgramItem::Ty(elem),
+            ProgramItem::Text(", dim: "),
+            ProgramItem::Number(i64::from(*dim)),
+            ProgramItem::Text(", local: "),
+            ProgramItem::Truth(*local),
+            ProgramItem::Text(" }"),
         ]),
-        Ty::Null => stack.put(&[Item::Text("Null")]),
-        Ty::Void => stack.put(&[Item::Text("Void")]),
+        Ty::Null => stack.put(&[ProgramItem::Text("Null")]),
+        Ty::Void => stack.put(&[ProgramItem::Text("Void")]),
     }
 }
 
 /// Pushes the parts of a type as the source uses it, with its qualifiers and brackets.
-fn type_use<'a>(stack: &mut Stack<'a>, ty: &'a TypeUse) -> Result<(), AllocError> {
+fn type_use<'a>(stack: &mut ProgramStack<'a>, ty: &'a TypeUse) -> Result<(), AllocError> {
     stack.put(&[
-        Item::Text("TypeUse { ty: "),
-        Item::Ty(&ty.ty),
-        Item::Text(", single: "),
-        Item::Truth(ty.single),
-        Item::Text(", qualifiers: "),
-        Item::Qualifiers(&ty.qualifiers),
-        Item::Text(", grids: "),
-        Item::Grids(&ty.grids),
-        Item::Text(" }"),
+        ProgramItem::Text("TypeUse { ty: "),
+        ProgramItem::Ty(&ty.ty),
+        ProgramItem::Text(", single: "),
+        ProgramItem::Truth(ty.single),
+        ProgramItem::Text(", qualifiers: "),
+        ProgramItem::Qualifiers(&ty.qualifiers),
+        ProgramItem::Text(", grids: "),
+        ProgramItem::Grids(&ty.grids),
+        ProgramItem::Text(" }"),
     ])
 }
 
 /// Pushes the parts of how a variable was declared: with a type, or by `foreach`.
-fn declared<'a>(stack: &mut Stack<'a>, declared: &'a Declared) -> Result<(), AllocError> {
+fn push_declared<'a>(
+    stack: &mut ProgramStack<'a>,
+    declared: &'a Declared,
+) -> Result<(), AllocError> {
     match declared {
         Declared::Typed { single, ty } => stack.put(&[
-            Item::Text("Typed { single: "),
-            Item::Truth(*single),
-            Item::Text(", ty: "),
-            Item::Ty(ty),
-            Item::Text(" }"),
+            ProgramItem::Text("Typed { single: "),
+            ProgramItem::Truth(*single),
+            ProgramItem::Text(", ty: "),
+            ProgramItem::Ty(ty),
+            ProgramItem::Text(" }"),
         ]),
-        Declared::Foreach => stack.put(&[Item::Text("Foreach")]),
+        Declared::Foreach => stack.put(&[ProgramItem::Text("Foreach")]),
     }
 }
 
 /// Pushes the parts of a use of a variable: its number and its declaration.
-fn variable<'a>(stack: &mut Stack<'a>, variable: &'a Variable) -> Result<(), AllocError> {
+fn variable<'a>(stack: &mut ProgramStack<'a>, variable: &'a Variable) -> Result<(), AllocError> {
     stack.put(&[
-        Item::Text("Variable { number: "),
-        Item::Number(i64::from(variable.number)),
-        Item::Text(", declared: "),
-        Item::Declared(&variable.declared),
-        Item::Text(" }"),
+        ProgramItem::Text("Variable { number: "),
+        ProgramItem::Number(i64::from(variable.number)),
+        ProgramItem::Text(", declared: "),
+        ProgramItem::Declared(&variable.declared),
+        ProgramItem::Text(" }"),
     ])
 }
 
 /// Pushes the parts of an expression.
-fn expr<'a>(stack: &mut Stack<'a>, e: &'a Expr) -> Result<(), AllocError> {
+fn expr<'a>(stack: &mut ProgramStack<'a>, e: &'a Expr) -> Result<(), AllocError> {
     match e {
         Expr::Int(place, n) => stack.put(&[
-            Item::Text("Int("),
-            Item::Place(*place),
-            Item::Text(", "),
-            Item::Number(i64::from(*n)),
-            Item::Text(")"),
+            ProgramItem::Text("Int("),
+            ProgramItem::Place(*place),
+            ProgramItem::Text(", "),
+            ProgramItem::Number(i64::from(*n)),
+            ProgramItem::Text(")"),
         ]),
         Expr::Long(place, n) => stack.put(&[
-            Item::Text("Long("),
-            Item::Place(*place),
-            Item::Text(", "),
-            Item::Number(*n),
-            Item::Text(")"),
+            ProgramItem::Text("Long("),
+            ProgramItem::Place(*place),
+            ProgramItem::Text(", "),
+            ProgramItem::Number(*n),
+            ProgramItem::Text(")"),
         ]),
-        Expr::Truth(place, truth) => stack.put(&[
-            Item::Text("Truth("),
-            Item::Place(*place),
-            Item::Text(", "),
-            Item::Truth(*truth),
-            Item::Text(")"),
+        Expr::Bool(place, truth) => stack.put(&[
+            ProgramItem::Text("Truth("),
+            ProgramItem::Place(*place),
+            ProgramItem::Text(", "),
+            ProgramItem::Truth(*truth),
+            ProgramItem::Text(")"),
         ]),
         Expr::Null(place) => stack.put(&[
-            Item::Text("Null("),
-            Item::Place(*place),
-            Item::Text(")"),
+            ProgramItem::Text("Null("),
+            ProgramItem::Place(*place),
+            ProgramItem::Text(")"),
         ]),
         Expr::This(place) => stack.put(&[
-            Item::Text("This("),
-            Item::Place(*place),
-            Item::Text(")"),
+            ProgramItem::Text("This("),
+            ProgramItem::Place(*place),
+            ProgramItem::Text(")"),
         ]),
         Expr::Variable(place, variable) => stack.put(&[
-            Item::Text("Variable("),
-            Item::Place(*place),
-            Item::Text(", "),
-            Item::Variable(variable),
-            Item::Text(")"),
+            ProgramItem::Text("Variable("),
+            ProgramItem::Place(*place),
+            ProgramItem::Text(", "),
+            ProgramItem::Variable(variable),
+            ProgramItem::Text(")"),
         ]),
         Expr::OwnField(place, field) => stack.put(&[
-            Item::Text("OwnField("),
-            Item::Place(*place),
-            Item::Text(", "),
-            Item::Number(i64::from(*field)),
-            Item::Text(")"),
+            ProgramItem::Text("OwnField("),
+            ProgramItem::Place(*place),
+            ProgramItem::Text(", "),
+            ProgramItem::Number(i64::from(*field)),
+            ProgramItem::Text(")"),
         ]),
         Expr::Call {
             place,
             method,
             args,
         } => stack.put(&[
-            Item::Text("Call { place: "),
-            Item::Place(*place),
-            Item::Text(", method: "),
-            Item::Number(i64::from(*method)),
-            Item::Text(", args: "),
-            Item::Exprs(args),
-            Item::Text(" }"),
+            ProgramItem::Text("Call { place: "),
+            ProgramItem::Place(*place),
+            ProgramItem::Text(", method: "),
+            ProgramItem::Number(i64::from(*method)),
+            ProgramItem::Text(", args: "),
+            ProgramItem::Exprs(args),
+            ProgramItem::Text(" }"),
         ]),
         Expr::OwnCall {
             place,
             method,
             args,
         } => stack.put(&[
-            Item::Text("OwnCall { place: "),
-            Item::Place(*place),
-            Item::Text(", method: "),
-            Item::Number(i64::from(*method)),
-            Item::Text(", args: "),
-            Item::Exprs(args),
-            Item::Text(" }"),
+            ProgramItem::Text("OwnCall { place: "),
+            ProgramItem::Place(*place),
+            ProgramItem::Text(", method: "),
+            ProgramItem::Number(i64::from(*method)),
+            ProgramItem::Text(", args: "),
+            ProgramItem::Exprs(args),
+            ProgramItem::Text(" }"),
         ]),
         Expr::ThisProc(place) => stack.put(&[
-            Item::Text("ThisProc("),
-            Item::Place(*place),
-            Item::Text(")"),
+            ProgramItem::Text("ThisProc("),
+            ProgramItem::Place(*place),
+            ProgramItem::Text(")"),
         ]),
         Expr::NumProcs(place) => stack.put(&[
-            Item::Text("NumProcs("),
-            Item::Place(*place),
-            Item::Text(")"),
+            ProgramItem::Text("NumProcs("),
+            ProgramItem::Place(*place),
+            ProgramItem::Text(")"),
         ]),
         Expr::Point(place, parts) => stack.put(&[
-            Item::Text("Point("),
-            Item::Place(*place),
-            Item::Text(", "),
-            Item::Exprs(parts),
-            Item::Text(")"),
+            ProgramItem::Text("Point("),
+            ProgramItem::Place(*place),
+            ProgramItem::Text(", "),
+            ProgramItem::Exprs(parts),
+            ProgramItem::Text(")"),
         ]),
         Expr::Rect(place, ranges) => stack.put(&[
-            Item::Text("Rect("),
-            Item::Place(*place),
-            Item::Text(", "),
-            Item::Ranges(ranges),
-            Item::Text(")"),
+            ProgramItem::Text("Rect("),
+            ProgramItem::Place(*place),
+            ProgramItem::Text(", "),
+            ProgramItem::Ranges(ranges),
+            ProgramItem::Text(")"),
         ]),
         Expr::Unary {
             place,
             operator,
             operand,
         } => stack.put(&[
-            Item::Text("Unary { place: "),
-            Item::Place(*place),
-            Item::Text(", operator: "),
-            Item::Unary(*operator),
-            Item::Text(", operand: "),
-            Item::Expr(operand),
-            Item::Text(" }"),
+            ProgramItem::Text("Unary { place: "),
+            ProgramItem::Place(*place),
+            ProgramItem::Text(", operator: "),
+            ProgramItem::Unary(*operator),
+            ProgramItem::Text(", operand: "),
+            ProgramItem::Expr(operand),
+            ProgramItem::Text(" }"),
         ]),
         Expr::Binary {
             place,
@@ -465,37 +468,37 @@ fn expr<'a>(stack: &mut Stack<'a>, e: &'a Expr) -> Result<(), AllocError> {
             left,
             right,
         } => stack.put(&[
-            Item::Text("Binary { place: "),
-            Item::Place(*place),
-            Item::Text(", operator: "),
-            Item::Binary(*operator),
-            Item::Text(", left: "),
-            Item::Expr(left),
-            Item::Text(", right: "),
-            Item::Expr(right),
-            Item::Text(" }"),
+            ProgramItem::Text("Binary { place: "),
+            ProgramItem::Place(*place),
+            ProgramItem::Text(", operator: "),
+            ProgramItem::Binary(*operator),
+            ProgramItem::Text(", left: "),
+            ProgramItem::Expr(left),
+            ProgramItem::Text(", right: "),
+            ProgramItem::Expr(right),
+            ProgramItem::Text(" }"),
         ]),
         Expr::Cast { place, to, operand } => stack.put(&[
-            Item::Text("Cast { place: "),
-            Item::Place(*place),
-            Item::Text(", to: "),
-            Item::TypeUse(to),
-            Item::Text(", operand: "),
-            Item::Expr(operand),
-            Item::Text(" }"),
+            ProgramItem::Text("Cast { place: "),
+            ProgramItem::Place(*place),
+            ProgramItem::Text(", to: "),
+            ProgramItem::TypeUse(to),
+            ProgramItem::Text(", operand: "),
+            ProgramItem::Expr(operand),
+            ProgramItem::Text(" }"),
         ]),
         Expr::Select {
             place,
             receiver,
             name,
         } => stack.put(&[
-            Item::Text("Select { place: "),
-            Item::Place(*place),
-            Item::Text(", receiver: "),
-            Item::Expr(receiver),
-            Item::Text(", name: "),
-            Item::Number(i64::from(*name)),
-            Item::Text(" }"),
+            ProgramItem::Text("Select { place: "),
+            ProgramItem::Place(*place),
+            ProgramItem::Text(", receiver: "),
+            ProgramItem::Expr(receiver),
+            ProgramItem::Text(", name: "),
+            ProgramItem::Number(i64::from(*name)),
+            ProgramItem::Text(" }"),
         ]),
         Expr::Member {
             place,
@@ -503,87 +506,95 @@ fn expr<'a>(stack: &mut Stack<'a>, e: &'a Expr) -> Result<(), AllocError> {
             name,
             args,
         } => stack.put(&[
-            Item::Text("Member { place: "),
-            Item::Place(*place),
-            Item::Text(", receiver: "),
-            Item::Expr(receiver),
-            Item::Text(", name: "),
-            Item::Number(i64::from(*name)),
-            Item::Text(", args: "),
-            Item::Exprs(args),
-            Item::Text(" }"),
+            ProgramItem::Text("Member { place: "),
+            ProgramItem::Place(*place),
+            ProgramItem::Text(", receiver: "),
+            ProgramItem::Expr(receiver),
+            ProgramItem::Text(", name: "),
+            ProgramItem::Number(i64::from(*name)),
+            ProgramItem::Text(", args: "),
+            ProgramItem::Exprs(args),
+            ProgramItem::Text(" }"),
         ]),
         Expr::Index {
             place,
             receiver,
             indices,
         } => stack.put(&[
-            Item::Text("Index { place: "),
-            Item::Place(*place),
-            Item::Text(", receiver: "),
-            Item::Expr(receiver),
-            Item::Text(", indices: "),
-            Item::Exprs(indices),
-            Item::Text(" }"),
+            ProgramItem::Text("Index { place: "),
+            ProgramItem::Place(*place),
+            ProgramItem::Text(", receiver: "),
+            ProgramItem::Expr(receiver),
+            ProgramItem::Text(", indices: "),
+            ProgramItem::Exprs(indices),
+            ProgramItem::Text(" }"),
         ]),
     }
 }
 
 /// Pushes the parts of a range, which is one dimension of a rectangular domain.
-fn range<'a>(stack: &mut Stack<'a>, range: &'a Range) -> Result<(), AllocError> {
+fn range<'a>(stack: &mut ProgramStack<'a>, range: &'a Range) -> Result<(), AllocError> {
     match range {
         Range::Plain { low, high } => stack.put(&[
-            Item::Text("Plain { low: "),
-            Item::Expr(low),
-            Item::Text(", high: "),
-            Item::Expr(high),
-            Item::Text(" }"),
+            ProgramItem::Text("Plain { low: "),
+            ProgramItem::Expr(low),
+            ProgramItem::Text(", high: "),
+            ProgramItem::Expr(high),
+            ProgramItem::Text(" }"),
         ]),
         Range::Stepped { low, high, step } => stack.put(&[
-            Item::Text("Stepped { low: "),
-            Item::Expr(low),
-            Item::Text(", high: "),
-            Item::Expr(high),
-            Item::Text(", step: "),
-            Item::Expr(step),
-            Item::Text(" }"),
+            ProgramItem::Text("Stepped { low: "),
+            ProgramItem::Expr(low),
+            ProgramItem::Text(", high: "),
+            ProgramItem::Expr(high),
+            ProgramItem::Text(", step: "),
+            ProgramItem::Expr(step),
+            ProgramItem::Text(" }"),
         ]),
     }
 }
 
 /// Pushes the parts of the domain in a grid creation: an expression or a list of ranges.
-fn dims<'a>(stack: &mut Stack<'a>, dims: &'a Dims) -> Result<(), AllocError> {
+fn dims<'a>(stack: &mut ProgramStack<'a>, dims: &'a Dims) -> Result<(), AllocError> {
     match dims {
-        Dims::Domain(e) => stack.put(&[Item::Text("Domain("), Item::Expr(e), Item::Text(")")]),
+        Dims::Domain(e) => stack.put(&[
+            ProgramItem::Text("Domain("),
+            ProgramItem::Expr(e),
+            ProgramItem::Text(")"),
+        ]),
         Dims::Ranges(ranges) => stack.put(&[
-            Item::Text("Ranges("),
-            Item::Ranges(ranges),
-            Item::Text(")"),
+            ProgramItem::Text("Ranges("),
+            ProgramItem::Ranges(ranges),
+            ProgramItem::Text(")"),
         ]),
     }
 }
 
 /// Pushes the parts of an initializer, which is the right-hand side of a declaration or assignment.
-fn init<'a>(stack: &mut Stack<'a>, init: &'a Init) -> Result<(), AllocError> {
+fn init<'a>(stack: &mut ProgramStack<'a>, init: &'a Init) -> Result<(), AllocError> {
     match init {
-        Init::Value(e) => stack.put(&[Item::Text("Value("), Item::Expr(e), Item::Text(")")]),
+        Init::Value(e) => stack.put(&[
+            ProgramItem::Text("Value("),
+            ProgramItem::Expr(e),
+            ProgramItem::Text(")"),
+        ]),
         Init::NewRegion(place) => stack.put(&[
-            Item::Text("NewRegion("),
-            Item::Place(*place),
-            Item::Text(")"),
+            ProgramItem::Text("NewRegion("),
+            ProgramItem::Place(*place),
+            ProgramItem::Text(")"),
         ]),
         Init::NewObject {
             place,
             region,
             class,
         } => stack.put(&[
-            Item::Text("NewObject { place: "),
-            Item::Place(*place),
-            Item::Text(", region: "),
-            Item::MaybeExpr(region),
-            Item::Text(", class: "),
-            Item::Number(i64::from(*class)),
-            Item::Text(" }"),
+            ProgramItem::Text("NewObject { place: "),
+            ProgramItem::Place(*place),
+            ProgramItem::Text(", region: "),
+            ProgramItem::MaybeExpr(region),
+            ProgramItem::Text(", class: "),
+            ProgramItem::Number(i64::from(*class)),
+            ProgramItem::Text(" }"),
         ]),
         Init::NewGrid {
             place,
@@ -592,82 +603,86 @@ fn init<'a>(stack: &mut Stack<'a>, init: &'a Init) -> Result<(), AllocError> {
             bracket,
             dims,
         } => stack.put(&[
-            Item::Text("NewGrid { place: "),
-            Item::Place(*place),
-            Item::Text(", region: "),
-            Item::MaybeExpr(region),
-            Item::Text(", element: "),
-            Item::TypeUse(element),
-            Item::Text(", bracket: "),
-            Item::Place(*bracket),
-            Item::Text(", dims: "),
-            Item::Dims(dims),
-            Item::Text(" }"),
+            ProgramItem::Text("NewGrid { place: "),
+            ProgramItem::Place(*place),
+            ProgramItem::Text(", region: "),
+            ProgramItem::MaybeExpr(region),
+            ProgramItem::Text(", element: "),
+            ProgramItem::TypeUse(element),
+            ProgramItem::Text(", bracket: "),
+            ProgramItem::Place(*bracket),
+            ProgramItem::Text(", dims: "),
+            ProgramItem::Dims(dims),
+            ProgramItem::Text(" }"),
         ]),
         Init::Broadcast { place, value, root } => stack.put(&[
-            Item::Text("Broadcast { place: "),
-            Item::Place(*place),
-            Item::Text(", value: "),
-            Item::Expr(value),
-            Item::Text(", root: "),
-            Item::Expr(root),
-            Item::Text(" }"),
+            ProgramItem::Text("Broadcast { place: "),
+            ProgramItem::Place(*place),
+            ProgramItem::Text(", value: "),
+            ProgramItem::Expr(value),
+            ProgramItem::Text(", root: "),
+            ProgramItem::Expr(root),
+            ProgramItem::Text(" }"),
         ]),
     }
 }
 
 /// Pushes the parts of the argument of a print statement.
-fn printed<'a>(stack: &mut Stack<'a>, printed: &'a Printed) -> Result<(), AllocError> {
+fn push_printed<'a>(stack: &mut ProgramStack<'a>, printed: &'a Printed) -> Result<(), AllocError> {
     match printed {
-        Printed::Nothing => stack.put(&[Item::Text("Nothing")]),
+        Printed::Nothing => stack.put(&[ProgramItem::Text("Nothing")]),
         Printed::Text(text) => stack.put(&[
-            Item::Text("Text("),
-            Item::Number(i64::from(*text)),
-            Item::Text(")"),
+            ProgramItem::Text("Text("),
+            ProgramItem::Number(i64::from(*text)),
+            ProgramItem::Text(")"),
         ]),
-        Printed::Value(e) => stack.put(&[Item::Text("Value("), Item::Expr(e), Item::Text(")")]),
+        Printed::Value(e) => stack.put(&[
+            ProgramItem::Text("Value("),
+            ProgramItem::Expr(e),
+            ProgramItem::Text(")"),
+        ]),
         Printed::TextAndValue(text, e) => stack.put(&[
-            Item::Text("TextAndValue("),
-            Item::Number(i64::from(*text)),
-            Item::Text(", "),
-            Item::Expr(e),
-            Item::Text(")"),
+            ProgramItem::Text("TextAndValue("),
+            ProgramItem::Number(i64::from(*text)),
+            ProgramItem::Text(", "),
+            ProgramItem::Expr(e),
+            ProgramItem::Text(")"),
         ]),
     }
 }
 
 /// Pushes the parts of a statement.
-fn stmt<'a>(stack: &mut Stack<'a>, stmt: &'a Stmt) -> Result<(), AllocError> {
+fn stmt<'a>(stack: &mut ProgramStack<'a>, stmt: &'a Stmt) -> Result<(), AllocError> {
     match stmt {
-        Stmt::Empty => stack.put(&[Item::Text("Empty")]),
+        Stmt::Empty => stack.put(&[ProgramItem::Text("Empty")]),
         Stmt::Declare {
             place,
             ty,
             variable,
             value,
         } => stack.put(&[
-            Item::Text("Declare { place: "),
-            Item::Place(*place),
-            Item::Text(", ty: "),
-            Item::TypeUse(ty),
-            Item::Text(", variable: "),
-            Item::Number(i64::from(*variable)),
-            Item::Text(", value: "),
-            Item::Init(value),
-            Item::Text(" }"),
+            ProgramItem::Text("Declare { place: "),
+            ProgramItem::Place(*place),
+            ProgramItem::Text(", ty: "),
+            ProgramItem::TypeUse(ty),
+            ProgramItem::Text(", variable: "),
+            ProgramItem::Number(i64::from(*variable)),
+            ProgramItem::Text(", value: "),
+            ProgramItem::Init(value),
+            ProgramItem::Text(" }"),
         ]),
         Stmt::Assign {
             place,
             target,
             value,
         } => stack.put(&[
-            Item::Text("Assign { place: "),
-            Item::Place(*place),
-            Item::Text(", target: "),
-            Item::Expr(target),
-            Item::Text(", value: "),
-            Item::Init(value),
-            Item::Text(" }"),
+            ProgramItem::Text("Assign { place: "),
+            ProgramItem::Place(*place),
+            ProgramItem::Text(", target: "),
+            ProgramItem::Expr(target),
+            ProgramItem::Text(", value: "),
+            ProgramItem::Init(value),
+            ProgramItem::Text(" }"),
         ]),
         Stmt::Update {
             place,
@@ -675,88 +690,96 @@ fn stmt<'a>(stack: &mut Stack<'a>, stmt: &'a Stmt) -> Result<(), AllocError> {
             target,
             value,
         } => stack.put(&[
-            Item::Text("Update { place: "),
-            Item::Place(*place),
-            Item::Text(", operator: "),
-            Item::Binary(*operator),
-            Item::Text(", target: "),
-            Item::Expr(target),
-            Item::Text(", value: "),
-            Item::Expr(value),
-            Item::Text(" }"),
+            ProgramItem::Text("Update { place: "),
+            ProgramItem::Place(*place),
+            ProgramItem::Text(", operator: "),
+            ProgramItem::Binary(*operator),
+            ProgramItem::Text(", target: "),
+            ProgramItem::Expr(target),
+            ProgramItem::Text(", value: "),
+            ProgramItem::Expr(value),
+            ProgramItem::Text(" }"),
         ]),
         Stmt::Step {
             place,
             operator,
             target,
         } => stack.put(&[
-            Item::Text("Step { place: "),
-            Item::Place(*place),
-            Item::Text(", operator: "),
-            Item::StepOperator(*operator),
-            Item::Text(", target: "),
-            Item::Expr(target),
-            Item::Text(" }"),
+            ProgramItem::Text("Step { place: "),
+            ProgramItem::Place(*place),
+            ProgramItem::Text(", operator: "),
+            ProgramItem::StepOperator(*operator),
+            ProgramItem::Text(", target: "),
+            ProgramItem::Expr(target),
+            ProgramItem::Text(" }"),
         ]),
-        Stmt::Call(e) => stack.put(&[Item::Text("Call("), Item::Expr(e), Item::Text(")")]),
+        Stmt::Call(e) => stack.put(&[
+            ProgramItem::Text("Call("),
+            ProgramItem::Expr(e),
+            ProgramItem::Text(")"),
+        ]),
         Stmt::Print(place, printed) => stack.put(&[
-            Item::Text("Print("),
-            Item::Place(*place),
-            Item::Text(", "),
-            Item::Printed(printed),
-            Item::Text(")"),
+            ProgramItem::Text("Print("),
+            ProgramItem::Place(*place),
+            ProgramItem::Text(", "),
+            ProgramItem::Printed(printed),
+            ProgramItem::Text(")"),
         ]),
         Stmt::Barrier(place) => stack.put(&[
-            Item::Text("Barrier("),
-            Item::Place(*place),
-            Item::Text(")"),
+            ProgramItem::Text("Barrier("),
+            ProgramItem::Place(*place),
+            ProgramItem::Text(")"),
         ]),
         Stmt::Break(place) => stack.put(&[
-            Item::Text("Break("),
-            Item::Place(*place),
-            Item::Text(")"),
+            ProgramItem::Text("Break("),
+            ProgramItem::Place(*place),
+            ProgramItem::Text(")"),
         ]),
         Stmt::Continue(place) => stack.put(&[
-            Item::Text("Continue("),
-            Item::Place(*place),
-            Item::Text(")"),
+            ProgramItem::Text("Continue("),
+            ProgramItem::Place(*place),
+            ProgramItem::Text(")"),
         ]),
         Stmt::Return(place, value) => stack.put(&[
-            Item::Text("Return("),
-            Item::Place(*place),
-            Item::Text(", "),
-            Item::MaybeExpr(value),
-            Item::Text(")"),
+            ProgramItem::Text("Return("),
+            ProgramItem::Place(*place),
+            ProgramItem::Text(", "),
+            ProgramItem::MaybeExpr(value),
+            ProgramItem::Text(")"),
         ]),
-        Stmt::Block(body) => stack.put(&[Item::Text("Block("), Item::Stmts(body), Item::Text(")")]),
+        Stmt::Block(body) => stack.put(&[
+            ProgramItem::Text("Block("),
+            ProgramItem::Stmts(body),
+            ProgramItem::Text(")"),
+        ]),
         Stmt::If {
             place,
             condition,
             then,
             otherwise,
         } => stack.put(&[
-            Item::Text("If { place: "),
-            Item::Place(*place),
-            Item::Text(", condition: "),
-            Item::Expr(condition),
-            Item::Text(", then: "),
-            Item::Stmt(then),
-            Item::Text(", otherwise: "),
-            Item::MaybeStmt(otherwise),
-            Item::Text(" }"),
+            ProgramItem::Text("If { place: "),
+            ProgramItem::Place(*place),
+            ProgramItem::Text(", condition: "),
+            ProgramItem::Expr(condition),
+            ProgramItem::Text(", then: "),
+            ProgramItem::Stmt(then),
+            ProgramItem::Text(", otherwise: "),
+            ProgramItem::MaybeStmt(otherwise),
+            ProgramItem::Text(" }"),
         ]),
         Stmt::While {
             place,
             condition,
             body,
         } => stack.put(&[
-            Item::Text("While { place: "),
-            Item::Place(*place),
-            Item::Text(", condition: "),
-            Item::Expr(condition),
-            Item::Text(", body: "),
-            Item::Stmt(body),
-            Item::Text(" }"),
+            ProgramItem::Text("While { place: "),
+            ProgramItem::Place(*place),
+            ProgramItem::Text(", condition: "),
+            ProgramItem::Expr(condition),
+            ProgramItem::Text(", body: "),
+            ProgramItem::Stmt(body),
+            ProgramItem::Text(" }"),
         ]),
         Stmt::For {
             place,
@@ -765,17 +788,17 @@ fn stmt<'a>(stack: &mut Stack<'a>, stmt: &'a Stmt) -> Result<(), AllocError> {
             update,
             body,
         } => stack.put(&[
-            Item::Text("For { place: "),
-            Item::Place(*place),
-            Item::Text(", first: "),
-            Item::MaybeStmt(first),
-            Item::Text(", condition: "),
-            Item::MaybeExpr(condition),
-            Item::Text(", update: "),
-            Item::MaybeStmt(update),
-            Item::Text(", body: "),
-            Item::Stmt(body),
-            Item::Text(" }"),
+            ProgramItem::Text("For { place: "),
+            ProgramItem::Place(*place),
+            ProgramItem::Text(", first: "),
+            ProgramItem::MaybeStmt(first),
+            ProgramItem::Text(", condition: "),
+            ProgramItem::MaybeExpr(condition),
+            ProgramItem::Text(", update: "),
+            ProgramItem::MaybeStmt(update),
+            ProgramItem::Text(", body: "),
+            ProgramItem::Stmt(body),
+            ProgramItem::Text(" }"),
         ]),
         Stmt::Foreach {
             place,
@@ -783,155 +806,155 @@ fn stmt<'a>(stack: &mut Stack<'a>, stmt: &'a Stmt) -> Result<(), AllocError> {
             domain,
             body,
         } => stack.put(&[
-            Item::Text("Foreach { place: "),
-            Item::Place(*place),
-            Item::Text(", variable: "),
-            Item::Number(i64::from(*variable)),
-            Item::Text(", domain: "),
-            Item::Expr(domain),
-            Item::Text(", body: "),
-            Item::Stmt(body),
-            Item::Text(" }"),
+            ProgramItem::Text("Foreach { place: "),
+            ProgramItem::Place(*place),
+            ProgramItem::Text(", variable: "),
+            ProgramItem::Number(i64::from(*variable)),
+            ProgramItem::Text(", domain: "),
+            ProgramItem::Expr(domain),
+            ProgramItem::Text(", body: "),
+            ProgramItem::Stmt(body),
+            ProgramItem::Text(" }"),
         ]),
     }
 }
 
 /// Pushes the parts of a field declaration.
-fn field<'a>(stack: &mut Stack<'a>, field: &'a Field) -> Result<(), AllocError> {
+fn field<'a>(stack: &mut ProgramStack<'a>, field: &'a Field) -> Result<(), AllocError> {
     stack.put(&[
-        Item::Text("Field { modifiers: "),
-        Item::Modifiers(&field.modifiers),
-        Item::Text(", ty: "),
-        Item::TypeUse(&field.ty),
-        Item::Text(", name: "),
-        Item::Number(i64::from(field.name)),
-        Item::Text(" }"),
+        ProgramItem::Text("Field { modifiers: "),
+        ProgramItem::Modifiers(&field.modifiers),
+        ProgramItem::Text(", ty: "),
+        ProgramItem::TypeUse(&field.ty),
+        ProgramItem::Text(", name: "),
+        ProgramItem::Number(i64::from(field.name)),
+        ProgramItem::Text(" }"),
     ])
 }
 
 /// Pushes the parts of a class.
-fn class<'a>(stack: &mut Stack<'a>, class: &'a Class) -> Result<(), AllocError> {
+fn class<'a>(stack: &mut ProgramStack<'a>, class: &'a Class) -> Result<(), AllocError> {
     stack.put(&[
-        Item::Text("Class { modifiers: "),
-        Item::Modifiers(&class.modifiers),
-        Item::Text(", fields: "),
-        Item::Fields(&class.fields),
-        Item::Text(" }"),
+        ProgramItem::Text("Class { modifiers: "),
+        ProgramItem::Modifiers(&class.modifiers),
+        ProgramItem::Text(", fields: "),
+        ProgramItem::Fields(&class.fields),
+        ProgramItem::Text(" }"),
     ])
 }
 
 /// Pushes the parts of a parameter declaration.
-fn param<'a>(stack: &mut Stack<'a>, param: &'a Param) -> Result<(), AllocError> {
+fn param<'a>(stack: &mut ProgramStack<'a>, param: &'a Param) -> Result<(), AllocError> {
     stack.put(&[
-        Item::Text("Param { place: "),
-        Item::Place(param.place),
-        Item::Text(", ty: "),
-        Item::TypeUse(&param.ty),
-        Item::Text(" }"),
+        ProgramItem::Text("Param { place: "),
+        ProgramItem::Place(param.place),
+        ProgramItem::Text(", ty: "),
+        ProgramItem::TypeUse(&param.ty),
+        ProgramItem::Text(" }"),
     ])
 }
 
 /// Pushes the parts of a parameter list: typed parameters, or `String[] x`.
-fn params<'a>(stack: &mut Stack<'a>, params: &'a Params) -> Result<(), AllocError> {
+fn params<'a>(stack: &mut ProgramStack<'a>, params: &'a Params) -> Result<(), AllocError> {
     match params {
-        Params::Words => stack.put(&[Item::Text("Words")]),
+        Params::MainArgs => stack.put(&[ProgramItem::Text("Words")]),
         Params::Typed(params) => stack.put(&[
-            Item::Text("Typed("),
-            Item::ParamList(params),
-            Item::Text(")"),
+            ProgramItem::Text("Typed("),
+            ProgramItem::ParamList(params),
+            ProgramItem::Text(")"),
         ]),
     }
 }
 
 /// Pushes the parts of the result type of a method, which may be `void`.
-fn result_type<'a>(stack: &mut Stack<'a>, ty: &'a ResultType) -> Result<(), AllocError> {
+fn result_type<'a>(stack: &mut ProgramStack<'a>, ty: &'a ResultType) -> Result<(), AllocError> {
     match ty {
-        ResultType::Void => stack.put(&[Item::Text("Void")]),
+        ResultType::Void => stack.put(&[ProgramItem::Text("Void")]),
         ResultType::Typed(ty) => stack.put(&[
-            Item::Text("Typed("),
-            Item::TypeUse(ty),
-            Item::Text(")"),
+            ProgramItem::Text("Typed("),
+            ProgramItem::TypeUse(ty),
+            ProgramItem::Text(")"),
         ]),
     }
 }
 
 /// Pushes the parts of a method.
-fn method<'a>(stack: &mut Stack<'a>, method: &'a Method) -> Result<(), AllocError> {
+fn method<'a>(stack: &mut ProgramStack<'a>, method: &'a Method) -> Result<(), AllocError> {
     stack.put(&[
-        Item::Text("Method { class: "),
-        Item::Number(i64::from(method.class)),
-        Item::Text(", modifiers: "),
-        Item::Modifiers(&method.modifiers),
-        Item::Text(", single: "),
-        Item::Truth(method.single),
-        Item::Text(", result: "),
-        Item::ResultType(&method.result),
-        Item::Text(", place: "),
-        Item::Place(method.place),
-        Item::Text(", name: "),
-        Item::Number(i64::from(method.name)),
-        Item::Text(", params: "),
-        Item::Params(&method.params),
-        Item::Text(", body: "),
-        Item::Stmts(&method.body),
-        Item::Text(", end: "),
-        Item::Place(method.end),
-        Item::Text(" }"),
+        ProgramItem::Text("Method { class: "),
+        ProgramItem::Number(i64::from(method.class)),
+        ProgramItem::Text(", modifiers: "),
+        ProgramItem::Modifiers(&method.modifiers),
+        ProgramItem::Text(", single: "),
+        ProgramItem::Truth(method.single),
+        ProgramItem::Text(", result: "),
+        ProgramItem::ResultType(&method.result),
+        ProgramItem::Text(", place: "),
+        ProgramItem::Place(method.place),
+        ProgramItem::Text(", name: "),
+        ProgramItem::Number(i64::from(method.name)),
+        ProgramItem::Text(", params: "),
+        ProgramItem::Params(&method.params),
+        ProgramItem::Text(", body: "),
+        ProgramItem::Stmts(&method.body),
+        ProgramItem::Text(", end: "),
+        ProgramItem::Place(method.end),
+        ProgramItem::Text(" }"),
     ])
 }
 
 /// Pushes the parts of an entry of a scope.
-fn in_scope<'a>(stack: &mut Stack<'a>, variable: &'a InScope) -> Result<(), AllocError> {
+fn in_scope<'a>(stack: &mut ProgramStack<'a>, variable: &'a InScope) -> Result<(), AllocError> {
     stack.put(&[
-        Item::Text("InScope { number: "),
-        Item::Number(i64::from(variable.number)),
-        Item::Text(", ty: "),
-        Item::Ty(&variable.ty),
-        Item::Text(", single: "),
-        Item::Truth(variable.single),
-        Item::Text(" }"),
+        ProgramItem::Text("InScope { number: "),
+        ProgramItem::Number(i64::from(variable.number)),
+        ProgramItem::Text(", ty: "),
+        ProgramItem::Ty(&variable.ty),
+        ProgramItem::Text(", single: "),
+        ProgramItem::Truth(variable.single),
+        ProgramItem::Text(" }"),
     ])
 }
 
 /// Pushes the parts of a scope.
-fn scope<'a>(stack: &mut Stack<'a>, scope: &'a Scope) -> Result<(), AllocError> {
+fn scope<'a>(stack: &mut ProgramStack<'a>, scope: &'a Scope) -> Result<(), AllocError> {
     stack.put(&[
-        Item::Text("Scope { this: "),
-        Item::MaybeNumber(scope.this),
-        Item::Text(", variables: "),
-        Item::InScopes(&scope.variables),
-        Item::Text(", method: "),
-        Item::Number(i64::from(scope.method)),
-        Item::Text(", innermost_loop: "),
-        Item::MaybePlace(scope.innermost_loop),
-        Item::Text(" }"),
+        ProgramItem::Text("Scope { this: "),
+        ProgramItem::MaybeNumber(scope.this),
+        ProgramItem::Text(", variables: "),
+        ProgramItem::InScopes(&scope.variables),
+        ProgramItem::Text(", method: "),
+        ProgramItem::Number(i64::from(scope.method)),
+        ProgramItem::Text(", innermost_loop: "),
+        ProgramItem::MaybePlace(scope.innermost_loop),
+        ProgramItem::Text(" }"),
     ])
 }
 
 /// Pushes the parts of a program: its classes, its methods, the number of `main`, and its names and literals.
-fn parts<'a>(stack: &mut Stack<'a>, parts: &'a Parts) -> Result<(), AllocError> {
+fn parts<'a>(stack: &mut ProgramStack<'a>, parts: &'a ProgramData) -> Result<(), AllocError> {
     stack.put(&[
-        Item::Text("Parts { classes: "),
-        Item::Classes(&parts.classes),
-        Item::Text(", methods: "),
-        Item::Methods(&parts.methods),
-        Item::Text(", main: "),
-        Item::Number(i64::from(parts.main)),
-        Item::Text(", names: "),
-        Item::Names(&parts.names),
-        Item::Text(", literals: "),
-        Item::Names(&parts.literals),
-        Item::Text(" }"),
+        ProgramItem::Text("Parts { classes: "),
+        ProgramItem::Classes(&parts.classes),
+        ProgramItem::Text(", methods: "),
+        ProgramItem::Methods(&parts.methods),
+        ProgramItem::Text(", main: "),
+        ProgramItem::Number(i64::from(parts.main)),
+        ProgramItem::Text(", names: "),
+        ProgramItem::Names(&parts.names),
+        ProgramItem::Text(", literals: "),
+        ProgramItem::Names(&parts.literals),
+        ProgramItem::Text(" }"),
     ])
 }
 
 /// Pushes the parts of one pair of brackets of a grid type: its number of dimensions and the qualifiers of the grid.
-fn brackets<'a>(stack: &mut Stack<'a>, brackets: &'a Brackets) -> Result<(), AllocError> {
+fn brackets<'a>(stack: &mut ProgramStack<'a>, brackets: &'a Brackets) -> Result<(), AllocError> {
     stack.put(&[
-        Item::Text("Brackets { dim: "),
-        Item::Number(i64::from(brackets.dim)),
-        Item::Text(", qualifiers: "),
-        Item::Qualifiers(&brackets.qualifiers),
-        Item::Text(" }"),
+        ProgramItem::Text("Brackets { dim: "),
+        ProgramItem::Number(i64::from(brackets.dim)),
+        ProgramItem::Text(", qualifiers: "),
+        ProgramItem::Qualifiers(&brackets.qualifiers),
+        ProgramItem::Text(" }"),
     ])
 }

@@ -1,8 +1,8 @@
 // Row kind `slice`: runs the slice of a program, which is the part that all processes execute alike, up to its next step. The row gives
 // the fuel, and the outcomes of the departures before that step.
 
-use crate::phases::checked;
-use crate::stopped::{NO_ROW, Stopped};
+use crate::no_result::{NO_ROW, NoResult};
+use crate::phases::check_source;
 use crate::things::answer_of;
 use crate::walks::collective;
 use std::alloc::{AllocError, Global};
@@ -40,7 +40,7 @@ fn shown_step(alloc: Global, step: SliceStep) -> Result<String, AllocError> {
 }
 
 /// The outcomes that are spelled, separated by whitespace. `NO_ROW` if one is malformed.
-fn outcomes_of(alloc: Global, words: &str) -> Result<Vec<Answer>, Stopped> {
+fn outcomes_of(alloc: Global, words: &str) -> Result<Vec<Answer>, NoResult> {
     let mut outcomes = Vec::new(alloc);
     for word in words.split_ascii_whitespace() {
         let Some(outcome) = answer_of(word) else {
@@ -52,15 +52,15 @@ fn outcomes_of(alloc: Global, words: &str) -> Result<Vec<Answer>, Stopped> {
 }
 
 /// The next step of the program slice with three processes and `fuel` ticks, after the outcomes that are spelled.
-fn told(alloc: Global, c: &Checked, fuel: u32, words: &str) -> Result<SliceStep, Stopped> {
+fn slice_step(alloc: Global, c: &Checked, fuel: u32, words: &str) -> Result<SliceStep, NoResult> {
     let outcomes = outcomes_of(alloc, words)?;
     Ok(slice_next(alloc, c, 3, fuel, &outcomes)?)
 }
 
 /// The next step of the program slice of a source, with three processes and `fuel` ticks, after the outcomes that are spelled.
-fn step_of(alloc: Global, fuel: u32, words: &str, text: &[u8]) -> Result<SliceStep, Stopped> {
-    let c = checked(alloc, text)?;
-    told(alloc, &c, fuel, words)
+fn step_of(alloc: Global, fuel: u32, words: &str, text: &[u8]) -> Result<SliceStep, NoResult> {
+    let c = check_source(alloc, text)?;
+    slice_step(alloc, &c, fuel, words)
 }
 
 /// Splits what a row gives into the fuel and the outcomes after it, which may be missing. `None` if the fuel isn't a `u32`.
@@ -73,7 +73,7 @@ fn fuel_of(given: &str) -> Option<(u32, &str)> {
 
 /// Row kind `slice`: the next step of the program slice of a source with three processes. `given` has the ticks of fuel and then the
 /// outcomes of the departures so far.
-pub(crate) fn slice(alloc: Global, given: &str, text: &[u8]) -> Result<Vec<u8>, Stopped> {
+pub(crate) fn slice(alloc: Global, given: &str, text: &[u8]) -> Result<Vec<u8>, NoResult> {
     let Some((fuel, words)) = fuel_of(given) else {
         return Err(NO_ROW);
     };

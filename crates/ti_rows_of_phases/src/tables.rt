@@ -1,6 +1,6 @@
 // Rows without a source: entries of the tables of rules and faults, generated programs, and how command-line arguments are read.
 
-use crate::stopped::{MEMORY, NO_ROW, Stopped};
+use crate::no_result::{MEMORY, NO_ROW, NoResult};
 use std::alloc::{AllocError, Global};
 use ti_base::{FaultKind, fault_name};
 use ti_gen::gen_source;
@@ -84,7 +84,7 @@ fn fault_of(number: u32) -> Option<FaultKind> {
 }
 
 /// Row kind `rule`: the code of a rule and its text. `NO_ROW` if no rule has the number.
-fn rule(alloc: Global, number: u32) -> Result<Vec<u8>, Stopped> {
+fn rule(alloc: Global, number: u32) -> Result<Vec<u8>, NoResult> {
     match rule_of(number) {
         Some(rule) => Ok(
             [rule.code(), " ", rule_text(rule)]
@@ -96,7 +96,7 @@ fn rule(alloc: Global, number: u32) -> Result<Vec<u8>, Stopped> {
 }
 
 /// Row kind `fault`: the name of a fault. `NO_ROW` if no fault has the number.
-fn fault(alloc: Global, number: u32) -> Result<Vec<u8>, Stopped> {
+fn fault(alloc: Global, number: u32) -> Result<Vec<u8>, NoResult> {
     match fault_of(number) {
         Some(kind) => Ok(fault_name(kind).as_bytes().to_vec(alloc)?),
         None => Err(NO_ROW),
@@ -113,14 +113,14 @@ fn sum_of(text: &[u8]) -> u64 {
 }
 
 /// Row kind `seed`: length in bytes and checksum of the program that is generated for a seed.
-fn seed(alloc: Global, number: u32) -> Result<Vec<u8>, Stopped> {
+fn seed(alloc: Global, number: u32) -> Result<Vec<u8>, NoResult> {
     let text = gen_source(alloc, number)?;
     let shown = format!(in alloc; "{} bytes, sum {}", text.len(), sum_of(&text))?;
     Ok(shown.into_bytes())
 }
 
 /// A command-line argument, from how a row spells it: escapes are decoded, and `""` is the empty argument. `NO_ROW` if it isn't UTF-8.
-fn word_of(alloc: Global, escaped: &str) -> Result<String, Stopped> {
+fn word_of(alloc: Global, escaped: &str) -> Result<String, NoResult> {
     if escaped == "\"\"" {
         return Ok(String::new(alloc));
     }
@@ -131,7 +131,7 @@ fn word_of(alloc: Global, escaped: &str) -> Result<String, Stopped> {
 }
 
 /// The command-line arguments of a row, which whitespace separates.
-fn words_of(alloc: Global, row: &str) -> Result<Vec<String>, Stopped> {
+fn words_of(alloc: Global, row: &str) -> Result<Vec<String>, NoResult> {
     let mut words = Vec::new(alloc);
     for word in row.split_ascii_whitespace() {
         words.push(word_of(alloc, word)?)?;
@@ -161,7 +161,7 @@ fn shown_job(alloc: Global, job: &Job) -> Result<String, AllocError> {
 }
 
 /// Row kind `job`: what titan is to do for the command-line arguments of a row; `no command` if they aren't valid.
-pub(crate) fn job(alloc: Global, row: &str) -> Result<Vec<u8>, Stopped> {
+pub(crate) fn job(alloc: Global, row: &str) -> Result<Vec<u8>, NoResult> {
     let words = words_of(alloc, row)?;
     match read_words(alloc, &words) {
         Ok(job) => Ok(shown_job(alloc, &job)?.into_bytes()),
@@ -171,7 +171,7 @@ pub(crate) fn job(alloc: Global, row: &str) -> Result<Vec<u8>, Stopped> {
 }
 
 /// Looks a number up in the table that a row kind names; for any kind but `rule`, `fault` and `seed`, generates the program of that seed.
-fn found_at(alloc: Global, asked: &str, number: u32) -> Result<Vec<u8>, Stopped> {
+fn found_at(alloc: Global, asked: &str, number: u32) -> Result<Vec<u8>, NoResult> {
     match asked {
         "rule" => rule(alloc, number),
         "fault" => fault(alloc, number),
@@ -181,7 +181,7 @@ fn found_at(alloc: Global, asked: &str, number: u32) -> Result<Vec<u8>, Stopped>
 }
 
 /// Row kinds `rule`, `fault`, `seed` and `source`: what belongs to the number that a row spells. `NO_ROW` if it spells no `u32`.
-pub(crate) fn numbered(alloc: Global, asked: &str, row: &str) -> Result<Vec<u8>, Stopped> {
+pub(crate) fn table_row(alloc: Global, asked: &str, row: &str) -> Result<Vec<u8>, NoResult> {
     match row.parse::<u32>() {
         Ok(number) => found_at(alloc, asked, number),
         Err(_) => Err(NO_ROW),

@@ -52,7 +52,7 @@ fn line_of(ends: &str) -> Option<Answer>
 }
 
 /// An object or grid by its sequence number, or a region by its number. `None` for any other kind.
-fn numbered(kind: &str, number: u32) -> Option<Answer>
+fn numbered_thing(kind: &str, number: u32) -> Option<Answer>
     ensures { IfSome result IsFormedAnswer }
 {
     match kind {
@@ -64,7 +64,7 @@ fn numbered(kind: &str, number: u32) -> Option<Answer>
 }
 
 /// An int, or a long if it ends with `L`. `None` if it is malformed or out of range.
-fn whole(digits: &str) -> Option<Answer>
+fn int_answer(digits: &str) -> Option<Answer>
     ensures { IfSome result IsFormedAnswer }
 {
     match digits.strip_suffix('L') {
@@ -79,8 +79,8 @@ pub(crate) fn answer_of(word: &str) -> Option<Answer>
 {
     match word.split_once(':') {
         Some(("line", ends)) => line_of(ends),
-        Some((kind, number)) => numbered(kind, number.parse::<u32>().ok()?),
+        Some((kind, number)) => numbered_thing(kind, number.parse::<u32>().ok()?),
         None if word == "done" => Some(Answer::Done),
-        None => whole(word),
+        None => int_answer(word),
     }
 }

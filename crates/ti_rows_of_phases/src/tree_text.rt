@@ -13,7 +13,7 @@ use ti_syntax::tree::{
 
 /// A pending item of the output: a literal, a value, a node of the tree or a list of nodes.
 #[derive(Clone, Copy)]
-pub(crate) enum Item<'a> {
+pub(crate) enum TreeItem<'a> {
     /// Literal output, such as the name of a variant.
     Text(&'static str),
     Number(i64),
@@ -56,14 +56,14 @@ pub(crate) enum Item<'a> {
 
 /// The items that are still to be written.
 #[derive(Drop)]
-pub(crate) struct Stack<'a> {
+pub(crate) struct TreeStack<'a> {
     /// The last item is written next.
-    items: Vec<Item<'a>>,
+    items: Vec<TreeItem<'a>>,
 }
 
-impl<'a> Stack<'a> {
+impl<'a> TreeStack<'a> {
     /// Pushes items in reverse, so that they are written next and in the given order.
-    pub(crate) fn put(&mut self, items: &[Item<'a>]) -> Result<(), AllocError> {
+    pub(crate) fn put(&mut self, items: &[TreeItem<'a>]) -> Result<(), AllocError> {
         for item in items.iter().rev() {
             self.items.push(*item)?;
         }
@@ -71,92 +71,92 @@ impl<'a> Stack<'a> {
     }
 
     /// Pushes a list, with its brackets and the commas between its elements, so that it is written next.
-    fn list<T: Part>(&mut self, parts: &'a [T]) -> Result<(), AllocError> {
-        self.items.push(Item::Text("]"))?;
+    fn list<T: TreePart>(&mut self, parts: &'a [T]) -> Result<(), AllocError> {
+        self.items.push(TreeItem::Text("]"))?;
         for (number, part) in parts.iter().enumerate().rev() {
             self.items.push(part.item())?;
             if number > 0 {
-                self.items.push(Item::Text(", "))?;
+                self.items.push(TreeItem::Text(", "))?;
             }
         }
-        self.items.push(Item::Text("["))?;
+        self.items.push(TreeItem::Text("["))?;
         Ok(())
     }
 }
 
 /// A node that occurs in lists.
-trait Part {
+trait TreePart {
     /// The item that writes this node.
-    fn item(&self) -> Item<'_>;
+    fn item(&self) -> TreeItem<'_>;
 }
 
-impl Part for Expr {
-    fn item(&self) -> Item<'_> {
-        Item::Expr(self)
+impl TreePart for Expr {
+    fn item(&self) -> TreeItem<'_> {
+        TreeItem::Expr(self)
     }
 }
 
-impl Part for Range {
-    fn item(&self) -> Item<'_> {
-        Item::Range(self)
+impl TreePart for Range {
+    fn item(&self) -> TreeItem<'_> {
+        TreeItem::Range(self)
     }
 }
 
-impl Part for Stmt {
-    fn item(&self) -> Item<'_> {
-        Item::Stmt(self)
+impl TreePart for Stmt {
+    fn item(&self) -> TreeItem<'_> {
+        TreeItem::Stmt(self)
     }
 }
 
-impl Part for Modifier {
-    fn item(&self) -> Item<'_> {
-        Item::Modifier(*self)
+impl TreePart for Modifier {
+    fn item(&self) -> TreeItem<'_> {
+        TreeItem::Modifier(*self)
     }
 }
 
-impl Part for Qualifier {
-    fn item(&self) -> Item<'_> {
-        Item::Qualifier(*self)
+impl TreePart for Qualifier {
+    fn item(&self) -> TreeItem<'_> {
+        TreeItem::Qualifier(*self)
     }
 }
 
-impl Part for Brackets {
-    fn item(&self) -> Item<'_> {
-        Item::Brackets(self)
+impl TreePart for Brackets {
+    fn item(&self) -> TreeItem<'_> {
+        TreeItem::Brackets(self)
     }
 }
 
-impl Part for Param {
-    fn item(&self) -> Item<'_> {
-        Item::Param(self)
+impl TreePart for Param {
+    fn item(&self) -> TreeItem<'_> {
+        TreeItem::Param(self)
     }
 }
 
-impl Part for Member {
-    fn item(&self) -> Item<'_> {
-        Item::Member(self)
+impl TreePart for Member {
+    fn item(&self) -> TreeItem<'_> {
+        TreeItem::Member(self)
     }
 }
 
-impl Part for Class {
-    fn item(&self) -> Item<'_> {
-        Item::Class(self)
+impl TreePart for Class {
+    fn item(&self) -> TreeItem<'_> {
+        TreeItem::Class(self)
     }
 }
 
 /// Writes a literal or a value. Writes nothing for any other item.
-fn write_leaf(alloc: Global, out: &mut String, item: Item) -> Result<(), AllocError> {
+fn write_leaf(alloc: Global, out: &mut String, item: TreeItem) -> Result<(), AllocError> {
     match item {
-        Item::Text(text) => out.push_str(text),
-        Item::Number(number) => out.push_str(&format!(in alloc; "{number}")?),
-        Item::Truth(truth) => out.push_str(&format!(in alloc; "{truth}")?),
-        Item::Place(place) => out.push_str(&format!(in alloc; "{place:?}")?),
-        Item::Spelled(spelled) => out.push_str(&format!(in alloc; "{spelled:?}")?),
-        Item::Unary(operator) => out.push_str(&format!(in alloc; "{operator:?}")?),
-        Item::Binary(operator) => out.push_str(&format!(in alloc; "{operator:?}")?),
-        Item::StepOperator(operator) => out.push_str(&format!(in alloc; "{operator:?}")?),
-        Item::Modifier(modifier) => out.push_str(&format!(in alloc; "{modifier:?}")?),
-        Item::Qualifier(qualifier) => out.push_str(&format!(in alloc; "{qualifier:?}")?),
+        TreeItem::Text(text) => out.push_str(text),
+        TreeItem::Number(number) => out.push_str(&format!(in alloc; "{number}")?),
+        TreeItem::Truth(truth) => out.push_str(&format!(in alloc; "{truth}")?),
+        TreeItem::Place(place) => out.push_str(&format!(in alloc; "{place:?}")?),
+        TreeItem::Spelled(spelled) => out.push_str(&format!(in alloc; "{spelled:?}")?),
+        TreeItem::Unary(operator) => out.push_str(&format!(in alloc; "{operator:?}")?),
+        TreeItem::Binary(operator) => out.push_str(&format!(in alloc; "{operator:?}")?),
+        TreeItem::StepOperator(operator) => out.push_str(&format!(in alloc; "{operator:?}")?),
+        TreeItem::Modifier(modifier) => out.push_str(&format!(in alloc; "{modifier:?}")?),
+        TreeItem::Qualifier(qualifier) => out.push_str(&format!(in alloc; "{qualifier:?}")?),
         _ => Ok(()),
     }
 }
@@ -164,48 +164,48 @@ fn write_leaf(alloc: Global, out: &mut String, item: Item) -> Result<(), AllocEr
 /// Processes one item: pushes the parts of a node, list or option, and writes a literal or a value.
 fn write_item<'a>(
     alloc: Global,
-    stack: &mut Stack<'a>,
+    stack: &mut TreeStack<'a>,
     out: &mut String,
-    item: Item<'a>,
+    item: TreeItem<'a>,
 ) -> Result<(), AllocError> {
     match item {
-        Item::Base(node) => base(stack, node),
-        Item::Brackets(node) => brackets(stack, node),
-        Item::TypeName(node) => type_name(stack, node),
-        Item::Expr(node) => expr(stack, node),
-        Item::Range(node) => range(stack, node),
-        Item::Dims(node) => dims(stack, node),
-        Item::Init(node) => init(stack, node),
-        Item::Printed(node) => printed(stack, node),
-        Item::Stmt(node) => stmt(stack, node),
-        Item::Field(node) => field(stack, node),
-        Item::Param(node) => param(stack, node),
-        Item::Params(node) => params(stack, node),
-        Item::ResultType(node) => result_type(stack, node),
-        Item::Method(node) => method(stack, node),
-        Item::Member(node) => member(stack, node),
-        Item::Class(node) => class(stack, node),
-        Item::Exprs(list) => stack.list(list),
-        Item::Ranges(list) => stack.list(list),
-        Item::Stmts(list) => stack.list(list),
-        Item::Modifiers(list) => stack.list(list),
-        Item::Qualifiers(list) => stack.list(list),
-        Item::Grids(list) => stack.list(list),
-        Item::ParamList(list) => stack.list(list),
-        Item::Members(list) => stack.list(list),
-        Item::Classes(list) => stack.list(list),
-        Item::MaybeExpr(Some(node)) => stack.put(&[
-            Item::Text("Some("),
-            Item::Expr(node),
-            Item::Text(")"),
+        TreeItem::Base(node) => base(stack, node),
+        TreeItem::Brackets(node) => brackets(stack, node),
+        TreeItem::TypeName(node) => type_name(stack, node),
+        TreeItem::Expr(node) => expr(stack, node),
+        TreeItem::Range(node) => range(stack, node),
+        TreeItem::Dims(node) => dims(stack, node),
+        TreeItem::Init(node) => init(stack, node),
+        TreeItem::Printed(node) => push_printed(stack, node),
+        TreeItem::Stmt(node) => stmt(stack, node),
+        TreeItem::Field(node) => field(stack, node),
+        TreeItem::Param(node) => param(stack, node),
+        TreeItem::Params(node) => params(stack, node),
+        TreeItem::ResultType(node) => result_type(stack, node),
+        TreeItem::Method(node) => method(stack, node),
+        TreeItem::Member(node) => member(stack, node),
+        TreeItem::Class(node) => class(stack, node),
+        TreeItem::Exprs(list) => stack.list(list),
+        TreeItem::Ranges(list) => stack.list(list),
+        TreeItem::Stmts(list) => stack.list(list),
+        TreeItem::Modifiers(list) => stack.list(list),
+        TreeItem::Qualifiers(list) => stack.list(list),
+        TreeItem::Grids(list) => stack.list(list),
+        TreeItem::ParamList(list) => stack.list(list),
+        TreeItem::Members(list) => stack.list(list),
+        TreeItem::Classes(list) => stack.list(list),
+        TreeItem::MaybeExpr(Some(node)) => stack.put(&[
+            TreeItem::Text("Some("),
+            TreeItem::Expr(node),
+            TreeItem::Text(")"),
         ]),
-        Item::MaybeExpr(None) => stack.put(&[Item::Text("None")]),
-        Item::MaybeStmt(Some(node)) => stack.put(&[
-            Item::Text("Some("),
-            Item::Stmt(node),
-            Item::Text(")"),
+        TreeItem::MaybeExpr(None) => stack.put(&[TreeItem::Text("None")]),
+        TreeItem::MaybeStmt(Some(node)) => stack.put(&[
+            TreeItem::Text("Some("),
+            TreeItem::Stmt(node),
+            TreeItem::Text(")"),
         ]),
-        Item::MaybeStmt(None) => stack.put(&[Item::Text("None")]),
+        TreeItem::MaybeStmt(None) => stack.put(&[TreeItem::Text("None")]),
         leaf => write_leaf(alloc, out, leaf),
     }
 }
@@ -214,8 +214,8 @@ fn write_item<'a>(
 const MOST: u32 = 100_000_000;
 
 /// An item in the format of a derived `Debug`. The output is cut off after `MOST` items.
-pub(crate) fn text_of(alloc: Global, item: Item) -> Result<String, AllocError> {
-    let mut stack = Stack {
+pub(crate) fn text_of(alloc: Global, item: TreeItem) -> Result<String, AllocError> {
+    let mut stack = TreeStack {
         items: Vec::new(alloc),
     };
     stack.put(&[item])?;
@@ -230,165 +230,169 @@ pub(crate) fn text_of(alloc: Global, item: Item) -> Result<String, AllocError> {
 }
 
 /// Pushes the parts of the base of a type name: a built-in type or a class.
-fn base<'a>(stack: &mut Stack<'a>, base: &'a Base) -> Result<(), AllocError> {
+fn base<'a>(stack: &mut TreeStack<'a>, base: &'a Base) -> Result<(), AllocError> {
     match base {
-        Base::Int(place) => stack.put(&[Item::Text("Int("), Item::Place(*place), Item::Text(")")]),
+        Base::Int(place) => stack.put(&[
+            TreeItem::Text("Int("),
+            TreeItem::Place(*place),
+            TreeItem::Text(")"),
+        ]),
         Base::Long(place) => stack.put(&[
-            Item::Text("Long("),
-            Item::Place(*place),
-            Item::Text(")"),
+            TreeItem::Text("Long("),
+            TreeItem::Place(*place),
+            TreeItem::Text(")"),
         ]),
         Base::Boolean(place) => stack.put(&[
-            Item::Text("Boolean("),
-            Item::Place(*place),
-            Item::Text(")"),
+            TreeItem::Text("Boolean("),
+            TreeItem::Place(*place),
+            TreeItem::Text(")"),
         ]),
         Base::Point(place, dim) => stack.put(&[
-            Item::Text("Point("),
-            Item::Place(*place),
-            Item::Text(", "),
-            Item::Number(i64::from(*dim)),
-            Item::Text(")"),
+            TreeItem::Text("Point("),
+            TreeItem::Place(*place),
+            TreeItem::Text(", "),
+            TreeItem::Number(i64::from(*dim)),
+            TreeItem::Text(")"),
         ]),
         Base::RectDomain(place, dim) => stack.put(&[
-            Item::Text("RectDomain("),
-            Item::Place(*place),
-            Item::Text(", "),
-            Item::Number(i64::from(*dim)),
-            Item::Text(")"),
+            TreeItem::Text("RectDomain("),
+            TreeItem::Place(*place),
+            TreeItem::Text(", "),
+            TreeItem::Number(i64::from(*dim)),
+            TreeItem::Text(")"),
         ]),
         Base::Domain(place, dim) => stack.put(&[
-            Item::Text("Domain("),
-            Item::Place(*place),
-            Item::Text(", "),
-            Item::Number(i64::from(*dim)),
-            Item::Text(")"),
+            TreeItem::Text("Domain("),
+            TreeItem::Place(*place),
+            TreeItem::Text(", "),
+            TreeItem::Number(i64::from(*dim)),
+            TreeItem::Text(")"),
         ]),
         Base::SharedRegion(place) => stack.put(&[
-            Item::Text("SharedRegion("),
-            Item::Place(*place),
-            Item::Text(")"),
+            TreeItem::Text("SharedRegion("),
+            TreeItem::Place(*place),
+            TreeItem::Text(")"),
         ]),
         Base::Named(place, name) => stack.put(&[
-            Item::Text("Named("),
-            Item::Place(*place),
-            Item::Text(", "),
-            Item::Spelled(name),
-            Item::Text(")"),
+            TreeItem::Text("Named("),
+            TreeItem::Place(*place),
+            TreeItem::Text(", "),
+            TreeItem::Spelled(name),
+            TreeItem::Text(")"),
         ]),
     }
 }
 
 /// Pushes the parts of one pair of brackets of a grid type: its number of dimensions and the qualifiers of the grid.
-fn brackets<'a>(stack: &mut Stack<'a>, brackets: &'a Brackets) -> Result<(), AllocError> {
+fn brackets<'a>(stack: &mut TreeStack<'a>, brackets: &'a Brackets) -> Result<(), AllocError> {
     stack.put(&[
-        Item::Text("Brackets { dim: "),
-        Item::Number(i64::from(brackets.dim)),
-        Item::Text(", qualifiers: "),
-        Item::Qualifiers(&brackets.qualifiers),
-        Item::Text(" }"),
+        TreeItem::Text("Brackets { dim: "),
+        TreeItem::Number(i64::from(brackets.dim)),
+        TreeItem::Text(", qualifiers: "),
+        TreeItem::Qualifiers(&brackets.qualifiers),
+        TreeItem::Text(" }"),
     ])
 }
 
 /// Pushes the parts of a type name: its base, qualifiers and brackets.
-fn type_name<'a>(stack: &mut Stack<'a>, ty: &'a TypeName) -> Result<(), AllocError> {
+fn type_name<'a>(stack: &mut TreeStack<'a>, ty: &'a TypeName) -> Result<(), AllocError> {
     stack.put(&[
-        Item::Text("TypeName { base: "),
-        Item::Base(&ty.base),
-        Item::Text(", qualifiers: "),
-        Item::Qualifiers(&ty.qualifiers),
-        Item::Text(", grids: "),
-        Item::Grids(&ty.grids),
-        Item::Text(" }"),
+        TreeItem::Text("TypeName { base: "),
+        TreeItem::Base(&ty.base),
+        TreeItem::Text(", qualifiers: "),
+        TreeItem::Qualifiers(&ty.qualifiers),
+        TreeItem::Text(", grids: "),
+        TreeItem::Grids(&ty.grids),
+        TreeItem::Text(" }"),
     ])
 }
 
 /// Pushes the parts of an expression.
-fn expr<'a>(stack: &mut Stack<'a>, e: &'a Expr) -> Result<(), AllocError> {
+fn expr<'a>(stack: &mut TreeStack<'a>, e: &'a Expr) -> Result<(), AllocError> {
     match e {
         Expr::Int(place, n) => stack.put(&[
-            Item::Text("Int("),
-            Item::Place(*place),
-            Item::Text(", "),
-            Item::Number(i64::from(*n)),
-            Item::Text(")"),
+            TreeItem::Text("Int("),
+            TreeItem::Place(*place),
+            TreeItem::Text(", "),
+            TreeItem::Number(i64::from(*n)),
+            TreeItem::Text(")"),
         ]),
         Expr::Long(place, n) => stack.put(&[
-            Item::Text("Long("),
-            Item::Place(*place),
-            Item::Text(", "),
-            Item::Number(*n),
-            Item::Text(")"),
+            TreeItem::Text("Long("),
+            TreeItem::Place(*place),
+            TreeItem::Text(", "),
+            TreeItem::Number(*n),
+            TreeItem::Text(")"),
         ]),
-        Expr::Truth(place, truth) => stack.put(&[
-            Item::Text("Truth("),
-            Item::Place(*place),
-            Item::Text(", "),
-            Item::Truth(*truth),
-            Item::Text(")"),
+        Expr::Bool(place, truth) => stack.put(&[
+            TreeItem::Text("Truth("),
+            TreeItem::Place(*place),
+            TreeItem::Text(", "),
+            TreeItem::Truth(*truth),
+            TreeItem::Text(")"),
         ]),
         Expr::Null(place) => stack.put(&[
-            Item::Text("Null("),
-            Item::Place(*place),
-            Item::Text(")"),
+            TreeItem::Text("Null("),
+            TreeItem::Place(*place),
+            TreeItem::Text(")"),
         ]),
         Expr::This(place) => stack.put(&[
-            Item::Text("This("),
-            Item::Place(*place),
-            Item::Text(")"),
+            TreeItem::Text("This("),
+            TreeItem::Place(*place),
+            TreeItem::Text(")"),
         ]),
         Expr::Name(place, name) => stack.put(&[
-            Item::Text("Name("),
-            Item::Place(*place),
-            Item::Text(", "),
-            Item::Spelled(name),
-            Item::Text(")"),
+            TreeItem::Text("Name("),
+            TreeItem::Place(*place),
+            TreeItem::Text(", "),
+            TreeItem::Spelled(name),
+            TreeItem::Text(")"),
         ]),
         Expr::Call { place, name, args } => stack.put(&[
-            Item::Text("Call { place: "),
-            Item::Place(*place),
-            Item::Text(", name: "),
-            Item::Spelled(name),
-            Item::Text(", args: "),
-            Item::Exprs(args),
-            Item::Text(" }"),
+            TreeItem::Text("Call { place: "),
+            TreeItem::Place(*place),
+            TreeItem::Text(", name: "),
+            TreeItem::Spelled(name),
+            TreeItem::Text(", args: "),
+            TreeItem::Exprs(args),
+            TreeItem::Text(" }"),
         ]),
         Expr::ThisProc(place) => stack.put(&[
-            Item::Text("ThisProc("),
-            Item::Place(*place),
-            Item::Text(")"),
+            TreeItem::Text("ThisProc("),
+            TreeItem::Place(*place),
+            TreeItem::Text(")"),
         ]),
         Expr::NumProcs(place) => stack.put(&[
-            Item::Text("NumProcs("),
-            Item::Place(*place),
-            Item::Text(")"),
+            TreeItem::Text("NumProcs("),
+            TreeItem::Place(*place),
+            TreeItem::Text(")"),
         ]),
         Expr::Point(place, parts) => stack.put(&[
-            Item::Text("Point("),
-            Item::Place(*place),
-            Item::Text(", "),
-            Item::Exprs(parts),
-            Item::Text(")"),
+            TreeItem::Text("Point("),
+            TreeItem::Place(*place),
+            TreeItem::Text(", "),
+            TreeItem::Exprs(parts),
+            TreeItem::Text(")"),
         ]),
         Expr::Rect(place, ranges) => stack.put(&[
-            Item::Text("Rect("),
-            Item::Place(*place),
-            Item::Text(", "),
-            Item::Ranges(ranges),
-            Item::Text(")"),
+            TreeItem::Text("Rect("),
+            TreeItem::Place(*place),
+            TreeItem::Text(", "),
+            TreeItem::Ranges(ranges),
+            TreeItem::Text(")"),
         ]),
         Expr::Unary {
             place,
             operator,
             operand,
         } => stack.put(&[
-            Item::Text("Unary { place: "),
-            Item::Place(*place),
-            Item::Text(", operator: "),
-            Item::Unary(*operator),
-            Item::Text(", operand: "),
-            Item::Expr(operand),
-            Item::Text(" }"),
+            TreeItem::Text("Unary { place: "),
+            TreeItem::Place(*place),
+            TreeItem::Text(", operator: "),
+            TreeItem::Unary(*operator),
+            TreeItem::Text(", operand: "),
+            TreeItem::Expr(operand),
+            TreeItem::Text(" }"),
         ]),
         Expr::Binary {
             place,
@@ -396,37 +400,37 @@ fn expr<'a>(stack: &mut Stack<'a>, e: &'a Expr) -> Result<(), AllocError> {
             left,
             right,
         } => stack.put(&[
-            Item::Text("Binary { place: "),
-            Item::Place(*place),
-            Item::Text(", operator: "),
-            Item::Binary(*operator),
-            Item::Text(", left: "),
-            Item::Expr(left),
-            Item::Text(", right: "),
-            Item::Expr(right),
-            Item::Text(" }"),
+            TreeItem::Text("Binary { place: "),
+            TreeItem::Place(*place),
+            TreeItem::Text(", operator: "),
+            TreeItem::Binary(*operator),
+            TreeItem::Text(", left: "),
+            TreeItem::Expr(left),
+            TreeItem::Text(", right: "),
+            TreeItem::Expr(right),
+            TreeItem::Text(" }"),
         ]),
         Expr::Cast { place, to, operand } => stack.put(&[
-            Item::Text("Cast { place: "),
-            Item::Place(*place),
-            Item::Text(", to: "),
-            Item::TypeName(to),
-            Item::Text(", operand: "),
-            Item::Expr(operand),
-            Item::Text(" }"),
+            TreeItem::Text("Cast { place: "),
+            TreeItem::Place(*place),
+            TreeItem::Text(", to: "),
+            TreeItem::TypeName(to),
+            TreeItem::Text(", operand: "),
+            TreeItem::Expr(operand),
+            TreeItem::Text(" }"),
         ]),
         Expr::Select {
             place,
             receiver,
             name,
         } => stack.put(&[
-            Item::Text("Select { place: "),
-            Item::Place(*place),
-            Item::Text(", receiver: "),
-            Item::Expr(receiver),
-            Item::Text(", name: "),
-            Item::Spelled(name),
-            Item::Text(" }"),
+            TreeItem::Text("Select { place: "),
+            TreeItem::Place(*place),
+            TreeItem::Text(", receiver: "),
+            TreeItem::Expr(receiver),
+            TreeItem::Text(", name: "),
+            TreeItem::Spelled(name),
+            TreeItem::Text(" }"),
         ]),
         Expr::Member {
             place,
@@ -434,74 +438,82 @@ fn expr<'a>(stack: &mut Stack<'a>, e: &'a Expr) -> Result<(), AllocError> {
             name,
             args,
         } => stack.put(&[
-            Item::Text("Member { place: "),
-            Item::Place(*place),
-            Item::Text(", receiver: "),
-            Item::Expr(receiver),
-            Item::Text(", name: "),
-            Item::Spelled(name),
-            Item::Text(", args: "),
-            Item::Exprs(args),
-            Item::Text(" }"),
+            TreeItem::Text("Member { place: "),
+            TreeItem::Place(*place),
+            TreeItem::Text(", receiver: "),
+            TreeItem::Expr(receiver),
+            TreeItem::Text(", name: "),
+            TreeItem::Spelled(name),
+            TreeItem::Text(", args: "),
+            TreeItem::Exprs(args),
+            TreeItem::Text(" }"),
         ]),
         Expr::Index {
             place,
             receiver,
             indices,
         } => stack.put(&[
-            Item::Text("Index { place: "),
-            Item::Place(*place),
-            Item::Text(", receiver: "),
-            Item::Expr(receiver),
-            Item::Text(", indices: "),
-            Item::Exprs(indices),
-            Item::Text(" }"),
+            TreeItem::Text("Index { place: "),
+            TreeItem::Place(*place),
+            TreeItem::Text(", receiver: "),
+            TreeItem::Expr(receiver),
+            TreeItem::Text(", indices: "),
+            TreeItem::Exprs(indices),
+            TreeItem::Text(" }"),
         ]),
     }
 }
 
 /// Pushes the parts of a range, which is one dimension of a rectangular domain.
-fn range<'a>(stack: &mut Stack<'a>, range: &'a Range) -> Result<(), AllocError> {
+fn range<'a>(stack: &mut TreeStack<'a>, range: &'a Range) -> Result<(), AllocError> {
     match range {
         Range::Plain { low, high } => stack.put(&[
-            Item::Text("Plain { low: "),
-            Item::Expr(low),
-            Item::Text(", high: "),
-            Item::Expr(high),
-            Item::Text(" }"),
+            TreeItem::Text("Plain { low: "),
+            TreeItem::Expr(low),
+            TreeItem::Text(", high: "),
+            TreeItem::Expr(high),
+            TreeItem::Text(" }"),
         ]),
         Range::Stepped { low, high, step } => stack.put(&[
-            Item::Text("Stepped { low: "),
-            Item::Expr(low),
-            Item::Text(", high: "),
-            Item::Expr(high),
-            Item::Text(", step: "),
-            Item::Expr(step),
-            Item::Text(" }"),
+            TreeItem::Text("Stepped { low: "),
+            TreeItem::Expr(low),
+            TreeItem::Text(", high: "),
+            TreeItem::Expr(high),
+            TreeItem::Text(", step: "),
+            TreeItem::Expr(step),
+            TreeItem::Text(" }"),
         ]),
     }
 }
 
 /// Pushes the parts of the domain in a grid creation: an expression or a list of ranges.
-fn dims<'a>(stack: &mut Stack<'a>, dims: &'a Dims) -> Result<(), AllocError> {
+fn dims<'a>(stack: &mut TreeStack<'a>, dims: &'a Dims) -> Result<(), AllocError> {
     match dims {
-        Dims::Domain(e) => stack.put(&[Item::Text("Domain("), Item::Expr(e), Item::Text(")")]),
+        Dims::Domain(e) => stack.put(&[
+            TreeItem::Text("Domain("),
+            TreeItem::Expr(e),
+            TreeItem::Text(")"),
+        ]),
         Dims::Ranges(ranges) => stack.put(&[
-            Item::Text("Ranges("),
-            Item::Ranges(ranges),
-            Item::Text(")"),
+            TreeItem::Text("Ranges("),
+            TreeItem::Ranges(ranges),
+            TreeItem::Text(")"),
         ]),
     }
 }
 
 /// Pushes the parts of an initializer, which is the right-hand side of a declaration or assignment.
-fn init<'a>(stack: &mut Stack<'a>, init: &'a Init) -> Result<(), AllocError> {
+fn init<'a>(stack: &mut TreeStack<'a>, init: &'a Init) -> Result<(), AllocError> {
     match init {
-        Init::Value(e) => stack.put(&[Item::Text("Value("), Item::Expr(e), Item::Text(")")]),
+        Init::Value(e) => stack.put(&[
+            TreeItem::Text("Value("),
+            TreeItem::Expr(e),
+            TreeItem::Text(")"),
+        ]),
         Init::NewRegion(place) => stack.put(&[
-            Item::Text("NewRegion("),
-            Item::Place(*place),
-            Item::Text(")"),
+            TreeItem::Text("NewRegion("),
+            TreeItem::Place(*place),
+            TreeItem::Text(")"),
         ]),
         Init::NewObject {
             place,
@@ -509,15 +521,15 @@ fn init<'a>(stack: &mut Stack<'a>, init: &'a Init) -> Result<(), AllocError> {
             name_place,
             name,
         } => stack.put(&[
-            Item::Text("NewObject { place: "),
-            Item::Place(*place),
-            Item::Text(", region: "),
-            Item::MaybeExpr(region),
-            Item::Text(", name_place: "),
-            Item::Place(*name_place),
-            Item::Text(", name: "),
-            Item::Spelled(name),
-            Item::Text(" }"),
+            TreeItem::Text("NewObject { place: "),
+            TreeItem::Place(*place),
+            TreeItem::Text(", region: "),
+            TreeItem::MaybeExpr(region),
+            TreeItem::Text(", name_place: "),
+            TreeItem::Place(*name_place),
+            TreeItem::Text(", name: "),
+            TreeItem::Spelled(name),
+            TreeItem::Text(" }"),
         ]),
         Init::NewGrid {
             place,
@@ -526,82 +538,86 @@ fn init<'a>(stack: &mut Stack<'a>, init: &'a Init) -> Result<(), AllocError> {
             bracket,
             dims,
         } => stack.put(&[
-            Item::Text("NewGrid { place: "),
-            Item::Place(*place),
-            Item::Text(", region: "),
-            Item::MaybeExpr(region),
-            Item::Text(", element: "),
-            Item::TypeName(element),
-            Item::Text(", bracket: "),
-            Item::Place(*bracket),
-            Item::Text(", dims: "),
-            Item::Dims(dims),
-            Item::Text(" }"),
+            TreeItem::Text("NewGrid { place: "),
+            TreeItem::Place(*place),
+            TreeItem::Text(", region: "),
+            TreeItem::MaybeExpr(region),
+            TreeItem::Text(", element: "),
+            TreeItem::TypeName(element),
+            TreeItem::Text(", bracket: "),
+            TreeItem::Place(*bracket),
+            TreeItem::Text(", dims: "),
+            TreeItem::Dims(dims),
+            TreeItem::Text(" }"),
         ]),
         Init::Broadcast { place, value, root } => stack.put(&[
-            Item::Text("Broadcast { place: "),
-            Item::Place(*place),
-            Item::Text(", value: "),
-            Item::Expr(value),
-            Item::Text(", root: "),
-            Item::Expr(root),
-            Item::Text(" }"),
+            TreeItem::Text("Broadcast { place: "),
+            TreeItem::Place(*place),
+            TreeItem::Text(", value: "),
+            TreeItem::Expr(value),
+            TreeItem::Text(", root: "),
+            TreeItem::Expr(root),
+            TreeItem::Text(" }"),
         ]),
     }
 }
 
 /// Pushes the parts of the argument of a print statement.
-fn printed<'a>(stack: &mut Stack<'a>, printed: &'a Printed) -> Result<(), AllocError> {
+fn push_printed<'a>(stack: &mut TreeStack<'a>, printed: &'a Printed) -> Result<(), AllocError> {
     match printed {
-        Printed::Nothing => stack.put(&[Item::Text("Nothing")]),
+        Printed::Nothing => stack.put(&[TreeItem::Text("Nothing")]),
         Printed::Text(text) => stack.put(&[
-            Item::Text("Text("),
-            Item::Spelled(text),
-            Item::Text(")"),
+            TreeItem::Text("Text("),
+            TreeItem::Spelled(text),
+            TreeItem::Text(")"),
         ]),
-        Printed::Value(e) => stack.put(&[Item::Text("Value("), Item::Expr(e), Item::Text(")")]),
+        Printed::Value(e) => stack.put(&[
+            TreeItem::Text("Value("),
+            TreeItem::Expr(e),
+            TreeItem::Text(")"),
+        ]),
         Printed::TextAndValue(text, e) => stack.put(&[
-            Item::Text("TextAndValue("),
-            Item::Spelled(text),
-            Item::Text(", "),
-            Item::Expr(e),
-            Item::Text(")"),
+            TreeItem::Text("TextAndValue("),
+            TreeItem::Spelled(text),
+            TreeItem::Text(", "),
+            TreeItem::Expr(e),
+            TreeItem::Text(")"),
         ]),
     }
 }
 
 /// Pushes the parts of a statement.
-fn stmt<'a>(stack: &mut Stack<'a>, stmt: &'a Stmt) -> Result<(), AllocError> {
+fn stmt<'a>(stack: &mut TreeStack<'a>, stmt: &'a Stmt) -> Result<(), AllocError> {
     match stmt {
-        Stmt::Empty => stack.put(&[Item::Text("Empty")]),
+        Stmt::Empty => stack.put(&[TreeItem::Text("Empty")]),
         Stmt::Declare {
             place,
             ty,
             name,
             value,
         } => stack.put(&[
-            Item::Text("Declare { place: "),
-            Item::Place(*place),
-            Item::Text(", ty: "),
-            Item::TypeName(ty),
-            Item::Text(", name: "),
-            Item::Spelled(name),
-            Item::Text(", value: "),
-            Item::Init(value),
-            Item::Text(" }"),
+            TreeItem::Text("Declare { place: "),
+            TreeItem::Place(*place),
+            TreeItem::Text(", ty: "),
+            TreeItem::TypeName(ty),
+            TreeItem::Text(", name: "),
+            TreeItem::Spelled(name),
+            TreeItem::Text(", value: "),
+            TreeItem::Init(value),
+            TreeItem::Text(" }"),
         ]),
         Stmt::Assign {
             place,
             target,
             value,
         } => stack.put(&[
-            Item::Text("Assign { place: "),
-            Item::Place(*place),
-            Item::Text(", target: "),
-            Item::Expr(target),
-            Item::Text(", value: "),
-            Item::Init(value),
-            Item::Text(" }"),
+            TreeItem::Text("Assign { place: "),
+            TreeItem::Place(*place),
+            TreeItem::Text(", target: "),
+            TreeItem::Expr(target),
+            TreeItem::Text(", value: "),
+            TreeItem::Init(value),
+            TreeItem::Text(" }"),
         ]),
         Stmt::Update {
             place,
@@ -609,88 +625,96 @@ fn stmt<'a>(stack: &mut Stack<'a>, stmt: &'a Stmt) -> Result<(), AllocError> {
             target,
             value,
         } => stack.put(&[
-            Item::Text("Update { place: "),
-            Item::Place(*place),
-            Item::Text(", operator: "),
-            Item::Binary(*operator),
-            Item::Text(", target: "),
-            Item::Expr(target),
-            Item::Text(", value: "),
-            Item::Expr(value),
-            Item::Text(" }"),
+            TreeItem::Text("Update { place: "),
+            TreeItem::Place(*place),
+            TreeItem::Text(", operator: "),
+            TreeItem::Binary(*operator),
+            TreeItem::Text(", target: "),
+            TreeItem::Expr(target),
+            TreeItem::Text(", value: "),
+            TreeItem::Expr(value),
+            TreeItem::Text(" }"),
         ]),
         Stmt::Step {
             place,
             operator,
             target,
         } => stack.put(&[
-            Item::Text("Step { place: "),
-            Item::Place(*place),
-            Item::Text(", operator: "),
-            Item::StepOperator(*operator),
-            Item::Text(", target: "),
-            Item::Expr(target),
-            Item::Text(" }"),
+            TreeItem::Text("Step { place: "),
+            TreeItem::Place(*place),
+            TreeItem::Text(", operator: "),
+            TreeItem::StepOperator(*operator),
+            TreeItem::Text(", target: "),
+            TreeItem::Expr(target),
+            TreeItem::Text(" }"),
         ]),
-        Stmt::Call(e) => stack.put(&[Item::Text("Call("), Item::Expr(e), Item::Text(")")]),
+        Stmt::Call(e) => stack.put(&[
+            TreeItem::Text("Call("),
+            TreeItem::Expr(e),
+            TreeItem::Text(")"),
+        ]),
         Stmt::Print(place, printed) => stack.put(&[
-            Item::Text("Print("),
-            Item::Place(*place),
-            Item::Text(", "),
-            Item::Printed(printed),
-            Item::Text(")"),
+            TreeItem::Text("Print("),
+            TreeItem::Place(*place),
+            TreeItem::Text(", "),
+            TreeItem::Printed(printed),
+            TreeItem::Text(")"),
         ]),
         Stmt::Barrier(place) => stack.put(&[
-            Item::Text("Barrier("),
-            Item::Place(*place),
-            Item::Text(")"),
+            TreeItem::Text("Barrier("),
+            TreeItem::Place(*place),
+            TreeItem::Text(")"),
         ]),
         Stmt::Break(place) => stack.put(&[
-            Item::Text("Break("),
-            Item::Place(*place),
-            Item::Text(")"),
+            TreeItem::Text("Break("),
+            TreeItem::Place(*place),
+            TreeItem::Text(")"),
         ]),
         Stmt::Continue(place) => stack.put(&[
-            Item::Text("Continue("),
-            Item::Place(*place),
-            Item::Text(")"),
+            TreeItem::Text("Continue("),
+            TreeItem::Place(*place),
+            TreeItem::Text(")"),
         ]),
         Stmt::Return(place, value) => stack.put(&[
-            Item::Text("Return("),
-            Item::Place(*place),
-            Item::Text(", "),
-            Item::MaybeExpr(value),
-            Item::Text(")"),
+            TreeItem::Text("Return("),
+            TreeItem::Place(*place),
+            TreeItem::Text(", "),
+            TreeItem::MaybeExpr(value),
+            TreeItem::Text(")"),
         ]),
-        Stmt::Block(body) => stack.put(&[Item::Text("Block("), Item::Stmts(body), Item::Text(")")]),
+        Stmt::Block(body) => stack.put(&[
+            TreeItem::Text("Block("),
+            TreeItem::Stmts(body),
+            TreeItem::Text(")"),
+        ]),
         Stmt::If {
             place,
             condition,
             then,
             otherwise,
         } => stack.put(&[
-            Item::Text("If { place: "),
-            Item::Place(*place),
-            Item::Text(", condition: "),
-            Item::Expr(condition),
-            Item::Text(", then: "),
-            Item::Stmt(then),
-            Item::Text(", otherwise: "),
-            Item::MaybeStmt(otherwise),
-            Item::Text(" }"),
+            TreeItem::Text("If { place: "),
+            TreeItem::Place(*place),
+            TreeItem::Text(", condition: "),
+            TreeItem::Expr(condition),
+            TreeItem::Text(", then: "),
+            TreeItem::Stmt(then),
+            TreeItem::Text(", otherwise: "),
+            TreeItem::MaybeStmt(otherwise),
+            TreeItem::Text(" }"),
         ]),
         Stmt::While {
             place,
             condition,
             body,
         } => stack.put(&[
-            Item::Text("While { place: "),
-            Item::Place(*place),
-            Item::Text(", condition: "),
-            Item::Expr(condition),
-            Item::Text(", body: "),
-            Item::Stmt(body),
-            Item::Text(" }"),
+            TreeItem::Text("While { place: "),
+            TreeItem::Place(*place),
+            TreeItem::Text(", condition: "),
+            TreeItem::Expr(condition),
+            TreeItem::Text(", body: "),
+            TreeItem::Stmt(body),
+            TreeItem::Text(" }"),
         ]),
         Stmt::For {
             place,
@@ -699,17 +723,17 @@ fn stmt<'a>(stack: &mut Stack<'a>, stmt: &'a Stmt) -> Result<(), AllocError> {
             update,
             body,
         } => stack.put(&[
-            Item::Text("For { place: "),
-            Item::Place(*place),
-            Item::Text(", first: "),
-            Item::MaybeStmt(first),
-            Item::Text(", condition: "),
-            Item::MaybeExpr(condition),
-            Item::Text(", update: "),
-            Item::MaybeStmt(update),
-            Item::Text(", body: "),
-            Item::Stmt(body),
-            Item::Text(" }"),
+            TreeItem::Text("For { place: "),
+            TreeItem::Place(*place),
+            TreeItem::Text(", first: "),
+            TreeItem::MaybeStmt(first),
+            TreeItem::Text(", condition: "),
+            TreeItem::MaybeExpr(condition),
+            TreeItem::Text(", update: "),
+            TreeItem::MaybeStmt(update),
+            TreeItem::Text(", body: "),
+            TreeItem::Stmt(body),
+            TreeItem::Text(" }"),
         ]),
         Stmt::Foreach {
             place,
@@ -718,133 +742,133 @@ fn stmt<'a>(stack: &mut Stack<'a>, stmt: &'a Stmt) -> Result<(), AllocError> {
             domain,
             body,
         } => stack.put(&[
-            Item::Text("Foreach { place: "),
-            Item::Place(*place),
-            Item::Text(", name_place: "),
-            Item::Place(*name_place),
-            Item::Text(", name: "),
-            Item::Spelled(name),
-            Item::Text(", domain: "),
-            Item::Expr(domain),
-            Item::Text(", body: "),
-            Item::Stmt(body),
-            Item::Text(" }"),
+            TreeItem::Text("Foreach { place: "),
+            TreeItem::Place(*place),
+            TreeItem::Text(", name_place: "),
+            TreeItem::Place(*name_place),
+            TreeItem::Text(", name: "),
+            TreeItem::Spelled(name),
+            TreeItem::Text(", domain: "),
+            TreeItem::Expr(domain),
+            TreeItem::Text(", body: "),
+            TreeItem::Stmt(body),
+            TreeItem::Text(" }"),
         ]),
     }
 }
 
 /// Pushes the parts of a field declaration.
-fn field<'a>(stack: &mut Stack<'a>, field: &'a Field) -> Result<(), AllocError> {
+fn field<'a>(stack: &mut TreeStack<'a>, field: &'a Field) -> Result<(), AllocError> {
     stack.put(&[
-        Item::Text("Field { modifiers: "),
-        Item::Modifiers(&field.modifiers),
-        Item::Text(", ty: "),
-        Item::TypeName(&field.ty),
-        Item::Text(", place: "),
-        Item::Place(field.place),
-        Item::Text(", name: "),
-        Item::Spelled(&field.name),
-        Item::Text(" }"),
+        TreeItem::Text("Field { modifiers: "),
+        TreeItem::Modifiers(&field.modifiers),
+        TreeItem::Text(", ty: "),
+        TreeItem::TypeName(&field.ty),
+        TreeItem::Text(", place: "),
+        TreeItem::Place(field.place),
+        TreeItem::Text(", name: "),
+        TreeItem::Spelled(&field.name),
+        TreeItem::Text(" }"),
     ])
 }
 
 /// Pushes the parts of a parameter declaration.
-fn param<'a>(stack: &mut Stack<'a>, param: &'a Param) -> Result<(), AllocError> {
+fn param<'a>(stack: &mut TreeStack<'a>, param: &'a Param) -> Result<(), AllocError> {
     stack.put(&[
-        Item::Text("Param { ty: "),
-        Item::TypeName(&param.ty),
-        Item::Text(", place: "),
-        Item::Place(param.place),
-        Item::Text(", name: "),
-        Item::Spelled(&param.name),
-        Item::Text(" }"),
+        TreeItem::Text("Param { ty: "),
+        TreeItem::TypeName(&param.ty),
+        TreeItem::Text(", place: "),
+        TreeItem::Place(param.place),
+        TreeItem::Text(", name: "),
+        TreeItem::Spelled(&param.name),
+        TreeItem::Text(" }"),
     ])
 }
 
 /// Pushes the parts of a parameter list: typed parameters, or `String[] x`.
-fn params<'a>(stack: &mut Stack<'a>, params: &'a Params) -> Result<(), AllocError> {
+fn params<'a>(stack: &mut TreeStack<'a>, params: &'a Params) -> Result<(), AllocError> {
     match params {
-        Params::Words(place, name) => stack.put(&[
-            Item::Text("Words("),
-            Item::Place(*place),
-            Item::Text(", "),
-            Item::Spelled(name),
-            Item::Text(")"),
+        Params::MainArgs(place, name) => stack.put(&[
+            TreeItem::Text("Words("),
+            TreeItem::Place(*place),
+            TreeItem::Text(", "),
+            TreeItem::Spelled(name),
+            TreeItem::Text(")"),
         ]),
         Params::Typed(params) => stack.put(&[
-            Item::Text("Typed("),
-            Item::ParamList(params),
-            Item::Text(")"),
+            TreeItem::Text("Typed("),
+            TreeItem::ParamList(params),
+            TreeItem::Text(")"),
         ]),
     }
 }
 
 /// Pushes the parts of the result type of a method, which may be `void`.
-fn result_type<'a>(stack: &mut Stack<'a>, ty: &'a ResultType) -> Result<(), AllocError> {
+fn result_type<'a>(stack: &mut TreeStack<'a>, ty: &'a ResultType) -> Result<(), AllocError> {
     match ty {
         ResultType::Void(place) => stack.put(&[
-            Item::Text("Void("),
-            Item::Place(*place),
-            Item::Text(")"),
+            TreeItem::Text("Void("),
+            TreeItem::Place(*place),
+            TreeItem::Text(")"),
         ]),
         ResultType::Typed(ty) => stack.put(&[
-            Item::Text("Typed("),
-            Item::TypeName(ty),
-            Item::Text(")"),
+            TreeItem::Text("Typed("),
+            TreeItem::TypeName(ty),
+            TreeItem::Text(")"),
         ]),
     }
 }
 
 /// Pushes the parts of a method.
-fn method<'a>(stack: &mut Stack<'a>, method: &'a Method) -> Result<(), AllocError> {
+fn method<'a>(stack: &mut TreeStack<'a>, method: &'a Method) -> Result<(), AllocError> {
     stack.put(&[
-        Item::Text("Method { modifiers: "),
-        Item::Modifiers(&method.modifiers),
-        Item::Text(", result: "),
-        Item::ResultType(&method.result),
-        Item::Text(", place: "),
-        Item::Place(method.place),
-        Item::Text(", name: "),
-        Item::Spelled(&method.name),
-        Item::Text(", params: "),
-        Item::Params(&method.params),
-        Item::Text(", body: "),
-        Item::Stmts(&method.body),
-        Item::Text(", end: "),
-        Item::Place(method.end),
-        Item::Text(" }"),
+        TreeItem::Text("Method { modifiers: "),
+        TreeItem::Modifiers(&method.modifiers),
+        TreeItem::Text(", result: "),
+        TreeItem::ResultType(&method.result),
+        TreeItem::Text(", place: "),
+        TreeItem::Place(method.place),
+        TreeItem::Text(", name: "),
+        TreeItem::Spelled(&method.name),
+        TreeItem::Text(", params: "),
+        TreeItem::Params(&method.params),
+        TreeItem::Text(", body: "),
+        TreeItem::Stmts(&method.body),
+        TreeItem::Text(", end: "),
+        TreeItem::Place(method.end),
+        TreeItem::Text(" }"),
     ])
 }
 
 /// Pushes the parts of a class member, which is a field or a method.
-fn member<'a>(stack: &mut Stack<'a>, member: &'a Member) -> Result<(), AllocError> {
+fn member<'a>(stack: &mut TreeStack<'a>, member: &'a Member) -> Result<(), AllocError> {
     match member {
         Member::Field(field) => stack.put(&[
-            Item::Text("Field("),
-            Item::Field(field),
-            Item::Text(")"),
+            TreeItem::Text("Field("),
+            TreeItem::Field(field),
+            TreeItem::Text(")"),
         ]),
         Member::Method(method) => stack.put(&[
-            Item::Text("Method("),
-            Item::Method(method),
-            Item::Text(")"),
+            TreeItem::Text("Method("),
+            TreeItem::Method(method),
+            TreeItem::Text(")"),
         ]),
     }
 }
 
 /// Pushes the parts of a class.
-fn class<'a>(stack: &mut Stack<'a>, class: &'a Class) -> Result<(), AllocError> {
+fn class<'a>(stack: &mut TreeStack<'a>, class: &'a Class) -> Result<(), AllocError> {
     stack.put(&[
-        Item::Text("Class { modifiers: "),
-        Item::Modifiers(&class.modifiers),
-        Item::Text(", word: "),
-        Item::Place(class.word),
-        Item::Text(", place: "),
-        Item::Place(class.place),
-        Item::Text(", name: "),
-        Item::Spelled(&class.name),
-        Item::Text(", members: "),
-        Item::Members(&class.members),
-        Item::Text(" }"),
+        TreeItem::Text("Class { modifiers: "),
+        TreeItem::Modifiers(&class.modifiers),
+        TreeItem::Text(", word: "),
+        TreeItem::Place(class.word),
+        TreeItem::Text(", place: "),
+        TreeItem::Place(class.place),
+        TreeItem::Text(", name: "),
+        TreeItem::Spelled(&class.name),
+        TreeItem::Text(", members: "),
+        TreeItem::Members(&class.members),
+        TreeItem::Text(" }"),
     ])
 }

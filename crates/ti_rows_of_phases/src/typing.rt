@@ -1,10 +1,10 @@
 // Row kind `type`: the static type of an expression that a source prints.
 
-use crate::evaluation::printed;
+use crate::evaluation::printed_expr;
 use crate::known::is_known;
-use crate::phases::{resolved, scope_of};
-use crate::program_text::{Item, text_of};
-use crate::stopped::{NO_ROW, Stopped};
+use crate::no_result::{NO_ROW, NoResult};
+use crate::phases::{resolve_source, scope_of};
+use crate::program_text::{ProgramItem, text_of};
 use std::alloc::Global;
 use ti_base::Memory;
 use ti_lang::program::{Expr, Method, Program, Scope, Stmt};
@@ -21,32 +21,35 @@ fn declare(alloc: Global, scope: &mut Scope, body: &[Stmt]) -> Result<(), Memory
 }
 
 /// The type of an expression in the scope after the declarations of a method's body. `NO_ROW` if `is_known` doesn't cover the expression.
-fn typed(
+fn type_in_scope(
     alloc: Global,
     program: &Program,
     scope: &mut Scope,
     method: &Method,
     e: &Expr,
-) -> Result<String, Stopped> {
+) -> Result<String, NoResult> {
     declare(alloc, scope, &method.body)?;
     if !is_known(&program.parts, scope, e) {
         return Err(NO_ROW);
     }
     let ty = type_of(alloc, program, scope, e)?;
-    Ok(text_of(alloc, Item::Ty(&ty))?)
+    Ok(text_of(alloc, ProgramItem::Ty(&ty))?)
 }
 
 /// The type of the expression that the last statement of a program's only method prints. `NO_ROW` if there is no such expression.
-fn printed_type(alloc: Global, program: &Program) -> Result<String, Stopped> {
-    let ([method], Some(e)) = (program.parts.methods.as_slice(), printed(&program.parts)) else {
+fn printed_type(alloc: Global, program: &Program) -> Result<String, NoResult> {
+    let ([method], Some(e)) = (
+        program.parts.methods.as_slice(),
+        printed_expr(&program.parts),
+    ) else {
         return Err(NO_ROW);
     };
     let mut scope = scope_of(alloc, program)?;
-    typed(alloc, program, &mut scope, method, e)
+    type_in_scope(alloc, program, &mut scope, method, e)
 }
 
 /// Row kind `type`: the type of the expression that the last statement of a source's only method prints.
-pub(crate) fn type_printed(alloc: Global, text: &[u8]) -> Result<String, Stopped> {
-    let program = resolved(alloc, text)?;
+pub(crate) fn type_printed(alloc: Global, text: &[u8]) -> Result<String, NoResult> {
+    let program = resolve_source(alloc, text)?;
     printed_type(alloc, &program)
 }

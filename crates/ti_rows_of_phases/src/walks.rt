@@ -5,8 +5,8 @@ ghost use Rattle.std.specs.Prelude.{◌≡◌, IfOk, IfSome};
 ghost use Rattle.ti_eval.specs.Forms.{IsFormedAnswer};
 ghost use Rattle.ti_lang.specs.Program.Views.{program_of};
 
-use crate::phases::checked;
-use crate::stopped::{NO_ROW, Stopped};
+use crate::no_result::{NO_ROW, NoResult};
+use crate::phases::check_source;
 use crate::things::answer_of;
 use std::alloc::{AllocError, Global};
 use ti_base::{Action, Answer, CollKind, Deposit, Memory, Next, Value, fault_name};
@@ -151,7 +151,7 @@ fn turn(alloc: Global, c: &Checked, process: &mut TreeProc, answer: Answer) -> R
 
 /// Runs process 0 of 2 with 1000 ticks of fuel and appends its actions in order, then its end or fault. Gives up silently after 1000
 /// actions. `NO_ROW` if an answer is malformed.
-fn say_all(alloc: Global, c: &Checked, answers: &str, shown: &mut String) -> Result<(), Stopped> {
+fn say_all(alloc: Global, c: &Checked, answers: &str, shown: &mut String) -> Result<(), NoResult> {
     let mut process = TreeProc::start(alloc, c, 0, 2, 1000)?;
     for n in 0..1000 {
         let Some(answer) = answer_at(answers, n) else {
@@ -167,14 +167,14 @@ fn say_all(alloc: Global, c: &Checked, answers: &str, shown: &mut String) -> Res
 }
 
 /// The actions of process 0 of 2 of a checked program, and its end or fault.
-fn walked(alloc: Global, c: &Checked, answers: &str) -> Result<String, Stopped> {
+fn walk_process(alloc: Global, c: &Checked, answers: &str) -> Result<String, NoResult> {
     let mut shown = String::new(alloc);
     say_all(alloc, c, answers, &mut shown)?;
     Ok(shown)
 }
 
 /// Row kind `walk`: the actions that process 0 of 2 of a source requests when it is given these answers, and its end or fault.
-pub(crate) fn walk(alloc: Global, answers: &str, text: &[u8]) -> Result<Vec<u8>, Stopped> {
-    let c = checked(alloc, text)?;
-    Ok(walked(alloc, &c, answers)?.into_bytes())
+pub(crate) fn walk(alloc: Global, answers: &str, text: &[u8]) -> Result<Vec<u8>, NoResult> {
+    let c = check_source(alloc, text)?;
+    Ok(walk_process(alloc, &c, answers)?.into_bytes())
 }

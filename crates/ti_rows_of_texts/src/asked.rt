@@ -2,7 +2,7 @@
 
 use crate::collectives::collectives;
 use crate::commands::command;
-use crate::traces::{changed, traced};
+use crate::traces::{check_changes, run_and_check};
 use std::sync::Wait;
 use std::thread::Threads;
 use ti_row_files::{Row, RowErr};
@@ -19,8 +19,8 @@ pub(crate) fn answer<R: AllocGlobal + Threads + Wait + Sync>(
     };
     match asked {
         "collectives" => collectives(rt, given, row.text),
-        "traced" => traced(rt, given, row.text),
-        "changed" => changed(rt, given, row.text),
+        "traced" => run_and_check(rt, given, row.text),
+        "changed" => check_changes(rt, given, row.text),
         _ => command(rt, asked, given, row.text),
     }
 }

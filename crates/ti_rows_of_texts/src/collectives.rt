@@ -3,8 +3,8 @@
 
 ghost use Rattle.std.specs.Prelude.{◌≤◌, IfSome};
 
-use crate::checked::checked;
-use crate::commands::{Left, Texts, left_by};
+use crate::check_source::check_source;
+use crate::commands::{CommandResult, Texts, left_by};
 use crate::stages::PLAIN;
 use std::alloc::Global;
 use std::sync::Wait;
@@ -89,7 +89,7 @@ fn left_with<R: AllocGlobal + Threads + Wait + Sync>(
     rt: &R,
     procs: u32,
     text: &[u8],
-) -> Result<Left, Memory> {
+) -> Result<CommandResult, Memory> {
     let line = format!(in rt.alloc(); "--procs {procs} --workers 1 a.ti")?;
     left_by(rt, line.as_str(), PLAIN, Texts::of(text))
 }
@@ -103,7 +103,7 @@ fn departures_in<R: AllocGlobal + Threads + Wait + Sync>(
     requires { procs ≤ 32 }
 {
     let left = left_with(rt, procs, text)?;
-    let c = checked(rt.alloc(), text)?;
+    let c = check_source(rt.alloc(), text)?;
     Ok(departures(rt.alloc(), &c, procs, &left.outcome.history)?)
 }
 

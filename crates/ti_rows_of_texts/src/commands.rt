@@ -3,7 +3,7 @@
 
 use crate::failing::each_failing;
 use crate::fronts::fronts;
-use crate::stages::{Fails, Held, ROOM, Stage, staged};
+use crate::stages::{Fails, HeldPair, ROOM, Stage, split_stage};
 use crate::watchers::{Handed, short_of, told_trace};
 use std::alloc::Global;
 use std::sync::Wait;
@@ -35,7 +35,7 @@ impl Gate for Passage {
 
 impl Passage {
     /// A gate without passes that holds the processes in `held`, if there are any.
-    fn of(held: Option<Held>) -> Passage {
+    fn of(held: Option<HeldPair>) -> Passage {
         let passes = AtomicU32::new(0);
         match held {
             Some(held) => Passage {
@@ -76,14 +76,14 @@ struct Streams {
 
 /// The command-line arguments, and the streams that the command reads and writes.
 #[derive(Drop)]
-struct Call {
+struct CommandCall {
     words: Vec<String>,
     streams: Streams,
 }
 
 /// The result of a command: its outcome, its output, and what the gate observed.
 #[derive(Drop)]
-pub(crate) struct Left {
+pub(crate) struct CommandResult {
     pub(crate) outcome: Outcome,
     pub(crate) sinks: Sinks,
     /// Whether a held process stopped waiting for the other.
@@ -180,27 +180,27 @@ fn words_of(alloc: Global, line: &str) -> Result<Vec<String>, Memory> {
 }
 
 /// A command line with its files and streams, ready to run.
-fn call_of(alloc: Global, line: &str, stage: Stage, texts: Texts) -> Result<Call, Memory> {
+fn call_of(alloc: Global, line: &str, stage: Stage, texts: Texts) -> Result<CommandCall, Memory> {
     let streams = streams_of(alloc, stage, texts)?;
     let words = words_of(alloc, line)?;
-    Ok(Call { words, streams })
+    Ok(CommandCall { words, streams })
 }
 
 /// Runs the command. For the prover: the only call of `titan_top`, since each further one would be expensive to prove.
-fn called<R: AllocGlobal + Threads + Wait + Sync>(
+fn call_command<R: AllocGlobal + Threads + Wait + Sync>(
     rt: &R,
-    call: Call,
+    call: CommandCall,
     gate: &Passage,
     watchers: Vec<Box<dyn Watch>>,
-) -> Left {
-    let Call { words, streams } = call;
+) -> CommandResult {
+    let CommandCall { words, streams } = call;
     let Streams { source, sinks } = streams;
     let Sinks { out, err } = sinks;
     let mut source = source;
     let mut out = out;
     let mut err = err;
     let outcome = titan_top(rt, &words, &mut source, &mut out, &mut err, gate, watchers);
-    Left {
+    CommandResult {
         outcome,
         sinks: Sinks { out, err },
         gave_up: gate.gave_up(),
@@ -222,7 +222,7 @@ pub(crate) fn left_by<R: AllocGlobal + Threads + Wait + Sync>(
     line: &str,
     stage: Stage,
     texts: Texts,
-) -> Result<Left, Memory> {
+) -> Result<CommandResult, Memory> {
     let alloc = rt.alloc();
     let mut watchers: Vec<Box<dyn Watch>> = Vec::new(alloc);
     for handed in stage.watchers {
@@ -238,7 +238,7 @@ pub(crate) fn left_by<R: AllocGlobal + Threads + Wait + Sync>(
     }
     let call = call_of(alloc, line, stage, texts)?;
     let gate = Passage::of(stage.held);
-    Ok(called(rt, call, &gate, watchers))
+    Ok(call_command(rt, call, &gate, watchers))
 }
 
 /// Appends a label and bytes, unless there are no bytes.
@@ -259,7 +259,7 @@ pub(crate) fn shown_ending(alloc: Global, status: u8, sinks: &Sinks) -> Result<V
 }
 
 /// A trace watcher that has observed these events.
-fn told(alloc: Global, history: &[Entry]) -> Result<TraceWatch, Memory> {
+fn told_watcher(alloc: Global, history: &[Entry]) -> Result<TraceWatch, Memory> {
     let mut trace = TraceWatch::new(alloc);
     for entry in history {
         trace.see(entry)?;
@@ -269,7 +269,7 @@ fn told(alloc: Global, history: &[Entry]) -> Result<TraceWatch, Memory> {
 
 /// Renders events as a trace.
 pub(crate) fn trace_of(alloc: Global, history: &[Entry]) -> Result<Vec<u8>, Memory> {
-    let trace = told(alloc, history)?;
+    let trace = told_watcher(alloc, history)?;
     let mut text = Vec::new(alloc);
     trace.report(&mut text)?;
     Ok(text)
@@ -285,7 +285,7 @@ fn last_of(alloc: Global, history: &[Entry]) -> Result<Vec<u8>, Memory> {
 }
 
 /// Renders numbers in decimal, separated by spaces.
-fn spaced(alloc: Global, numbers: &[u64]) -> Result<Vec<u8>, Memory> {
+fn number_list(alloc: Global, numbers: &[u64]) -> Result<Vec<u8>, Memory> {
     let mut text = Vec::new(alloc);
     for number in numbers {
         if !text.is_empty() {
@@ -297,7 +297,7 @@ fn spaced(alloc: Global, numbers: &[u64]) -> Result<Vec<u8>, Memory> {
 }
 
 /// Renders the exit status, the number of events, and whether a held process stopped waiting.
-fn shown_holding(alloc: Global, left: &Left) -> Result<Vec<u8>, Memory> {
+fn shown_holding(alloc: Global, left: &CommandResult) -> Result<Vec<u8>, Memory> {
     let how = if left.gave_up {
         "one gave up"
     } else {
@@ -312,7 +312,7 @@ fn shown_holding(alloc: Global, left: &Left) -> Result<Vec<u8>, Memory> {
 }
 
 /// Renders the exit status, the number of events, and how often processes have passed the gate.
-fn shown_passes(alloc: Global, left: &Left) -> Result<Vec<u8>, Memory> {
+fn shown_passes(alloc: Global, left: &CommandResult) -> Result<Vec<u8>, Memory> {
     let Outcome {
         status,
         history,
@@ -323,13 +323,13 @@ fn shown_passes(alloc: Global, left: &Left) -> Result<Vec<u8>, Memory> {
 }
 
 /// Renders the part of a result that a heading word such as `command` selects. Error: the word is unknown, or out of memory.
-fn part_of(alloc: Global, asked: &str, left: &Left) -> Result<Vec<u8>, RowErr> {
-    let Left { outcome, sinks, .. } = left;
+fn part_of(alloc: Global, asked: &str, left: &CommandResult) -> Result<Vec<u8>, RowErr> {
+    let CommandResult { outcome, sinks, .. } = left;
     match asked {
         "command" => Ok(shown_ending(alloc, outcome.status, sinks)?),
         "history" => Ok(trace_of(alloc, &outcome.history)?),
         "end" => Ok(last_of(alloc, &outcome.history)?),
-        "finished" => Ok(spaced(alloc, &outcome.done)?),
+        "finished" => Ok(number_list(alloc, &outcome.done)?),
         "holding" => Ok(shown_holding(alloc, left)?),
         "passes" => Ok(shown_passes(alloc, left)?),
         _ => Err(RowErr::Heading),
@@ -343,7 +343,7 @@ fn left_over<R: AllocGlobal + Threads + Wait + Sync>(
     stage: Stage,
     text: &[u8],
     trace: Option<&str>,
-) -> Result<Left, RowErr> {
+) -> Result<CommandResult, RowErr> {
     let Some(spelled) = trace else {
         return Ok(left_by(rt, line, stage, Texts::of(text))?);
     };
@@ -353,7 +353,7 @@ fn left_over<R: AllocGlobal + Threads + Wait + Sync>(
 }
 
 /// Splits what a row gives at ` |` into the command and, if present, the spelled trace.
-fn parted(given: &str) -> (&str, Option<&str>) {
+fn split_given(given: &str) -> (&str, Option<&str>) {
     match given.split_once(" |") {
         Some((words, trace)) => (words, Some(trace.strip_prefix(" ").unwrap_or(trace))),
         None => (given, None),
@@ -368,8 +368,8 @@ pub(crate) fn command<R: AllocGlobal + Threads + Wait + Sync>(
     given: &str,
     text: &[u8],
 ) -> Result<Vec<u8>, RowErr> {
-    let (given, trace) = parted(given);
-    let Some((line, stage)) = staged(given) else {
+    let (given, trace) = split_given(given);
+    let Some((line, stage)) = split_stage(given) else {
         return Err(RowErr::Row);
     };
     match asked {

@@ -1,7 +1,7 @@
 // Fault injection: runs a command repeatedly, each time with another failing call, and renders how much output it still wrote.
 
-use crate::checked::checked;
-use crate::commands::{Left, Texts, left_by, trace_of};
+use crate::check_source::check_source;
+use crate::commands::{CommandResult, Texts, left_by, trace_of};
 use crate::stages::Stage;
 use std::alloc::{AllocError, Global};
 use std::sync::Wait;
@@ -15,7 +15,7 @@ use ti_watch::{StatsWatch, Watch};
 const RUNS: u32 = 20;
 
 /// Renders the statistics of events.
-fn counted(alloc: Global, history: &[Entry]) -> Result<Vec<u8>, Memory> {
+fn statistics_of(alloc: Global, history: &[Entry]) -> Result<Vec<u8>, Memory> {
     let mut stats = StatsWatch::new(alloc);
     for entry in history {
         stats.see(entry)?;
@@ -59,7 +59,7 @@ fn output_of(alloc: Global, checked: &Checked, history: &[Entry]) -> Result<Vec<
         push_line(alloc, &mut text, checked, entry)?;
     }
     text.extend_from_slice(&trace_of(alloc, history)?)?;
-    text.extend_from_slice(&counted(alloc, history)?)?;
+    text.extend_from_slice(&statistics_of(alloc, history)?)?;
     Ok(text)
 }
 
@@ -77,7 +77,7 @@ fn part_of(alloc: Global, written: &[u8], whole: &[u8]) -> Result<String, AllocE
 
 /// Renders a run as `status:output:errors`: its exit status, how much of its output was written to standard output, and the number of
 /// bytes on standard error.
-fn shown(alloc: Global, checked: &Checked, left: &Left) -> Result<String, RowErr> {
+fn run_text(alloc: Global, checked: &Checked, left: &CommandResult) -> Result<String, RowErr> {
     let whole = output_of(alloc, checked, &left.outcome.history)?;
     let out = part_of(alloc, left.sinks.out.bytes(), &whole)?;
     let err = left.sinks.err.bytes().len();
@@ -94,7 +94,7 @@ fn push_run<R: AllocGlobal + Threads + Wait + Sync>(
     checked: &Checked,
 ) -> Result<(), RowErr> {
     let left = left_by(rt, line, stage, Texts::of(text))?;
-    let shown = shown(rt.alloc(), checked, &left)?;
+    let shown = run_text(rt.alloc(), checked, &left)?;
     found.extend_from_slice(shown.as_bytes())?;
     Ok(())
 }
@@ -125,7 +125,7 @@ pub(crate) fn each_failing<R: AllocGlobal + Threads + Wait + Sync>(
     stage: Stage,
     text: &[u8],
 ) -> Result<Vec<u8>, RowErr> {
-    let checked = checked(rt.alloc(), text)?;
+    let checked = check_source(rt.alloc(), text)?;
     let mut found = Vec::new(rt.alloc());
     push_runs(rt, &mut found, line, stage, text, &checked)?;
     Ok(found)

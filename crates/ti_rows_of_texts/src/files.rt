@@ -8,10 +8,10 @@ use std::rt::Files;
 use std::sync::Wait;
 use std::thread::Threads;
 use std::{env, fs, io};
-use ti_row_files::{Line, Row, RowErr, differing, parted, read_line, text_of};
+use ti_row_files::{Row, RowErr, RowLine, mismatch, read_line, split_row, text_of};
 
 /// The actual result of a row below a heading such as `command whole`: the query, then the frame that completes its source.
-fn found<R: Files + AllocGlobal + Threads + Wait + Sync>(
+fn row_result<R: Files + AllocGlobal + Threads + Wait + Sync>(
     rt: &R,
     heading: &str,
     row: &str,
@@ -19,7 +19,7 @@ fn found<R: Files + AllocGlobal + Threads + Wait + Sync>(
     let Some((asked, frame)) = heading.split_once(' ') else {
         return Err(RowErr::Heading);
     };
-    let (given, spelled) = parted(row);
+    let (given, spelled) = split_row(row);
     let text = text_of(rt, frame, spelled)?;
     answer(
         rt,
@@ -33,14 +33,14 @@ fn found<R: Files + AllocGlobal + Threads + Wait + Sync>(
 }
 
 /// The actual result of a row in the spelling of rows if it differs from the expected one; none if the row holds.
-fn judged<R: Files + AllocGlobal + Threads + Wait + Sync>(
+fn judge_row<R: Files + AllocGlobal + Threads + Wait + Sync>(
     rt: &R,
     heading: &str,
     row: &str,
     expected: &str,
 ) -> Result<Option<String>, RowErr> {
-    let found = found(rt, heading, row)?;
-    differing(rt.alloc(), &found, expected)
+    let found = row_result(rt, heading, row)?;
+    mismatch(rt.alloc(), &found, expected)
 }
 
 /// Judges a row, prints it with the actual result or the error if it fails, and returns whether it holds.
@@ -50,7 +50,7 @@ fn row_holds<R: Files + Print + AllocGlobal + Threads + Wait + Sync>(
     row: &str,
     expected: &str,
 ) -> io::Result<bool> {
-    match judged(rt, heading, row, expected) {
+    match judge_row(rt, heading, row, expected) {
         Ok(None) => return Ok(true),
         Ok(Some(found)) => {
             println!(rt; "{row}\n  expected {expected}\n  found    {found}")?;
@@ -70,13 +70,13 @@ fn judge_section<R: Files + Print + AllocGlobal + Threads + Wait + Sync>(
     let mut holding = 0u64;
     for line in rows.lines() {
         match read_line(line) {
-            Line::Row(row, expected) => {
+            RowLine::Row(row, expected) => {
                 if row_holds(rt, heading, row, expected)? {
                     holding = holding.wrapping_add(1);
                 }
             }
-            Line::Comment => {}
-            Line::Other => println!(rt; "{file}: no row: {line}")?,
+            RowLine::Comment => {}
+            RowLine::Other => println!(rt; "{file}: no row: {line}")?,
         }
     }
     Ok(holding)

@@ -1,7 +1,7 @@
 // Runs a command on every prefix of a source, and reports the prefixes that are accepted or rejected for another reason than that they end
 // too early.
 
-use crate::commands::{Left, Texts, left_by};
+use crate::commands::{CommandResult, Texts, left_by};
 use crate::stages::Stage;
 use std::alloc::{AllocError, Global};
 use std::sync::Wait;
@@ -43,7 +43,7 @@ fn stands_by(line: &str, end: Place) -> bool {
 }
 
 /// `accepted`, or the diagnostic of a prefix; none if the prefix, which ends at `end`, is rejected with G1 or X3 at its end or before.
-fn said(left: &Left, end: Place) -> Option<&str> {
+fn said(left: &CommandResult, end: Place) -> Option<&str> {
     if left.outcome.status == 0 {
         return Some("accepted");
     }
@@ -59,7 +59,7 @@ fn push_front(
     alloc: Global,
     found: &mut String,
     count: usize,
-    left: &Left,
+    left: &CommandResult,
     end: Place,
 ) -> Result<(), AllocError> {
     if let Some(said) = said(left, end) {

@@ -3,7 +3,7 @@
 #![tactic(auto)]
 
 mod asked;
-mod checked;
+mod check_source;
 mod collectives;
 mod commands;
 mod failing;

@@ -5,7 +5,7 @@ use crate::watchers::Handed;
 
 /// Two processes, each held at its second operation until the other has reached its own, or until it has polled `looks` times.
 #[derive(Clone, Copy)]
-pub(crate) struct Held {
+pub(crate) struct HeldPair {
     pub(crate) one: u32,
     pub(crate) other: u32,
     pub(crate) looks: u64,
@@ -42,7 +42,7 @@ pub(crate) struct Stage {
     /// The watchers that are passed to the command, in order.
     pub(crate) watchers: [Option<Handed>; 3],
     /// The processes that the gate holds, if any.
-    pub(crate) held: Option<Held>,
+    pub(crate) held: Option<HeldPair>,
 }
 
 impl Stage {
@@ -88,7 +88,7 @@ fn handed_of(word: &str) -> Option<Handed> {
 }
 
 /// Parses one to three names of watchers such as `trace` or `stats,trace`.
-fn named(word: &str) -> Option<[Option<Handed>; 3]> {
+fn watcher_names(word: &str) -> Option<[Option<Handed>; 3]> {
     let Some((first, rest)) = word.split_once(',') else {
         return Some([Some(handed_of(word)?), None, None]);
     };
@@ -104,16 +104,16 @@ fn with_watchers(stage: Stage, word: &str) -> Option<Stage> {
     let watchers = if word == "none" {
         [None, None, None]
     } else {
-        named(word)?
+        watcher_names(word)?
     };
     Some(Stage { watchers, ..stage })
 }
 
 /// Parses a word such as `0:1:1000`: the processes 0 and 1, and 1000 polls.
-fn held_of(word: &str) -> Option<Held> {
+fn held_of(word: &str) -> Option<HeldPair> {
     let (one, behind) = word.split_once(':')?;
     let (other, looks) = behind.split_once(':')?;
-    Some(Held {
+    Some(HeldPair {
         one: one.parse::<u32>().ok()?,
         other: other.parse::<u32>().ok()?,
         looks: looks.parse::<u64>().ok()?,
@@ -174,7 +174,7 @@ fn stage_of(words: &str) -> Option<Stage> {
 }
 
 /// Splits what a row gives into the command line and the stage after ` / `, by default `PLAIN`.
-pub(crate) fn staged(given: &str) -> Option<(&str, Stage)> {
+pub(crate) fn split_stage(given: &str) -> Option<(&str, Stage)> {
     if let Some(words) = given.strip_prefix("/ ") {
         return Some(("", stage_of(words)?));
     }

@@ -1,7 +1,7 @@
 // Test cases on `--mode verify`: checks the trace of a run, intact or with one byte changed, against the program that was run.
 
 use crate::commands::{Texts, left_by, shown_ending, trace_of};
-use crate::stages::{Stage, staged};
+use crate::stages::{Stage, split_stage};
 use std::alloc::{AllocError, Global};
 use std::sync::Wait;
 use std::thread::Threads;
@@ -34,7 +34,7 @@ fn run_of<'a, R: AllocGlobal + Threads + Wait + Sync>(
     given: &'a str,
     text: &'a [u8],
 ) -> Result<TracedRun<'a>, RowErr> {
-    let Some((line, stage)) = staged(given) else {
+    let Some((line, stage)) = split_stage(given) else {
         return Err(RowErr::Row);
     };
     let trace = trace_left(rt, line, stage, text)?;
@@ -47,7 +47,7 @@ fn run_of<'a, R: AllocGlobal + Threads + Wait + Sync>(
 }
 
 /// Checks a trace against the program of a run, with the run's arguments, and renders the command's exit status and output.
-fn held<R: AllocGlobal + Threads + Wait + Sync>(
+fn check_trace<R: AllocGlobal + Threads + Wait + Sync>(
     rt: &R,
     run: &TracedRun,
     trace: &[u8],
@@ -59,13 +59,13 @@ fn held<R: AllocGlobal + Threads + Wait + Sync>(
 }
 
 /// Runs a program, checks the trace against it, and renders the check's exit status and output.
-pub(crate) fn traced<R: AllocGlobal + Threads + Wait + Sync>(
+pub(crate) fn run_and_check<R: AllocGlobal + Threads + Wait + Sync>(
     rt: &R,
     given: &str,
     text: &[u8],
 ) -> Result<Vec<u8>, RowErr> {
     let run = run_of(rt, given, text)?;
-    Ok(held(rt, &run, &run.trace)?)
+    Ok(check_trace(rt, &run, &run.trace)?)
 }
 
 /// Checks the trace of a run against its program with the lowest bit of the byte at this index flipped.
@@ -78,7 +78,7 @@ fn held_with_change<R: AllocGlobal + Threads + Wait + Sync>(
     if let Some(byte) = changed.get_mut(at) {
         *byte ^= 1;
     }
-    held(rt, run, &changed)
+    check_trace(rt, run, &changed)
 }
 
 /// The rendered result of a check that rejects a trace at this line.
@@ -133,7 +133,7 @@ fn push_changes<R: AllocGlobal + Threads + Wait + Sync>(
 
 /// Renders the trace's length in bytes and, for each byte whose change isn't rejected at the byte's own line, its index from 0 and the
 /// result of the check.
-pub(crate) fn changed<R: AllocGlobal + Threads + Wait + Sync>(
+pub(crate) fn check_changes<R: AllocGlobal + Threads + Wait + Sync>(
     rt: &R,
     given: &str,
     text: &[u8],

@@ -4,7 +4,7 @@ use Rattle.std.proofs.Common.{◌≡◌, ℕ, suc, ◌+◌, ◌≤◌, ◌==◌,
 use Rattle.ti_syntax.specs.Trees.Classes.{ParamTree, ParamsTree}
 use Rattle.ti_lang.specs.Program.Types.{Declaration}
 use Rattle.ti_lang.specs.Program.Types as t
-use Rattle.ti_lang.specs.Program.Classes.{NumberedParam, NumberedParams, NumberedProgram}
+use Rattle.ti_lang.specs.Program.Classes.{NumberedParam, NumberedParams, ProgramView}
 use Rattle.ti_lang.specs.Program.Scope.{ScopeVariable, ScopeContents, parameters_from, parameters}
 use Rattle.ti_lang.specs.Scopes.{Site, Known, typed_as, declares, behind_params, body_site}
 use Rattle.ti_lang.specs.Numbering as number
@@ -51,7 +51,7 @@ point_in site n b = record { number = site.variables; type = t.Pt n; is_single =
 abbrev pub with_last : Option ℕ → List ScopeVariable → ScopeVariable → ScopeContents
 with_last this vs w = record { this_class = this; variables = vs ++ w ∷ [] }
 
-pub point_fits : (p : NumberedProgram) (this : Option ℕ) (vs : List ScopeVariable) (site : Site) (name : List ℕ) (n : ℕ) (b : Bool) → SiteFits p (record { this_class = this; variables = vs }) site
+pub point_fits : (p : ProgramView) (this : Option ℕ) (vs : List ScopeVariable) (site : Site) (name : List ℕ) (n : ℕ) (b : Bool) → SiteFits p (record { this_class = this; variables = vs }) site
     → SiteFits p (with_last this vs (point_in site n b)) (declares site name t.Foreach)
 point_fits p this vs site name n b k = record {
   text = k.text;
@@ -109,7 +109,7 @@ params_behind s site ps ys (number.more {param = param} {params = params} {ys = 
     plus : (a b : ℕ) → (a + 1) + b ≡ a + suc b
     plus a b = omega arith
 
-pub body_fits : (p : NumberedProgram) (this : Option ℕ) (site : Site) (ps : ParamsTree) (params : NumberedParams) → NumbersParams site ps params
+pub body_fits : (p : ProgramView) (this : Option ℕ) (site : Site) (ps : ParamsTree) (params : NumberedParams) → NumbersParams site ps params
     → TextFits p site.text → (site.static ≡ false → this ≡ Some site.class)
     → AllVariables (record { this_class = this; variables = parameters params }) site.scope → site.variables ≡ 0
     → SiteFits p (record { this_class = this; variables = parameters params }) (body_site site ps)

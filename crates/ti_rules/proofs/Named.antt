@@ -15,11 +15,11 @@ use Rattle.ti_syntax.specs.Trees.Classes.{FieldTree, ClassTree, TextTree}
 use Rattle.ti_lang.specs.Program.Types.{ValueType, Declaration, VariableUse}
 use Rattle.ti_lang.specs.Program.Types as t
 use Rattle.ti_lang.specs.Program.Expressions.{NumberedExp, NumberedExps, NumberedRange, NumberedRanges}
-use Rattle.ti_lang.specs.Program.Classes.{NumberedField, NumberedClass, NumberedMethod, NumberedProgram}
+use Rattle.ti_lang.specs.Program.Classes.{NumberedField, NumberedClass, NumberedMethod, ProgramView}
 use Rattle.ti_lang.specs.Program.Scope.{ScopeContents}
 use Rattle.ti_lang.specs.Members as members
 use Rattle.ti_lang.specs.Members.{only_if, fields_in, fields_of, field_named, OwnMethod, methods_of, method_named, is_static}
-use Rattle.ti_lang.specs.Scopes.{Site, Known, with_variable, declares, past, past_maybe, past_all, past_variable, behind, behind_maybe, own_field_named, own_method_named, static_method_named}
+use Rattle.ti_lang.specs.Scopes.{Site, Known, with_variable, declares, past, past_maybe, past_all, past_variable, site_after, behind_maybe, own_field_named, own_method_named, static_method_named}
 use Rattle.ti_lang.specs.Numbering as number
 use Rattle.ti_lang.specs.Numbering.{NumbersExp, NumbersExps, NumbersRange, NumbersRanges, NumbersFields, NumbersClasses, NumbersMethod, NumbersMethods, Numbers}
 use Rattle.ti_lang.specs.Typing.Kinds.{dim_of_type}
@@ -55,7 +55,7 @@ only_if_there test (Some x) a h = let q = cond_some (test x) x a h in (ap Some q
 -- ---- what there is
 
 -- what the text says of its program: which fields and methods are there
-pub record TextFits (p : NumberedProgram) (text : TextTree) : Type 0 where
+pub record TextFits (p : ProgramView) (text : TextTree) : Type 0 where
   pub fields : (class : ℕ) (name : List ℕ) (field : ℕ) → field_named text class name ≡ Some field → IsThere (field_type p class field)
   pub methods : (k : ℕ) (own : OwnMethod) → slice_get (methods_of text) k ≡ Some own → (m : NumberedMethod) × (slice_get p.methods k ≡ Some m) × (is_static_method m ≡ is_static own.method)
 
@@ -81,7 +81,7 @@ field_at text class n fs gs number.none k f e = absurd (none_some f e)
 field_at text class n fs gs (number.more e h rest) zero f i = (_, refl)
 field_at text class n fs gs (number.more e h rest) (suc k) f i = field_at text class _ _ _ rest k f i
 
-pub text_fits : (p : NumberedProgram) (text : TextTree) → Numbers text p → TextFits p text
+pub text_fits : (p : ProgramView) (text : TextTree) → Numbers text p → TextFits p text
 text_fits p text n = record { fields = field_there; methods = λ k own e. method_at text 0 0 (methods_of text) p.methods n.methods k own e }
   where
     field_there : (class : ℕ) (name : List ℕ) (field : ℕ) → field_named text class name ≡ Some field → IsThere (field_type p class field)
@@ -148,13 +148,13 @@ with_known s scope name v a h = by (is_some (lookup (bytes_eq name) scope))
 -- ---- sites
 
 -- what is known at a site whose scope is this; the numbers from there on are free
-pub record SiteFits (p : NumberedProgram) (s : ScopeContents) (site : Site) : Type 0 where
+pub record SiteFits (p : ProgramView) (s : ScopeContents) (site : Site) : Type 0 where
   pub text : TextFits p site.text
   pub this : site.static ≡ false → s.this_class ≡ Some site.class
   pub scope : AllVariables s site.scope
   pub fresh : (k : ℕ) → site.variables ≤ k → in_scope s k ≡ None
 
-pub declares_fits : (p : NumberedProgram) (s : ScopeContents) (site : Site) (name : List ℕ) (is_single : Bool) (type : ValueType)
+pub declares_fits : (p : ProgramView) (s : ScopeContents) (site : Site) (name : List ℕ) (is_single : Bool) (type : ValueType)
     → SiteFits p s site → SiteFits p s (declares site name (t.Typed is_single type))
 declares_fits p s site name is_single type k = record {
   text = k.text;
@@ -210,11 +210,11 @@ mutual
   past_all_keeps site (st.Cons x rest) = keeps_then site (past site x) (past_all (past site x) rest) (past_keeps site x) (past_all_keeps (past site x) rest)
 
 -- no number is lower behind a statement
-pub behind_more : (site : Site) (x : Stm) → site.variables ≤ (behind site x).variables
+pub behind_more : (site : Site) (x : Stm) → site.variables ≤ (site_after site x).variables
 behind_more site (st.Declare at type name value) = omega arith
 behind_more site x = (past_keeps site x).variables
 
-kept_fits : (p : NumberedProgram) (s : ScopeContents) (a b : Site) → Keeps a b → SiteFits p s a → SiteFits p s b
+kept_fits : (p : ProgramView) (s : ScopeContents) (a b : Site) → Keeps a b → SiteFits p s a → SiteFits p s b
 kept_fits p s a b e k = record {
   text = subst (TextFits p) (sym e.text) k.text;
   this = λ h. k.this (sym e.static ∙ h) ∙ ap Some (sym e.class);
@@ -222,23 +222,23 @@ kept_fits p s a b e k = record {
   fresh = λ i l. let v = e.variables in k.fresh i (omega (arith, v, l));
 }
 
-pub past_fits : (p : NumberedProgram) (s : ScopeContents) (site : Site) (x : Stm) → SiteFits p s site → SiteFits p s (past site x)
+pub past_fits : (p : ProgramView) (s : ScopeContents) (site : Site) (x : Stm) → SiteFits p s site → SiteFits p s (past site x)
 past_fits p s site x k = kept_fits p s site (past site x) (past_keeps site x) k
 
-pub past_maybe_fits : (p : NumberedProgram) (s : ScopeContents) (site : Site) (x : MaybeStm) → SiteFits p s site → SiteFits p s (past_maybe site x)
+pub past_maybe_fits : (p : ProgramView) (s : ScopeContents) (site : Site) (x : MaybeStm) → SiteFits p s site → SiteFits p s (past_maybe site x)
 past_maybe_fits p s site x k = kept_fits p s site (past_maybe site x) (past_maybe_keeps site x) k
 
-pub behind_fits : (p : NumberedProgram) (s : ScopeContents) (site : Site) (x : Stm) → SiteFits p s site → SiteFits p s (behind site x)
+pub behind_fits : (p : ProgramView) (s : ScopeContents) (site : Site) (x : Stm) → SiteFits p s site → SiteFits p s (site_after site x)
 behind_fits p s site (st.Declare at type name value) k = declares_fits p s site name _ _ k
 behind_fits p s site x k = past_fits p s site x k
 
-pub behind_maybe_fits : (p : NumberedProgram) (s : ScopeContents) (site : Site) (x : MaybeStm) → SiteFits p s site → SiteFits p s (behind_maybe site x)
+pub behind_maybe_fits : (p : ProgramView) (s : ScopeContents) (site : Site) (x : MaybeStm) → SiteFits p s site → SiteFits p s (behind_maybe site x)
 behind_maybe_fits p s site st.NoStm k = k
 behind_maybe_fits p s site (st.SomeStm x) k = behind_fits p s site x k
 
 -- ---- expressions
 
-module _ (p : NumberedProgram) (s : ScopeContents) (site : Site) (k : SiteFits p s site) where
+module _ (p : ProgramView) (s : ScopeContents) (site : Site) (k : SiteFits p s site) where
   own_field_there : (name : List ℕ) (field : ℕ) → own_field_named site name ≡ Some field → IsThere (option_and_then (λ c. field_type p c field) s.this_class)
   own_field_there name field h = by site.static refl h
     where

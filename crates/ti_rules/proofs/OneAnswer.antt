@@ -6,7 +6,7 @@ use Rattle.ti_syntax.specs.declared.token.Token.{Token}
 use Rattle.ti_syntax.specs.Tokenizing.{IsTokenized}
 use Rattle.ti_syntax.specs.Trees.Classes.{TextTree}
 use Rattle.ti_syntax.specs.Spelling.{Spells, Misfit, IsGrammarRefusal, fits}
-use Rattle.ti_lang.specs.Program.Classes.{NumberedProgram}
+use Rattle.ti_lang.specs.Program.Classes.{ProgramView}
 use Rattle.ti_lang.specs.Numbering.{Numbers}
 use Rattle.ti_rules.specs.declared.refusal.Refusal.{Refusal}
 use Rattle.ti_rules.specs.LexicalRefusals.{most_bytes, IsLexicalRefusal}
@@ -23,7 +23,7 @@ pub record OneReading : Type 0 where
   pub not_both : (text : List ℕ) (tokens : List Token) (refusal : Refusal) → length text ≤ most_bytes → IsTokenized text tokens → IsLexicalRefusal text refusal → ⊥
   pub one_tree : (list : List Token) (a b : TextTree) → Spells list a → Spells list b → a ≡ b
   pub one_misfit : (list : List Token) (a b : Option (Misfit × Place)) → IsGrammarRefusal list a → IsGrammarRefusal list b → a ≡ b
-  pub one_numbered : (tree : TextTree) (p q : NumberedProgram) → Numbers tree p → Numbers tree q → p ≡ q
+  pub one_numbered : (tree : TextTree) (p q : ProgramView) → Numbers tree p → Numbers tree q → p ≡ q
 
 -- a text that is tokens has no flaw of bytes
 pub tokens_or_bytes : OneReading → (text : List ℕ) (tokens : List Token) (refusal : Refusal) → HasTokens text tokens → IsLexicalRefusal text refusal → ⊥
@@ -49,7 +49,7 @@ one_tree_refusal known tree r s (of_names first) (of_names other) = first_only (
 one_tree_refusal known tree r s (of_names first) (of_program none numbers is) = absurd (none r first.is_broken)
 one_tree_refusal known tree r s (of_program none numbers is) (of_names other) = absurd (none s other.is_broken)
 one_tree_refusal known tree r s (of_program {program = p} none numbers is) (of_program {program = q} nothing others other) =
-    only_refusal q r s (subst (λ (x : NumberedProgram). IsProgramRefusal x r) (known.one_numbered tree p q numbers others) is) other
+    only_refusal q r s (subst (λ (x : ProgramView). IsProgramRefusal x r) (known.one_numbered tree p q numbers others) is) other
 
 pub one_refusal : OneReading → (text : List ℕ) (r s : Refusal) → IsRefusal text r → IsRefusal text s → r ≡ s
 one_refusal known text r s (of_bytes is) (of_bytes other) = known.one_flaw text r s is other
@@ -68,18 +68,18 @@ one_refusal known text r s (of_tree {tree = tree} has_tree is) (of_tokens {token
 one_refusal known text r s (of_tree {tree = tree} has is) (of_tree {tree = another} other_has other) =
     one_tree_refusal known another r s (subst (λ (t : TextTree). IsTreeRefusal t r) (one_tree_of known text tree another has other_has) is) other
 
-unbroken_or_refused : OneReading → (text : List ℕ) (program : NumberedProgram) (has : HasProgram text program) (r : Refusal) → IsTreeRefusal has.tree r → ⊥
+unbroken_or_refused : OneReading → (text : List ℕ) (program : ProgramView) (has : HasProgram text program) (r : Refusal) → IsTreeRefusal has.tree r → ⊥
 unbroken_or_refused known text program has r (of_names first) = has.named r first.is_broken
 unbroken_or_refused known text program has r (of_program {program = other} none numbers is) =
-    unbroken_or_refused_by program r has.unbroken (subst (λ (x : NumberedProgram). IsProgramRefusal x r) (known.one_numbered has.tree other program numbers has.numbers) is)
+    unbroken_or_refused_by program r has.unbroken (subst (λ (x : ProgramView). IsProgramRefusal x r) (known.one_numbered has.tree other program numbers has.numbers) is)
 
-pub never_both : OneReading → (text : List ℕ) (program : NumberedProgram) (r : Refusal) → HasProgram text program → IsRefusal text r → ⊥
+pub never_both : OneReading → (text : List ℕ) (program : ProgramView) (r : Refusal) → HasProgram text program → IsRefusal text r → ⊥
 never_both known text program r has (of_bytes is) = tokens_or_bytes known text has.has_tree.tokens r has.has_tree.has_tokens is
 never_both known text program r has (of_tokens {tokens = tokens} {misfit = misfit} {place = place} others is) = tree_or_misfit known text has.tree tokens (misfit, place) has.has_tree others is
 never_both known text program r has (of_tree {tree = tree} other is) =
     unbroken_or_refused known text program has r (subst (λ (t : TextTree). IsTreeRefusal t r) (one_tree_of known text tree has.tree other has.has_tree) is)
 
-pub one_program : OneReading → (text : List ℕ) (p q : NumberedProgram) → HasProgram text p → HasProgram text q → p ≡ q
+pub one_program : OneReading → (text : List ℕ) (p q : ProgramView) → HasProgram text p → HasProgram text q → p ≡ q
 one_program known text p q has other =
     let same = one_tree_of known text has.tree other.tree has.has_tree other.has_tree in
     known.one_numbered other.tree p q (subst (λ (t : TextTree). Numbers t p) same has.numbers) other.numbers

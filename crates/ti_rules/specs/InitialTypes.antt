@@ -5,16 +5,16 @@ use Rattle.ti_lang.specs.Program.Types.{ValueType, Int, Long, Boolean, Pt, Rc, R
 use Rattle.ti_lang.specs.Program.Expressions.{NumberedExp, numbered_ranges}
 use Rattle.ti_lang.specs.Program.Statements.{NumberedDims, NumberedInit}
 use Rattle.ti_lang.specs.Program.Statements as st
-use Rattle.ti_lang.specs.Program.Classes.{NumberedProgram}
+use Rattle.ti_lang.specs.Program.Classes.{ProgramView}
 use Rattle.ti_lang.specs.Program.Scope.{ScopeContents}
 use Rattle.ti_lang.specs.Typing.Kinds.{where_true, same_type, is_void, is_reference, as_global}
-use Rattle.ti_lang.specs.Typing.Expressions.{both, is_int, rect_literal, range_count, bounds, typed, operand_type}
+use Rattle.ti_lang.specs.Typing.Expressions.{and_then_both, is_int, rect_literal, range_count, bounds, expr_type, operand_type}
 
 -- ---- values
 
 -- the type of an expression that is a whole right side: a call is allowed, but not a void one
-abbrev pub value_type : NumberedProgram → ScopeContents → NumberedExp → Option ValueType
-value_type p s e = only_if (λ t. not (is_void t)) (typed p s e)
+abbrev pub right_side_type : ProgramView → ScopeContents → NumberedExp → Option ValueType
+right_side_type p s e = only_if (λ t. not (is_void t)) (expr_type p s e)
 
 -- ---- broadcasts
 
@@ -34,7 +34,7 @@ broadcast_type t root = where_true (can_broadcast t && is_int root) (as_global t
 -- ---- objects and grids
 
 -- the type of the region of a `new`; that of a region if none is given
-abbrev pub region_type : NumberedProgram → ScopeContents → Option NumberedExp → Option ValueType
+abbrev pub region_type : ProgramView → ScopeContents → Option NumberedExp → Option ValueType
 region_type p s None = Some Region
 region_type p s (Some r) = operand_type p s r
 
@@ -52,7 +52,7 @@ pub data Spread : Type 0 where
   Ranged : (ranges : ℕ) (ts : List ValueType) → Spread
 
 -- the types in the domain of a new grid, if all its expressions have types
-abbrev pub spread : NumberedProgram → ScopeContents → NumberedDims → Option Spread
+abbrev pub spread : ProgramView → ScopeContents → NumberedDims → Option Spread
 spread p s (st.Domain x) = option_map Over (operand_type p s x)
 spread p s (st.Ranges ranges) = option_map (Ranged (range_count (numbered_ranges ranges))) (bounds p s (numbered_ranges ranges))
 
@@ -73,9 +73,9 @@ new_grid_type element region over = if is_region region then option_and_then (gr
 -- ---- right sides
 
 -- the type of a whole right side; None if a typing rule is broken in it
-abbrev pub initial_type : NumberedProgram → ScopeContents → NumberedInit → Option ValueType
-initial_type p s (st.Value x) = value_type p s x
+abbrev pub initial_type : ProgramView → ScopeContents → NumberedInit → Option ValueType
+initial_type p s (st.Value x) = right_side_type p s x
 initial_type p s (st.NewRegion at) = Some Region
 initial_type p s (st.NewObject at region class) = option_and_then (object_type class) (region_type p s region)
-initial_type p s (st.NewGrid at region element dims_at dims) = both (region_type p s region) (spread p s dims) (new_grid_type element.type)
-initial_type p s (st.Broadcast at x root) = both (operand_type p s x) (operand_type p s root) broadcast_type
+initial_type p s (st.NewGrid at region element dims_at dims) = and_then_both (region_type p s region) (spread p s dims) (new_grid_type element.type)
+initial_type p s (st.Broadcast at x root) = and_then_both (operand_type p s x) (operand_type p s root) broadcast_type

@@ -11,5 +11,5 @@ pub mod RefusalOf
 pub mod Refusals
 pub mod Rules
 pub mod SingleRules
-pub mod Standing
+pub mod StmtInContext
 pub mod TypeRules

@@ -6,7 +6,7 @@ use Rattle.ti_syntax.specs.declared.token.Token.{Token}
 use Rattle.ti_syntax.specs.Tokenizing.{IsTokenized}
 use Rattle.ti_syntax.specs.Trees.Classes.{TextTree}
 use Rattle.ti_syntax.specs.Spelling.{Spells, IsShallow, Misfit, Unexpected, TooDeep, IsGrammarRefusal}
-use Rattle.ti_lang.specs.Program.Classes.{NumberedProgram}
+use Rattle.ti_lang.specs.Program.Classes.{ProgramView}
 use Rattle.ti_lang.specs.Numbering.{Numbers}
 use Rattle.ti_rules.specs.declared.rule.Rule.{Rule}
 use Rattle.ti_rules.specs.declared.rule.Rule.TheVariants.{G1, G2}
@@ -25,7 +25,7 @@ HasNone broken = (refusal : Refusal) → broken refusal → ⊥
 -- the error of a tree: the first by the rules of names, or, if there is none, that of its resolved program
 pub data IsTreeRefusal (tree : TextTree) : Refusal → Type 0 where
   of_names : {refusal : Refusal} → IsFirstRefusal (BreaksNames tree) refusal → IsTreeRefusal tree refusal
-  of_program : {program : NumberedProgram} {refusal : Refusal} → HasNone (BreaksNames tree) → Numbers tree program
+  of_program : {program : ProgramView} {refusal : Refusal} → HasNone (BreaksNames tree) → Numbers tree program
       → IsProgramRefusal program refusal → IsTreeRefusal tree refusal
 
 -- ---- source programs
@@ -56,7 +56,7 @@ pub data IsRefusal (text : List ℕ) : Refusal → Type 0 where
   of_tree : {tree : TextTree} {refusal : Refusal} → HasTree text tree → IsTreeRefusal tree refusal → IsRefusal text refusal
 
 -- the resolved program of a source program without errors
-pub record HasProgram (text : List ℕ) (program : NumberedProgram) : Type 0 where
+pub record HasProgram (text : List ℕ) (program : ProgramView) : Type 0 where
   pub tree : TextTree
   pub has_tree : HasTree text tree
   pub named : HasNone (BreaksNames tree)

@@ -2,14 +2,14 @@
 use Rattle.std.specs.Prelude.{Bool, true, false, not, ◌&&◌, List, [], ◌∷◌, ◌++◌, flat_map}
 use Rattle.ti_lang.specs.Program.Statements.{NumberedStm}
 use Rattle.ti_lang.specs.Program.Statements as st
-use Rattle.ti_lang.specs.Program.Classes.{NumberedField, NumberedClass, NumberedParam, NumberedResult, NumberedParams, NumberedMethod, NumberedProgram}
+use Rattle.ti_lang.specs.Program.Classes.{NumberedField, NumberedClass, NumberedParam, NumberedResult, NumberedParams, NumberedMethod, ProgramView}
 use Rattle.ti_lang.specs.Program.Classes as c
 use Rattle.ti_lang.specs.Typing.Kinds.{is_void}
 use Rattle.ti_lang.specs.Typing.Declared.{is_static_method, result_type}
 use Rattle.ti_rules.specs.declared.rule.Rule.TheVariants.{Y6}
 use Rattle.ti_rules.specs.declared.refusal.Refusal.{Refusal}
 use Rattle.ti_rules.specs.Refusals.{refused_if}
-use Rattle.ti_rules.specs.Standing.{standing_in_method}
+use Rattle.ti_rules.specs.StmtInContext.{standing_in_method}
 use Rattle.ti_rules.specs.Broken.Words.{repeated_modifiers, type_word_refusals, field_modifier_refusals, method_modifier_refusals}
 use Rattle.ti_rules.specs.Broken.Statements.{standing_refusals}
 
@@ -32,7 +32,7 @@ result_refusals (c.Typed t) = type_word_refusals true t
 
 -- the errors in the qualifiers of parameters, which may be single if their method is
 abbrev pub params_refusals : Bool → NumberedParams → List Refusal
-params_refusals is_single c.Words = []
+params_refusals is_single c.MainArgs = []
 params_refusals is_single (c.Params params) = flat_map (λ (x : NumberedParam). type_word_refusals is_single x.ty) params
 
 -- the errors in the modifiers and qualifiers of a method's signature
@@ -57,11 +57,11 @@ abbrev pub end_refusals : NumberedMethod → List Refusal
 end_refusals m = refused_if (not (is_void (result_type m)) && not (ends_with_return m.body)) Y6 m.place
 
 -- the errors of a method
-abbrev pub method_refusals : NumberedProgram → NumberedMethod → List Refusal
+abbrev pub method_refusals : ProgramView → NumberedMethod → List Refusal
 method_refusals p m = (head_refusals m ++ end_refusals m) ++ flat_map (standing_refusals p) (standing_in_method p m)
 
 -- ---- programs
 
 -- the errors of a program by the rules of types and qualifiers
-abbrev pub type_refusals : NumberedProgram → List Refusal
+abbrev pub type_refusals : ProgramView → List Refusal
 type_refusals p = flat_map class_refusals p.classes ++ flat_map (method_refusals p) p.methods

@@ -21,12 +21,12 @@ impl Checked {
     /// A resolved program, which keeps the rules of names, that breaks no other rule. Reads the program's literals once.
     ///
     /// For the prover: reading them brings the ranges of their types into scope, so that every later pass knows them.
-    pub fn of(p: Program) -> Checked
-        requires { BreaksNothing (program_of p.parts) }
-        ensures { result.program ≡ p }
+    pub fn of(unbroken: Program) -> Checked
+        requires { BreaksNothing (program_of unbroken.parts) }
+        ensures { result.program ≡ unbroken }
     {
-        literals_fit(&p);
-        Checked { program: p }
+        literals_fit(&unbroken);
+        Checked { program: unbroken }
     }
 
     /// The program.

@@ -10,6 +10,6 @@ mod rule;
 
 pub use checked::Checked;
 pub use laws::{checked_standing, one_program_refusal, typed_where_unbroken};
-pub use order::{first_counts, refused_if, sooner};
+pub use order::{earlier_of, first_counts, refused_if};
 pub use refusal::Refusal;
 pub use rule::{Rule, rule_text};

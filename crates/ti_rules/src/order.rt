@@ -3,15 +3,15 @@
 ghost use Rattle.std.specs.Prelude.{◌≡◌, List, ◌++◌, [], Contains, Some, None};
 ghost use Rattle.ti_rules.specs.declared.refusal.Refusal.{Refusal as RefusalSeen};
 ghost use Rattle.ti_rules.specs.Refusals.{refused_if, IsFirstRefusal};
-ghost use Rattle.ti_rules.specs.Mirrors.First.{sooner, first_of};
+ghost use Rattle.ti_rules.specs.Mirrors.First.{earlier_of, earliest};
 
 use crate::{Refusal, Rule};
 use ti_base::Place;
 
 /// The earlier of two errors; the first argument on a tie.
-#[tactic(auto, unfolding(crate::specs::Mirrors::First::sooner))]
-pub fn sooner(first: Option<Refusal>, second: Option<Refusal>) -> Option<Refusal>
-    ensures { result ≡ sooner first second }
+#[tactic(auto, unfolding(crate::specs::Mirrors::First::earlier_of))]
+pub fn earlier_of(first: Option<Refusal>, second: Option<Refusal>) -> Option<Refusal>
+    ensures { result ≡ earlier_of first second }
 {
     match (first, second) {
         (Some(one), Some(other)) => {
@@ -27,9 +27,9 @@ pub fn sooner(first: Option<Refusal>, second: Option<Refusal>) -> Option<Refusal
 }
 
 /// The error of a rule at a position, if the rule is broken.
-#[tactic(auto, unfolding(crate::specs::Mirrors::First::first_of, crate::specs::Mirrors::First::sooner))]
+#[tactic(auto, unfolding(crate::specs::Mirrors::First::earliest, crate::specs::Mirrors::First::earlier_of))]
 pub fn refused_if(broken: bool, rule: Rule, place: Place) -> Option<Refusal>
-    ensures { result ≡ first_of (refused_if broken rule place) }
+    ensures { result ≡ earliest (refused_if broken rule place) }
 {
     if broken {
         Some(Refusal { rule, place })
@@ -38,10 +38,10 @@ pub fn refused_if(broken: bool, rule: Rule, place: Place) -> Option<Refusal>
     }
 }
 
-/// The earliest error of a list, as `first_of` computes it, is one that no other precedes; there is none exactly if the list is empty;
+/// The earliest error of a list, as `earliest` computes it, is one that no other precedes; there is none exactly if the list is empty;
 /// and that of a concatenation is the earlier of those of its parts.
 pub fn first_counts()
-    ensures some { (list : List RefusalSeen) (r : RefusalSeen) → first_of list ≡ Some r → IsFirstRefusal (Contains list) r }
-    ensures none { (list : List RefusalSeen) → first_of list ≡ None → list ≡ [] }
-    ensures joined { (list others : List RefusalSeen) → first_of (list ++ others) ≡ sooner (first_of list) (first_of others) }
+    ensures some { (list : List RefusalSeen) (r : RefusalSeen) → earliest list ≡ Some r → IsFirstRefusal (Contains list) r }
+    ensures none { (list : List RefusalSeen) → earliest list ≡ None → list ≡ [] }
+    ensures joined { (list others : List RefusalSeen) → earliest (list ++ others) ≡ earlier_of (earliest list) (earliest others) }
 {}

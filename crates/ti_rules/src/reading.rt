@@ -13,10 +13,10 @@ use ti_lang::program::{Dims, Expr, Init, Method, Printed, Program, Range, Stmt};
 // ---- expressions
 
 #[cycle(read)]
-fn read_all(xs: &[Expr])
-    ensures { InExps (numbered_exps (map expression_of xs.now)) }
+fn read_all(exprs: &[Expr])
+    ensures { InExps (numbered_exps (map expression_of exprs.now)) }
 {
-    for x in xs {
+    for x in exprs {
         read(x);
     }
 }
@@ -49,10 +49,10 @@ fn read_ranges(ranges: &[Range])
 
 #[cycle(read)]
 #[tactic(auto, using(ti_lang::proofs::Lemmas::program_bridges))]
-fn read(e: &Expr)
-    ensures { InExp (expression_of e.now) }
+fn read(expr: &Expr)
+    ensures { InExp (expression_of expr.now) }
 {
-    match e {
+    match expr {
         Expr::Int(_, number) => {
             let _number = *number;
         }
@@ -82,7 +82,7 @@ fn read(e: &Expr)
             read(receiver);
             read_all(indices);
         }
-        Expr::Truth(_, _)
+        Expr::Bool(_, _)
         | Expr::Null(_)
         | Expr::This(_)
         | Expr::Variable(_, _)
@@ -92,11 +92,11 @@ fn read(e: &Expr)
     }
 }
 
-fn read_option(e: &Option<Expr>)
-    ensures { InOption (maybe_of expression_of e.now) }
+fn read_option(expr: &Option<Expr>)
+    ensures { InOption (maybe_of expression_of expr.now) }
 {
-    match e {
-        Some(e) => read(e),
+    match expr {
+        Some(expr) => read(expr),
         None => {}
     }
 }
@@ -141,20 +141,20 @@ fn read_printed(what: &Printed)
 }
 
 #[cycle(read_statement)]
-fn read_statements(xs: &[Stmt])
-    ensures { InStms (numbered_stms (map statement_of xs.now)) }
+fn read_statements(stmts: &[Stmt])
+    ensures { InStms (numbered_stms (map statement_of stmts.now)) }
 {
-    for x in xs {
-        read_statement(x);
+    for stmt in stmts {
+        read_statement(stmt);
     }
 }
 
 #[cycle(read_statement)]
 #[tactic(auto, using(ti_lang::proofs::Lemmas::program_bridges))]
-fn read_statement(x: &Stmt)
-    ensures { InStm (statement_of x.now) }
+fn read_statement(stmt: &Stmt)
+    ensures { InStm (statement_of stmt.now) }
 {
-    match x {
+    match stmt {
         Stmt::Declare { value, .. } => read_initial(value),
         Stmt::Assign { target, value, .. } => {
             read(target);
@@ -224,8 +224,8 @@ fn read_methods(methods: &[Method])
 }
 
 /// All literals of a program are in the ranges of their types.
-pub fn literals_fit(p: &Program)
-    ensures { LiteralsFit (program_of p.now.parts) }
+pub fn literals_fit(program: &Program)
+    ensures { LiteralsFit (program_of program.now.parts) }
 {
-    read_methods(&p.parts.methods)
+    read_methods(&program.parts.methods)
 }

@@ -1,6 +1,6 @@
 // The rules of the language, with their codes and messages.
 ghost use Rattle.std.specs.Prelude.{◌≡◌};
-ghost use Rattle.ti_rules.specs.Rules.{code_of, number_of, text_of};
+ghost use Rattle.ti_rules.specs.Rules.{code_of, rule_number, text_of};
 
 /// A rule of the language, named by its code in error messages.
 ///
@@ -77,7 +77,7 @@ pub enum Rule {
 impl Rule {
     /// The index of the rule in the order of the rules, from 0.
     pub fn number(self) -> u8
-        ensures { result ≡ number_of self }
+        ensures { result ≡ rule_number self }
     {
         self as u8
     }
@@ -124,10 +124,10 @@ impl Rule {
 }
 
 /// The message after the rule's code.
-pub fn rule_text(r: Rule) -> &'static str
-    ensures { result.now ≡ text_of r }
+pub fn rule_text(rule: Rule) -> &'static str
+    ensures { result.now ≡ text_of rule }
 {
-    match r {
+    match rule {
         Rule::X1 => "a byte outside the language",
         Rule::X2 => "a comment without end",
         Rule::X3 => "a string without end",

@@ -32,7 +32,7 @@ use Rattle.ti_machine.proofs.Lemmas.{process_send}
 use Rattle.ti_store.proofs.Lemmas.{store_send}
 use Rattle.ti_store.specs.contracts.store.Store as store
 use Rattle.ti_store.specs.declared.store.Store.{Store}
-use Rattle.ti_store.specs.declared.terms.Terms as terms
+use Rattle.ti_store.specs.declared.run_config.RunConfigOf as terms
 use Rattle.ti_turnstile.proofs.Lemmas as of_turnstile
 use Rattle.ti_turnstile.specs.contracts.turnstile.Turnstile as turnstile
 use Rattle.ti_turnstile.specs.declared.kept.Kept as kept

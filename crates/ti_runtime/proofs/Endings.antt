@@ -5,21 +5,21 @@ use Rattle.std.proofs.lemmas.Bool.{eqb-false, ltb-false}
 use Rattle.std.proofs.lemmas.List.{get_or_append_left, get_or_default, get_or_push}
 use Rattle.std.proofs.lemmas.Option.{get_or_from_slice_get, slice_get_within}
 use Rattle.ti_base.specs.declared.entry.Entry.{Entry}
-use Rattle.ti_lang.specs.Meaning.Processes.{Setting}
+use Rattle.ti_lang.specs.Meaning.Processes.{RunConfig}
 use Rattle.ti_lang.specs.Meaning.Histories.{has_end, has_fault}
 use Rattle.ti_lang.specs.Meaning.Runs.{IsRun, IsSolo, AllEnded}
 use Rattle.ti_lang.specs.Meaning.Runs as run
 use Rattle.ti_align.specs.Alignment.{NoneStuck}
 use Rattle.ti_code.specs.Programs.{Code}
-use Rattle.ti_machine.specs.Standing.{HasFinished}
+use Rattle.ti_machine.specs.ProcView.{HasFinished}
 use Rattle.ti_runtime.specs.declared.cursor.SoloCursor.{SoloCursor}
 use Rattle.ti_runtime.specs.declared.pending.PendingProc.{PendingProc}
 use Rattle.ti_runtime.specs.declared.pending.RunStop.TheVariants as stop
 use Rattle.ti_runtime.specs.declared.runner.How.TheVariants as how
 use Rattle.ti_runtime.specs.declared.runner.RunEnd.{RunEnd}
-use Rattle.ti_runtime.specs.Ran.{standing_of, IsDone, Ran}
-use Rattle.ti_runtime.specs.Mirrors.Waiting.{Waits, Rests}
-use Rattle.ti_runtime.specs.Mirrors.Processes.{Seated, AllSeated, Stands, Stopped, SoloOutcome}
+use Rattle.ti_runtime.specs.Ran.{proc_view_after, AreFinishedCounts, Ran}
+use Rattle.ti_runtime.specs.Mirrors.Waiting.{IsBlocked, IsBlockedOrEnded}
+use Rattle.ti_runtime.specs.Mirrors.Processes.{IsUpToDate, AllUpToDate, IsSoloState, HasStopped, SoloOutcome}
 use Rattle.ti_runtime.proofs.Waiting.{rest_takes_none}
 
 true_false : true ≡ false → ⊥
@@ -28,16 +28,16 @@ true_false e = cc
 -- ---- the beginning
 
 -- one process more
-pub seated_more : (code : Code) (s : Setting) (xs : List PendingProc) (x : PendingProc) → Seated code s [] (length xs) x → AllSeated code s [] xs → AllSeated code s [] (xs ++ x ∷ [])
+pub seated_more : (code : Code) (s : RunConfig) (xs : List PendingProc) (x : PendingProc) → IsUpToDate code s [] (length xs) x → AllUpToDate code s [] xs → AllUpToDate code s [] (xs ++ x ∷ [])
 seated_more code s xs x y seated d i l = by (nat_lt i (length xs)) refl
   where
-    by : (b : Bool) → nat_lt i (length xs) ≡ b → Seated code s [] i (get_or (xs ++ x ∷ []) i d)
+    by : (b : Bool) → nat_lt i (length xs) ≡ b → IsUpToDate code s [] i (get_or (xs ++ x ∷ []) i d)
     by true h =
         let before = ltb-true i (length xs) h in
-        subst (Seated code s [] i) (sym (get_or_append_left xs (x ∷ []) d i before)) (seated d i before)
+        subst (IsUpToDate code s [] i) (sym (get_or_append_left xs (x ∷ []) d i before)) (seated d i before)
     by false h =
         let last : length xs ≡ i = omega (arith, ltb-false i (length xs) h, length-append xs (x ∷ [])) in
-        subst (Seated code s [] i) (sym (get_or_push xs x d i last)) (subst (λ k. Seated code s [] k x) last y)
+        subst (IsUpToDate code s [] i) (sym (get_or_push xs x d i last)) (subst (λ k. IsUpToDate code s [] k x) last y)
 
 pub none_below : (P : ℕ → Type 0) (i : ℕ) → i < 0 → P i
 none_below P i l = absurd (omega arith)
@@ -46,8 +46,8 @@ no_more : (n : ℕ) → 0 ≤ n
 no_more n = omega arith
 
 -- a run that can go on is taken up with process 0
-pub starts : (code : Code) (s : Setting) (es : List Entry) (processes : List PendingProc) → IsRun s es → has_fault es ≡ false → length processes ≡ s.procs
-    → AllSeated code s es processes → Stands code s es processes (record { at = 0; waiting = 0 })
+pub starts : (code : Code) (s : RunConfig) (es : List Entry) (processes : List PendingProc) → IsRun s es → has_fault es ≡ false → length processes ≡ s.procs
+    → AllUpToDate code s es processes → IsSoloState code s es processes (record { next_proc = 0; blocked_below = 0 })
 starts code s es processes so_far goes_on count seated = record {
   run = so_far;
   goes_on = goes_on;
@@ -56,17 +56,17 @@ starts code s es processes so_far goes_on count seated = record {
   points = record {
     most = no_more s.procs;
     few = no_more s.procs;
-    before = λ i l. none_below (Rests s es) i l;
-    run_threaded = λ i l. none_below (λ k. Waits s es k → (j : ℕ) → j < 0 → Rests s es j) i l;
+    before = λ i l. none_below (IsBlockedOrEnded s es) i l;
+    all_blocked = λ i l. none_below (λ k. IsBlocked s es k → (j : ℕ) → j < 0 → IsBlockedOrEnded s es j) i l;
   };
 }
 
-pub begins : (code : Code) (s : Setting) (processes : List PendingProc) → length processes ≡ s.procs → AllSeated code s [] processes → Stands code s [] processes (record { at = 0; waiting = 0 })
+pub begins : (code : Code) (s : RunConfig) (processes : List PendingProc) → length processes ≡ s.procs → AllUpToDate code s [] processes → IsSoloState code s [] processes (record { next_proc = 0; blocked_below = 0 })
 begins code s processes count seated = starts code s [] processes run.none refl count seated
 
 -- ---- the end
 
-pub faults : (code : Code) (s : Setting) (before es : List Entry) (processes : List PendingProc) → Stopped code s before es processes stop.Faulted → SoloOutcome code s before es processes how.Faulted
+pub faults : (code : Code) (s : RunConfig) (before es : List Entry) (processes : List PendingProc) → HasStopped code s before es processes stop.Faulted → SoloOutcome code s before es processes how.Faulted
 faults code s before es processes x = record {
   run = x.run;
   solo = x.solo;
@@ -76,7 +76,7 @@ faults code s before es processes x = record {
   seated = x.seated;
 }
 
-pub out_of_memory : (code : Code) (s : Setting) (before es : List Entry) (processes : List PendingProc) → Stopped code s before es processes stop.Memory → SoloOutcome code s before es processes how.Memory
+pub out_of_memory : (code : Code) (s : RunConfig) (before es : List Entry) (processes : List PendingProc) → HasStopped code s before es processes stop.Memory → SoloOutcome code s before es processes how.Memory
 out_of_memory code s before es processes x = record {
   run = x.run;
   solo = x.solo;
@@ -87,10 +87,10 @@ out_of_memory code s before es processes x = record {
 }
 
 -- nobody is left to be tried, so nobody can go on, and all have their end
-pub ends : (code : Code) (s : Setting) (before es : List Entry) (processes : List PendingProc) (c : SoloCursor) → (IsSolo s before → IsSolo s es)
-    → Stands code s es processes c → length processes ≤ c.at → NoneStuck s es → SoloOutcome code s before es processes how.Ended
+pub ends : (code : Code) (s : RunConfig) (before es : List Entry) (processes : List PendingProc) (c : SoloCursor) → (IsSolo s before → IsSolo s es)
+    → IsSoloState code s es processes c → length processes ≤ c.next_proc → NoneStuck s es → SoloOutcome code s before es processes how.Ended
 ends code s before es processes c solo x past unstuck =
-    let all : AllEnded s es = unstuck x.goes_on (λ i e t. rest_takes_none s es i e (x.points.before i (tried i s.procs (length processes) c.at t.within x.count past)) t) in
+    let all : AllEnded s es = unstuck x.goes_on (λ i e t. rest_takes_none s es i e (x.points.before i (tried i s.procs (length processes) c.next_proc t.within x.count past)) t) in
     record {
       run = x.run;
       solo = solo;
@@ -106,7 +106,7 @@ ends code s before es processes c solo x past unstuck =
 -- ---- how a run ended
 
 -- out of memory before the first entry
-pub unbegun : (code : Code) (s : Setting) (workers : ℕ) (end : RunEnd) → 1 ≤ s.procs → end.how ≡ how.Memory → end.history.items ≡ [] → Ran code s workers end
+pub unbegun : (code : Code) (s : RunConfig) (workers : ℕ) (end : RunEnd) → 1 ≤ s.procs → end.how ≡ how.Memory → end.history.items ≡ [] → Ran code s workers end
 unbegun code s workers end l m e = record {
   run = subst (IsRun s) (sym e) run.none;
   solo = λ _. subst (IsSolo s) (sym e) run.none;
@@ -139,17 +139,17 @@ some_pending [] i l = absurd (omega arith)
 some_pending (x ∷ xs) i l = x
 
 -- the numbers that the processes tell are those of the answers of the run
-done_is : (code : Code) (s : Setting) (es : List Entry) (processes : List PendingProc) (done : List ℕ) → length processes ≡ s.procs → AllSeated code s es processes → length done ≡ length processes
-    → ((d : PendingProc) (i : ℕ) → i < length processes → HasFinished (get_or processes i d).process (get_or done i 0)) → IsDone code s es done
+done_is : (code : Code) (s : RunConfig) (es : List Entry) (processes : List PendingProc) (done : List ℕ) → length processes ≡ s.procs → AllUpToDate code s es processes → length done ≡ length processes
+    → ((d : PendingProc) (i : ℕ) → i < length processes → HasFinished (get_or processes i d).process (get_or done i 0)) → AreFinishedCounts code s es done
 done_is code s es processes done count seated even each = record { count = even ∙ count; each = one }
   where
-    one : (i n : ℕ) → slice_get done i ≡ Some n → HasFinished (standing_of code s es i) n
+    one : (i n : ℕ) → slice_get done i ≡ Some n → HasFinished (proc_view_after code s es i) n
     one i n z =
         let inside : i < length processes = omega (arith, slice_get_within done i n z, even) in
         let d = some_pending processes i inside in
-        subst (λ t. HasFinished t n) (seated d i inside).told (subst (λ k. HasFinished (get_or processes i d).process k) (get_or_from_slice_get done i n 0 z) (each d i inside))
+        subst (λ t. HasFinished t n) (seated d i inside).answers (subst (λ k. HasFinished (get_or processes i d).process k) (get_or_from_slice_get done i n 0 z) (each d i inside))
 
-pub ran : (code : Code) (s : Setting) (workers : ℕ) (end : RunEnd) (before es : List Entry) (processes : List PendingProc) → end.history.items ≡ es
+pub ran : (code : Code) (s : RunConfig) (workers : ℕ) (end : RunEnd) (before es : List Entry) (processes : List PendingProc) → end.history.items ≡ es
     → SoloOutcome code s before es processes end.how → (workers ≡ 1 → before ≡ []) → length end.done.items ≡ length processes
     → ((d : PendingProc) (i : ℕ) → i < length processes → HasFinished (get_or processes i d).process (get_or end.done.items i 0)) → Ran code s workers end
 ran code s workers end before es processes is x first even each =

@@ -6,7 +6,7 @@ use Rattle.ti_base.specs.declared.action.Action.{Action}
 use Rattle.ti_base.specs.declared.action.Action.TheVariants as act
 use Rattle.ti_base.specs.declared.entry.Entry.{Entry}
 use Rattle.ti_heap.proofs.Lemmas.{get_last}
-use Rattle.ti_lang.specs.Meaning.Processes.{Setting}
+use Rattle.ti_lang.specs.Meaning.Processes.{RunConfig}
 use Rattle.ti_lang.specs.Meaning.Histories.{is_end, is_fault, has_end, has_fault}
 use Rattle.ti_lang.specs.Meaning.Runs.{IsRun, none, more, AllEnded}
 use Rattle.ti_lang.proofs.Lemmas.{taker}
@@ -15,7 +15,7 @@ use Rattle.ti_code.specs.Programs.{Code}
 use Rattle.ti_runtime.specs.declared.cursor.SoloCursor.{SoloCursor}
 use Rattle.ti_runtime.specs.declared.pending.PendingProc.{PendingProc}
 use Rattle.ti_runtime.specs.declared.runner.How.TheVariants as how
-use Rattle.ti_runtime.specs.Mirrors.Processes.{AllSeated, Stands, SoloOutcome}
+use Rattle.ti_runtime.specs.Mirrors.Processes.{AllUpToDate, IsSoloState, SoloOutcome}
 use Rattle.ti_runtime.proofs.Endings.{some_pending, starts}
 
 true_false : true ≡ false → ⊥
@@ -30,7 +30,7 @@ last_entry : (es all : List Entry) (e : Entry) → all ≡ es ++ e ∷ [] → sl
 last_entry es all e after = ap (λ xs. slice_get xs (length xs - 1)) after ∙ ap (slice_get (es ++ e ∷ [])) (last_place es e) ∙ get_last es e
 
 -- a run has one where its last entry is one
-pub last_tells : (s : Setting) (es : List Entry) → IsRun s es → (e : Entry) → slice_get es (length es - 1) ≡ Some e → has_fault es ≡ is_fault e.act
+pub last_tells : (s : RunConfig) (es : List Entry) → IsRun s es → (e : Entry) → slice_get es (length es - 1) ≡ Some e → has_fault es ≡ is_fault e.act
 last_tells s es none e h = absurd (nothing h)
   where
     nothing : ◌≡◌ {A = Option Entry} None (Some e) → ⊥
@@ -42,7 +42,7 @@ last_tells s es (more {es = before} {e = d} run can after) e h =
     one : (d e : Entry) → Some d ≡ Some e → d ≡ e
     one d e h = cc
 
-pub none_tells : (s : Setting) (es : List Entry) → IsRun s es → ◌≡◌ {A = Option Entry} (slice_get es (length es - 1)) None → has_fault es ≡ false
+pub none_tells : (s : RunConfig) (es : List Entry) → IsRun s es → ◌≡◌ {A = Option Entry} (slice_get es (length es - 1)) None → has_fault es ≡ false
 none_tells s es none h = refl
 none_tells s es (more {es = before} {e = d} run can after) h = absurd (nothing (sym (last_entry before es d after) ∙ h))
   where
@@ -50,7 +50,7 @@ none_tells s es (more {es = before} {e = d} run can after) h = absurd (nothing (
     nothing h = cc
 
 -- what is told of it
-pub fault_told : (s : Setting) (es seen : List Entry) (b : Bool) → seen ≡ es → IsRun s es → ((t : Setting) → IsRun t seen → b ≡ has_fault seen) → has_fault es ≡ b
+pub fault_told : (s : RunConfig) (es seen : List Entry) (b : Bool) → seen ≡ es → IsRun s es → ((t : RunConfig) → IsRun t seen → b ≡ has_fault seen) → has_fault es ≡ b
 fault_told s es seen b same run h = ap has_fault (sym same) ∙ sym (h s (subst (IsRun s) (sym same) run))
 
 fault_no_end : (a : Action) → is_fault a ≡ true → is_end a ≡ false
@@ -58,7 +58,7 @@ fault_no_end (act.Fault kind) f = refl
 fault_no_end a f = absurd (true_false (sym f))
 
 -- the process that has it has no end
-pub fault_unended : (s : Setting) (es : List Entry) → IsRun s es → has_fault es ≡ true → AllEnded s es → ⊥
+pub fault_unended : (s : RunConfig) (es : List Entry) → IsRun s es → has_fault es ≡ true → AllEnded s es → ⊥
 fault_unended s es none h ended = true_false (sym h)
 fault_unended s es (more {es = before} {i = i} {e = e} run can after) h ended =
     let fault : is_fault e.act ≡ true = ap (λ b. b || is_fault e.act) (sym can.goes_on) ∙ sym (fault_more before e) ∙ ap has_fault (sym after) ∙ h in
@@ -89,12 +89,12 @@ one_ended (x ∷ xs) h d (suc i) l = one_ended xs (second_of x.ended (list_all h
 -- ---- one worker
 
 -- processes before the first entry
-pub begun_seated : (code : Code) (s : Setting) (es : List Entry) (processes : List PendingProc) (c : SoloCursor) → es ≡ [] → Stands code s [] processes c → AllSeated code s es processes
-begun_seated code s es processes c is x = subst (λ xs. AllSeated code s xs processes) (sym is) x.seated
+pub begun_seated : (code : Code) (s : RunConfig) (es : List Entry) (processes : List PendingProc) (c : SoloCursor) → es ≡ [] → IsSoloState code s [] processes c → AllUpToDate code s es processes
+begun_seated code s es processes c is x = subst (λ xs. AllUpToDate code s xs processes) (sym is) x.seated
 
 -- ---- what workers did
 
-module _ (code : Code) (s : Setting) (es : List Entry) (processes : List PendingProc) (run : IsRun s es) (count : length processes ≡ s.procs) (seated : AllSeated code s es processes) where
+module _ (code : Code) (s : RunConfig) (es : List Entry) (processes : List PendingProc) (run : IsRun s es) (count : length processes ≡ s.procs) (seated : AllUpToDate code s es processes) where
   inside : (i : ℕ) → i < s.procs → i < length processes
   inside i l = subst (λ n. i < n) (sym count) l
 
@@ -126,5 +126,5 @@ module _ (code : Code) (s : Setting) (es : List Entry) (processes : List Pending
   }
 
   -- they can be taken up where they stand
-  pub taken_up : has_fault es ≡ false → Stands code s es processes (record { at = 0; waiting = 0 })
+  pub taken_up : has_fault es ≡ false → IsSoloState code s es processes (record { next_proc = 0; blocked_below = 0 })
   taken_up f = starts code s es processes run f count seated

@@ -8,28 +8,28 @@ use Rattle.ti_base.specs.declared.entry.Answer.{Answer}
 use Rattle.ti_base.specs.declared.entry.Entry.{Entry}
 use Rattle.ti_base.specs.declared.entry.Next.{Next}
 use Rattle.ti_base.specs.declared.entry.Next.TheVariants as next
-use Rattle.ti_lang.specs.Meaning.Asking.{Request}
-use Rattle.ti_lang.specs.Meaning.Processes.{Setting, Process, begin}
+use Rattle.ti_lang.specs.Meaning.Comp.{Request}
+use Rattle.ti_lang.specs.Meaning.Processes.{RunConfig, Process, begin}
 use Rattle.ti_lang.specs.Meaning.Steps.{Step, To, At, Ends, Faults, step}
-use Rattle.ti_lang.specs.Meaning.NextStep.{shown, IsNext, After}
+use Rattle.ti_lang.specs.Meaning.NextStep.{step_label, IsNext, After}
 use Rattle.ti_lang.specs.Meaning.Histories.{is_end, is_fault, is_arrival, is_answered, entries_of, answers_of, has_end}
-use Rattle.ti_lang.specs.Meaning.Runs.{World, IsReady, CanTake, IsRun, more}
+use Rattle.ti_lang.specs.Meaning.Runs.{ProcAfter, IsReady, CanTake, IsRun, more}
 use Rattle.ti_lang.proofs.Lemmas.{within, no_end_asked}
 use Rattle.ti_align.specs.Answering.{AnswersFit}
 use Rattle.ti_align.proofs.Lemmas.{after_pays, or_right}
 use Rattle.ti_store.specs.Conditions as store
-use Rattle.ti_store.specs.Stores.{StoreState, setting_of, next_of, Becomes, fault_entry, IsDone, IsRefused}
+use Rattle.ti_store.specs.Stores.{StoreState, config_of, next_of, Produces, fault_entry, IsDone, IsRefused}
 use Rattle.ti_store.specs.declared.act_err.ActErr.TheVariants as err
 use Rattle.ti_store.proofs.Lemmas.{next_acts, end_more, answers_more, answers_still, world_more}
 use Rattle.ti_code.specs.Programs.{Code}
-use Rattle.ti_machine.specs.Standing.{CodeStanding, HasNext, is_act}
+use Rattle.ti_machine.specs.ProcView.{ProcView, HasNext, is_act}
 use Rattle.ti_runtime.specs.declared.cursor.TurnOutcome.{TurnOutcome}
 use Rattle.ti_runtime.specs.declared.cursor.TurnOutcome.TheVariants as turn
 use Rattle.ti_runtime.specs.declared.pending.PendingProc.{PendingProc}
 use Rattle.ti_runtime.specs.declared.pending.RunStop.TheVariants as stop
-use Rattle.ti_runtime.specs.Ran.{standing_of}
-use Rattle.ti_runtime.specs.Mirrors.Waiting.{Waits}
-use Rattle.ti_runtime.specs.Mirrors.Processes.{action_for, place_of, action_of, asking, told_more, Seated, Hears, IsOpen, steps_left, GoesOn, Keeps, TurnLeaves}
+use Rattle.ti_runtime.specs.Ran.{proc_view_after}
+use Rattle.ti_runtime.specs.Mirrors.Waiting.{IsBlocked}
+use Rattle.ti_runtime.specs.Mirrors.Processes.{action_for, next_place, next_action, with_awaits, with_answer, IsUpToDate, ReceivesAnswer, IsOpen, steps_left, Progresses, DoesNothing, TurnLeaves}
 use Rattle.ti_runtime.proofs.Following.{OneNext, seated}
 
 true_false : true ≡ false → ⊥
@@ -38,7 +38,7 @@ true_false e = cc
 -- ---- what is next
 
 -- an action that a process has next is neither an end nor a fault
-acts : (st : Step) (q : Process) (at : Place) (a : Action) → step q ≡ st → shown st ≡ Some (next.Act at a) → (is_end a ≡ false) × (is_fault a ≡ false)
+acts : (st : Step) (q : Process) (at : Place) (a : Action) → step q ≡ st → step_label st ≡ Some (next.Act at a) → (is_end a ≡ false) × (is_fault a ≡ false)
 acts (To p) q at a e h = cc
 acts (At request go) q at a e h =
     let same : request.action ≡ a = some_action request at a h in
@@ -74,14 +74,14 @@ within_ticks : (n s f : ℕ) → 0 + n ≤ s → s ≤ f → n ≤ f
 within_ticks n s f h k = omega arith
 
 -- each answer cost a tick
-answers_few : (s : Setting) (i : ℕ) (rs : List Answer) (p : Process) → After (begin s i) rs p → length rs ≤ s.fuel
+answers_few : (s : RunConfig) (i : ℕ) (rs : List Answer) (p : Process) → After (begin s i) rs p → length rs ≤ s.fuel
 answers_few s i rs p x = within_ticks (length rs) p.spent s.fuel (after_pays (begin s i) p rs x) (within s i rs p x).0
 
 -- a process that got no answer since is still up to date
-pub seated_with : (code : Code) (s : Setting) (es all : List Entry) (i : ℕ) (pending : PendingProc) (ended : Bool) → answers_of i all ≡ answers_of i es → has_end i all ≡ ended → Seated code s es i pending
-    → Seated code s all i (record pending { ended = ended })
+pub seated_with : (code : Code) (s : RunConfig) (es all : List Entry) (i : ℕ) (pending : PendingProc) (ended : Bool) → answers_of i all ≡ answers_of i es → has_end i all ≡ ended → IsUpToDate code s es i pending
+    → IsUpToDate code s all i (record pending { ended = ended })
 seated_with code s es all i pending ended same e y = record {
-  told = y.told ∙ ap (λ rs. record (standing_of code s es i) { told = rs }) (sym same);
+  answers = y.answers ∙ ap (λ rs. record (proc_view_after code s es i) { answers = rs }) (sym same);
   there = y.there;
   world = subst (λ rs. After (begin s i) rs y.there) (sym same) y.world;
   next = y.next;
@@ -90,11 +90,11 @@ seated_with code s es all i pending ended same e y = record {
   ended = e;
 }
 
-module _ (code : Code) (s : Setting) (es : List Entry) (i : ℕ) (pending : PendingProc) (y : Seated code s es i pending) where
+module _ (code : Code) (s : RunConfig) (es : List Entry) (i : ℕ) (pending : PendingProc) (y : IsUpToDate code s es i pending) where
   -- also where it has computed what is next
-  pub seated_asking : (asks : Bool) → Seated code s es i (asking asks pending)
+  pub seated_asking : (asks : Bool) → IsUpToDate code s es i (with_awaits asks pending)
   seated_asking asks = record {
-    told = y.told;
+    answers = y.answers;
     there = y.there;
     world = y.world;
     next = y.next;
@@ -103,26 +103,26 @@ module _ (code : Code) (s : Setting) (es : List Entry) (i : ℕ) (pending : Pend
     ended = y.ended;
   }
 
-  few : length pending.process.told ≤ s.fuel
-  few = subst (λ xs. length xs ≤ s.fuel) (sym (ap (λ (x : CodeStanding). x.told) y.told)) (answers_few s i (answers_of i es) y.there y.world)
+  few : length pending.process.answers ≤ s.fuel
+  few = subst (λ xs. length xs ≤ s.fuel) (sym (ap (λ (x : ProcView). x.answers) y.answers)) (answers_few s i (answers_of i es) y.there y.world)
 
   module _ (one : OneNext) (n : Next) (has : HasNext pending.process n) where
     -- what the code has next the program has next
     next_here : IsNext y.there n
     next_here = subst (IsNext y.there) (one pending.process y.next n y.has_next has) y.is_next
 
-    next_taken : IsNext y.there (next_of (place_of n) (action_of n))
+    next_taken : IsNext y.there (next_of (next_place n) (next_action n))
     next_taken = subst (IsNext y.there) (sym (next_back y.there n next_here)) next_here
 
     -- the store takes it
-    pub acting : pending.ended ≡ false → store.HasNext s i (entries_of i es) (next_of (place_of n) (action_of n))
+    pub acting : pending.ended ≡ false → store.HasNextAfter s i (entries_of i es) (next_of (next_place n) (next_action n))
     acting u = record { unended = y.ended ∙ u; process = y.there; world = y.world; is_next = next_taken }
 
 -- ---- an entry
 
 -- the entry of what a process does, with its answer
 abbrev entry_with : ℕ → Next → Answer → Entry
-entry_with i n answer = record { proc = i; place = place_of n; act = action_of n; answer = answer }
+entry_with i n answer = record { proc = i; place = next_place n; act = next_action n; answer = answer }
 
 or_none : (a b : Bool) → b ≡ false → (a || b) ≡ a
 or_none true b h = refl
@@ -130,42 +130,42 @@ or_none false b h = h
 
 -- ---- after a step
 
-module _ (code : Code) (st : StoreState) (o : IsOpen code st) (run : IsRun (setting_of st) st.entries) (i : ℕ) (l : i < st.procs) (old : PendingProc) (y : Seated code (setting_of st) st.entries i old) (u : old.ended ≡ false) where
-  abbrev s : Setting
-  s = setting_of st
+module _ (code : Code) (st : StoreState) (o : IsOpen code st) (run : IsRun (config_of st) st.entries) (i : ℕ) (l : i < st.procs) (old : PendingProc) (y : IsUpToDate code (config_of st) st.entries i old) (u : old.ended ≡ false) where
+  abbrev s : RunConfig
+  s = config_of st
 
   abbrev es : List Entry
   es = st.entries
 
   -- out of memory, or refused, it is where it was
-  kept : (all : List Entry) (asks : Bool) (pending : PendingProc) → all ≡ es → pending ≡ asking asks old → Keeps code s es i old all pending
+  kept : (all : List Entry) (asks : Bool) (pending : PendingProc) → all ≡ es → pending ≡ with_awaits asks old → DoesNothing code s es i old all pending
   kept all asks pending same is = record {
     entries = same;
-    seated = subst (Seated code s es i) (sym is) (seated_asking code s es i old y asks);
+    seated = subst (IsUpToDate code s es i) (sym is) (seated_asking code s es i old y asks);
     as_many = ap (steps_left s) is;
   }
 
-  pub stays : (all : List Entry) (asks : Bool) (pending : PendingProc) → all ≡ es → pending ≡ asking asks old → TurnLeaves code s es i old all pending (Err stop.Memory)
-  stays all asks pending same is = ((same, y.ended ∙ u), subst (λ xs. Seated code s xs i pending) (sym same) (kept all asks pending same is).seated)
+  pub stays : (all : List Entry) (asks : Bool) (pending : PendingProc) → all ≡ es → pending ≡ with_awaits asks old → TurnLeaves code s es i old all pending (Err stop.Memory)
+  stays all asks pending same is = ((same, y.ended ∙ u), subst (λ xs. IsUpToDate code s xs i pending) (sym same) (kept all asks pending same is).seated)
 
   module _ (one : OneNext) (n : Next) (has : HasNext old.process n) (asks : Bool) where
     is_next : IsNext y.there n
     is_next = next_here code s es i old y one n has
 
-    taken : (e : Entry) → Becomes st i (place_of n) (action_of n) e → CanTake s es i e
+    taken : (e : Entry) → Produces st i (next_place n) (next_action n) e → CanTake s es i e
     taken e b = record {
       within = l;
       goes_on = o.goes_on;
       unended = y.ended ∙ u;
       process = y.there;
       world = y.world;
-      next = next_of (place_of n) (action_of n);
+      next = next_of (next_place n) (next_action n);
       is_next = next_taken code s es i old y one n has;
       ready = b.ready;
       entry = b.entry;
     }
 
-    module _ (answer : Answer) (new : StoreState) (d : IsDone st i (place_of n) (action_of n) answer new) where
+    module _ (answer : Answer) (new : StoreState) (d : IsDone st i (next_place n) (next_action n) answer new) where
       abbrev here : Entry
       here = entry_with i n answer
 
@@ -182,84 +182,84 @@ module _ (code : Code) (st : StoreState) (o : IsOpen code st) (run : IsRun (sett
       fit = o.may.fit st.procs st.fuel all o.may.within.some o.may.within.few o.may.within.fueled o.may.within.limited (more run can refl)
 
       -- after its end a process is where it was
-      seated_end : is_act n ≡ false → Seated code s all i (record (asking asks old) { ended = true })
+      seated_end : is_act n ≡ false → IsUpToDate code s all i (record (with_awaits asks old) { ended = true })
       seated_end e =
           let end = end_left n e d.no_fault in
-          let still : answers_of i all ≡ answers_of i es = answers_still i es here refl (ap (λ b. not (b || is_fault (action_of n))) end) in
-          seated_with code s es all i (asking asks old) true still (end_more i es here refl ∙ or_right (has_end i es) (is_end (action_of n)) end) (seated_asking code s es i old y asks)
+          let still : answers_of i all ≡ answers_of i es = answers_still i es here refl (ap (λ b. not (b || is_fault (next_action n))) end) in
+          seated_with code s es all i (with_awaits asks old) true still (end_more i es here refl ∙ or_right (has_end i es) (is_end (next_action n)) end) (seated_asking code s es i old y asks)
 
       answered : is_act n ≡ true → is_answered here ≡ true
       answered e = rw ((answered_act y.there n is_next e).0, d.no_fault) refl
 
-      world_on : is_act n ≡ true → (q : Process) × World s all i q
+      world_on : is_act n ≡ true → (q : Process) × ProcAfter s all i q
       world_on e = by n refl
         where
-          by : (m : Next) → n ≡ m → (q : Process) × World s all i q
+          by : (m : Next) → n ≡ m → (q : Process) × ProcAfter s all i q
           by (next.Act at a) z = world_more s es here y.there at a y.world (subst (IsNext y.there) z is_next) (answered e)
           by (next.End at) z = absurd (true_false (sym e ∙ ap is_act z))
           by (next.Fault kind at) z = absurd (true_false (sym e ∙ ap is_act z))
 
-      told : is_act n ≡ true → told_more old.process answer ≡ standing_of code s all i
-      told e =
-          ap (λ t. told_more t answer) y.told ∙ ap (λ rs. record (standing_of code s es i) { told = rs }) (sym (answers_more i es here refl (answered e)))
+      answers : is_act n ≡ true → with_answer old.process answer ≡ proc_view_after code s all i
+      answers e =
+          ap (λ t. with_answer t answer) y.answers ∙ ap (λ rs. record (proc_view_after code s es i) { answers = rs }) (sym (answers_more i es here refl (answered e)))
 
-      seated_heard : (pending : PendingProc) → is_act n ≡ true → pending ≡ record old { process = told_more old.process answer } → Seated code s all i pending
+      seated_heard : (pending : PendingProc) → is_act n ≡ true → pending ≡ record old { process = with_answer old.process answer } → IsUpToDate code s all i pending
       seated_heard pending e h =
           let q = world_on e in
-          let unended : has_end i all ≡ has_end i es = end_more i es here refl ∙ or_none (has_end i es) (is_end (action_of n)) (answered_act y.there n is_next e).0 in
-          seated code s o.may.follows o.may.within all fit i l q.0 q.1 pending (ap (λ (x : PendingProc). record x.process { asks = false }) h ∙ told e) (unended ∙ y.ended ∙ sym (ap (λ (x : PendingProc). x.ended) h))
+          let unended : has_end i all ≡ has_end i es = end_more i es here refl ∙ or_none (has_end i es) (is_end (next_action n)) (answered_act y.there n is_next e).0 in
+          seated code s o.may.follows o.may.within all fit i l q.0 q.1 pending (ap (λ (x : PendingProc). record x.process { asks = false }) h ∙ answers e) (unended ∙ y.ended ∙ sym (ap (λ (x : PendingProc). x.ended) h))
 
       -- fewer steps are left
       lighter_end : steps_left s (record old { ended = true }) < steps_left s old
       lighter_end = rw u (omega arith)
 
-      lighter_heard : (pending : PendingProc) → is_act n ≡ true → pending ≡ record old { process = told_more old.process answer } → steps_left s pending < steps_left s old
+      lighter_heard : (pending : PendingProc) → is_act n ≡ true → pending ≡ record old { process = with_answer old.process answer } → steps_left s pending < steps_left s old
       lighter_heard pending e h =
-          let limit : length pending.process.told ≤ s.fuel = few code s all i pending (seated_heard pending e h) in
-          let more : length pending.process.told ≡ length old.process.told + 1 = ap (λ (x : PendingProc). length x.process.told) h ∙ length-append old.process.told (answer ∷ []) in
+          let limit : length pending.process.answers ≤ s.fuel = few code s all i pending (seated_heard pending e h) in
+          let more : length pending.process.answers ≡ length old.process.answers + 1 = ap (λ (x : PendingProc). length x.process.answers) h ∙ length-append old.process.answers (answer ∷ []) in
           let same : pending.ended ≡ old.ended = ap (λ (x : PendingProc). x.ended) h in
-          rw (same, u) (one_fewer s.fuel (length old.process.told) (length pending.process.told) more limit)
+          rw (same, u) (one_fewer s.fuel (length old.process.answers) (length pending.process.answers) more limit)
         where
           one_fewer : (fuel m n : ℕ) → n ≡ m + 1 → n ≤ fuel → (fuel - n) + 1 < (fuel - m) + 1
           one_fewer fuel m n k l = omega arith
 
       -- the process went on, and was answered
-      pub went_with : (pending : PendingProc) (t : TurnOutcome) → Hears (asking asks old) n answer pending t → (b : Bool) → is_arrival (action_of n) ≡ b → GoesOn code s es i old new.entries pending b
+      pub went_with : (pending : PendingProc) (t : TurnOutcome) → ReceivesAnswer (with_awaits asks old) n answer pending t → (b : Bool) → is_arrival (next_action n) ≡ b → Progresses code s es i old new.entries pending b
       went_with pending t m b a = record {
         takes = record { entry = here; can = can; after = after };
         arrives_is = a;
         no_fault = d.no_fault;
-        seated = subst (λ xs. Seated code s xs i pending) (sym after) (seated_on (is_act n) refl);
+        seated = subst (λ xs. IsUpToDate code s xs i pending) (sym after) (seated_on (is_act n) refl);
         lighter = lighter (is_act n) refl;
       }
         where
-          seated_on : (b : Bool) → is_act n ≡ b → Seated code s all i pending
-          seated_on false e = subst (Seated code s all i) (sym (m.ends e)) (seated_end e)
+          seated_on : (b : Bool) → is_act n ≡ b → IsUpToDate code s all i pending
+          seated_on false e = subst (IsUpToDate code s all i) (sym (m.ends e)) (seated_end e)
           seated_on true e = seated_heard pending e (m.hears e)
 
           lighter : (b : Bool) → is_act n ≡ b → steps_left s pending < steps_left s old
           lighter false e = subst (λ x. steps_left s x < steps_left s old) (sym (m.ends e)) lighter_end
           lighter true e = lighter_heard pending e (m.hears e)
 
-      pub went : (pending : PendingProc) (t : TurnOutcome) → Hears (asking asks old) n answer pending t → TurnLeaves code s es i old new.entries pending (Ok t)
-      went pending t m = by (is_arrival (action_of n)) refl m.turn
+      pub went : (pending : PendingProc) (t : TurnOutcome) → ReceivesAnswer (with_awaits asks old) n answer pending t → TurnLeaves code s es i old new.entries pending (Ok t)
+      went pending t m = by (is_arrival (next_action n)) refl m.turn
         where
-          by : (b : Bool) → is_arrival (action_of n) ≡ b → t ≡ (if b then turn.Arrived else turn.Went) → TurnLeaves code s es i old new.entries pending (Ok t)
+          by : (b : Bool) → is_arrival (next_action n) ≡ b → t ≡ (if b then turn.Arrived else turn.Progressed) → TurnLeaves code s es i old new.entries pending (Ok t)
           by true a e = subst (λ x. TurnLeaves code s es i old new.entries pending (Ok x)) (sym e) (went_with pending t m true a)
           by false a e = subst (λ x. TurnLeaves code s es i old new.entries pending (Ok x)) (sym e) (went_with pending t m false a)
 
     -- ---- other turns
 
-    waits_here : (IsReady s es i (next_of (place_of n) (action_of n)) → ⊥) → Waits s es i
+    waits_here : (IsReady s es i (next_of (next_place n) (next_action n)) → ⊥) → IsBlocked s es i
     waits_here h =
-        let departs : action_of n ≡ act.Depart = is_departing (place_of n) (action_of n) h in
+        let departs : next_action n ≡ act.Depart = is_departing (next_place n) (next_action n) h in
         record {
           unended = y.ended ∙ u;
           process = y.there;
           world = y.world;
-          place = place_of n;
-          is_next = subst (λ a. IsNext y.there (next_of (place_of n) a)) departs (next_taken code s es i old y one n has);
-          early = subst (λ a. IsReady s es i (next_of (place_of n) a) → ⊥) departs h;
+          place = next_place n;
+          is_next = subst (λ a. IsNext y.there (next_of (next_place n) a)) departs (next_taken code s es i old y one n has);
+          early = subst (λ a. IsReady s es i (next_of (next_place n) a) → ⊥) departs h;
         }
       where
         -- what has to wait is a departure
@@ -269,17 +269,17 @@ module _ (code : Code) (st : StoreState) (o : IsOpen code st) (run : IsRun (sett
         is_departing at (act.Fault kind) h = absurd (h tt)
         is_departing at _ h = absurd (h tt)
 
-    pub waited : (new : StoreState) (pending : PendingProc) → pending ≡ asking asks old → IsRefused st i (place_of n) (action_of n) err.NotYet new → TurnLeaves code s es i old new.entries pending (Ok turn.Waits)
+    pub waited : (new : StoreState) (pending : PendingProc) → pending ≡ with_awaits asks old → IsRefused st i (next_place n) (next_action n) err.NotYet new → TurnLeaves code s es i old new.entries pending (Ok turn.Blocked)
     waited new pending is r = (kept new.entries asks pending (ap (λ (x : StoreState). x.entries) r.2) is, waits_here r.1)
 
     -- after a fault it is where it was
-    pub faulted : (new : StoreState) (kind : FaultKind) (pending : PendingProc) → pending ≡ asking asks old → IsRefused st i (place_of n) (action_of n) (err.Faulted kind) new
+    pub faulted : (new : StoreState) (kind : FaultKind) (pending : PendingProc) → pending ≡ with_awaits asks old → IsRefused st i (next_place n) (next_action n) (err.Faulted kind) new
         → TurnLeaves code s es i old new.entries pending (Err stop.Faulted)
     faulted new kind pending is r =
-        let e = fault_entry i (place_of n) kind in
+        let e = fault_entry i (next_place n) kind in
         let after : new.entries ≡ es ++ e ∷ [] = ap (λ (x : StoreState). x.entries) r.1 in
         let unended : has_end i (es ++ e ∷ []) ≡ old.ended = end_more i es e refl ∙ or_none (has_end i es) false refl ∙ y.ended in (
           (record { entry = e; can = taken e r.0; after = after }, refl),
-          subst (λ (x : List Entry × PendingProc). Seated code s x.0 i x.1) (λ j. (sym after j, sym is j))
-              (seated_with code s es (es ++ e ∷ []) i (asking asks old) old.ended (answers_still i es e refl refl) unended (seated_asking code s es i old y asks)),
+          subst (λ (x : List Entry × PendingProc). IsUpToDate code s x.0 i x.1) (λ j. (sym after j, sym is j))
+              (seated_with code s es (es ++ e ∷ []) i (with_awaits asks old) old.ended (answers_still i es e refl refl) unended (seated_asking code s es i old y asks)),
         )

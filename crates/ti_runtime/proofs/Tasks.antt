@@ -6,20 +6,20 @@ use Rattle.ti_base.specs.declared.action.Action.{Action}
 use Rattle.ti_base.specs.declared.entry.Answer.{Answer}
 use Rattle.ti_base.specs.declared.entry.Entry.{Entry}
 use Rattle.ti_base.specs.declared.entry.Next.{Next}
-use Rattle.ti_lang.specs.Meaning.Processes.{Setting}
+use Rattle.ti_lang.specs.Meaning.Processes.{RunConfig}
 use Rattle.ti_lang.specs.Meaning.Histories.{entries_of, has_end, has_fault}
 use Rattle.ti_lang.specs.Meaning.Runs.{IsRun}
 use Rattle.ti_turnstile.specs.Passes.{items_of, GrownBy, IsLegal}
 use Rattle.ti_store.specs.declared.act_err.ActErr.{ActErr}
 use Rattle.ti_store.specs.declared.act_err.ActErr.TheVariants as err
-use Rattle.ti_store.specs.Stores.{StoreState, setting_of, log_of, fault_entry, IsDone, IsRefused}
+use Rattle.ti_store.specs.Stores.{StoreState, config_of, log_of, fault_entry, IsDone, IsRefused}
 use Rattle.ti_store.proofs.Lemmas.{end_more, answers_still}
 use Rattle.ti_code.specs.Programs.{Code}
-use Rattle.ti_machine.specs.Standing.{HasNext}
+use Rattle.ti_machine.specs.ProcView.{HasNext}
 use Rattle.ti_runtime.specs.declared.cursor.TurnOutcome.{TurnOutcome}
 use Rattle.ti_runtime.specs.declared.pending.PendingProc.{PendingProc}
 use Rattle.ti_runtime.specs.Mirrors.Tasks.{entries_in}
-use Rattle.ti_runtime.specs.Mirrors.Processes.{place_of, action_of, asking, Seated, Hears, RunPremises, IsOpen}
+use Rattle.ti_runtime.specs.Mirrors.Processes.{next_place, next_action, with_awaits, IsUpToDate, ReceivesAnswer, RunPremises, IsOpen}
 use Rattle.ti_runtime.proofs.Following.{OneNext}
 use Rattle.ti_runtime.proofs.Seats.{seated_with, seated_asking, went_with}
 use Rattle.ti_runtime.proofs.Turns.{seated_still}
@@ -84,47 +84,47 @@ or_second true b h = cc
 or_second false b h = h
 
 -- it did what it had next, and heard the answer
-pub seated_gone : (code : Code) (s : Setting) (st new : StoreState) (i : ℕ) (old : PendingProc) → RunPremises code s → setting_of st ≡ s → IsRun (setting_of st) st.entries → i < s.procs
-    → old.ended ≡ false → Seated code s st.entries i old → OneNext → (n : Next) → HasNext old.process n → (answer : Answer)
-    → IsDone st i (place_of n) (action_of n) answer new → (asks : Bool) (pending : PendingProc) (t : TurnOutcome) → Hears (asking asks old) n answer pending t
-    → Seated code s new.entries i pending
+pub seated_gone : (code : Code) (s : RunConfig) (st new : StoreState) (i : ℕ) (old : PendingProc) → RunPremises code s → config_of st ≡ s → IsRun (config_of st) st.entries → i < s.procs
+    → old.ended ≡ false → IsUpToDate code s st.entries i old → OneNext → (n : Next) → HasNext old.process n → (answer : Answer)
+    → IsDone st i (next_place n) (next_action n) answer new → (asks : Bool) (pending : PendingProc) (t : TurnOutcome) → ReceivesAnswer (with_awaits asks old) n answer pending t
+    → IsUpToDate code s new.entries i pending
 seated_gone code s st new i old may same run l u y one n has answer d asks pending t m =
     let opened : IsOpen code st = record {
       goes_on = or_second st.halted (has_fault st.entries) d.becomes.goes_on;
       may = subst (RunPremises code) (sym same) may;
     } in
-    let here = subst (λ v. Seated code v st.entries i old) (sym same) y in
-    let inside = subst (λ (v : Setting). i < v.procs) (sym same) l in
-    subst (λ v. Seated code v new.entries i pending) same (went_with code st opened run i inside old here u one n has asks answer new d pending t m _ refl).seated
+    let here = subst (λ v. IsUpToDate code v st.entries i old) (sym same) y in
+    let inside = subst (λ (v : RunConfig). i < v.procs) (sym same) l in
+    subst (λ v. IsUpToDate code v new.entries i pending) same (went_with code st opened run i inside old here u one n has asks answer new d pending t m _ refl).seated
 
 -- it is where it was
-pub seated_refused : (code : Code) (s : Setting) (st new : StoreState) (i : ℕ) (pending : PendingProc) (n : Next) (why : ActErr)
-    → IsRefused st i (place_of n) (action_of n) why new → Seated code s st.entries i pending → Seated code s new.entries i pending
+pub seated_refused : (code : Code) (s : RunConfig) (st new : StoreState) (i : ℕ) (pending : PendingProc) (n : Next) (why : ActErr)
+    → IsRefused st i (next_place n) (next_action n) why new → IsUpToDate code s st.entries i pending → IsUpToDate code s new.entries i pending
 seated_refused code s st new i pending n (err.Faulted kind) r y =
-    let e = fault_entry i (place_of n) kind in
-    subst (λ es. Seated code s es i pending) (sym (ap (λ (x : StoreState). x.entries) r.1))
+    let e = fault_entry i (next_place n) kind in
+    subst (λ es. IsUpToDate code s es i pending) (sym (ap (λ (x : StoreState). x.entries) r.1))
     (seated_with code s st.entries (st.entries ++ e ∷ []) i pending pending.ended (answers_still i st.entries e refl refl) (end_more i st.entries e refl ∙ or_false (has_end i st.entries) ∙ y.ended) y)
   where
     or_false : (a : Bool) → (a || false) ≡ a
     or_false true = refl
     or_false false = refl
-seated_refused code s st new i pending n err.NotYet r y = subst (λ es. Seated code s es i pending) (sym (ap (λ (x : StoreState). x.entries) r.2)) y
-seated_refused code s st new i pending n err.Halted r y = subst (λ es. Seated code s es i pending) (sym (ap (λ (x : StoreState). x.entries) r.1)) y
-seated_refused code s st new i pending n err.Memory r y = subst (λ es. Seated code s es i pending) (sym (ap (λ (x : StoreState). x.entries) r.2)) y
+seated_refused code s st new i pending n err.NotYet r y = subst (λ es. IsUpToDate code s es i pending) (sym (ap (λ (x : StoreState). x.entries) r.2)) y
+seated_refused code s st new i pending n err.Halted r y = subst (λ es. IsUpToDate code s es i pending) (sym (ap (λ (x : StoreState). x.entries) r.1)) y
+seated_refused code s st new i pending n err.Memory r y = subst (λ es. IsUpToDate code s es i pending) (sym (ap (λ (x : StoreState). x.entries) r.2)) y
 
 -- and has computed what is next
-pub seated_advanced : (code : Code) (s : Setting) (es : List Entry) (i : ℕ) (old pending : PendingProc) (asks : Bool) → pending ≡ asking asks old → Seated code s es i old → Seated code s es i pending
-seated_advanced code s es i old pending asks is y = subst (Seated code s es i) (sym is) (seated_asking code s es i old y asks)
+pub seated_advanced : (code : Code) (s : RunConfig) (es : List Entry) (i : ℕ) (old pending : PendingProc) (asks : Bool) → pending ≡ with_awaits asks old → IsUpToDate code s es i old → IsUpToDate code s es i pending
+seated_advanced code s es i old pending asks is y = subst (IsUpToDate code s es i) (sym is) (seated_asking code s es i old y asks)
 
 -- ---- what a pass tells
 
 -- the process is in the store's entries where it is in those that its pass has seen
-pub seated_inside : (code : Code) (s : Setting) (es : List Entry) (k i : ℕ) (seen : List (ℕ × Entry)) (pending : PendingProc) → k ≡ i
-    → IsLegal (log_of es) k seen → Seated code s (entries_in seen) i pending → Seated code s es i pending
+pub seated_inside : (code : Code) (s : RunConfig) (es : List Entry) (k i : ℕ) (seen : List (ℕ × Entry)) (pending : PendingProc) → k ≡ i
+    → IsLegal (log_of es) k seen → IsUpToDate code s (entries_in seen) i pending → IsUpToDate code s es i pending
 seated_inside code s es k i seen pending same legal y =
     let own : entries_of i es ≡ entries_of i (entries_in seen) = subst (λ k. entries_of k es ≡ entries_of k (entries_in seen)) same (own_known es k seen legal) in
     seated_still code s (entries_in seen) es i pending own y
 
 -- and the other way round, once the pass has seen them all
-pub seated_seen : (code : Code) (s : Setting) (es : List Entry) (i : ℕ) (seen : List (ℕ × Entry)) (pending : PendingProc) → seen ≡ log_of es → Seated code s es i pending → Seated code s (entries_in seen) i pending
-seated_seen code s es i seen pending h y = subst (λ xs. Seated code s xs i pending) (sym (ap entries_in h ∙ logged_back es)) y
+pub seated_seen : (code : Code) (s : RunConfig) (es : List Entry) (i : ℕ) (seen : List (ℕ × Entry)) (pending : PendingProc) → seen ≡ log_of es → IsUpToDate code s es i pending → IsUpToDate code s (entries_in seen) i pending
+seated_seen code s es i seen pending h y = subst (λ xs. IsUpToDate code s xs i pending) (sym (ap entries_in h ∙ logged_back es)) y

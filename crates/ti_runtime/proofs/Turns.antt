@@ -6,15 +6,15 @@ use Rattle.std.proofs.lemmas.List.Sums.{sum_by-set}
 use Rattle.ti_base.specs.declared.action.Action.{Action}
 use Rattle.ti_base.specs.declared.action.Action.TheVariants as act
 use Rattle.ti_base.specs.declared.entry.Entry.{Entry}
-use Rattle.ti_lang.specs.Meaning.Processes.{Setting}
+use Rattle.ti_lang.specs.Meaning.Processes.{RunConfig}
 use Rattle.ti_lang.specs.Meaning.Histories.{is_end, is_fault, is_arrival, is_answered, entries_of, has_end, has_fault}
 use Rattle.ti_lang.specs.Meaning.Runs.{IsRun, IsSolo, more}
 use Rattle.ti_lang.proofs.Lemmas.{taker}
 use Rattle.ti_align.specs.Alignment.{OfEveryRun}
 use Rattle.ti_align.specs.Stopping.{RoundsBalance}
 use Rattle.ti_align.proofs.Lemmas.{or_right}
-use Rattle.ti_store.specs.Conditions.{IsWithin}
-use Rattle.ti_store.specs.Stores.{StoreState, setting_of}
+use Rattle.ti_store.specs.Conditions.{IsWithinRunLimits}
+use Rattle.ti_store.specs.Stores.{StoreState, config_of}
 use Rattle.ti_store.proofs.Lemmas.{fault_more, end_more, other_more}
 use Rattle.ti_code.specs.Programs.{Code}
 use Rattle.ti_runtime.specs.declared.cursor.SoloCursor.{SoloCursor}
@@ -23,8 +23,8 @@ use Rattle.ti_runtime.specs.declared.cursor.TurnOutcome.TheVariants as turn
 use Rattle.ti_runtime.specs.declared.pending.PendingProc.{PendingProc}
 use Rattle.ti_runtime.specs.declared.pending.RunStop.{RunStop}
 use Rattle.ti_runtime.specs.declared.pending.RunStop.TheVariants as stop
-use Rattle.ti_runtime.specs.Mirrors.Waiting.{Waits, Rests}
-use Rattle.ti_runtime.specs.Mirrors.Processes.{IsOpen, Seated, AllSeated, Takes, steps_left, all_steps_left, GoesOn, Keeps, StopsAt, TurnLeaves, cursor_after, Points, Stands, StandsOn, Stopped}
+use Rattle.ti_runtime.specs.Mirrors.Waiting.{IsBlocked, IsBlockedOrEnded}
+use Rattle.ti_runtime.specs.Mirrors.Processes.{IsOpen, IsUpToDate, AllUpToDate, TakesEntry, steps_left, all_steps_left, Progresses, DoesNothing, StopsAt, TurnLeaves, cursor_after, Points, IsSoloState, SoloProgresses, HasStopped}
 use Rattle.ti_runtime.proofs.Seats.{seated_with}
 use Rattle.ti_runtime.proofs.Waiting.{rest_takes_none, rests_still, wait_together}
 use Rattle.ti_runtime.proofs.Endings.{none_below}
@@ -33,12 +33,12 @@ true_false : true ≡ false → ⊥
 true_false e = cc
 
 -- what holds of every run of a program holds of this one
-pub law_of : (fact : Setting → List Entry → Type 0) (s : Setting) (es : List Entry) → OfEveryRun fact s.program → IsWithin s.procs s.fuel → IsRun s es → fact s es
+pub law_of : (fact : RunConfig → List Entry → Type 0) (s : RunConfig) (es : List Entry) → OfEveryRun fact s.program → IsWithinRunLimits s.procs s.fuel → IsRun s es → fact s es
 law_of fact s es all w run = all s.procs s.fuel es w.some w.few w.fueled w.limited run
 
 -- a store that grows is of the same setting
-pub same_setting : (old new : StoreState) → new ≡ record old { entries = new.entries } → setting_of new ≡ setting_of old
-same_setting old new is = ap setting_of is
+pub same_setting : (old new : StoreState) → new ≡ record old { entries = new.entries } → config_of new ≡ config_of old
+same_setting old new is = ap config_of is
 
 -- a store goes on being open as it grows
 pub open_on : (code : Code) (old new : StoreState) → new ≡ record old { entries = new.entries } → has_fault new.entries ≡ false → IsOpen code old → IsOpen code new
@@ -49,13 +49,13 @@ open_on code old new is f o = subst (IsOpen code) (sym is) (record { goes_on = f
 or_false : (a b : Bool) → a ≡ false → b ≡ false → (a || b) ≡ false
 or_false a b x y = rw (x, y) refl
 
-module _ (s : Setting) (es all : List Entry) (i : ℕ) (t : Takes s es i all) where
+module _ (s : RunConfig) (es all : List Entry) (i : ℕ) (t : TakesEntry s es i all) where
   -- it is a run still
   pub run_on : IsRun s es → IsRun s all
   run_on run = more run t.can t.after
 
   -- and the solo run, where it was
-  pub solo_on : IsSolo s es → ((j : ℕ) → j < i → Rests s es j) → IsSolo s all
+  pub solo_on : IsSolo s es → ((j : ℕ) → j < i → IsBlockedOrEnded s es j) → IsSolo s all
   solo_on solo rest = more solo t.can (λ j d l. rest_takes_none s es j d (rest j l)) t.after
 
   pub no_fault_on : is_fault t.entry.act ≡ false → has_fault all ≡ false
@@ -73,36 +73,36 @@ module _ (s : Setting) (es all : List Entry) (i : ℕ) (t : Takes s es i all) wh
   other_on j h = ap (entries_of j) t.after ∙ other_more j es t.entry (ap (λ k. k == j) (taker s es i t.entry t.can) ∙ h)
 
   -- who rests does so still, unless it was an arrival
-  pub rests_on : (j : ℕ) → (i == j) ≡ false → is_arrival t.entry.act ≡ false → Rests s es j → Rests s all j
+  pub rests_on : (j : ℕ) → (i == j) ≡ false → is_arrival t.entry.act ≡ false → IsBlockedOrEnded s es j → IsBlockedOrEnded s all j
   rests_on j h a r = rests_still s es all j t.entry t.after (ap (λ k. k == j) (taker s es i t.entry t.can) ∙ h) a r
 
 -- ---- processes
 
 -- a process that took no entry is still up to date after entries of others
-pub seated_still : (code : Code) (s : Setting) (es all : List Entry) (i : ℕ) (pending : PendingProc) → entries_of i all ≡ entries_of i es → Seated code s es i pending → Seated code s all i pending
+pub seated_still : (code : Code) (s : RunConfig) (es all : List Entry) (i : ℕ) (pending : PendingProc) → entries_of i all ≡ entries_of i es → IsUpToDate code s es i pending → IsUpToDate code s all i pending
 seated_still code s es all i pending same y =
     seated_with code s es all i pending pending.ended (ap (λ own. map (λ (e : Entry). e.answer) (filter is_answered own)) same) (ap (list_any (λ (e : Entry). is_end e.act)) same ∙ y.ended) y
 
-module _ (code : Code) (s : Setting) (es all : List Entry) (processes : List PendingProc) (i : ℕ) (new : PendingProc) (y : Seated code s all i new) (inside : i < length processes) where
+module _ (code : Code) (s : RunConfig) (es all : List Entry) (processes : List PendingProc) (i : ℕ) (new : PendingProc) (y : IsUpToDate code s all i new) (inside : i < length processes) where
   -- one process is replaced, and the others are up to date with more entries
-  seated_set : ((d : PendingProc) (j : ℕ) → j < length processes → (i == j) ≡ false → Seated code s all j (get_or processes j d)) → AllSeated code s all (slice_set processes i new)
+  seated_set : ((d : PendingProc) (j : ℕ) → j < length processes → (i == j) ≡ false → IsUpToDate code s all j (get_or processes j d)) → AllUpToDate code s all (slice_set processes i new)
   seated_set others d j l = by (i == j) refl
     where
-      by : (b : Bool) → (i == j) ≡ b → Seated code s all j (get_or (slice_set processes i new) j d)
+      by : (b : Bool) → (i == j) ≡ b → IsUpToDate code s all j (get_or (slice_set processes i new) j d)
       by true h =
           let same : i ≡ j = eqb-true i j h in
-          subst (λ k. Seated code s all k (get_or (slice_set processes i new) k d)) same (subst (Seated code s all i) (sym (get_or-set_same processes i new d inside)) y)
+          subst (λ k. IsUpToDate code s all k (get_or (slice_set processes i new) k d)) same (subst (IsUpToDate code s all i) (sym (get_or-set_same processes i new d inside)) y)
       by false h =
-          subst (Seated code s all j) (sym (get_or-set_other processes i j new d (λ e. eqb-false i j h (sym e)))) (others d j (subst (λ n. j < n) (length-set processes i new) l) h)
+          subst (IsUpToDate code s all j) (sym (get_or-set_other processes i j new d (λ e. eqb-false i j h (sym e)))) (others d j (subst (λ n. j < n) (length-set processes i new) l) h)
 
-  pub seated_on : Takes s es i all → AllSeated code s es processes → AllSeated code s all (slice_set processes i new)
+  pub seated_on : TakesEntry s es i all → AllUpToDate code s es processes → AllUpToDate code s all (slice_set processes i new)
   seated_on t seated = seated_set (λ d j l h. seated_still code s es all j (get_or processes j d) (other_on s es all i t j h) (seated d j l))
 
   -- by no entry
-  pub seated_kept : all ≡ es → AllSeated code s es processes → AllSeated code s all (slice_set processes i new)
-  seated_kept same seated = seated_set (λ d j l h. subst (λ xs. Seated code s xs j (get_or processes j d)) (sym same) (seated d j l))
+  pub seated_kept : all ≡ es → AllUpToDate code s es processes → AllUpToDate code s all (slice_set processes i new)
+  seated_kept same seated = seated_set (λ d j l h. subst (λ xs. IsUpToDate code s xs j (get_or processes j d)) (sym same) (seated d j l))
 
-pub lighter_on : (s : Setting) (processes : List PendingProc) (i : ℕ) (old new : PendingProc) → i < length processes → old ≡ get_or processes i old → steps_left s new < steps_left s old
+pub lighter_on : (s : RunConfig) (processes : List PendingProc) (i : ℕ) (old new : PendingProc) → i < length processes → old ≡ get_or processes i old → steps_left s new < steps_left s old
     → all_steps_left s (slice_set processes i new) < all_steps_left s processes
 lighter_on s processes i old new inside is lighter =
     let sums = sum_by-set (steps_left s) processes i new old inside in
@@ -112,7 +112,7 @@ lighter_on s processes i old new inside is lighter =
     fewer : (a b c d e : ℕ) → a + b ≡ c + d → b ≡ e → d < e → a < c
     fewer a b c d e h k l = omega arith
 
-as_many_on : (s : Setting) (processes : List PendingProc) (i : ℕ) (old new : PendingProc) → i < length processes → old ≡ get_or processes i old → steps_left s new ≡ steps_left s old
+as_many_on : (s : RunConfig) (processes : List PendingProc) (i : ℕ) (old new : PendingProc) → i < length processes → old ≡ get_or processes i old → steps_left s new ≡ steps_left s old
     → all_steps_left s (slice_set processes i new) ≡ all_steps_left s processes
 as_many_on s processes i old new inside is as_many =
     let sums = sum_by-set (steps_left s) processes i new old inside in
@@ -163,51 +163,51 @@ up_to m p h = omega arith
 less : (m p : ℕ) → m < p → m ≤ p
 less m p h = omega arith
 
-module _ (s : Setting) (es : List Entry) (c : SoloCursor) (p : Points s es c) (inside : c.at < s.procs) where
+module _ (s : RunConfig) (es : List Entry) (c : SoloCursor) (p : Points s es c) (inside : c.next_proc < s.procs) where
   -- behind one that had its end
-  pub points_ended : has_end c.at es ≡ true → Points s es (cursor_after c turn.Ended)
+  pub points_ended : has_end c.next_proc es ≡ true → Points s es (cursor_after c turn.Finished)
   points_ended e = record {
-    most = up_to c.at s.procs inside;
+    most = up_to c.next_proc s.procs inside;
     few = p.few;
-    before = at_or_before (Rests s es) c.at p.before (inl e);
-    run_threaded = p.run_threaded;
+    before = at_or_before (IsBlockedOrEnded s es) c.next_proc p.before (inl e);
+    all_blocked = p.all_blocked;
   }
 
   -- behind one that waits
-  pub points_waits : Waits s es c.at → Points s es (cursor_after c turn.Waits)
+  pub points_waits : IsBlocked s es c.next_proc → Points s es (cursor_after c turn.Blocked)
   points_waits w = record {
-    most = at_most c.at c.waiting s.procs inside p.few;
+    most = at_most c.next_proc c.blocked_below s.procs inside p.few;
     few = p.few;
-    before = by (nat_lt c.at c.waiting) refl;
-    run_threaded = p.run_threaded;
+    before = by (nat_lt c.next_proc c.blocked_below) refl;
+    all_blocked = p.all_blocked;
   }
     where
-      passed : (i : ℕ) → i < c.at + 1 → Rests s es i
-      passed = at_or_before (Rests s es) c.at p.before (inr w)
+      passed : (i : ℕ) → i < c.next_proc + 1 → IsBlockedOrEnded s es i
+      passed = at_or_before (IsBlockedOrEnded s es) c.next_proc p.before (inr w)
 
-      by : (b : Bool) → nat_lt c.at c.waiting ≡ b → (i : ℕ) → i < max (c.at + 1) c.waiting → Rests s es i
-      by true h = either_before (Rests s es) (c.at + 1) c.waiting passed (p.run_threaded c.at (ltb-true c.at c.waiting h) w)
-      by false h = λ i l. passed i (first i c.at c.waiting l (ltb-false c.at c.waiting h))
+      by : (b : Bool) → nat_lt c.next_proc c.blocked_below ≡ b → (i : ℕ) → i < max (c.next_proc + 1) c.blocked_below → IsBlockedOrEnded s es i
+      by true h = either_before (IsBlockedOrEnded s es) (c.next_proc + 1) c.blocked_below passed (p.all_blocked c.next_proc (ltb-true c.next_proc c.blocked_below h) w)
+      by false h = λ i l. passed i (first i c.next_proc c.blocked_below l (ltb-false c.next_proc c.blocked_below h))
         where
           first : (i m n : ℕ) → i < max (m + 1) n → n ≤ m → i < m + 1
           first i m n l h = omega arith
 
   -- behind one that went on
-  pub points_went : (all : List Entry) → (t : Takes s es c.at all) → is_arrival t.entry.act ≡ false → Points s all (cursor_after c turn.Went)
+  pub points_went : (all : List Entry) → (t : TakesEntry s es c.next_proc all) → is_arrival t.entry.act ≡ false → Points s all (cursor_after c turn.Progressed)
   points_went all t a = record {
     most = p.most;
     few = no_more s.procs;
-    before = λ i l. rests_on s es all c.at t i (below c.at i l) a (p.before i l);
-    run_threaded = λ i l. none_below (λ i. Waits s all i → (j : ℕ) → j < 0 → Rests s all j) i l;
+    before = λ i l. rests_on s es all c.next_proc t i (below c.next_proc i l) a (p.before i l);
+    all_blocked = λ i l. none_below (λ i. IsBlocked s all i → (j : ℕ) → j < 0 → IsBlockedOrEnded s all j) i l;
   }
 
   -- behind one that arrived
-  pub points_arrived : IsRun s es → RoundsBalance s es → (all : List Entry) → (t : Takes s es c.at all) → is_arrival t.entry.act ≡ true → Points s all (cursor_after c turn.Arrived)
+  pub points_arrived : IsRun s es → RoundsBalance s es → (all : List Entry) → (t : TakesEntry s es c.next_proc all) → is_arrival t.entry.act ≡ true → Points s all (cursor_after c turn.Arrived)
   points_arrived run balance all t a = record {
     most = no_more s.procs;
-    few = less c.at s.procs inside;
-    before = λ i l. none_below (Rests s all) i l;
-    run_threaded = λ i l w j k. wait_together s es all c.at t.entry run balance t.can t.after a p.before i l w j k;
+    few = less c.next_proc s.procs inside;
+    before = λ i l. none_below (IsBlockedOrEnded s all) i l;
+    all_blocked = λ i l w j k. wait_together s es all c.next_proc t.entry run balance t.can t.after a p.before i l w j k;
   }
 
 -- ---- turns
@@ -231,55 +231,55 @@ further m n = omega arith
 one_further : (m : ℕ) → m < m + 1
 one_further m = omega arith
 
-module _ (code : Code) (s : Setting) (es : List Entry) (processes : List PendingProc) (c : SoloCursor) (x : Stands code s es processes c) (inside : c.at < s.procs) (old : PendingProc) (is : old ≡ get_or processes c.at old) where
-  within : c.at < length processes
-  within = subst (λ n. c.at < n) (sym x.count) inside
+module _ (code : Code) (s : RunConfig) (es : List Entry) (processes : List PendingProc) (c : SoloCursor) (x : IsSoloState code s es processes c) (inside : c.next_proc < s.procs) (old : PendingProc) (is : old ≡ get_or processes c.next_proc old) where
+  within : c.next_proc < length processes
+  within = subst (λ n. c.next_proc < n) (sym x.count) inside
 
   -- by an entry
-  onward : (all : List Entry) (new : PendingProc) (arrives : Bool) (d : SoloCursor) → GoesOn code s es c.at old all new arrives → Points s all d → StandsOn code s es processes c all (slice_set processes c.at new) d
+  onward : (all : List Entry) (new : PendingProc) (arrives : Bool) (d : SoloCursor) → Progresses code s es c.next_proc old all new arrives → Points s all d → SoloProgresses code s es processes c all (slice_set processes c.next_proc new) d
   onward all new arrives d g p = record {
-    solo = λ solo. solo_on s es all c.at g.takes solo x.points.before;
+    solo = λ solo. solo_on s es all c.next_proc g.takes solo x.points.before;
     stands = record {
-      run = run_on s es all c.at g.takes x.run;
-      goes_on = no_fault_on s es all c.at g.takes g.no_fault;
-      count = length-set processes c.at new ∙ x.count;
-      seated = seated_on code s es all processes c.at new g.seated within g.takes x.seated;
+      run = run_on s es all c.next_proc g.takes x.run;
+      goes_on = no_fault_on s es all c.next_proc g.takes g.no_fault;
+      count = length-set processes c.next_proc new ∙ x.count;
+      seated = seated_on code s es all processes c.next_proc new g.seated within g.takes x.seated;
       points = p;
     };
-    lighter = falls (all_steps_left s (slice_set processes c.at new)) (all_steps_left s processes) s.procs d.at c.at (lighter_on s processes c.at old new within is g.lighter);
+    lighter = falls (all_steps_left s (slice_set processes c.next_proc new)) (all_steps_left s processes) s.procs d.next_proc c.next_proc (lighter_on s processes c.next_proc old new within is g.lighter);
   }
 
   -- by none
-  rested : (all : List Entry) (new : PendingProc) (d : SoloCursor) → Keeps code s es c.at old all new → Points s es d → c.at < d.at → StandsOn code s es processes c all (slice_set processes c.at new) d
-  rested all new d k p l = subst (λ xs. StandsOn code s es processes c xs (slice_set processes c.at new) d) (sym k.entries) (record {
+  rested : (all : List Entry) (new : PendingProc) (d : SoloCursor) → DoesNothing code s es c.next_proc old all new → Points s es d → c.next_proc < d.next_proc → SoloProgresses code s es processes c all (slice_set processes c.next_proc new) d
+  rested all new d k p l = subst (λ xs. SoloProgresses code s es processes c xs (slice_set processes c.next_proc new) d) (sym k.entries) (record {
     solo = λ solo. solo;
     stands = record {
       run = x.run;
       goes_on = x.goes_on;
-      count = length-set processes c.at new ∙ x.count;
-      seated = seated_kept code s es es processes c.at new k.seated within refl x.seated;
+      count = length-set processes c.next_proc new ∙ x.count;
+      seated = seated_kept code s es es processes c.next_proc new k.seated within refl x.seated;
       points = p;
     };
-    lighter = subst (λ n. n * (s.procs + 1) + (s.procs - d.at) < all_steps_left s processes * (s.procs + 1) + (s.procs - c.at))
-        (sym (as_many_on s processes c.at old new within is k.as_many)) (falls_same (all_steps_left s processes * (s.procs + 1)) s.procs d.at c.at l inside);
+    lighter = subst (λ n. n * (s.procs + 1) + (s.procs - d.next_proc) < all_steps_left s processes * (s.procs + 1) + (s.procs - c.next_proc))
+        (sym (as_many_on s processes c.next_proc old new within is k.as_many)) (falls_same (all_steps_left s processes * (s.procs + 1)) s.procs d.next_proc c.next_proc l inside);
   })
 
-  pub turned : RoundsBalance s es → (all : List Entry) (new : PendingProc) (t : TurnOutcome) → TurnLeaves code s es c.at old all new (Ok t)
-      → StandsOn code s es processes c all (slice_set processes c.at new) (cursor_after c t)
+  pub turned : RoundsBalance s es → (all : List Entry) (new : PendingProc) (t : TurnOutcome) → TurnLeaves code s es c.next_proc old all new (Ok t)
+      → SoloProgresses code s es processes c all (slice_set processes c.next_proc new) (cursor_after c t)
   turned balance all new turn.Arrived g = onward all new true (cursor_after c turn.Arrived) g (points_arrived s es c x.points inside x.run balance all g.takes g.arrives_is)
-  turned balance all new turn.Went g = onward all new false (cursor_after c turn.Went) g (points_went s es c x.points inside all g.takes g.arrives_is)
-  turned balance all new turn.Ended g = rested all new (cursor_after c turn.Ended) g.0 (points_ended s es c x.points inside g.1) (one_further c.at)
-  turned balance all new turn.Waits g = rested all new (cursor_after c turn.Waits) g.0 (points_waits s es c x.points inside g.1) (further c.at c.waiting)
+  turned balance all new turn.Progressed g = onward all new false (cursor_after c turn.Progressed) g (points_went s es c x.points inside all g.takes g.arrives_is)
+  turned balance all new turn.Finished g = rested all new (cursor_after c turn.Finished) g.0 (points_ended s es c x.points inside g.1) (one_further c.next_proc)
+  turned balance all new turn.Blocked g = rested all new (cursor_after c turn.Blocked) g.0 (points_waits s es c x.points inside g.1) (further c.next_proc c.blocked_below)
 
   -- a run that stops at this turn
-  pub stopped : (all : List Entry) (new : PendingProc) (why : RunStop) → StopsAt s es c.at all why → Seated code s all c.at new → Stopped code s es all (slice_set processes c.at new) why
+  pub stopped : (all : List Entry) (new : PendingProc) (why : RunStop) → StopsAt s es c.next_proc all why → IsUpToDate code s all c.next_proc new → HasStopped code s es all (slice_set processes c.next_proc new) why
   stopped all new stop.Faulted t y = record {
-    run = run_on s es all c.at t.0 x.run;
-    solo = λ solo. solo_on s es all c.at t.0 solo x.points.before;
-    fault = (λ e. fault_on s es all c.at t.0 t.1, λ h. refl);
-    unended = λ ended. true_false (sym (ended c.at inside) ∙ unended_on s es all c.at t.0 (fault_no_end t.0.entry.act t.1));
-    count = length-set processes c.at new ∙ x.count;
-    seated = seated_on code s es all processes c.at new y within t.0 x.seated;
+    run = run_on s es all c.next_proc t.0 x.run;
+    solo = λ solo. solo_on s es all c.next_proc t.0 solo x.points.before;
+    fault = (λ e. fault_on s es all c.next_proc t.0 t.1, λ h. refl);
+    unended = λ ended. true_false (sym (ended c.next_proc inside) ∙ unended_on s es all c.next_proc t.0 (fault_no_end t.0.entry.act t.1));
+    count = length-set processes c.next_proc new ∙ x.count;
+    seated = seated_on code s es all processes c.next_proc new y within t.0 x.seated;
   }
     where
       fault_no_end : (a : Action) → is_fault a ≡ true → is_end a ≡ false
@@ -289,7 +289,7 @@ module _ (code : Code) (s : Setting) (es : List Entry) (processes : List Pending
     run = subst (IsRun s) (sym t.0) x.run;
     solo = λ solo. subst (IsSolo s) (sym t.0) solo;
     fault = (λ e. cc, λ h. absurd (true_false (sym h ∙ ap has_fault t.0 ∙ x.goes_on)));
-    unended = λ ended. true_false (sym (ended c.at inside) ∙ ap (has_end c.at) t.0 ∙ t.1);
-    count = length-set processes c.at new ∙ x.count;
-    seated = seated_kept code s es all processes c.at new y within t.0 x.seated;
+    unended = λ ended. true_false (sym (ended c.next_proc inside) ∙ ap (has_end c.next_proc) t.0 ∙ t.1);
+    count = length-set processes c.next_proc new ∙ x.count;
+    seated = seated_kept code s es all processes c.next_proc new y within t.0 x.seated;
   }

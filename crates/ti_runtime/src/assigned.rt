@@ -10,11 +10,11 @@ use crate::task::Task;
 use std::alloc::Global;
 use ti_base::Memory;
 use ti_code::Code;
-use ti_store::{Store, Terms};
+use ti_store::{RunConfigOf, Store};
 use ti_turnstile::{Pass, Turnstile};
 
 // Adds a process at the front of a group.
-fn put<J: Terms + CodeOf>(
+fn put<J: RunConfigOf + CodeOf>(
     turnstile: &Turnstile<Store<J>>,
     groups: &mut Vec<Vec<Task<J>>>,
     group: usize,
@@ -32,7 +32,7 @@ fn put<J: Terms + CodeOf>(
 }
 
 /// Makes a process for each pass, in the group of its worker. None of them has computed anything.
-pub fn assign_to_workers<J: Terms + CodeOf>(
+pub fn assign_to_workers<J: RunConfigOf + CodeOf>(
     alloc: Global,
     code: &Code,
     turnstile: &Turnstile<Store<J>>,
@@ -43,9 +43,9 @@ pub fn assign_to_workers<J: Terms + CodeOf>(
 ) -> Result<Vec<Vec<Task<J>>>, Memory>
     requires workers { 0 < workers }
     requires code { code.now ≡ J.code }
-    requires may { RunPremises J.code J.setting }
-    requires procs { procs ≡ J.setting.procs }
-    requires fuel { fuel ≡ J.setting.fuel }
+    requires may { RunPremises J.code J.config }
+    requires procs { procs ≡ J.config.procs }
+    requires fuel { fuel ≡ J.config.fuel }
     requires count { length passes.items ≡ procs }
     requires passes { AreNew (identity_of turnstile.now) passes.items }
     ensures groups { IfOk result (λ gs. All (λ v. All (BelongsTo (identity_of turnstile.now)) v.items) gs.items) }

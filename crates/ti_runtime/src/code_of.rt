@@ -2,7 +2,7 @@
 
 use std::marker::Brand;
 
-/// The code of a run, named by a type, as `Terms` names its program, number of processes and fuel.
+/// The code of a run, named by a type, as `RunConfigOf` names its program, number of processes and fuel.
 pub trait CodeOf {
     ghost use Rattle.ti_code.specs.Programs.{Code as Methods};
 

@@ -5,20 +5,20 @@ ghost use Rattle.std.specs.Prelude.{◌≡◌, ◌≢◌, ◌<◌, ◌≤◌, �
 ghost use Rattle.ti_turnstile.specs.Turnstiles.{identity_of, passes_of, AreOf};
 ghost use Rattle.ti_runtime.specs.declared.pending.PendingProc.{PendingProc as OneProc};
 ghost use Rattle.ti_runtime.specs.Mirrors.Tasks.{BelongsTo};
-ghost use Rattle.ti_runtime.specs.Mirrors.Joined.{NoneStands, IsBack, ArePlaced};
-ghost use Rattle.ti_runtime.specs.Mirrors.Processes.{AllSeated};
+ghost use Rattle.ti_runtime.specs.Mirrors.Joined.{NoneFilled, IsBack, ArePlaced};
+ghost use Rattle.ti_runtime.specs.Mirrors.Processes.{AllUpToDate};
 
 use crate::code_of::CodeOf;
 use crate::pending::PendingProc;
 use crate::task::Task;
 use std::alloc::Global;
 use ti_base::{Entry, Memory};
-use ti_store::{Store, Terms};
+use ti_store::{RunConfigOf, Store};
 use ti_turnstile::{Kept, Pass, Turnstile};
 
 /// Empty vectors for the passes and the processes that come back, with room for all of them.
 #[derive(Drop)]
-pub struct JoinBuffers<J: Terms>
+pub struct JoinBuffers<J: RunConfigOf>
 where
     Store<J>: Kept<Item = Entry>,
 {
@@ -29,13 +29,13 @@ where
 
 /// The store with all entries, and all processes in the order of their numbers.
 #[derive(Drop)]
-pub struct Joined<J: Terms> {
+pub struct Joined<J: RunConfigOf> {
     pub store: Store<J>,
     pub processes: Vec<PendingProc>,
 }
 
 // All passes, and a place for each process, the last process first.
-struct Unsorted<J: Terms>
+struct Unsorted<J: RunConfigOf>
 where
     Store<J>: Kept<Item = Entry>,
 {
@@ -46,7 +46,7 @@ where
 // An empty place for each process.
 fn free_places(alloc: Global, procs: u32) -> Result<Vec<Option<PendingProc>>, Memory>
     ensures count { IfOk result (λ v. length v.items ≡ procs) }
-    ensures free { IfOk result (λ v. NoneStands v.items) }
+    ensures free { IfOk result (λ v. NoneFilled v.items) }
 {
     let mut places = Vec::with_capacity(alloc, procs as usize)?;
     for _p in 0..procs {
@@ -56,9 +56,9 @@ fn free_places(alloc: Global, procs: u32) -> Result<Vec<Option<PendingProc>>, Me
 }
 
 /// Allocates for `procs` processes.
-pub fn room_for<J: Terms>(alloc: Global, procs: u32) -> Result<JoinBuffers<J>, Memory>
+pub fn room_for<J: RunConfigOf>(alloc: Global, procs: u32) -> Result<JoinBuffers<J>, Memory>
     ensures passes { IfOk result (λ r. (r.passes.items ≡ []) × (procs ≤ vec_capacity r.passes)) }
-    ensures places { IfOk result (λ r. (length r.places.items ≡ procs) × NoneStands r.places.items) }
+    ensures places { IfOk result (λ r. (length r.places.items ≡ procs) × NoneFilled r.places.items) }
     ensures processes { IfOk result (λ r. (r.processes.items ≡ []) × (procs ≤ vec_capacity r.processes)) }
 {
     let passes = Vec::with_capacity(alloc, procs as usize)?;
@@ -72,7 +72,7 @@ pub fn room_for<J: Terms>(alloc: Global, procs: u32) -> Result<JoinBuffers<J>, M
 }
 
 // Takes the tasks apart, and puts each process into its place.
-fn place_all<J: Terms + CodeOf>(
+fn place_all<J: RunConfigOf + CodeOf>(
     turnstile: &Turnstile<Store<J>>,
     mut tasks: Vec<Task<J>>,
     mut passes: Vec<Pass<Store<J>>>,
@@ -81,13 +81,13 @@ fn place_all<J: Terms + CodeOf>(
     requires tasks { All (BelongsTo (identity_of turnstile.now)) tasks.items }
     requires passes { passes.items ≡ [] }
     requires room { vec_len tasks ≤ vec_capacity passes }
-    requires places { length places.items ≡ J.setting.procs }
-    requires free { NoneStands places.items }
+    requires places { length places.items ≡ J.config.procs }
+    requires free { NoneFilled places.items }
     ensures count { length result.passes.items ≡ length tasks.items }
     ensures turnstile { AreOf (identity_of turnstile.now) result.passes.items }
-    ensures places { length result.places.items ≡ J.setting.procs }
-    ensures placed { ArePlaced J.setting.procs result.places.items result.passes.items }
-    ensures back { IsBack J.code J.setting result.places.items result.passes.items }
+    ensures places { length result.places.items ≡ J.config.procs }
+    ensures placed { ArePlaced J.config.procs result.places.items result.passes.items }
+    ensures back { IsBack J.code J.config result.places.items result.passes.items }
 {
     let last = places.len();
     while let Some(task) = tasks.pop() {
@@ -120,19 +120,19 @@ fn in_order(
 }
 
 /// Closes the turnstile with all passes, and returns the store and the processes in the order of their numbers.
-pub fn join_workers<J: Terms + CodeOf>(
+pub fn join_workers<J: RunConfigOf + CodeOf>(
     turnstile: Turnstile<Store<J>>,
     tasks: Vec<Task<J>>,
     room: JoinBuffers<J>,
 ) -> Joined<J>
     requires turnstile { All (BelongsTo (identity_of turnstile)) tasks.items }
     requires all { length tasks.items ≡ passes_of turnstile }
-    requires procs { passes_of turnstile ≡ J.setting.procs }
-    requires passes { (room.passes.items ≡ []) × (J.setting.procs ≤ vec_capacity room.passes) }
-    requires places { (length room.places.items ≡ J.setting.procs) × NoneStands room.places.items }
-    requires processes { (room.processes.items ≡ []) × (J.setting.procs ≤ vec_capacity room.processes) }
-    ensures count { length result.processes.items ≡ J.setting.procs }
-    ensures seated { AllSeated J.code J.setting result.store.entries result.processes.items }
+    requires procs { passes_of turnstile ≡ J.config.procs }
+    requires passes { (room.passes.items ≡ []) × (J.config.procs ≤ vec_capacity room.passes) }
+    requires places { (length room.places.items ≡ J.config.procs) × NoneFilled room.places.items }
+    requires processes { (room.processes.items ≡ []) × (J.config.procs ≤ vec_capacity room.processes) }
+    ensures count { length result.processes.items ≡ J.config.procs }
+    ensures seated { AllUpToDate J.code J.config result.store.entries result.processes.items }
 {
     let JoinBuffers {
         passes,

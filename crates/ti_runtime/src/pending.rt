@@ -6,17 +6,17 @@ ghost use Rattle.std.specs.Prelude.{◌≡◌, ◌<◌, ◌^◌, [], true, false
 ghost use Rattle.ti_lang.specs.Meaning.Histories.{is_arrival};
 ghost use Rattle.ti_lang.specs.Meaning.Runs.{IsRun};
 ghost use Rattle.ti_eval.specs.Forms.{IsFormedAnswer};
-ghost use Rattle.ti_machine.specs.Standing.{GoesOn, HasNext, is_act};
-ghost use Rattle.ti_store.specs.Stores.{setting_of};
-ghost use Rattle.ti_runtime.specs.Mirrors.Processes.{action_for, asking, Seated, Hears, IsOpen, TurnLeaves};
+ghost use Rattle.ti_machine.specs.ProcView.{CanAdvance, HasNext, is_act};
+ghost use Rattle.ti_store.specs.Stores.{config_of};
+ghost use Rattle.ti_runtime.specs.Mirrors.Processes.{action_for, with_awaits, IsUpToDate, ReceivesAnswer, IsOpen, TurnLeaves};
 
 use crate::cursor::TurnOutcome;
 use std::alloc::Global;
 use ti_base::{Action, Answer, Memory, Next, Place};
 use ti_code::Code;
 use ti_io::Gate;
-use ti_machine::{Proc, has_one_next};
-use ti_store::{ActErr, Store, Terms};
+use ti_machine::{Proc, next_is_unique};
+use ti_store::{ActErr, RunConfigOf, Store};
 
 /// Why a run stops before all processes have ended.
 #[derive(Clone, Copy)]
@@ -47,12 +47,12 @@ pub fn as_action(next: Next) -> (Place, Action)
 
 // The outcome of an action that was performed.
 fn turn_of(action: Action) -> TurnOutcome
-    ensures { result ≡ (if is_arrival action then TurnOutcome.Arrived else TurnOutcome.Went) }
+    ensures { result ≡ (if is_arrival action then TurnOutcome.Arrived else TurnOutcome.Progressed) }
 {
     if matches!(action, Action::Arrive { .. }) {
         TurnOutcome::Arrived
     } else {
-        TurnOutcome::Went
+        TurnOutcome::Progressed
     }
 }
 
@@ -67,9 +67,9 @@ impl PendingProc {
     ) -> Result<PendingProc, Memory>
         requires number { number < 2 ^ 31 }
         requires procs { procs < 2 ^ 31 }
-        requires goes { GoesOn (record { code = code.now; procs = procs; fuel = fuel; number = number; told = []; asks = false }) }
+        requires goes { CanAdvance (record { code = code.now; procs = procs; fuel = fuel; number = number; answers = []; asks = false }) }
         ensures { IfOk result (λ pending. pending ≡ record {
-          process = record { code = code.now; procs = procs; fuel = fuel; number = number; told = []; asks = false };
+          process = record { code = code.now; procs = procs; fuel = fuel; number = number; answers = []; asks = false };
           ended = false;
         }) }
     {
@@ -83,30 +83,30 @@ impl PendingProc {
     /// Runs the process to its next action, and returns that. A process that is there already computes nothing.
     pub fn advance(&mut self, alloc: Global, code: &Code) -> Result<Next, Memory>
         requires code { code.now ≡ self.old.process.code }
-        requires goes { GoesOn self.old.process }
+        requires goes { CanAdvance self.old.process }
         ensures next { IfOk result (λ n. HasNext self.old.process n) }
-        ensures asks { IfOk result (λ n. self.new ≡ asking (is_act n) self.old) }
-        ensures memory { IfErr result (λ _. self.new ≡ asking false self.old) }
+        ensures asks { IfOk result (λ n. self.new ≡ with_awaits (is_act n) self.old) }
+        ensures memory { IfErr result (λ _. self.new ≡ with_awaits false self.old) }
     {
         self.process.advance(alloc, code)
     }
 
     /// Hands the process the answer to its action, or ends it.
-    pub fn hear(&mut self, next: Next, answer: Answer) -> TurnOutcome
+    pub fn resume_with(&mut self, next: Next, answer: Answer) -> TurnOutcome
         requires asks { is_act next ≡ true → self.old.process.asks ≡ true }
         requires form { IsFormedAnswer answer }
-        ensures { Hears self.old next answer self.new result }
+        ensures { ReceivesAnswer self.old next answer self.new result }
     {
         let Next::Act(_, action) = next else {
             self.ended = true;
-            return TurnOutcome::Went;
+            return TurnOutcome::Progressed;
         };
         self.process.answer(answer);
         turn_of(action)
     }
 
     /// One step: runs the process to its next action, passes the gate, and performs that action unless the process has to wait.
-    pub fn step_in<J: Terms, G: Gate>(
+    pub fn step_in<J: RunConfigOf, G: Gate>(
         &mut self,
         alloc: Global,
         code: &Code,
@@ -116,14 +116,14 @@ impl PendingProc {
     ) -> Result<TurnOutcome, RunStop>
         requires open { IsOpen code.now store.old }
         requires number { number < store.old.procs }
-        requires run { IsRun (setting_of store.old) store.old.entries }
-        requires seated { Seated code.now (setting_of store.old) store.old.entries number self.old }
-        ensures leaves { TurnLeaves code.now (setting_of store.old) store.old.entries number self.old store.new.entries self.new result }
+        requires run { IsRun (config_of store.old) store.old.entries }
+        requires seated { IsUpToDate code.now (config_of store.old) store.old.entries number self.old }
+        ensures leaves { TurnLeaves code.now (config_of store.old) store.old.entries number self.old store.new.entries self.new result }
         ensures store { store.new ≡ record store.old { entries = store.new.entries } }
     {
-        has_one_next();
+        next_is_unique();
         if self.ended {
-            return Ok(TurnOutcome::Ended);
+            return Ok(TurnOutcome::Finished);
         }
         let Ok(next) = self.advance(alloc, code) else {
             return Err(RunStop::Memory);
@@ -131,8 +131,8 @@ impl PendingProc {
         gate.pass(number);
         let (place, action) = as_action(next);
         match store.act(alloc, number, place, action) {
-            Ok(answer) => Ok(self.hear(next, answer)),
-            Err(ActErr::NotYet) => Ok(TurnOutcome::Waits),
+            Ok(answer) => Ok(self.resume_with(next, answer)),
+            Err(ActErr::NotYet) => Ok(TurnOutcome::Blocked),
             Err(ActErr::Faulted(_)) => Err(RunStop::Faulted),
             Err(ActErr::Halted) => Err(RunStop::Memory),
             Err(ActErr::Memory) => Err(RunStop::Memory),

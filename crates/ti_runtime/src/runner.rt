@@ -1,18 +1,18 @@
-// The public call: picks the type-level terms of a run, runs the workers, and finishes on the caller's thread.
+// The public call: picks the type-level configuration of a run, runs the workers, and finishes on the caller's thread.
 
 ghost use Rattle.std.specs.Prelude.{◌≡◌, ℕ, ◌≤◌, [], length, IfOk};
 ghost use Rattle.std.specs.List.{list_all};
 ghost use Rattle.ti_lang.specs.Program.Views.{program_of};
 ghost use Rattle.ti_lang.specs.Meaning.Histories.{is_fault, has_fault};
-ghost use Rattle.ti_lang.specs.Meaning.Processes.{Setting};
+ghost use Rattle.ti_lang.specs.Meaning.Processes.{RunConfig};
 ghost use Rattle.ti_lang.specs.Meaning.Runs.{IsRun};
 ghost use Rattle.ti_code.specs.Programs.{Code as Methods};
 ghost use Rattle.ti_code.specs.Follows.{Follows};
-ghost use Rattle.ti_store.specs.Conditions.{IsWithin};
-ghost use Rattle.ti_store.specs.Stores.{setting_of};
+ghost use Rattle.ti_store.specs.Conditions.{IsWithinRunLimits};
+ghost use Rattle.ti_store.specs.Stores.{config_of};
 ghost use Rattle.ti_runtime.specs.declared.pending.PendingProc.{PendingProc as OneProc};
 ghost use Rattle.ti_runtime.specs.Ran.{Ran};
-ghost use Rattle.ti_runtime.specs.Mirrors.Processes.{RunPremises, IsOpen, AllSeated, Stands, SoloOutcome};
+ghost use Rattle.ti_runtime.specs.Mirrors.Processes.{RunPremises, IsOpen, AllUpToDate, IsSoloState, SoloOutcome};
 
 use crate::assigned::assign_to_workers;
 use crate::code_of::CodeOf;
@@ -31,7 +31,7 @@ use ti_base::{Action, Entry, Memory};
 use ti_code::Code;
 use ti_io::Gate;
 use ti_rules::Checked;
-use ti_store::{Store, Terms};
+use ti_store::{RunConfigOf, Store};
 use ti_turnstile::Turnstile;
 
 /// How a run ended.
@@ -55,8 +55,8 @@ pub struct RunEnd {
 }
 
 // The result of a run that was out of memory before its first entry.
-fn unbegun(alloc: Global) -> RunEnd
-    ensures { (code : Methods) (s : Setting) (workers : ℕ) → 1 ≤ s.procs → Ran code s workers result }
+fn out_of_memory_end(alloc: Global) -> RunEnd
+    ensures { (code : Methods) (s : RunConfig) (workers : ℕ) → 1 ≤ s.procs → Ran code s workers result }
 {
     RunEnd {
         how: How::Memory,
@@ -66,7 +66,7 @@ fn unbegun(alloc: Global) -> RunEnd
 }
 
 // Runs all processes on this thread, until all have ended or the run stops.
-fn run_solo<J: Terms, G: Gate>(
+fn run_solo<J: RunConfigOf, G: Gate>(
     alloc: Global,
     code: &Code,
     gate: &G,
@@ -74,10 +74,10 @@ fn run_solo<J: Terms, G: Gate>(
     store: &mut Store<J>,
 ) -> How
     requires open { IsOpen code.now store.old }
-    requires stands { Stands code.now (setting_of store.old) store.old.entries scheduler.old.processes.items scheduler.old.cursor }
-    ensures { SoloOutcome code.now (setting_of store.old) store.old.entries store.new.entries scheduler.new.processes.items result }
+    requires stands { IsSoloState code.now (config_of store.old) store.old.entries scheduler.old.processes.items scheduler.old.cursor }
+    ensures { SoloOutcome code.now (config_of store.old) store.old.entries store.new.entries scheduler.new.processes.items result }
 {
-    'turns: while (scheduler.cursor.at as usize) < scheduler.processes.len() {
+    'turns: while (scheduler.cursor.next_proc as usize) < scheduler.processes.len() {
         match scheduler.step(alloc, code, gate, store) {
             Ok(()) => {}
             Err(RunStop::Faulted) => return How::Faulted,
@@ -96,7 +96,7 @@ fn faults(action: Action) -> bool
 
 // Whether the last entry of a run is a fault.
 fn ends_with_fault(entries: &[Entry]) -> bool
-    ensures { (s : Setting) → IsRun s entries.now → result ≡ has_fault entries.now }
+    ensures { (s : RunConfig) → IsRun s entries.now → result ≡ has_fault entries.now }
 {
     match entries.last() {
         Some(entry) => faults(entry.act),
@@ -113,7 +113,7 @@ fn have_ended(processes: &[PendingProc]) -> bool
 
 // Continues all processes on this thread after the workers, unless the run is over. If the workers ran out of memory, the store is halted and
 // refuses the first action.
-fn go_on<J: Terms + CodeOf, G: Gate>(
+fn go_on<J: RunConfigOf + CodeOf, G: Gate>(
     alloc: Global,
     code: &Code,
     gate: &G,
@@ -121,13 +121,13 @@ fn go_on<J: Terms + CodeOf, G: Gate>(
     store: &mut Store<J>,
 ) -> How
     requires code { code.now ≡ J.code }
-    requires may { RunPremises J.code J.setting }
-    requires count { length scheduler.old.processes.items ≡ J.setting.procs }
-    requires cursor { scheduler.old.cursor ≡ record { at = 0; waiting = 0 } }
-    requires seated { AllSeated J.code J.setting store.old.entries scheduler.old.processes.items }
-    ensures { SoloOutcome J.code J.setting store.old.entries store.new.entries scheduler.new.processes.items result }
+    requires may { RunPremises J.code J.config }
+    requires count { length scheduler.old.processes.items ≡ J.config.procs }
+    requires cursor { scheduler.old.cursor ≡ record { next_proc = 0; blocked_below = 0 } }
+    requires seated { AllUpToDate J.code J.config store.old.entries scheduler.old.processes.items }
+    ensures { SoloOutcome J.code J.config store.old.entries store.new.entries scheduler.new.processes.items result }
 {
-    store.knows_terms();
+    store.has_its_config();
     if ends_with_fault(store.history()) {
         return How::Faulted;
     }
@@ -138,7 +138,7 @@ fn go_on<J: Terms + CodeOf, G: Gate>(
 }
 
 // The result of the run, once the workers have handed back the store and the processes.
-fn finish<J: Terms + CodeOf, G: Gate>(
+fn finish<J: RunConfigOf + CodeOf, G: Gate>(
     alloc: Global,
     code: &Code,
     gate: &G,
@@ -146,11 +146,11 @@ fn finish<J: Terms + CodeOf, G: Gate>(
     done: Vec<u64>,
 ) -> RunEnd
     requires code { code.now ≡ J.code }
-    requires may { RunPremises J.code J.setting }
-    requires count { length joined.processes.items ≡ J.setting.procs }
-    requires seated { AllSeated J.code J.setting joined.store.entries joined.processes.items }
-    requires done { length done.items ≡ J.setting.procs }
-    ensures { (workers : ℕ) → (workers ≡ 1 → joined.store.entries ≡ []) → Ran J.code J.setting workers result }
+    requires may { RunPremises J.code J.config }
+    requires count { length joined.processes.items ≡ J.config.procs }
+    requires seated { AllUpToDate J.code J.config joined.store.entries joined.processes.items }
+    requires done { length done.items ≡ J.config.procs }
+    ensures { (workers : ℕ) → (workers ≡ 1 → joined.store.entries ≡ []) → Ran J.code J.config workers result }
 {
     let Joined {
         mut store,
@@ -158,13 +158,16 @@ fn finish<J: Terms + CodeOf, G: Gate>(
     } = joined;
     let mut scheduler = SoloScheduler {
         processes,
-        cursor: SoloCursor { at: 0, waiting: 0 },
+        cursor: SoloCursor {
+            next_proc: 0,
+            blocked_below: 0,
+        },
     };
     let how = go_on(alloc, code, gate, &mut scheduler, &mut store);
     RunEnd {
         how,
         history: store.into_history(),
-        done: scheduler.finished(done),
+        done: scheduler.finished_counts(done),
     }
 }
 
@@ -180,7 +183,7 @@ fn clear_flags(alloc: Global, count: u32) -> Result<Vec<AtomicBool>, Memory>
 }
 
 // Runs several workers on threads, and returns the store and the processes as they left them.
-fn run_threaded<J: Terms + CodeOf + Send + Sync, R: Threads + Wait + Sync, G: Gate + Sync>(
+fn run_threaded<J: RunConfigOf + CodeOf + Send + Sync, R: Threads + Wait + Sync, G: Gate + Sync>(
     rt: &R,
     alloc: Global,
     code: &Code,
@@ -192,12 +195,12 @@ fn run_threaded<J: Terms + CodeOf + Send + Sync, R: Threads + Wait + Sync, G: Ga
 ) -> Result<Joined<J>, Memory>
     requires workers { 1 ≤ workers }
     requires code { code.now ≡ J.code }
-    requires may { RunPremises J.code J.setting }
-    requires procs { procs ≡ J.setting.procs }
-    requires fuel { fuel ≡ J.setting.fuel }
+    requires may { RunPremises J.code J.config }
+    requires procs { procs ≡ J.config.procs }
+    requires fuel { fuel ≡ J.config.fuel }
     requires empty { store.entries ≡ [] }
-    ensures count { IfOk result (λ r. length r.processes.items ≡ J.setting.procs) }
-    ensures seated { IfOk result (λ r. AllSeated J.code J.setting r.store.entries r.processes.items) }
+    ensures count { IfOk result (λ r. length r.processes.items ≡ J.config.procs) }
+    ensures seated { IfOk result (λ r. AllUpToDate J.code J.config r.store.entries r.processes.items) }
 {
     let room = room_for(alloc, procs)?;
     let flags = clear_flags(alloc, workers)?;
@@ -208,10 +211,10 @@ fn run_threaded<J: Terms + CodeOf + Send + Sync, R: Threads + Wait + Sync, G: Ga
 }
 
 // The store and the processes as the workers leave them. With one worker nothing has been run yet.
-fn begin<J: Terms + CodeOf + Send + Sync, R: Threads + Wait + Sync, G: Gate + Sync>(
+fn begin<J: RunConfigOf + CodeOf + Send + Sync, R: Threads + Wait + Sync, G: Gate + Sync>(
     rt: &R,
     alloc: Global,
-    c: &Checked,
+    checked: &Checked,
     code: &Code,
     procs: u32,
     workers: u32,
@@ -220,13 +223,13 @@ fn begin<J: Terms + CodeOf + Send + Sync, R: Threads + Wait + Sync, G: Gate + Sy
 ) -> Result<Joined<J>, Memory>
     requires workers { 1 ≤ workers }
     requires code { code.now ≡ J.code }
-    requires may { RunPremises J.code J.setting }
-    requires terms { record { program = program_of c.now.program.parts; procs = procs; fuel = fuel } ≡ J.setting }
-    ensures count { IfOk result (λ r. length r.processes.items ≡ J.setting.procs) }
-    ensures seated { IfOk result (λ r. AllSeated J.code J.setting r.store.entries r.processes.items) }
+    requires may { RunPremises J.code J.config }
+    requires terms { record { program = program_of checked.now.program.parts; procs = procs; fuel = fuel } ≡ J.config }
+    ensures count { IfOk result (λ r. length r.processes.items ≡ J.config.procs) }
+    ensures seated { IfOk result (λ r. AllUpToDate J.code J.config r.store.entries r.processes.items) }
     ensures alone { workers ≡ 1 → IfOk result (λ r. r.store.entries ≡ []) }
 {
-    let store = Store::<J>::new(alloc, c, procs, fuel)?;
+    let store = Store::<J>::new(alloc, checked, procs, fuel)?;
     if workers != 1 {
         return run_threaded(rt, alloc, code, procs, workers, fuel, gate, store);
     }
@@ -237,33 +240,33 @@ fn begin<J: Terms + CodeOf + Send + Sync, R: Threads + Wait + Sync, G: Gate + Sy
     Ok(Joined { store, processes })
 }
 
-// The run under type-level terms that the caller has picked.
-fn run_by<J: Terms + CodeOf + Send + Sync, R: Threads + Wait + Sync, G: Gate + Sync>(
+// The run under the type-level configuration that the caller has picked.
+fn run_by<J: RunConfigOf + CodeOf + Send + Sync, R: Threads + Wait + Sync, G: Gate + Sync>(
     rt: &R,
     alloc: Global,
-    c: &Checked,
+    checked: &Checked,
     code: &Code,
     procs: u32,
     workers: u32,
     fuel: u32,
     gate: &G,
 ) -> RunEnd
-    requires within { IsWithin procs fuel }
+    requires within { IsWithinRunLimits procs fuel }
     requires workers { 1 ≤ workers }
-    requires terms { record { program = program_of c.now.program.parts; procs = procs; fuel = fuel } ≡ J.setting }
+    requires terms { record { program = program_of checked.now.program.parts; procs = procs; fuel = fuel } ≡ J.config }
     requires code { code.now ≡ J.code }
-    requires follows { Follows code.now (program_of c.now.program.parts) }
-    ensures { Ran code.now (record { program = program_of c.now.program.parts; procs = procs; fuel = fuel }) workers result }
+    requires follows { Follows code.now (program_of checked.now.program.parts) }
+    ensures { Ran code.now (record { program = program_of checked.now.program.parts; procs = procs; fuel = fuel }) workers result }
 {
-    aligned(c);
-    answers_fit(c);
-    rounds_balance(c);
+    aligned(checked);
+    answers_fit(checked);
+    rounds_balance(checked);
     let Ok(done) = vec![in alloc; 0; procs as usize] else {
-        return unbegun(alloc);
+        return out_of_memory_end(alloc);
     };
-    match begin::<J, R, G>(rt, alloc, c, code, procs, workers, fuel, gate) {
+    match begin::<J, R, G>(rt, alloc, checked, code, procs, workers, fuel, gate) {
         Ok(joined) => finish(alloc, code, gate, joined, done),
-        Err(Memory) => unbegun(alloc),
+        Err(Memory) => out_of_memory_end(alloc),
     }
 }
 
@@ -274,17 +277,17 @@ fn run_by<J: Terms + CodeOf + Send + Sync, R: Threads + Wait + Sync, G: Gate + S
 pub fn run<R: Threads + Wait + Sync, G: Gate + Sync>(
     rt: &R,
     alloc: Global,
-    c: &Checked,
+    checked: &Checked,
     code: &Code,
     procs: u32,
     workers: u32,
     fuel: u32,
     gate: &G,
 ) -> RunEnd
-    requires within { IsWithin procs fuel }
+    requires within { IsWithinRunLimits procs fuel }
     requires workers { 1 ≤ workers }
-    requires follows { Follows code.now (program_of c.now.program.parts) }
-    ensures { Ran code.now (record { program = program_of c.now.program.parts; procs = procs; fuel = fuel }) workers result }
+    requires follows { Follows code.now (program_of checked.now.program.parts) }
+    ensures { Ran code.now (record { program = program_of checked.now.program.parts; procs = procs; fuel = fuel }) workers result }
 {
-    run_by::<Brand, R, G>(rt, alloc, c, code, procs, workers, fuel, gate)
+    run_by::<Brand, R, G>(rt, alloc, checked, code, procs, workers, fuel, gate)
 }

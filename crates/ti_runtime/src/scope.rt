@@ -16,11 +16,11 @@ use std::thread::{PromisedHandle, Scope, Threads};
 use ti_base::Memory;
 use ti_code::Code;
 use ti_io::Gate;
-use ti_store::{Store, Terms};
+use ti_store::{RunConfigOf, Store};
 use ti_turnstile::Turnstile;
 
 // Starts a worker for each group but the last, runs the last group on the caller's thread, and joins the workers.
-fn in_scope<'s, E, J: Terms + CodeOf + Send + Sync, R: Threads + Wait + Sync, G: Gate + Sync>(
+fn in_scope<'s, E, J: RunConfigOf + CodeOf + Send + Sync, R: Threads + Wait + Sync, G: Gate + Sync>(
     scope: &'s Scope<'s, E>,
     rt: &'s R,
     alloc: Global,
@@ -32,7 +32,7 @@ fn in_scope<'s, E, J: Terms + CodeOf + Send + Sync, R: Threads + Wait + Sync, G:
     procs: u32,
 ) -> Result<Vec<Task<J>>, Memory>
     requires code { code.now ≡ J.code }
-    requires may { RunPremises J.code J.setting }
+    requires may { RunPremises J.code J.config }
     requires groups { All (λ v. All (BelongsTo (identity_of turnstile.now)) v.items) groups.items }
     requires all { sum_by (λ v. length v.items) groups.items ≡ procs }
     requires flags { length groups.items ≤ length flags.now }
@@ -67,7 +67,7 @@ fn in_scope<'s, E, J: Terms + CodeOf + Send + Sync, R: Threads + Wait + Sync, G:
 }
 
 /// Runs all groups, each on a thread of its own, but the last, which runs on the caller's thread. All processes come back.
-pub fn run_groups<J: Terms + CodeOf + Send + Sync, R: Threads + Wait + Sync, G: Gate + Sync>(
+pub fn run_groups<J: RunConfigOf + CodeOf + Send + Sync, R: Threads + Wait + Sync, G: Gate + Sync>(
     rt: &R,
     alloc: Global,
     code: &Code,
@@ -78,7 +78,7 @@ pub fn run_groups<J: Terms + CodeOf + Send + Sync, R: Threads + Wait + Sync, G: 
     procs: u32,
 ) -> Result<Vec<Task<J>>, Memory>
     requires code { code.now ≡ J.code }
-    requires may { RunPremises J.code J.setting }
+    requires may { RunPremises J.code J.config }
     requires groups { All (λ v. All (BelongsTo (identity_of turnstile.now)) v.items) groups.items }
     requires all { sum_by (λ v. length v.items) groups.items ≡ procs }
     requires flags { length groups.items ≤ length flags.now }
@@ -89,7 +89,7 @@ pub fn run_groups<J: Terms + CodeOf + Send + Sync, R: Threads + Wait + Sync, G: 
         thread::scope_env(),
         rt,
         |scope| -> Result<Vec<Task<J>>, Memory>
-            requires { (code.now ≡ J.code) × RunPremises J.code J.setting × All
+            requires { (code.now ≡ J.code) × RunPremises J.code J.config × All
                 (λ v. All (BelongsTo (identity_of turnstile.now)) v.items) groups.items × (sum_by (λ v. length v.items) groups.items ≡ procs)
                 × (length groups.items ≤ length flags.now) }
             ensures { IfOk result (λ ms. All (BelongsTo (identity_of turnstile.entry.now)) ms.items × (length ms.items ≡ procs)) }

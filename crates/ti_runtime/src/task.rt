@@ -6,11 +6,11 @@ ghost use Rattle.std.specs.Prelude.{◌≡◌, ◌<◌, [], IfOk, IfErr};
 ghost use Rattle.ti_lang.specs.Meaning.Histories.{entries_of};
 ghost use Rattle.ti_lang.specs.Meaning.Runs.{IsRun};
 ghost use Rattle.ti_eval.specs.Forms.{IsFormedAnswer};
-ghost use Rattle.ti_store.specs.Conditions.{HasNext};
-ghost use Rattle.ti_store.specs.Stores.{setting_of, log_of, next_of, IsDone, IsRefused};
+ghost use Rattle.ti_store.specs.Conditions.{HasNextAfter};
+ghost use Rattle.ti_store.specs.Stores.{config_of, log_of, next_of, IsDone, IsRefused};
 ghost use Rattle.ti_turnstile.specs.Passes.{GrownBy};
 ghost use Rattle.ti_turnstile.specs.Turnstiles.{identity_of, turnstile_of, number_of, seen_by, turnstile_around, number_inside, found_inside, value_inside};
-ghost use Rattle.ti_runtime.specs.Mirrors.Processes.{place_of, action_of, Seated, RunPremises};
+ghost use Rattle.ti_runtime.specs.Mirrors.Processes.{next_place, next_action, IsUpToDate, RunPremises};
 ghost use Rattle.ti_runtime.specs.Mirrors.Tasks.{entries_in};
 
 use crate::code_of::CodeOf;
@@ -21,21 +21,21 @@ use std::sync::Wait;
 use ti_base::{Action, Answer, Entry, Memory, Next};
 use ti_code::Code;
 use ti_io::Gate;
-use ti_machine::has_one_next;
-use ti_store::{ActErr, Store, Terms};
+use ti_machine::next_is_unique;
+use ti_store::{ActErr, RunConfigOf, Store};
 use ti_turnstile::{Inside, Kept, Pass, Turnstile};
 
 /// The outcome of one attempt to let a process perform its next action.
 #[derive(Clone, Copy, PartialEq, Eq)]
 pub enum TryOutcome {
     /// It performed its next action, or reached its end.
-    Went,
+    Progressed,
     /// It had reached its end before.
-    Ended,
+    Finished,
     /// It waits at a collective for other processes.
-    Waits,
+    Blocked,
     /// The run has stopped, by a fault or out of memory.
-    Stops,
+    Halted,
 }
 
 /// A process with its pass, up to date with the answers to all entries that the pass has seen. What it computes before its first action is
@@ -43,7 +43,7 @@ pub enum TryOutcome {
 ///
 /// Contracts see which turnstile its pass belongs to, and its number.
 #[derive(Drop)]
-pub struct Task<J: Terms + CodeOf>
+pub struct Task<J: RunConfigOf + CodeOf>
 where
     Store<J>: Kept<Item = Entry>,
 {
@@ -52,7 +52,7 @@ where
     pass: Pass<Store<J>>,
 }
 
-impl<J: Terms + CodeOf> Model for Task<J>
+impl<J: RunConfigOf + CodeOf> Model for Task<J>
 where
     Store<J>: Kept<Item = Entry>,
 {
@@ -64,31 +64,31 @@ where
 
     ghost use Rattle.std.specs.Prelude.{◌≡◌, ◌<◌};
     ghost use Rattle.ti_turnstile.specs.Turnstiles.{turnstile_of, number_of, seen_by};
-    ghost use Rattle.ti_runtime.specs.Mirrors.Processes.{Seated};
+    ghost use Rattle.ti_runtime.specs.Mirrors.Processes.{IsUpToDate};
     ghost use Rattle.ti_runtime.specs.Mirrors.Tasks.{entries_in};
 
     ghost view = { λ m. record { turnstile = turnstile_of m.pass; number = m.number } };
 
-    ghost invariant = { λ m. (m.number < J.setting.procs) × (number_of m.pass ≡ m.number) × Seated J.code J.setting (entries_in (seen_by m.pass)) m.number m.pending };
+    ghost invariant = { λ m. (m.number < J.config.procs) × (number_of m.pass ≡ m.number) × IsUpToDate J.code J.config (entries_in (seen_by m.pass)) m.number m.pending };
 }
 
 // Performs the next action of a process in the store.
-fn act<J: Terms + CodeOf>(
+fn act<J: RunConfigOf + CodeOf>(
     alloc: Global,
     next: Next,
     number: u32,
     store: &mut Store<J>,
 ) -> Result<Answer, ActErr>
-    requires number { number < J.setting.procs }
-    requires next { HasNext J.setting number (entries_of number store.old.entries) (next_of (place_of next) (action_of next)) }
-    ensures terms { setting_of store.old ≡ J.setting }
-    ensures run { IsRun (setting_of store.old) store.old.entries }
-    ensures done { IfOk result (λ answer. IsDone store.old number (place_of next) (action_of next) answer store.new) }
-    ensures refused { IfErr result (λ why. IsRefused store.old number (place_of next) (action_of next) why store.new) }
+    requires number { number < J.config.procs }
+    requires next { HasNextAfter J.config number (entries_of number store.old.entries) (next_of (next_place next) (next_action next)) }
+    ensures terms { config_of store.old ≡ J.config }
+    ensures run { IsRun (config_of store.old) store.old.entries }
+    ensures done { IfOk result (λ answer. IsDone store.old number (next_place next) (next_action next) answer store.new) }
+    ensures refused { IfErr result (λ why. IsRefused store.old number (next_place next) (next_action next) why store.new) }
     ensures form { IfOk result IsFormedAnswer }
     ensures grown { GrownBy number (log_of store.old.entries) (log_of store.new.entries) }
 {
-    store.knows_terms();
+    store.has_its_config();
     let _run = store.history();
     let (place, action) = as_action(next);
     store.act(alloc, number, place, action)
@@ -96,38 +96,38 @@ fn act<J: Terms + CodeOf>(
 
 // How a worker leaves the turnstile. Only speed depends on it.
 #[derive(Clone, Copy)]
-enum Leaving {
+enum LeaveMode {
     // Waking nobody: this worker is likely to go in again at once.
-    Quietly,
+    NoWake,
     // Letting in one of those who wait to go in: this process may have to wait for them.
-    PassingOn,
+    WakeOne,
     // And waking those who wait for an arrival, or for the end of the run.
-    Waking,
+    WakeAll,
 }
 
 // How to leave after this action of a process.
-fn leaving_after(next: Next) -> Leaving {
+fn leave_mode_after(next: Next) -> LeaveMode {
     match next {
-        Next::Act(_, Action::Arrive { .. }) => Leaving::Waking,
-        Next::Act(_, Action::Depart) => Leaving::PassingOn,
-        _ => Leaving::Quietly,
+        Next::Act(_, Action::Arrive { .. }) => LeaveMode::WakeAll,
+        Next::Act(_, Action::Depart) => LeaveMode::WakeOne,
+        _ => LeaveMode::NoWake,
     }
 }
 
 // How to leave after an action that the store didn't perform.
-fn leaving_refused(why: ActErr) -> Leaving {
+fn leave_mode_refused(why: ActErr) -> LeaveMode {
     match why {
-        ActErr::Faulted(_) => Leaving::Waking,
-        ActErr::NotYet => Leaving::PassingOn,
-        ActErr::Halted | ActErr::Memory => Leaving::Quietly,
+        ActErr::Faulted(_) => LeaveMode::WakeAll,
+        ActErr::NotYet => LeaveMode::WakeOne,
+        ActErr::Halted | ActErr::Memory => LeaveMode::NoWake,
     }
 }
 
 // Leaves the turnstile.
-fn leave<J: Terms + CodeOf>(
+fn leave<J: RunConfigOf + CodeOf>(
     turnstile: &Turnstile<Store<J>>,
     inside: Inside<Store<J>>,
-    leaving: Leaving,
+    leaving: LeaveMode,
 ) -> Pass<Store<J>>
     requires turnstile { turnstile_around inside ≡ identity_of turnstile.now }
     requires grown { GrownBy (number_inside inside) (found_inside inside) (log_of (value_inside inside).entries) }
@@ -136,19 +136,19 @@ fn leave<J: Terms + CodeOf>(
     ensures seen { seen_by result ≡ log_of (value_inside inside).entries }
 {
     match leaving {
-        Leaving::Quietly => turnstile.leave(inside),
-        Leaving::PassingOn => turnstile.leave_and_pass_on(inside),
-        Leaving::Waking => turnstile.leave_and_wake(inside),
+        LeaveMode::NoWake => turnstile.leave(inside),
+        LeaveMode::WakeOne => turnstile.leave_and_wake_one(inside),
+        LeaveMode::WakeAll => turnstile.leave_and_wake_all(inside),
     }
 }
 
-impl<J: Terms + CodeOf> Task<J> {
+impl<J: RunConfigOf + CodeOf> Task<J> {
     /// A process that has performed nothing yet, with a pass that has seen nothing.
     pub fn new(number: u32, pending: PendingProc, pass: Pass<Store<J>>) -> Task<J>
-        requires number { number < J.setting.procs }
+        requires number { number < J.config.procs }
         requires same { number_of pass ≡ number }
         requires seen { seen_by pass ≡ [] }
-        requires seated { Seated J.code J.setting [] number pending }
+        requires seated { IsUpToDate J.code J.config [] number pending }
         ensures { result ≡ record { turnstile = turnstile_of pass; number = number } }
     {
         Task {
@@ -160,9 +160,9 @@ impl<J: Terms + CodeOf> Task<J> {
 
     /// Its number, its state, and its pass.
     pub fn into_parts(self) -> (u32, PendingProc, Pass<Store<J>>)
-        ensures number { (result.0 ≡ self.number) × (result.0 < J.setting.procs) × (number_of result.2 ≡ result.0) }
+        ensures number { (result.0 ≡ self.number) × (result.0 < J.config.procs) × (number_of result.2 ≡ result.0) }
         ensures turnstile { turnstile_of result.2 ≡ self.turnstile }
-        ensures seated { Seated J.code J.setting (entries_in (seen_by result.2)) result.0 result.1 }
+        ensures seated { IsUpToDate J.code J.config (entries_in (seen_by result.2)) result.0 result.1 }
     {
         let Task {
             number,
@@ -184,7 +184,7 @@ impl<J: Terms + CodeOf> Task<J> {
         } = self;
         let mut inside = turnstile.enter(rt, pass);
         inside.value().halt_for_memory();
-        let pass = turnstile.leave_and_wake(inside);
+        let pass = turnstile.leave_and_wake_all(inside);
         Task {
             number,
             pending,
@@ -202,14 +202,14 @@ impl<J: Terms + CodeOf> Task<J> {
         turnstile: &Turnstile<Store<J>>,
     ) -> (Task<J>, TryOutcome)
         requires code { code.now ≡ J.code }
-        requires may { RunPremises J.code J.setting }
+        requires may { RunPremises J.code J.config }
         requires turnstile { self.turnstile ≡ identity_of turnstile.now }
         ensures { result.0.turnstile ≡ identity_of turnstile.now }
     {
         if self.pending.ended {
-            return (self, TryOutcome::Ended);
+            return (self, TryOutcome::Finished);
         }
-        has_one_next();
+        next_is_unique();
         let Task {
             number,
             mut pending,
@@ -221,38 +221,38 @@ impl<J: Terms + CodeOf> Task<J> {
                 pending,
                 pass,
             };
-            return (task.halt(rt, turnstile), TryOutcome::Stops);
+            return (task.halt(rt, turnstile), TryOutcome::Halted);
         };
         gate.pass(number);
         let mut inside = turnstile.enter(rt, pass);
         let acted = act(alloc, next, number, inside.value());
         match acted {
             Ok(answer) => {
-                let pass = leave(turnstile, inside, leaving_after(next));
-                let _turn = pending.hear(next, answer);
+                let pass = leave(turnstile, inside, leave_mode_after(next));
+                let _turn = pending.resume_with(next, answer);
                 (
                     Task {
                         number,
                         pending,
                         pass,
                     },
-                    TryOutcome::Went,
+                    TryOutcome::Progressed,
                 )
             }
             Err(why) => {
-                let pass = leave(turnstile, inside, leaving_refused(why));
+                let pass = leave(turnstile, inside, leave_mode_refused(why));
                 Task {
                     number,
                     pending,
                     pass,
                 }
-                .refused(rt, turnstile, why)
+                .handle_refusal(rt, turnstile, why)
             }
         }
     }
 
     // The outcome of an action that the store didn't perform.
-    fn refused<R: Wait>(
+    fn handle_refusal<R: Wait>(
         self,
         rt: &R,
         turnstile: &Turnstile<Store<J>>,
@@ -262,9 +262,9 @@ impl<J: Terms + CodeOf> Task<J> {
         ensures { result.0.turnstile ≡ identity_of turnstile.now }
     {
         match why {
-            ActErr::NotYet => (self, TryOutcome::Waits),
-            ActErr::Faulted(_) | ActErr::Halted => (self, TryOutcome::Stops),
-            ActErr::Memory => (self.halt(rt, turnstile), TryOutcome::Stops),
+            ActErr::NotYet => (self, TryOutcome::Blocked),
+            ActErr::Faulted(_) | ActErr::Halted => (self, TryOutcome::Halted),
+            ActErr::Memory => (self.halt(rt, turnstile), TryOutcome::Halted),
         }
     }
 }

@@ -17,12 +17,12 @@ use std::thread::{Promise, PromisedHandle, Scope, Threads};
 use ti_base::Entry;
 use ti_code::Code;
 use ti_io::Gate;
-use ti_store::{Store, Terms};
+use ti_store::{RunConfigOf, Store};
 use ti_turnstile::{Kept, Turnstile};
 
 /// What a worker promises: it hands back all its processes, each with its pass of the turnstile.
 #[derive(Clone, Copy)]
-pub struct WorkerPromise<'a, J: Terms + CodeOf>
+pub struct WorkerPromise<'a, J: RunConfigOf + CodeOf>
 where
     Store<J>: Kept<Item = Entry>,
 {
@@ -30,7 +30,7 @@ where
     count: usize,
 }
 
-impl<'a, J: Terms + CodeOf> Promise<Vec<Task<J>>> for WorkerPromise<'a, J> {
+impl<'a, J: RunConfigOf + CodeOf> Promise<Vec<Task<J>>> for WorkerPromise<'a, J> {
     ghost use Rattle.std.specs.Prelude.{◌≡◌, length, All};
     ghost use Rattle.ti_turnstile.specs.Turnstiles.{identity_of};
     ghost use Rattle.ti_runtime.specs.Mirrors.Tasks.{BelongsTo};
@@ -39,7 +39,7 @@ impl<'a, J: Terms + CodeOf> Promise<Vec<Task<J>>> for WorkerPromise<'a, J> {
 }
 
 // Runs the processes, unless the flag is set.
-fn run_worker_unless<J: Terms + CodeOf, R: Wait, G: Gate>(
+fn run_worker_unless<J: RunConfigOf + CodeOf, R: Wait, G: Gate>(
     rt: &R,
     alloc: Global,
     code: &Code,
@@ -49,7 +49,7 @@ fn run_worker_unless<J: Terms + CodeOf, R: Wait, G: Gate>(
     tasks: Vec<Task<J>>,
 ) -> Vec<Task<J>>
     requires code { code.now ≡ J.code }
-    requires may { RunPremises J.code J.setting }
+    requires may { RunPremises J.code J.config }
     requires tasks { All (BelongsTo (identity_of turnstile.now)) tasks.items }
     ensures tasks { All (BelongsTo (identity_of turnstile.now)) result.items }
     ensures count { length result.items ≡ length tasks.items }
@@ -61,7 +61,7 @@ fn run_worker_unless<J: Terms + CodeOf, R: Wait, G: Gate>(
 }
 
 // Starts a worker on a thread. If none can be started, its processes come back.
-fn start<'s, E, J: Terms + CodeOf + Send + Sync, R: Threads + Wait + Sync, G: Gate + Sync>(
+fn start<'s, E, J: RunConfigOf + CodeOf + Send + Sync, R: Threads + Wait + Sync, G: Gate + Sync>(
     scope: &'s Scope<'s, E>,
     rt: &'s R,
     alloc: Global,
@@ -72,7 +72,7 @@ fn start<'s, E, J: Terms + CodeOf + Send + Sync, R: Threads + Wait + Sync, G: Ga
     group: Vec<Task<J>>,
 ) -> Result<PromisedHandle<Vec<Task<J>>, WorkerPromise<'s, J>>, Vec<Task<J>>>
     requires code { code.now ≡ J.code }
-    requires may { RunPremises J.code J.setting }
+    requires may { RunPremises J.code J.config }
     requires group { All (BelongsTo (identity_of turnstile.now)) group.items }
     ensures ok { IfOk result (λ h. (identity_of h.promise.turnstile.now ≡ identity_of turnstile.now)
         × (h.promise.count ≡ length group.items)) }
@@ -80,7 +80,7 @@ fn start<'s, E, J: Terms + CodeOf + Send + Sync, R: Threads + Wait + Sync, G: Ga
 {
     let count = group.len();
     let job = move || -> Vec<Task<J>>
-        requires { All (BelongsTo (identity_of turnstile.now)) group.items × (code.now ≡ J.code) × RunPremises J.code J.setting }
+        requires { All (BelongsTo (identity_of turnstile.now)) group.items × (code.now ≡ J.code) × RunPremises J.code J.config }
         ensures { All (BelongsTo (identity_of turnstile.entry.now)) result.items × (length result.items ≡ length group.items) }
     { run_worker_unless(rt, alloc, code, gate, turnstile, flag, group) };
     match scope.spawn_with(WorkerPromise { turnstile, count }, job) {
@@ -93,7 +93,7 @@ fn start<'s, E, J: Terms + CodeOf + Send + Sync, R: Threads + Wait + Sync, G: Ga
 }
 
 // Moves processes that came back to those of a worker that has room for them.
-fn give<J: Terms + CodeOf>(
+fn give<J: RunConfigOf + CodeOf>(
     turnstile: &Turnstile<Store<J>>,
     mine: &mut Vec<Task<J>>,
     mut back: Vec<Task<J>>,
@@ -112,7 +112,13 @@ fn give<J: Terms + CodeOf>(
 }
 
 /// Starts a worker for a group, or adds the group to the caller's own processes.
-pub fn start_one<'s, E, J: Terms + CodeOf + Send + Sync, R: Threads + Wait + Sync, G: Gate + Sync>(
+pub fn start_one<
+    's,
+    E,
+    J: RunConfigOf + CodeOf + Send + Sync,
+    R: Threads + Wait + Sync,
+    G: Gate + Sync,
+>(
     scope: &'s Scope<'s, E>,
     rt: &'s R,
     alloc: Global,
@@ -125,7 +131,7 @@ pub fn start_one<'s, E, J: Terms + CodeOf + Send + Sync, R: Threads + Wait + Syn
     handles: &mut Vec<PromisedHandle<Vec<Task<J>>, WorkerPromise<'s, J>>>,
 )
     requires code { code.now ≡ J.code }
-    requires may { RunPremises J.code J.setting }
+    requires may { RunPremises J.code J.config }
     requires group { All (BelongsTo (identity_of turnstile.now)) group.items }
     requires mine { All (BelongsTo (identity_of turnstile.now)) mine.old.items }
     requires handles { All (λ h. identity_of h.promise.turnstile.now ≡ identity_of turnstile.now) handles.old.items }
@@ -146,7 +152,7 @@ pub fn start_one<'s, E, J: Terms + CodeOf + Send + Sync, R: Threads + Wait + Syn
 }
 
 /// Joins each worker, and adds its processes to the caller's.
-pub fn collect<'s, J: Terms + CodeOf, R: Threads>(
+pub fn collect<'s, J: RunConfigOf + CodeOf, R: Threads>(
     rt: &R,
     turnstile: &Turnstile<Store<J>>,
     mut handles: Vec<PromisedHandle<Vec<Task<J>>, WorkerPromise<'s, J>>>,

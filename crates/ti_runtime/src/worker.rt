@@ -15,14 +15,14 @@ use std::alloc::Global;
 use std::sync::Wait;
 use ti_code::Code;
 use ti_io::Gate;
-use ti_store::{Store, Terms};
+use ti_store::{RunConfigOf, Store};
 use ti_turnstile::Turnstile;
 
 // How often a worker whose processes all wait looks at the hint before it tries them again.
 const MAX_POLLS: u32 = 64;
 
 // Runs a process until it has to wait, ends or stops, and says whether it performed anything.
-fn go_on<J: Terms + CodeOf, R: Wait, G: Gate>(
+fn go_on<J: RunConfigOf + CodeOf, R: Wait, G: Gate>(
     rt: &R,
     alloc: Global,
     code: &Code,
@@ -31,7 +31,7 @@ fn go_on<J: Terms + CodeOf, R: Wait, G: Gate>(
     mut task: Task<J>,
 ) -> (Task<J>, TryOutcome, bool)
     requires code { code.now ≡ J.code }
-    requires may { RunPremises J.code J.setting }
+    requires may { RunPremises J.code J.config }
     requires task { BelongsTo (identity_of turnstile.now) task }
     ensures { BelongsTo (identity_of turnstile.now) result.0 }
 {
@@ -39,7 +39,7 @@ fn go_on<J: Terms + CodeOf, R: Wait, G: Gate>(
     for _ in rt.forever() {
         let (after, tried) = task.try_turn(rt, alloc, code, gate, turnstile);
         task = after;
-        if tried != TryOutcome::Went {
+        if tried != TryOutcome::Progressed {
             return (task, tried, went);
         }
         went = true;
@@ -48,33 +48,33 @@ fn go_on<J: Terms + CodeOf, R: Wait, G: Gate>(
 }
 
 // Runs the process at an index of the list until it has to wait, ends or stops. It is at the same index again.
-fn turn<J: Terms + CodeOf, R: Wait, G: Gate>(
+fn turn<J: RunConfigOf + CodeOf, R: Wait, G: Gate>(
     rt: &R,
     alloc: Global,
     code: &Code,
     gate: &G,
     turnstile: &Turnstile<Store<J>>,
     tasks: &mut Vec<Task<J>>,
-    at: usize,
+    index: usize,
 ) -> (TryOutcome, bool)
     requires code { code.now ≡ J.code }
-    requires may { RunPremises J.code J.setting }
-    requires at { at < length tasks.old.items }
+    requires may { RunPremises J.code J.config }
+    requires at { index < length tasks.old.items }
     requires tasks { All (BelongsTo (identity_of turnstile.now)) tasks.old.items }
     ensures tasks { All (BelongsTo (identity_of turnstile.now)) tasks.new.items }
     ensures count { length tasks.new.items ≡ length tasks.old.items }
     ensures room { vec_capacity tasks.old ≤ vec_capacity tasks.new }
 {
-    let task = tasks.remove(at);
+    let task = tasks.remove(index);
     let (task, tried, went) = go_on(rt, alloc, code, gate, turnstile, task);
-    match tasks.insert(at, task) {
+    match tasks.insert(index, task) {
         Ok(()) => (tried, went),
         Err(_) => unreachable!(),
     }
 }
 
 // Waits for the hint to change, for a while: it spins, and once it has spun for long enough it sleeps between looks.
-fn wait_for_news<J: Terms + CodeOf, R: Wait>(
+fn wait_for_news<J: RunConfigOf + CodeOf, R: Wait>(
     rt: &R,
     turnstile: &Turnstile<Store<J>>,
     seen: u64,
@@ -85,7 +85,7 @@ fn wait_for_news<J: Terms + CodeOf, R: Wait>(
             return;
         }
         if backoff.is_completed() {
-            turnstile.nap(rt, seen);
+            turnstile.park_briefly(rt, seen);
         } else {
             backoff.snooze();
         }
@@ -93,7 +93,7 @@ fn wait_for_news<J: Terms + CodeOf, R: Wait>(
 }
 
 /// Runs the processes until each has ended, or the run stops.
-pub fn run_worker<J: Terms + CodeOf, R: Wait, G: Gate>(
+pub fn run_worker<J: RunConfigOf + CodeOf, R: Wait, G: Gate>(
     rt: &R,
     alloc: Global,
     code: &Code,
@@ -102,19 +102,19 @@ pub fn run_worker<J: Terms + CodeOf, R: Wait, G: Gate>(
     mut tasks: Vec<Task<J>>,
 ) -> Vec<Task<J>>
     requires code { code.now ≡ J.code }
-    requires may { RunPremises J.code J.setting }
+    requires may { RunPremises J.code J.config }
     requires tasks { All (BelongsTo (identity_of turnstile.now)) tasks.items }
     ensures tasks { All (BelongsTo (identity_of turnstile.now)) result.items }
     ensures count { length result.items ≡ length tasks.items }
     ensures room { vec_capacity tasks ≤ vec_capacity result }
 {
     let backoff = Backoff::new();
-    let mut at = 0;
+    let mut index = 0;
     let mut ended = 0;
     let mut went = false;
     let mut seen = turnstile.hint();
     for _ in rt.forever() {
-        if at >= tasks.len() {
+        if index >= tasks.len() {
             if ended >= tasks.len() {
                 break;
             }
@@ -122,23 +122,23 @@ pub fn run_worker<J: Terms + CodeOf, R: Wait, G: Gate>(
                 wait_for_news(rt, turnstile, seen, &backoff);
             }
             seen = turnstile.hint();
-            at = 0;
+            index = 0;
             ended = 0;
             went = false;
         }
-        let (tried, has_gone) = turn(rt, alloc, code, gate, turnstile, &mut tasks, at);
+        let (tried, has_gone) = turn(rt, alloc, code, gate, turnstile, &mut tasks, index);
         if has_gone {
             backoff.reset();
             went = true;
         }
         match tried {
-            TryOutcome::Went => {}
-            TryOutcome::Ended => {
-                at += 1;
+            TryOutcome::Progressed => {}
+            TryOutcome::Finished => {
+                index += 1;
                 ended += 1;
             }
-            TryOutcome::Waits => at += 1,
-            TryOutcome::Stops => break,
+            TryOutcome::Blocked => index += 1,
+            TryOutcome::Halted => break,
         }
     }
     tasks

@@ -1,6 +1,6 @@
 mod Arguments
 mod FirstLoop
 mod Parts
-mod Sites
+mod Contexts
 mod Together
 pub mod Lemmas

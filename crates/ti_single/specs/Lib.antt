@@ -1,4 +1,4 @@
-pub mod Doings
+pub mod Effects
 pub mod EffectsAt
-pub mod Sites
+pub mod Contexts
 pub mod Mirrors

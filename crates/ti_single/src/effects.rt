@@ -4,21 +4,24 @@ ghost use Rattle.ti_lang.specs.Program.Scope.{whereabouts_of};
 ghost use Rattle.ti_lang.specs.Program.Views.{program_of, statement_of, numbered_method_of};
 ghost use Rattle.ti_single.specs.EffectsAt.{jump_acts_at, has_effects_at};
 
-use crate::boxes::listed_statements;
-use crate::doings::{doings_of_statement, has_global_effects, jump_acts, return_acts, this_of};
-use crate::loops::{doings_in_loop, loop_in_all};
+use crate::deref::deref_stmts;
+use crate::loops::{effects_in_loop, loop_in_all};
+use crate::statements::{has_global_effects, jump_acts, return_acts, stmt_effects, this_of};
 use ti_base::Place;
 use ti_lang::program::{Method, Program, Scope, Stmt};
 use ti_lang::typing::method;
 
 // Whether a jump out of the loop at this position of a method counts as a global effect.
 #[tactic(auto, using(crate::proofs::FirstLoop::loops_found))]
-fn jump_acts_at(p: &Program, m: &Method, at: Option<Place>) -> bool
-    ensures { result ≡ jump_acts_at (program_of p.now.parts) (numbered_method_of m.now) at }
+fn jump_acts_at(program: &Program, method: &Method, loop_place: Option<Place>) -> bool
+    ensures { result ≡ jump_acts_at (program_of program.now.parts) (numbered_method_of method.now) loop_place }
 {
-    match at {
-        Some(at) => match loop_in_all(at, listed_statements(&m.body)) {
-            Some(x) => jump_acts(return_acts(p, m), doings_in_loop(p, m, x)),
+    match loop_place {
+        Some(loop_place) => match loop_in_all(loop_place, deref_stmts(&method.body)) {
+            Some(x) => jump_acts(
+                return_acts(program, method),
+                effects_in_loop(program, method, x),
+            ),
             None => false,
         },
         None => false,
@@ -31,14 +34,14 @@ fn jump_acts_at(p: &Program, m: &Method, at: Option<Place>) -> bool
 /// effect if the scope's method has a single result or contains one of these. A `break` or `continue` that leaves the statement has
 /// an effect if the body or update of the scope's innermost loop contains one of these, or a `return` with an effect; a position that
 /// isn't that of a loop's keyword in the method is taken as no loop. A statement has the effects of the statements in it.
-pub fn has_effects(p: &Program, s: &Scope, st: &Stmt) -> bool
-    ensures { result ≡ has_effects_at (program_of p.now.parts) (whereabouts_of s.now) (statement_of st.now) }
+pub fn has_effects(program: &Program, scope: &Scope, stmt: &Stmt) -> bool
+    ensures { result ≡ has_effects_at (program_of program.now.parts) (whereabouts_of scope.now) (statement_of stmt.now) }
 {
-    match method(&p.parts, s.method) {
+    match method(&program.parts, scope.method) {
         Some(m) => {
-            let returns = return_acts(p, m);
-            let jumps = jump_acts_at(p, m, s.innermost_loop);
-            has_global_effects(returns, jumps, doings_of_statement(p, this_of(m), st))
+            let returns = return_acts(program, m);
+            let jumps = jump_acts_at(program, m, scope.innermost_loop);
+            has_global_effects(returns, jumps, stmt_effects(program, this_of(m), stmt))
         }
         None => false,
     }

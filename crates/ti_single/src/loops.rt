@@ -3,32 +3,32 @@ ghost use Rattle.std.specs.Prelude.{◌≡◌, map};
 ghost use Rattle.std.specs.Option.{option_map, option_or};
 ghost use Rattle.ti_lang.specs.Program.Statements.{numbered_stms};
 ghost use Rattle.ti_lang.specs.Program.Views.{program_of, statement_of, numbered_method_of};
-ghost use Rattle.ti_single.specs.Doings.{doings_of};
-ghost use Rattle.ti_single.specs.EffectsAt.{doings_in_loop};
+ghost use Rattle.ti_single.specs.Effects.{effects_of};
+ghost use Rattle.ti_single.specs.EffectsAt.{effects_in_loop};
 ghost use Rattle.ti_single.specs.Mirrors.Loops.{loop_in, loop_in_all};
 
-use crate::boxes::{boxed_statement, listed_statements};
-use crate::doings::{Doings, doings_of_statement, this_of};
+use crate::deref::{deref_stmt, deref_stmts};
+use crate::statements::{Effects, stmt_effects, this_of};
 use ti_base::Place;
 use ti_lang::program::{Method, Program, Stmt};
 
-fn either<'a>(a: Option<&'a Stmt>, b: Option<&'a Stmt>) -> Option<&'a Stmt>
-    ensures { option_map (λ y. statement_of y.now) result ≡ option_or (option_map (λ y. statement_of y.now) a.entry)
-        (option_map (λ y. statement_of y.now) b.entry) }
+fn first_some<'a>(first: Option<&'a Stmt>, second: Option<&'a Stmt>) -> Option<&'a Stmt>
+    ensures { option_map (λ y. statement_of y.now) result ≡ option_or (option_map (λ y. statement_of y.now) first.entry)
+        (option_map (λ y. statement_of y.now) second.entry) }
 {
-    match a {
+    match first {
         Some(x) => Some(x),
-        None => b,
+        None => second,
     }
 }
 
 /// The first loop in these statements whose keyword is at this position.
 #[cycle(loops)]
-pub fn loop_in_all<'a>(at: Place, xs: &'a [Stmt]) -> Option<&'a Stmt>
-    ensures { option_map (λ y. statement_of y.now) result ≡ loop_in_all at (numbered_stms (map statement_of xs.now)) }
+pub fn loop_in_all<'a>(loop_place: Place, stmts: &'a [Stmt]) -> Option<&'a Stmt>
+    ensures { option_map (λ y. statement_of y.now) result ≡ loop_in_all loop_place (numbered_stms (map statement_of stmts.now)) }
 {
-    for x in xs {
-        if let Some(found) = loop_in(at, x) {
+    for x in stmts {
+        if let Some(found) = loop_in(loop_place, x) {
             return Some(found);
         }
     }
@@ -38,27 +38,27 @@ pub fn loop_in_all<'a>(at: Place, xs: &'a [Stmt]) -> Option<&'a Stmt>
 // The first loop in a statement whose keyword is at this position.
 #[cycle(loops)]
 #[tactic(auto, using(ti_lang::proofs::Lemmas::program_bridges))]
-fn loop_in<'a>(at: Place, x: &'a Stmt) -> Option<&'a Stmt>
-    ensures { option_map (λ y. statement_of y.now) result ≡ loop_in at (statement_of x.now) }
+fn loop_in<'a>(loop_place: Place, stmt: &'a Stmt) -> Option<&'a Stmt>
+    ensures { option_map (λ y. statement_of y.now) result ≡ loop_in loop_place (statement_of stmt.now) }
 {
-    match x {
-        Stmt::Block(body) => loop_in_all(at, listed_statements(body)),
+    match stmt {
+        Stmt::Block(body) => loop_in_all(loop_place, deref_stmts(body)),
         Stmt::If {
             then,
             otherwise,
             ..
         } => {
-            let then = loop_in(at, boxed_statement(then));
+            let then = loop_in(loop_place, deref_stmt(then));
             match otherwise {
-                Some(otherwise) => either(then, loop_in(at, boxed_statement(otherwise))),
+                Some(otherwise) => first_some(then, loop_in(loop_place, deref_stmt(otherwise))),
                 None => then,
             }
         }
         Stmt::While { place, body, .. } => {
-            if at == *place {
-                Some(x)
+            if loop_place == *place {
+                Some(stmt)
             } else {
-                loop_in(at, boxed_statement(body))
+                loop_in(loop_place, deref_stmt(body))
             }
         }
         Stmt::For {
@@ -68,24 +68,27 @@ fn loop_in<'a>(at: Place, x: &'a Stmt) -> Option<&'a Stmt>
             body,
             ..
         } => {
-            if at == *place {
-                return Some(x);
+            if loop_place == *place {
+                return Some(stmt);
             }
             let first = match first {
-                Some(first) => loop_in(at, boxed_statement(first)),
+                Some(first) => loop_in(loop_place, deref_stmt(first)),
                 None => None,
             };
             let update = match update {
-                Some(update) => loop_in(at, boxed_statement(update)),
+                Some(update) => loop_in(loop_place, deref_stmt(update)),
                 None => None,
             };
-            either(first, either(update, loop_in(at, boxed_statement(body))))
+            first_some(
+                first,
+                first_some(update, loop_in(loop_place, deref_stmt(body))),
+            )
         }
         Stmt::Foreach { place, body, .. } => {
-            if at == *place {
-                Some(x)
+            if loop_place == *place {
+                Some(stmt)
             } else {
-                loop_in(at, boxed_statement(body))
+                loop_in(loop_place, deref_stmt(body))
             }
         }
         Stmt::Empty
@@ -103,22 +106,20 @@ fn loop_in<'a>(at: Place, x: &'a Stmt) -> Option<&'a Stmt>
 }
 
 /// The effect summary of a loop's update and body; that of nothing if the statement is no loop.
-pub fn doings_in_loop(p: &Program, m: &Method, x: &Stmt) -> Doings
-    ensures { doings_of result ≡ doings_in_loop (program_of p.now.parts) (numbered_method_of m.now) (statement_of x.now) }
+pub fn effects_in_loop(program: &Program, method: &Method, stmt: &Stmt) -> Effects
+    ensures { effects_of result ≡ effects_in_loop (program_of program.now.parts) (numbered_method_of method.now) (statement_of stmt.now) }
 {
-    let this = this_of(m);
-    match x {
-        Stmt::While { body, .. } => doings_of_statement(p, this, boxed_statement(body)),
+    let this = this_of(method);
+    match stmt {
+        Stmt::While { body, .. } => stmt_effects(program, this, deref_stmt(body)),
         Stmt::For { update, body, .. } => {
-            let body = doings_of_statement(p, this, boxed_statement(body));
+            let body = stmt_effects(program, this, deref_stmt(body));
             match update {
-                Some(update) => doings_of_statement(p, this, boxed_statement(update)).together(
-                    body,
-                ),
+                Some(update) => stmt_effects(program, this, deref_stmt(update)).merge(body),
                 None => body,
             }
         }
-        Stmt::Foreach { body, .. } => doings_of_statement(p, this, boxed_statement(body)),
-        _ => Doings::none(),
+        Stmt::Foreach { body, .. } => stmt_effects(program, this, deref_stmt(body)),
+        _ => Effects::none(),
     }
 }

@@ -5,15 +5,15 @@ ghost use Rattle.ti_lang.specs.Program.Expressions.{numbered_exps, numbered_rang
 ghost use Rattle.ti_lang.specs.Program.Scope.{contents_of};
 ghost use Rattle.ti_lang.specs.Program.Views.{program_of, expression_of, bound_of, variable_of, initial_of};
 ghost use Rattle.ti_lang.specs.Typing.Kinds.{is_point};
-ghost use Rattle.ti_lang.specs.Typing.Seen.{seen, built_in_of};
+ghost use Rattle.ti_lang.specs.Typing.TyRef.{ty_view, built_in_of};
 ghost use Rattle.ti_lang.specs.Typing.Singleness.{declared_single, tells_of_domain, is_single_part, are_single, is_single_range, are_single_ranges, is_single, is_single_sent, is_single_initial};
 ghost use Rattle.ti_lang.specs.Typing.Effects.{is_single_target};
-ghost use Rattle.ti_rules.specs.Standing.{singles_in};
+ghost use Rattle.ti_rules.specs.StmtInContext.{singles_in};
 
-use crate::boxes::{boxed_expression, boxed_type, listed_expressions, listed_ranges};
-use crate::doings::has_single_result;
+use crate::deref::{deref_expr, deref_exprs, deref_ranges, deref_type};
+use crate::statements::has_single_result;
 use ti_lang::program::{Declared, Expr, Init, Program, Range, Scope, Variable};
-use ti_lang::typing::{BuiltIn, Seen, called_method, member_called, type_in_text};
+use ti_lang::typing::{BuiltIn, TyRef, called_method, member_called, syntactic_type};
 
 // ---- variables and members
 
@@ -30,21 +30,21 @@ fn is_single_number(scope: &Scope, number: u32) -> bool
 }
 
 // Whether a variable is single: by its declaration, or for a foreach variable by the scope.
-fn is_single_variable(scope: &Scope, v: &Variable) -> bool
-    ensures { result ≡ declared_single (singles_in (contents_of scope.now)) (variable_of v.now).number (variable_of v.now).declared }
+fn is_single_variable(scope: &Scope, variable: &Variable) -> bool
+    ensures { result ≡ declared_single (singles_in (contents_of scope.now)) (variable_of variable.now).number (variable_of variable.now).declared }
 {
-    match &v.declared {
+    match &variable.declared {
         Declared::Typed { single, ty: _ } => *single,
-        Declared::Foreach => is_single_number(scope, v.number),
+        Declared::Foreach => is_single_number(scope, variable.number),
     }
 }
 
 /// Whether the target of an assignment is a variable declared single. A foreach variable isn't one.
 #[tactic(auto, using(ti_lang::proofs::Lemmas::program_bridges))]
-pub fn is_single_target(e: &Expr) -> bool
-    ensures { result ≡ is_single_target (expression_of e.now) }
+pub fn is_single_target(expr: &Expr) -> bool
+    ensures { result ≡ is_single_target (expression_of expr.now) }
 {
-    match e {
+    match expr {
         Expr::Variable(_, v) => match &v.declared {
             Declared::Typed { single, ty: _ } => *single,
             Declared::Foreach => false,
@@ -53,37 +53,37 @@ pub fn is_single_target(e: &Expr) -> bool
     }
 }
 
-fn is_point(t: Seen) -> bool
-    ensures { result ≡ is_point (seen t.entry) }
+fn is_point(ty: TyRef) -> bool
+    ensures { result ≡ is_point (ty_view ty.entry) }
 {
-    matches!(t, Seen::Pt(_))
+    matches!(ty, TyRef::Pt(_))
 }
 
 // Whether the built-in member is a query of a domain: its size, its bounds or whether it contains a point.
-fn tells_of_domain(b: Option<BuiltIn>) -> bool
-    ensures { result ≡ tells_of_domain (option_map built_in_of b) }
+fn tells_of_domain(built_in: Option<BuiltIn>) -> bool
+    ensures { result ≡ tells_of_domain (option_map built_in_of built_in) }
 {
     matches!(
-        b,
+        built_in,
         Some(BuiltIn::Size | BuiltIn::Min | BuiltIn::Max | BuiltIn::Contains)
     )
 }
 
-fn all_hold(a: bool, b: bool, c: bool) -> bool
-    ensures { result ≡ a && (b && c) }
+fn all_hold(first: bool, second: bool, third: bool) -> bool
+    ensures { result ≡ first && (second && third) }
 {
-    a && b && c
+    first && second && third
 }
 
 // ---- expressions
 
 #[cycle(single)]
-fn are_single(p: &Program, scope: &Scope, xs: &[Expr]) -> bool
-    ensures { result ≡ are_single (program_of p.now.parts) scope.now.this (singles_in (contents_of scope.now))
-        (numbered_exps (map expression_of xs.now)) }
+fn are_single(program: &Program, scope: &Scope, exprs: &[Expr]) -> bool
+    ensures { result ≡ are_single (program_of program.now.parts) scope.now.this (singles_in (contents_of scope.now))
+        (numbered_exps (map expression_of exprs.now)) }
 {
-    for x in xs {
-        if !is_single_part(p, scope, x) {
+    for x in exprs {
+        if !is_single_part(program, scope, x) {
             return false;
         }
     }
@@ -91,28 +91,28 @@ fn are_single(p: &Program, scope: &Scope, xs: &[Expr]) -> bool
 }
 
 #[cycle(single)]
-fn is_single_range(p: &Program, scope: &Scope, range: &Range) -> bool
-    ensures { result ≡ is_single_range (program_of p.now.parts) scope.now.this (singles_in (contents_of scope.now)) (bound_of range.now) }
+fn is_single_range(program: &Program, scope: &Scope, range: &Range) -> bool
+    ensures { result ≡ is_single_range (program_of program.now.parts) scope.now.this (singles_in (contents_of scope.now)) (bound_of range.now) }
 {
     match range {
         Range::Plain { low, high } => {
-            is_single_part(p, scope, low) && is_single_part(p, scope, high)
+            is_single_part(program, scope, low) && is_single_part(program, scope, high)
         }
         Range::Stepped { low, high, step } => {
-            is_single_part(p, scope, low)
-                && is_single_part(p, scope, high)
-                && is_single_part(p, scope, step)
+            is_single_part(program, scope, low)
+                && is_single_part(program, scope, high)
+                && is_single_part(program, scope, step)
         }
     }
 }
 
 #[cycle(single)]
-fn are_single_ranges(p: &Program, scope: &Scope, ranges: &[Range]) -> bool
-    ensures { result ≡ are_single_ranges (program_of p.now.parts) scope.now.this (singles_in (contents_of scope.now))
+fn are_single_ranges(program: &Program, scope: &Scope, ranges: &[Range]) -> bool
+    ensures { result ≡ are_single_ranges (program_of program.now.parts) scope.now.this (singles_in (contents_of scope.now))
         (numbered_ranges (map bound_of ranges.now)) }
 {
     for range in ranges {
-        if !is_single_range(p, scope, range) {
+        if !is_single_range(program, scope, range) {
             return false;
         }
     }
@@ -123,38 +123,38 @@ fn are_single_ranges(p: &Program, scope: &Scope, ranges: &[Range]) -> bool
 /// declared method is plain (not single) there.
 #[cycle(single)]
 #[tactic(auto, using(ti_lang::proofs::Lemmas::program_bridges))]
-pub fn is_single_part(p: &Program, scope: &Scope, e: &Expr) -> bool
-    ensures { result ≡ is_single_part (program_of p.now.parts) scope.now.this (singles_in (contents_of scope.now)) (expression_of e.now) }
+pub fn is_single_part(program: &Program, scope: &Scope, expr: &Expr) -> bool
+    ensures { result ≡ is_single_part (program_of program.now.parts) scope.now.this (singles_in (contents_of scope.now)) (expression_of expr.now) }
 {
-    match e {
+    match expr {
         Expr::Int(_, _) => true,
         Expr::Long(_, _) => true,
-        Expr::Truth(_, _) => true,
+        Expr::Bool(_, _) => true,
         Expr::NumProcs(_) => true,
         Expr::Variable(_, v) => is_single_variable(scope, v),
-        Expr::Point(_, xs) => are_single(p, scope, listed_expressions(xs)),
-        Expr::Rect(_, found) => are_single_ranges(p, scope, listed_ranges(found)),
-        Expr::Unary { operand, .. } => is_single_part(p, scope, boxed_expression(operand)),
+        Expr::Point(_, xs) => are_single(program, scope, deref_exprs(xs)),
+        Expr::Rect(_, found) => are_single_ranges(program, scope, deref_ranges(found)),
+        Expr::Unary { operand, .. } => is_single_part(program, scope, deref_expr(operand)),
         Expr::Binary { left, right, .. } => {
-            is_single_part(p, scope, boxed_expression(left))
-                && is_single_part(p, scope, boxed_expression(right))
+            is_single_part(program, scope, deref_expr(left))
+                && is_single_part(program, scope, deref_expr(right))
         }
         Expr::Cast { to, operand, .. } => {
-            !Seen::of(&boxed_type(to).ty, false).is_local()
-                && is_single_part(p, scope, boxed_expression(operand))
+            !TyRef::of(&deref_type(to).ty, false).is_local()
+                && is_single_part(program, scope, deref_expr(operand))
         }
         Expr::Index {
             receiver,
             indices,
             ..
         } => {
-            let receiver = boxed_expression(receiver);
-            let of_point = is_point(type_in_text(&p.parts, scope.this, receiver));
-            let part = is_single_part(p, scope, receiver);
+            let receiver = deref_expr(receiver);
+            let of_point = is_point(syntactic_type(&program.parts, scope.this, receiver));
+            let part = is_single_part(program, scope, receiver);
             all_hold(
                 of_point,
                 part,
-                are_single(p, scope, listed_expressions(indices)),
+                are_single(program, scope, deref_exprs(indices)),
             )
         }
         Expr::Member {
@@ -163,10 +163,10 @@ pub fn is_single_part(p: &Program, scope: &Scope, e: &Expr) -> bool
             args,
             ..
         } => {
-            let receiver = boxed_expression(receiver);
-            let tells = tells_of_domain(member_called(&p.parts, scope.this, receiver, *name));
-            let part = is_single_part(p, scope, receiver);
-            all_hold(tells, part, are_single(p, scope, listed_expressions(args)))
+            let receiver = deref_expr(receiver);
+            let tells = tells_of_domain(member_called(&program.parts, scope.this, receiver, *name));
+            let part = is_single_part(program, scope, receiver);
+            all_hold(tells, part, are_single(program, scope, deref_exprs(args)))
         }
         Expr::Null(_)
         | Expr::This(_)
@@ -181,34 +181,38 @@ pub fn is_single_part(p: &Program, scope: &Scope, e: &Expr) -> bool
 // ---- initializers
 
 /// Whether an expression is single as an initializer. There, a call of a method with a single result is single, too.
-pub fn is_single(p: &Program, s: &Scope, e: &Expr) -> bool
-    ensures { result ≡ is_single (program_of p.now.parts) s.now.this (singles_in (contents_of s.now)) (expression_of e.now) }
+pub fn is_single(program: &Program, scope: &Scope, expr: &Expr) -> bool
+    ensures { result ≡ is_single (program_of program.now.parts) scope.now.this (singles_in (contents_of scope.now)) (expression_of expr.now) }
 {
-    match called_method(&p.parts, s.this, e) {
+    match called_method(&program.parts, scope.this, expr) {
         Some(m) => has_single_result(m),
-        None => is_single_part(p, s, e),
+        None => is_single_part(program, scope, expr),
     }
 }
 
 // Whether a broadcast value of this type is single; a reference isn't.
-fn is_single_sent(t: Seen) -> bool
-    ensures { result ≡ is_single_sent (seen t.entry) }
+fn is_single_sent(ty: TyRef) -> bool
+    ensures { result ≡ is_single_sent (ty_view ty.entry) }
 {
     matches!(
-        t,
-        Seen::Int | Seen::Long | Seen::Bool | Seen::Pt(_) | Seen::Rc(_)
+        ty,
+        TyRef::Int | TyRef::Long | TyRef::Bool | TyRef::Pt(_) | TyRef::Rc(_)
     )
 }
 
 /// Whether an initializer is single.
-pub fn is_single_initial(p: &Program, s: &Scope, value: &Init) -> bool
-    ensures { result ≡ is_single_initial (program_of p.now.parts) s.now.this (singles_in (contents_of s.now)) (initial_of value.now) }
+pub fn is_single_initial(program: &Program, scope: &Scope, value: &Init) -> bool
+    ensures { result ≡ is_single_initial (program_of program.now.parts) scope.now.this (singles_in (contents_of scope.now)) (initial_of value.now) }
 {
     match value {
-        Init::Value(e) => is_single(p, s, e),
+        Init::Value(e) => is_single(program, scope, e),
         Init::NewRegion(_) => true,
         Init::NewObject { .. } => false,
         Init::NewGrid { .. } => false,
-        Init::Broadcast { value, .. } => is_single_sent(type_in_text(&p.parts, s.this, value)),
+        Init::Broadcast { value, .. } => is_single_sent(syntactic_type(
+            &program.parts,
+            scope.this,
+            value,
+        )),
     }
 }

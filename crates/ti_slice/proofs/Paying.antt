@@ -3,11 +3,11 @@ use Rattle.std.proofs.Common.{◌≡◌, nat_lt, Bool, true, false, if◌then◌
 use Rattle.ti_base.specs.declared.place.Place.{Place}
 use Rattle.ti_base.specs.declared.fault.FaultKind.TheVariants.{Fuel, Depth}
 use Rattle.ti_base.specs.declared.entry.Answer.{Answer}
-use Rattle.ti_lang.specs.Meaning.Asking.{Request, Got, Gives, Asks, Fails}
-use Rattle.ti_lang.specs.Meaning.Processes.{Work, Frame, frame_of, Wait, Process}
+use Rattle.ti_lang.specs.Meaning.Comp.{Request, CompResult, Gives, Asks, Fails}
+use Rattle.ti_lang.specs.Meaning.Processes.{ContItem, Frame, frame_of, Wait, Process}
 use Rattle.ti_lang.specs.Meaning.Scoping.{env_of}
 use Rattle.ti_lang.specs.Meaning.Moves.{Move, Goes, Turns, Breaks, Continues, Calls, Returns, Meets, Deletes}
-use Rattle.ti_lang.specs.Meaning.Steps.{Step, To, At, Faults, ticks, asks, spends, going, entering, valued, moves, most_frames}
+use Rattle.ti_lang.specs.Meaning.Steps.{Step, To, At, Faults, ticks, asks, spends, with_continuation, enter_call, step_of_result, moves, most_frames}
 use Rattle.ti_align.specs.Slice.{work_acts, single_performed, slice_works, slice_runs, slice_steps, slice_step}
 
 -- a step at an action is taken where a tick is left
@@ -29,28 +29,28 @@ enters_paid : (p : Process) (b : Bool) (q : Process) (at : Place) → Paid p (if
 enters_paid p true q at = tt
 enters_paid p false q at = tt
 
-moves_paid : (p : Process) (f : Frame) (fs : List Frame) (left : List Work) (m : Move) → Paid p (moves p f fs left m)
+moves_paid : (p : Process) (f : Frame) (fs : List Frame) (left : List ContItem) (m : Move) → Paid p (moves p f fs left m)
 moves_paid p f fs left (Goes variables works) = tt
-moves_paid p f fs left (Turns at variables works) = ticks_paid p at (To (spends (going p f fs variables (works ++ left)))) (λ e. tt)
+moves_paid p f fs left (Turns at variables works) = ticks_paid p at (To (spends (with_continuation p f fs variables (works ++ left)))) (λ e. tt)
 moves_paid p f fs left Breaks = tt
 moves_paid p f fs left Continues = tt
 moves_paid p f fs left (Calls at method this parameters receiver) =
-    ticks_paid p at (if nat_lt (length (f ∷ fs)) most_frames then To (spends (entering p f fs left (frame_of method this parameters receiver))) else Faults Depth at)
-    (λ e. enters_paid p (nat_lt (length (f ∷ fs)) most_frames) (spends (entering p f fs left (frame_of method this parameters receiver))) at)
+    ticks_paid p at (if nat_lt (length (f ∷ fs)) most_frames then To (spends (enter_call p f fs left (frame_of method this parameters receiver))) else Faults Depth at)
+    (λ e. enters_paid p (nat_lt (length (f ∷ fs)) most_frames) (spends (enter_call p f fs left (frame_of method this parameters receiver))) at)
 moves_paid p f fs left (Returns value) = tt
 moves_paid p f fs left (Meets wait given behind) = asks_paid p _ _
 moves_paid p f fs left (Deletes at region) = asks_paid p _ _
 
-valued_paid : (p : Process) (got : Got Move) (go : Move → Step) → ((m : Move) → Paid p (go m)) → Paid p (valued p got go)
+valued_paid : (p : Process) (got : CompResult Move) (go : Move → Step) → ((m : Move) → Paid p (go m)) → Paid p (step_of_result p got go)
 valued_paid p (Gives m rest) go h = h m
 valued_paid p (Asks request) go h = asks_paid p request _
 valued_paid p (Fails kind at) go h = tt
 
-works_paid : (p : Process) (f : Frame) (fs : List Frame) (ws : List Work) → Paid p (slice_works p f fs ws)
+works_paid : (p : Process) (f : Frame) (fs : List Frame) (ws : List ContItem) → Paid p (slice_works p f fs ws)
 works_paid p f fs [] = tt
 works_paid p f fs (w ∷ left) = by (work_acts p.setting.program f.method left w)
   where
-    by : (b : Bool) → Paid p (if b then valued p (single_performed (env_of p f left) w []) (moves p f fs left) else To (going p f fs f.variables left))
+    by : (b : Bool) → Paid p (if b then step_of_result p (single_performed (env_of p f left) w []) (moves p f fs left) else To (with_continuation p f fs f.variables left))
     by true = valued_paid p (single_performed (env_of p f left) w []) (moves p f fs left) (moves_paid p f fs left)
     by false = tt
 

@@ -8,43 +8,43 @@ use Rattle.ti_lang.specs.Program.Types.{VariableUse}
 use Rattle.ti_lang.specs.Program.Expressions.{NumberedExp, NumberedExps, NoExp, MoreExp, numbered_exps, place_of_numbered}
 use Rattle.ti_lang.specs.Program.Views.{expression_of}
 use Rattle.ti_lang.specs.Meaning.Held.{Held}
-use Rattle.ti_lang.specs.Meaning.Asking.{Asking, ◌>>=◌, Got, Gives, Asks, Fails, followed, gives}
+use Rattle.ti_lang.specs.Meaning.Comp.{Comp, ◌>>=◌, CompResult, Gives, Asks, Fails, bind_result, gives}
 use Rattle.ti_lang.specs.Meaning.Conversions.{converted}
 use Rattle.ti_lang.specs.Meaning.Processes.{Variable}
 use Rattle.ti_lang.specs.Meaning.Scoping.{Env, declared_type, with_new}
 use Rattle.ti_lang.specs.Meaning.Evaluation.{eval}
 use Rattle.ti_align.specs.SinglePart.{is_single_declared}
 use Rattle.ti_align.specs.Slice.{single_bound}
-use Rattle.ti_eval.specs.declared.stop.Stop.{Stop}
+use Rattle.ti_eval.specs.declared.interrupt.Interrupt.{Interrupt}
 use Rattle.ti_eval.specs.Comes.{Stops}
 use Rattle.ti_eval.proofs.Lemmas.{then_stops, exps_at, no_exps}
-use Rattle.ti_moves.specs.Arguments.{given}
+use Rattle.ti_moves.specs.Arguments.{bound_argument}
 use Rattle.ti_moves.proofs.Lemmas.{from_params, variable_at}
 use Rattle.ti_slice.specs.Mirrors.SingleCalls.{single_found}
 
 -- ---- one parameter and its argument
 
-behind_value : {B : Type 0} (m : Got Held) (w : Held → Variable) (found : List Variable) (go : List Variable → Asking B)
-    → followed m (λ h. go (w h ∷ found)) ≡ followed (followed (followed m (λ h. gives (w h))) (λ v. gives (v ∷ found))) go
+behind_value : {B : Type 0} (m : CompResult Held) (w : Held → Variable) (found : List Variable) (go : List Variable → Comp B)
+    → bind_result m (λ h. go (w h ∷ found)) ≡ bind_result (bind_result (bind_result m (λ h. gives (w h))) (λ v. gives (v ∷ found))) go
 behind_value (Gives h rest) w found go = refl
 behind_value (Asks q) w found go = refl
 behind_value (Fails kind at) w found go = refl
 
-behind_values : {B : Type 0} (m : Got Held) (as_typed : Held → Asking Held) (w : Held → Variable) (found : List Variable) (go : List Variable → Asking B)
-    → followed m (λ h rest. followed (as_typed h rest) (λ k. go (w k ∷ found))) ≡ followed (followed (followed (followed m as_typed) (λ k. gives (w k))) (λ v. gives (v ∷ found))) go
+behind_values : {B : Type 0} (m : CompResult Held) (as_typed : Held → Comp Held) (w : Held → Variable) (found : List Variable) (go : List Variable → Comp B)
+    → bind_result m (λ h rest. bind_result (as_typed h rest) (λ k. go (w k ∷ found))) ≡ bind_result (bind_result (bind_result (bind_result m as_typed) (λ k. gives (w k))) (λ v. gives (v ∷ found))) go
 behind_values (Gives h rest) as_typed w found go = behind_value (as_typed h rest) w found go
 behind_values (Asks q) as_typed w found go = refl
 behind_values (Fails kind at) as_typed w found go = refl
 
 found_if : (b : Bool) (E : Env) (p : VariableUse) (ps : List VariableUse) (x : NumberedExp) (xs : NumberedExps) (found : List Variable) (answers : List Answer)
     → (if b then (eval E x >>= λ h. converted (place_of_numbered x) (declared_type p.declared) h >>= λ k. single_bound E ps xs (with_new p k found)) else single_bound E ps xs found) answers
-    ≡ followed ((if b then (given E p x >>= λ w. gives (w ∷ found)) else gives found) answers) (λ ws. single_bound E ps xs ws)
+    ≡ bind_result ((if b then (bound_argument E p x >>= λ w. gives (w ∷ found)) else gives found) answers) (λ ws. single_bound E ps xs ws)
 found_if true E p ps x xs found answers =
     behind_values (eval E x answers) (converted (place_of_numbered x) (declared_type p.declared)) (λ h. record { named = p; held = h }) found (λ ws. single_bound E ps xs ws)
 found_if false E p ps x xs found answers = refl
 
 one_found : (E : Env) (p : VariableUse) (ps : List VariableUse) (x : NumberedExp) (xs : NumberedExps) (found : List Variable) (answers : List Answer)
-    → single_bound E (p ∷ ps) (MoreExp x xs) found answers ≡ followed (single_found E p x found answers) (λ ws. single_bound E ps xs ws)
+    → single_bound E (p ∷ ps) (MoreExp x xs) found answers ≡ bind_result (single_found E p x found answers) (λ ws. single_bound E ps xs ws)
 one_found E p ps x xs found answers = found_if (is_single_declared p.declared) E p ps x xs found answers
 
 -- ---- turns of the loop over them
@@ -59,28 +59,28 @@ params_at params i d h =
 
 both_at : (E : Env) (params : List Param) (args : List Expr) (i : ℕ) (d : Param) (e : Expr) (found : List Variable) (left : List Answer) → i < length params → i < length args
     → single_bound E (from_params i (drop i params)) (exps (drop i args)) found left
-    ≡ followed (single_found E (variable_at i (get_or params i d)) (expression_of (get_or args i e)) found left)
+    ≡ bind_result (single_found E (variable_at i (get_or params i d)) (expression_of (get_or args i e)) found left)
     (λ ws. single_bound E (from_params (i + 1) (drop (i + 1) params)) (exps (drop (i + 1) args)) ws)
 both_at E params args i d e found left h k =
     ap (λ ps. single_bound E ps (exps (drop i args)) found left) (params_at params i d h)
     ∙ ap (λ xs. single_bound E (variable_at i (get_or params i d) ∷ from_params (i + 1) (drop (i + 1) params)) xs found left) (exps_at args i e k)
     ∙ one_found E (variable_at i (get_or params i d)) (from_params (i + 1) (drop (i + 1) params)) (expression_of (get_or args i e)) (exps (drop (i + 1) args)) found left
 
-pub found_stops : (s : Stop) (E : Env) (params : List Param) (args : List Expr) (i : ℕ) (d : Param) (e : Expr) (found : List Variable) (left : List Answer) (whole : Got (List Variable))
+pub found_stops : (s : Interrupt) (E : Env) (params : List Param) (args : List Expr) (i : ℕ) (d : Param) (e : Expr) (found : List Variable) (left : List Answer) (whole : CompResult (List Variable))
     → i < length params → i < length args → single_bound E (from_params i (drop i params)) (exps (drop i args)) found left ≡ whole
     → Stops s (single_found E (variable_at i (get_or params i d)) (expression_of (get_or args i e)) found left) → Stops s whole
 found_stops s E params args i d e found left whole h k inv st =
-    subst (λ (g : Got (List Variable)). Stops s g) (sym (both_at E params args i d e found left h k) ∙ inv)
+    subst (λ (g : CompResult (List Variable)). Stops s g) (sym (both_at E params args i d e found left h k) ∙ inv)
     (then_stops s (single_found E (variable_at i (get_or params i d)) (expression_of (get_or args i e)) found left) _ st)
 
-pub found_next : (E : Env) (params : List Param) (args : List Expr) (i : ℕ) (d : Param) (e : Expr) (found more : List Variable) (left rest : List Answer) (whole : Got (List Variable))
+pub found_next : (E : Env) (params : List Param) (args : List Expr) (i : ℕ) (d : Param) (e : Expr) (found more : List Variable) (left rest : List Answer) (whole : CompResult (List Variable))
     → i < length params → i < length args → single_bound E (from_params i (drop i params)) (exps (drop i args)) found left ≡ whole
     → single_found E (variable_at i (get_or params i d)) (expression_of (get_or args i e)) found left ≡ Gives more rest
     → single_bound E (from_params (i + 1) (drop (i + 1) params)) (exps (drop (i + 1) args)) more rest ≡ whole
 found_next E params args i d e found more left rest whole h k inv is =
     sym
     (both_at E params args i d e found left h k
-    ∙ ap (λ (g : Got (List Variable)). followed g (λ ws. single_bound E (from_params (i + 1) (drop (i + 1) params)) (exps (drop (i + 1) args)) ws)) is)
+    ∙ ap (λ (g : CompResult (List Variable)). bind_result g (λ ws. single_bound E (from_params (i + 1) (drop (i + 1) params)) (exps (drop (i + 1) args)) ws)) is)
     ∙ inv
 
 no_more : (E : Env) (ps : List VariableUse) (found : List Variable) (left : List Answer) → single_bound E ps NoExp found left ≡ Gives found left

@@ -2,34 +2,34 @@
 
 ghost use Rattle.std.specs.Prelude.{◌≡◌, ℕ, ◌<◌, ◌^◌, [], ◌++◌, IfOk, OnOk};
 ghost use Rattle.ti_base.specs.declared.entry.Answer.TheVariants.{Done};
-ghost use Rattle.ti_lang.specs.Program.Classes.{NumberedProgram};
+ghost use Rattle.ti_lang.specs.Program.Classes.{ProgramView};
 ghost use Rattle.ti_lang.specs.Program.Views.{program_of};
 ghost use Rattle.ti_lang.specs.Meaning.Processes.{begin};
 ghost use Rattle.ti_lang.specs.Meaning.Scoping.{Env as Where};
 ghost use Rattle.ti_align.specs.Slice as slice;
-ghost use Rattle.ti_align.specs.Slice.{SliceAnswers, Comes, deleted_by};
+ghost use Rattle.ti_align.specs.Slice.{SliceAnswers, SliceComes, deleted_by};
 ghost use Rattle.ti_eval.specs.Forms.{IsFormedAnswer};
-ghost use Rattle.ti_moves.specs.Moves.{type_received};
+ghost use Rattle.ti_moves.specs.Outcomes.{type_received};
 ghost use Rattle.ti_moves.specs.Receiving.{stm_seen};
-ghost use Rattle.ti_exec.specs.declared.process.Pending.TheVariants.{Left};
-ghost use Rattle.ti_exec.specs.States.{process_of, wait_in, told, here};
-ghost use Rattle.ti_slice.specs.Mirrors.Answer.{IsFree, IsWaiting, wanted_of, Fits, listed, Departs, SliceMeets};
+ghost use Rattle.ti_exec.specs.declared.process.OnAnswer.TheVariants.{Depart};
+ghost use Rattle.ti_exec.specs.States.{process_of, wait_in, after_answer, innermost_stmt};
+ghost use Rattle.ti_slice.specs.Mirrors.Answer.{IsFree, IsWaiting, wanted_of, OutcomeFits, region_list, Departs, SliceMeets};
 
 use crate::fits::{fits_departure, is_done};
-use crate::stands::{Stand, goes_on};
+use crate::slice_stop::{SliceStop, run_to_stop};
 use std::alloc::Global;
 use ti_align::SliceStep;
 use ti_base::{Answer, CollKind, FaultKind, Memory, Place};
-use ti_eval::{Team, Told};
-use ti_exec::{Mode, Pending, Walker};
-use ti_lang::program::{Parts, Stmt};
-use ti_moves::Meeting;
+use ti_eval::{CanonicalAnswer, Rank};
+use ti_exec::{ControlMode, OnAnswer, TreeMachine};
+use ti_lang::program::{ProgramData, Stmt};
+use ti_moves::CollectiveCall;
 use ti_rules::Checked;
 
 /// The state of the program slice between its collectives.
 #[derive(Drop)]
 pub struct Slice {
-    pub walker: Walker,
+    pub machine: TreeMachine,
     /// The numbers of the regions that have been deleted, the last one first.
     pub gone: Vec<u32>,
 }
@@ -45,70 +45,84 @@ fn at_fault(kind: FaultKind, place: Place) -> SliceStep
 }
 
 // The region that a collective deletes, if it deletes one.
-fn deleted_at(meeting: &Meeting) -> Option<u32>
-    ensures { listed result ≡ slice.deleted_at meeting.now.kind meeting.now.arg }
+fn deleted_at(collective: &CollectiveCall) -> Option<u32>
+    ensures { region_list result ≡ slice.deleted_at collective.now.kind collective.now.arg }
 {
-    match meeting.kind {
-        CollKind::DeleteRegion => meeting.arg,
+    match collective.kind {
+        CollKind::DeleteRegion => collective.arg,
         _ => None,
     }
 }
 
 // The region that is deleted by the collective at which the slice waits, if there is one.
-fn deleted(mode: &Mode) -> Option<u32>
-    ensures { (c : NumberedProgram) (w : Walker) → listed result ≡ deleted_by (wait_in c w mode.now) }
+fn deleted_region(mode: &ControlMode) -> Option<u32>
+    ensures { (c : ProgramView) (w : TreeMachine) → region_list result ≡ deleted_by (wait_in c w mode.now) }
 {
     match mode {
-        Mode::Waits(meeting, _) => deleted_at(meeting),
-        Mode::Expects(meeting) => deleted_at(meeting),
+        ControlMode::Waits(collective, _) => deleted_at(collective),
+        ControlMode::Expects(collective) => deleted_at(collective),
         _ => None,
     }
 }
 
 // The statement that waits for the collective's value.
-fn waiting<'c>(w: &Walker, c: &'c Parts) -> Option<&'c Stmt>
-    ensures { (env : Where) → type_received env (stm_seen result) ≡ type_received env (here (program_of c.now) w.now.top) }
+fn waiting_statement<'c>(machine: &TreeMachine, parts: &'c ProgramData) -> Option<&'c Stmt>
+    ensures { (env : Where) → type_received env (stm_seen result) ≡ type_received env (innermost_stmt (program_of parts.now) machine.now.top) }
 {
-    if w.top.levels.is_empty() {
+    if machine.top.levels.is_empty() {
         return None;
     }
-    w.top.stands(c)
+    machine.top.current_stmt(parts)
 }
 
 // Whether an outcome fits the departure from the collective at which the slice waits.
-fn fits(w: &Walker, alloc: Global, c: &Parts, outcome: &Answer) -> Result<bool, Memory>
-    requires { IsWaiting w.now.mode }
-    ensures { IfOk result (λ b. Fits (wanted_of (wait_in (program_of c.now) w.now w.now.mode)) outcome.now b) }
+fn fits(
+    machine: &TreeMachine,
+    alloc: Global,
+    parts: &ProgramData,
+    outcome: &Answer,
+) -> Result<bool, Memory>
+    requires { IsWaiting machine.now.mode }
+    ensures { IfOk result (λ b. OutcomeFits (wanted_of (wait_in (program_of parts.now) machine.now machine.now.mode)) outcome.now b) }
 {
-    match &w.mode {
-        Mode::Waits(_, _) => Ok(is_done(outcome)),
-        Mode::Expects(_) => fits_departure(alloc, &w.env(c), waiting(w, c), outcome),
+    match &machine.mode {
+        ControlMode::Waits(_, _) => Ok(is_done(outcome)),
+        ControlMode::Expects(_) => fits_departure(
+            alloc,
+            &machine.env(parts),
+            waiting_statement(machine, parts),
+            outcome,
+        ),
         _ => unreachable!(),
     }
 }
 
 // Applies the answer to the action that the slice had next.
-fn hear(w: &mut Walker, pending: Pending, a: Answer) -> Result<(), Memory>
-    requires form { IsFormedAnswer a }
-    requires tick { w.old.spent < w.old.fuel }
-    ensures { OnOk result ((c : NumberedProgram) → process_of c w.new ≡ told c w.old pending a) }
+fn apply_answer(
+    machine: &mut TreeMachine,
+    on_answer: OnAnswer,
+    answer: Answer,
+) -> Result<(), Memory>
+    requires form { IsFormedAnswer answer }
+    requires tick { machine.old.spent < machine.old.fuel }
+    ensures { OnOk result ((c : ProgramView) → process_of c machine.new ≡ after_answer c machine.old on_answer answer) }
 {
-    w.answers.reserve(1)?;
-    w.hear(pending, Told::of(a));
+    machine.answers.reserve(1)?;
+    machine.resume_with(on_answer, CanonicalAnswer::of(answer));
     Ok(())
 }
 
 impl Slice {
     // The slice before its first step. It runs as process 0.
-    fn begin(alloc: Global, c: &Checked, procs: u32, fuel: u32) -> Slice
+    fn begin(alloc: Global, checked: &Checked, procs: u32, fuel: u32) -> Slice
         requires { procs < 2 ^ 31 }
-        ensures process { process_of (program_of c.now.program.parts) result.walker
-            ≡ begin (record { program = program_of c.now.program.parts; procs = procs; fuel = fuel }) 0 }
+        ensures process { process_of (program_of checked.now.program.parts) result.machine
+            ≡ begin (record { program = program_of checked.now.program.parts; procs = procs; fuel = fuel }) 0 }
         ensures gone { result.gone.items ≡ [] }
     {
-        let team = Team { number: 0, procs };
+        let rank = Rank { number: 0, procs };
         Slice {
-            walker: Walker::begin(alloc, &c.program.parts, team, fuel),
+            machine: TreeMachine::begin(alloc, &checked.program.parts, rank, fuel),
             gone: Vec::new(alloc),
         }
     }
@@ -116,27 +130,32 @@ impl Slice {
     // Leaves the collective at which the slice waits.
     fn leaves(&mut self, outcome: &Answer) -> Result<(), Memory>
         requires form { IsFormedAnswer outcome.now }
-        requires tick { self.old.walker.spent < self.old.walker.fuel }
-        ensures told { OnOk result ((c : NumberedProgram) → process_of c self.new.walker ≡ told c self.old.walker Left outcome.now) }
-        ensures gone { OnOk result ((c : NumberedProgram) → self.new.gone.items
-            ≡ deleted_by (wait_in c self.old.walker self.old.walker.mode) ++ self.old.gone.items) }
+        requires tick { self.old.machine.spent < self.old.machine.fuel }
+        ensures told { OnOk result ((c : ProgramView) → process_of c self.new.machine ≡ after_answer c self.old.machine Depart outcome.now) }
+        ensures gone { OnOk result ((c : ProgramView) → self.new.gone.items
+            ≡ deleted_by (wait_in c self.old.machine self.old.machine.mode) ++ self.old.gone.items) }
     {
-        match deleted(&self.walker.mode) {
+        match deleted_region(&self.machine.mode) {
             Some(region) => self.gone.insert(0, region)?,
             None => {}
         }
-        hear(&mut self.walker, Pending::Left, *outcome)
+        apply_answer(&mut self.machine, OnAnswer::Depart, *outcome)
     }
 
     // Leaves the collective at which the slice waits, if a tick is left and the outcome fits. Says whether it did.
-    fn departs(&mut self, alloc: Global, c: &Checked, outcome: &Answer) -> Result<bool, Memory>
-        requires { IsWaiting self.old.walker.mode }
-        ensures { IfOk result (λ b. Departs (program_of c.now.program.parts) self.old outcome.now self.new b) }
+    fn departs(
+        &mut self,
+        alloc: Global,
+        checked: &Checked,
+        outcome: &Answer,
+    ) -> Result<bool, Memory>
+        requires { IsWaiting self.old.machine.mode }
+        ensures { IfOk result (λ b. Departs (program_of checked.now.program.parts) self.old outcome.now self.new b) }
     {
-        if self.walker.spent >= self.walker.fuel {
+        if self.machine.spent >= self.machine.fuel {
             return Ok(false);
         }
-        let fitting = fits(&self.walker, alloc, &c.program.parts, outcome)?;
+        let fitting = fits(&self.machine, alloc, &checked.program.parts, outcome)?;
         if fitting {
             self.leaves(outcome)?;
             return Ok(true);
@@ -145,30 +164,30 @@ impl Slice {
     }
 
     // Runs to the next collective and leaves it, if there is one and the outcome fits. Says whether it did.
-    fn meets(&mut self, alloc: Global, c: &Checked, outcome: &Answer) -> Result<bool, Memory>
-        requires { IsFree (program_of c.now.program.parts) (process_of (program_of c.now.program.parts) self.old.walker) }
-        ensures { IfOk result (λ b. SliceMeets (program_of c.now.program.parts) self.old outcome.now self.new b) }
+    fn meets(&mut self, alloc: Global, checked: &Checked, outcome: &Answer) -> Result<bool, Memory>
+        requires { IsFree (program_of checked.now.program.parts) (process_of (program_of checked.now.program.parts) self.old.machine) }
+        ensures { IfOk result (λ b. SliceMeets (program_of checked.now.program.parts) self.old outcome.now self.new b) }
     {
-        match goes_on(&mut self.walker, alloc, c, &self.gone)? {
-            Stand::Arrives(_, _, _, pending) => {
-                hear(&mut self.walker, pending, Answer::Done)?;
-                self.departs(alloc, c, outcome)
+        match run_to_stop(&mut self.machine, alloc, checked, &self.gone)? {
+            SliceStop::Arrives(_, _, _, on_answer) => {
+                apply_answer(&mut self.machine, on_answer, Answer::Done)?;
+                self.departs(alloc, checked, outcome)
             }
-            Stand::Ends => Ok(false),
-            Stand::Fails(_, _) => Ok(false),
+            SliceStop::Ends => Ok(false),
+            SliceStop::Fails(_, _) => Ok(false),
         }
     }
 
     // What the slice has next without further outcomes.
-    fn comes_to(&mut self, alloc: Global, c: &Checked) -> Result<SliceStep, Memory>
-        requires { IsFree (program_of c.now.program.parts) (process_of (program_of c.now.program.parts) self.old.walker) }
-        ensures { IfOk result (λ x. (k : ℕ) → Comes (process_of (program_of c.now.program.parts) self.old.walker) self.old.gone.items k []
+    fn comes_to(&mut self, alloc: Global, checked: &Checked) -> Result<SliceStep, Memory>
+        requires { IsFree (program_of checked.now.program.parts) (process_of (program_of checked.now.program.parts) self.old.machine) }
+        ensures { IfOk result (λ x. (k : ℕ) → SliceComes (process_of (program_of checked.now.program.parts) self.old.machine) self.old.gone.items k []
             x) }
     {
-        match goes_on(&mut self.walker, alloc, c, &self.gone)? {
-            Stand::Arrives(kind, arg, place, _) => Ok(SliceStep::At(kind, place, arg)),
-            Stand::Ends => Ok(SliceStep::Ended),
-            Stand::Fails(kind, place) => Ok(at_fault(kind, place)),
+        match run_to_stop(&mut self.machine, alloc, checked, &self.gone)? {
+            SliceStop::Arrives(kind, arg, place, _) => Ok(SliceStep::At(kind, place, arg)),
+            SliceStop::Ends => Ok(SliceStep::Ended),
+            SliceStop::Fails(kind, place) => Ok(at_fault(kind, place)),
         }
     }
 }
@@ -189,21 +208,21 @@ impl Slice {
 /// It depends on no run; `procs` is the number of processes. The only error is out of memory.
 pub fn slice_next(
     alloc: Global,
-    c: &Checked,
+    checked: &Checked,
     procs: u32,
     fuel: u32,
     outcomes: &[Answer],
 ) -> Result<SliceStep, Memory>
     requires procs { procs < 2 ^ 31 }
-    ensures { IfOk result (λ x. SliceAnswers (record { program = program_of c.now.program.parts; procs = procs; fuel = fuel }) outcomes.now
+    ensures { IfOk result (λ x. SliceAnswers (record { program = program_of checked.now.program.parts; procs = procs; fuel = fuel }) outcomes.now
         x) }
 {
-    let mut slice = Slice::begin(alloc, c, procs, fuel);
+    let mut slice = Slice::begin(alloc, checked, procs, fuel);
     for (k, outcome) in outcomes.iter().enumerate() {
-        let met = slice.meets(alloc, c, outcome)?;
+        let met = slice.meets(alloc, checked, outcome)?;
         if !met {
             return Ok(SliceStep::Unfit(k as u64));
         }
     }
-    slice.comes_to(alloc, c)
+    slice.comes_to(alloc, checked)
 }

@@ -5,8 +5,8 @@ mod acts;
 mod answer;
 mod fits;
 mod forms;
-mod stands;
-mod stated;
+mod single_stmt;
+mod slice_stop;
 mod step;
 mod typed;
 

@@ -4,125 +4,146 @@
 ghost use Rattle.std.specs.Prelude.{◌≡◌, ◌<◌, [], length, IfOk};
 ghost use Rattle.ti_lang.specs.Program.Views.{program_of};
 ghost use Rattle.ti_align.specs.Slice.{single_statement as single_statement_spec};
-ghost use Rattle.ti_eval.specs.declared.frame.Todo.TheVariants.{Here};
+ghost use Rattle.ti_eval.specs.declared.frame.Resume.TheVariants.{Here};
 ghost use Rattle.ti_eval.specs.Comes.{ComesAs};
-ghost use Rattle.ti_moves.specs.Moves.{move_of};
-ghost use Rattle.ti_exec.specs.declared.process.Mode.TheVariants.{Walks};
-ghost use Rattle.ti_exec.specs.States.{IsSettled, IsWalking, IsReceiving, env_in, here};
+ghost use Rattle.ti_moves.specs.Outcomes.{outcome_of};
+ghost use Rattle.ti_exec.specs.declared.process.ControlMode.TheVariants.{Walks};
+ghost use Rattle.ti_exec.specs.States.{IsNormalized, IsWalking, IsReceiving, env_in, innermost_stmt};
 ghost use Rattle.ti_slice.specs.Mirrors.Step.{IsSliceTurn, ActsIn};
 
-use crate::acts::{past, receives_single, work_acts};
-use crate::stated::single_statement;
+use crate::acts::{receives_single, work_acts, work_after_first};
+use crate::single_stmt::single_statement;
 use std::alloc::Global;
 use ti_base::Memory;
-use ti_eval::{Stop, Todo, Told};
-use ti_exec::{Mode, Turn, Walker, end_place};
-use ti_lang::program::Parts;
-use ti_moves::Move;
+use ti_eval::{CanonicalAnswer, Interrupt, Resume};
+use ti_exec::{ControlMode, StepOutcome, TreeMachine, end_place};
+use ti_lang::program::ProgramData;
+use ti_moves::StmtOutcome;
 use ti_rules::Checked;
 
 // The outcome of the innermost statement, which has effects.
-fn stated<'a, 'c>(
-    w: &'a Walker,
+fn statement_outcome<'a, 'c>(
+    machine: &'a TreeMachine,
     alloc: Global,
-    c: &'c Parts,
-) -> Result<(Move<'c>, &'a [Told]), Stop>
-    requires { 0 < length w.now.top.levels.items }
-    ensures { ComesAs (move_of (env_in (program_of c.now) w.now) (here (program_of c.now) w.now.top)) result
-        (single_statement_spec (env_in (program_of c.now) w.now) (here (program_of c.now) w.now.top) w.now.answers.items) }
+    parts: &'c ProgramData,
+) -> Result<(StmtOutcome<'c>, &'a [CanonicalAnswer]), Interrupt>
+    requires { 0 < length machine.now.top.levels.items }
+    ensures { ComesAs (outcome_of (env_in (program_of parts.now) machine.now) (innermost_stmt (program_of parts.now) machine.now.top)) result
+        (single_statement_spec (env_in (program_of parts.now) machine.now) (innermost_stmt (program_of parts.now) machine.now.top) machine.now.answers.items) }
 {
-    single_statement(alloc, &w.env(c), w.top.stands(c), &w.answers)
+    single_statement(
+        alloc,
+        &machine.env(parts),
+        machine.top.current_stmt(parts),
+        &machine.answers,
+    )
 }
 
 // The step at the beginning of the innermost statement, which has effects.
-fn at_statement(w: &mut Walker, alloc: Global, c: &Parts) -> Result<Turn, Memory>
-    requires inner { 0 < length w.old.top.levels.items }
-    requires mode { w.old.mode ≡ Walks Here }
-    requires acts { ActsIn (program_of c.now) w.old w.old.mode }
-    requires new { w.old.answers.items ≡ [] }
-    ensures { IfOk result (λ t. IsSliceTurn (program_of c.now) w.old t w.new) }
+fn at_statement(
+    machine: &mut TreeMachine,
+    alloc: Global,
+    parts: &ProgramData,
+) -> Result<StepOutcome, Memory>
+    requires inner { 0 < length machine.old.top.levels.items }
+    requires mode { machine.old.mode ≡ Walks Here }
+    requires acts { ActsIn (program_of parts.now) machine.old machine.old.mode }
+    requires new { machine.old.answers.items ≡ [] }
+    ensures { IfOk result (λ t. IsSliceTurn (program_of parts.now) machine.old t machine.new) }
 {
-    match stated(w, alloc, c) {
-        Ok((m, _)) => w.moves(alloc, c, m),
-        Err(stop) => w.stops(alloc, stop),
+    match statement_outcome(machine, alloc, parts) {
+        Ok((m, _)) => machine.apply_outcome(alloc, parts, m),
+        Err(stop) => machine.stops(alloc, stop),
     }
 }
 
 // The step at work with effects.
-fn acts(w: &mut Walker, alloc: Global, c: &Parts) -> Result<Turn, Memory>
-    requires inner { 0 < length w.old.top.levels.items }
-    requires mode { IsWalking w.old.mode }
-    requires settled { IsSettled (program_of c.now) w.old }
-    requires acts { ActsIn (program_of c.now) w.old w.old.mode }
-    requires new { w.old.answers.items ≡ [] }
-    ensures { IfOk result (λ t. IsSliceTurn (program_of c.now) w.old t w.new) }
+fn acts(
+    machine: &mut TreeMachine,
+    alloc: Global,
+    parts: &ProgramData,
+) -> Result<StepOutcome, Memory>
+    requires inner { 0 < length machine.old.top.levels.items }
+    requires mode { IsWalking machine.old.mode }
+    requires settled { IsNormalized (program_of parts.now) machine.old }
+    requires acts { ActsIn (program_of parts.now) machine.old machine.old.mode }
+    requires new { machine.old.answers.items ≡ [] }
+    ensures { IfOk result (λ t. IsSliceTurn (program_of parts.now) machine.old t machine.new) }
 {
-    match &w.mode {
-        Mode::Walks(todo) => match todo {
-            Todo::Here => at_statement(w, alloc, c),
-            _ => w.at_rest(alloc, c),
+    match &machine.mode {
+        ControlMode::Walks(resume) => match resume {
+            Resume::Here => at_statement(machine, alloc, parts),
+            _ => machine.resume_stmt(alloc, parts),
         },
         _ => unreachable!(),
     }
 }
 
 // The step of a slice that executes pending work; work without effects is skipped.
-fn walks(w: &mut Walker, alloc: Global, c: &Checked) -> Result<Turn, Memory>
-    requires mode { IsWalking w.old.mode }
-    requires settled { IsSettled (program_of c.now.program.parts) w.old }
-    requires new { w.old.answers.items ≡ [] }
-    ensures { IfOk result (λ t. IsSliceTurn (program_of c.now.program.parts) w.old t w.new) }
+fn walks(machine: &mut TreeMachine, alloc: Global, checked: &Checked) -> Result<StepOutcome, Memory>
+    requires mode { IsWalking machine.old.mode }
+    requires settled { IsNormalized (program_of checked.now.program.parts) machine.old }
+    requires new { machine.old.answers.items ≡ [] }
+    ensures { IfOk result (λ t. IsSliceTurn (program_of checked.now.program.parts) machine.old t machine.new) }
 {
-    if w.top.levels.is_empty() {
-        return Ok(w.returns(None));
+    if machine.top.levels.is_empty() {
+        return Ok(machine.returns(None));
     }
-    let parts = &c.program.parts;
-    match &w.mode {
-        Mode::Walks(todo) => {
-            if work_acts(c, &w.top, todo) {
-                return acts(w, alloc, parts);
+    let parts = &checked.program.parts;
+    match &machine.mode {
+        ControlMode::Walks(resume) => {
+            if work_acts(checked, &machine.top, resume) {
+                return acts(machine, alloc, parts);
             }
-            let left = past(w.top.stands(parts), todo);
-            w.done(left);
-            Ok(Turn::Went)
+            let left = work_after_first(machine.top.current_stmt(parts), resume);
+            machine.complete_with(left);
+            Ok(StepOutcome::Continue)
         }
         _ => unreachable!(),
     }
 }
 
 // The step with a value on its way; it is dropped unless it goes into a single variable.
-fn receives(w: &mut Walker, alloc: Global, c: &Checked) -> Result<Turn, Memory>
-    requires mode { IsReceiving w.old.mode }
-    requires new { w.old.answers.items ≡ [] }
-    ensures { IfOk result (λ t. IsSliceTurn (program_of c.now.program.parts) w.old t w.new) }
+fn receives(
+    machine: &mut TreeMachine,
+    alloc: Global,
+    checked: &Checked,
+) -> Result<StepOutcome, Memory>
+    requires mode { IsReceiving machine.old.mode }
+    requires new { machine.old.answers.items ≡ [] }
+    ensures { IfOk result (λ t. IsSliceTurn (program_of checked.now.program.parts) machine.old t machine.new) }
 {
-    if receives_single(c, &w.top) {
-        return w.receiving(alloc, &c.program.parts);
+    if receives_single(checked, &machine.top) {
+        return machine.receive(alloc, &checked.program.parts);
     }
-    w.done(Todo::Inside);
-    Ok(Turn::Went)
+    machine.complete_with(Resume::Inside);
+    Ok(StepOutcome::Continue)
 }
 
 // The step at the work at hand.
-fn act(w: &mut Walker, alloc: Global, c: &Checked) -> Result<Turn, Memory>
-    requires settled { IsSettled (program_of c.now.program.parts) w.old }
-    requires new { w.old.answers.items ≡ [] }
-    ensures { IfOk result (λ t. IsSliceTurn (program_of c.now.program.parts) w.old t w.new) }
+fn act(machine: &mut TreeMachine, alloc: Global, checked: &Checked) -> Result<StepOutcome, Memory>
+    requires settled { IsNormalized (program_of checked.now.program.parts) machine.old }
+    requires new { machine.old.answers.items ≡ [] }
+    ensures { IfOk result (λ t. IsSliceTurn (program_of checked.now.program.parts) machine.old t machine.new) }
 {
-    match &w.mode {
-        Mode::Walks(_) => walks(w, alloc, c),
-        Mode::Receives(_) => receives(w, alloc, c),
-        Mode::Waits(meeting, _) => w.leaves(alloc, meeting.place),
-        Mode::Expects(meeting) => w.leaves(alloc, meeting.place),
-        Mode::Ended => Ok(Turn::Ends(end_place(&c.program.parts))),
+    match &machine.mode {
+        ControlMode::Walks(_) => walks(machine, alloc, checked),
+        ControlMode::Receives(_) => receives(machine, alloc, checked),
+        ControlMode::Waits(collective, _) => machine.leaves(alloc, collective.place),
+        ControlMode::Expects(collective) => machine.leaves(alloc, collective.place),
+        ControlMode::Ended => Ok(StepOutcome::End(end_place(&checked.program.parts))),
     }
 }
 
 /// One step of the program slice.
-pub fn slice_step(w: &mut Walker, alloc: Global, c: &Checked) -> Result<Turn, Memory>
-    requires { w.old.answers.items ≡ [] }
-    ensures { IfOk result (λ t. IsSliceTurn (program_of c.now.program.parts) w.old t w.new) }
+pub fn slice_step(
+    machine: &mut TreeMachine,
+    alloc: Global,
+    checked: &Checked,
+) -> Result<StepOutcome, Memory>
+    requires { machine.old.answers.items ≡ [] }
+    ensures { IfOk result (λ t. IsSliceTurn (program_of checked.now.program.parts) machine.old t machine.new) }
 {
-    w.settle(&c.program.parts)?;
-    act(w, alloc, c)
+    machine.normalize(&checked.program.parts)?;
+    act(machine, alloc, checked)
 }

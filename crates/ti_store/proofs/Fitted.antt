@@ -6,10 +6,10 @@ use Rattle.ti_base.specs.declared.entry.Answer.{Answer}
 use Rattle.ti_base.specs.declared.entry.Entry.{Entry}
 use Rattle.ti_base.specs.declared.entry.Next.TheVariants as next
 use Rattle.ti_lang.specs.Meaning.Answers.{FitsAction}
-use Rattle.ti_lang.specs.Meaning.Processes.{Setting, Process, begin}
+use Rattle.ti_lang.specs.Meaning.Processes.{RunConfig, Process, begin}
 use Rattle.ti_lang.specs.Meaning.NextStep.{IsNext, After, none, more}
 use Rattle.ti_lang.specs.Meaning.Histories.{is_answered, answers_of}
-use Rattle.ti_lang.specs.Meaning.Runs.{World}
+use Rattle.ti_lang.specs.Meaning.Runs.{ProcAfter}
 use Rattle.ti_lang.proofs.Lemmas.{goes_on}
 use Rattle.ti_align.specs.Answering.{AnswersFit}
 use Rattle.ti_store.proofs.Appended.{answers_more}
@@ -87,11 +87,11 @@ given i (e ∷ es) told rest r z = by (e.proc == i) (is_answered e) refl refl (�
         given_behind i e es xs xs r g (of_another i e g.before h ∙ g.told_is)
 
 -- each answer of a process fits what it has next behind those before it
-pub fitting : (s : Setting) (es : List Entry) (i : ℕ) → AnswersFit s es → (told rest : List Answer) (r : Answer) (q : Process)
+pub fitting : (s : RunConfig) (es : List Entry) (i : ℕ) → AnswersFit s es → (told rest : List Answer) (r : Answer) (q : Process)
     → answers_of i es ≡ told ++ r ∷ rest → After (begin s i) told q → FitsAction q r
 fitting s es i fit told rest r q z x =
     let g = given i es told rest r z in
-    let world : World s g.before g.entry.proc q = subst (λ k. World s g.before k q) (sym g.own) (subst (λ rs. After (begin s i) rs q) (sym g.told_is) x) in
+    let world : ProcAfter s g.before g.entry.proc q = subst (λ k. ProcAfter s g.before k q) (sym g.own) (subst (λ rs. After (begin s i) rs q) (sym g.told_is) x) in
     subst (FitsAction q) g.answer_is (fit g.before g.rest g.entry q g.split world g.answered)
 
 -- ---- one answer more
@@ -100,8 +100,8 @@ one_more : (p q r : Process) (rs : List Answer) (a : Answer) → After p rs q �
 one_more p q r [] a none y = y
 one_more p q r (b ∷ rs) a (more {go = go} x e z) y = more x e (one_more (go b) q r rs a z y)
 
-pub world_more : (s : Setting) (es : List Entry) (e : Entry) (p : Process) (at : Place) (a : Action) → World s es e.proc p → IsNext p (next.Act at a) → is_answered e ≡ true
-    → (q : Process) × World s (es ++ e ∷ []) e.proc q
+pub world_more : (s : RunConfig) (es : List Entry) (e : Entry) (p : Process) (at : Place) (a : Action) → ProcAfter s es e.proc p → IsNext p (next.Act at a) → is_answered e ≡ true
+    → (q : Process) × ProcAfter s (es ++ e ∷ []) e.proc q
 world_more s es e p at a x is told =
     let on = goes_on p at a e.answer is in
     (on.0, subst (λ rs. After (begin s e.proc) rs on.0) (sym (answers_more e.proc es e refl told)) (one_more (begin s e.proc) p on.0 (answers_of e.proc es) e.answer x on.1))
@@ -110,5 +110,5 @@ no_entry : (before rest : List Entry) (e : Entry) → [] ≡ before ++ e ∷ res
 no_entry [] rest e z = cc
 no_entry (x ∷ before) rest e z = cc
 
-pub fits_none : (s : Setting) → AnswersFit s []
+pub fits_none : (s : RunConfig) → AnswersFit s []
 fits_none s before rest e p z x is = absurd (no_entry before rest e z)

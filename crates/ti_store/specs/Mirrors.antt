@@ -1,6 +1,6 @@
 -- Definitions that mirror the code. Only contracts of private functions and the invariant use them, so a reader needn't check them.
 pub mod Heap
-pub mod Ledger
+pub mod RunState
 pub mod Parts
 pub mod Refs
 pub mod Regions

@@ -9,26 +9,26 @@ use Rattle.ti_base.specs.declared.entry.Answer.TheVariants.{Done}
 use Rattle.ti_base.specs.declared.entry.Entry.{Entry}
 use Rattle.ti_base.specs.declared.entry.Next.{Next}
 use Rattle.ti_base.specs.declared.entry.Next.TheVariants as next
-use Rattle.ti_lang.specs.declared.program.classes.Parts.{Parts}
+use Rattle.ti_lang.specs.declared.program.classes.ProgramData.{ProgramData}
 use Rattle.ti_lang.specs.Program.Views.{program_of}
-use Rattle.ti_lang.specs.Meaning.Processes.{Setting}
+use Rattle.ti_lang.specs.Meaning.Processes.{RunConfig}
 use Rattle.ti_lang.specs.Meaning.Histories.{is_fault, has_fault, entries_of}
 use Rattle.ti_lang.specs.Meaning.Runs.{IsReady, entry_of}
 use Rattle.ti_store.specs.declared.act_err.ActErr.{ActErr}
 use Rattle.ti_store.specs.declared.act_err.ActErr.TheVariants.{Faulted, NotYet, Halted, Memory}
-use Rattle.ti_store.specs.Conditions.{HasNext}
+use Rattle.ti_store.specs.Conditions.{HasNextAfter}
 
 -- the program of a store, its number of processes, their fuel, the entries so far, and whether it was halted because memory ran out
 pub record StoreState : Type 0 where
-  pub program : Parts
+  pub program : ProgramData
   pub procs : ℕ
   pub fuel : ℕ
   pub entries : List Entry
   pub halted : Bool
 
 -- what the processes of a store share
-abbrev pub setting_of : StoreState → Setting
-setting_of s = record { program = program_of s.program; procs = s.procs; fuel = s.fuel }
+abbrev pub config_of : StoreState → RunConfig
+config_of s = record { program = program_of s.program; procs = s.procs; fuel = s.fuel }
 
 -- the entries as a log: each with the number of its process
 abbrev pub log_of : List Entry → List (ℕ × Entry)
@@ -46,27 +46,27 @@ next_of at a = next.Act at a
 
 -- process p does this next, after its own entries
 abbrev pub IsNextOf : StoreState → ℕ → Place → Action → Type 0
-IsNextOf s p at a = HasNext (setting_of s) p (entries_of p s.entries) (next_of at a)
+IsNextOf s p at a = HasNextAfter (config_of s) p (entries_of p s.entries) (next_of at a)
 
 -- process p needn't wait
 abbrev pub NeedNotWait : StoreState → ℕ → Place → Action → Type 0
-NeedNotWait s p at a = IsReady (setting_of s) s.entries p (next_of at a)
+NeedNotWait s p at a = IsReady (config_of s) s.entries p (next_of at a)
 
 -- what process p does is performed, and results in this entry
-pub record Becomes (s : StoreState) (p : ℕ) (at : Place) (a : Action) (e : Entry) : Type 0 where
+pub record Produces (s : StoreState) (p : ℕ) (at : Place) (a : Action) (e : Entry) : Type 0 where
   pub goes_on : is_halted s ≡ false
   pub ready : NeedNotWait s p at a
-  pub entry : entry_of (setting_of s) s.entries p (next_of at a) ≡ Some e
+  pub entry : entry_of (config_of s) s.entries p (next_of at a) ≡ Some e
 
 -- the store with one more entry
-abbrev pub grown : StoreState → Entry → StoreState
-grown s e = record s { entries = s.entries ++ e ∷ [] }
+abbrev pub with_entry : StoreState → Entry → StoreState
+with_entry s e = record s { entries = s.entries ++ e ∷ [] }
 
 -- process p did what it does next, and received this answer
 pub record IsDone (old : StoreState) (p : ℕ) (at : Place) (a : Action) (answer : Answer) (new : StoreState) : Type 0 where
-  pub becomes : Becomes old p at a (record { proc = p; place = at; act = a; answer = answer })
+  pub becomes : Produces old p at a (record { proc = p; place = at; act = a; answer = answer })
   pub no_fault : is_fault a ≡ false
-  pub after : new ≡ grown old (record { proc = p; place = at; act = a; answer = answer })
+  pub after : new ≡ with_entry old (record { proc = p; place = at; act = a; answer = answer })
 
 -- the entry of a fault of process p
 abbrev pub fault_entry : ℕ → Place → FaultKind → Entry
@@ -74,7 +74,7 @@ fault_entry p at kind = record { proc = p; place = at; act = act.Fault kind; ans
 
 -- Process p didn't get an answer: what it did faulted; or it has to wait, the store is halted, or memory ran out, and nothing changed.
 abbrev pub IsRefused : StoreState → ℕ → Place → Action → ActErr → StoreState → Type 0
-IsRefused old p at a (Faulted kind) new = Becomes old p at a (fault_entry p at kind) × (new ≡ grown old (fault_entry p at kind))
+IsRefused old p at a (Faulted kind) new = Produces old p at a (fault_entry p at kind) × (new ≡ with_entry old (fault_entry p at kind))
 IsRefused old p at a NotYet new = (is_halted old ≡ false) × (NeedNotWait old p at a → ⊥) × (new ≡ old)
 IsRefused old p at a Halted new = (is_halted old ≡ true) × (new ≡ old)
 IsRefused old p at a Memory new = (is_halted old ≡ false) × NeedNotWait old p at a × (new ≡ old)

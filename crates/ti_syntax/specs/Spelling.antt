@@ -43,16 +43,16 @@ abbrev pub most_weight : ℕ
 most_weight = 256
 
 -- a level or a weight above its limit
-abbrev pub IsAbove : Option Load → Type 0
-IsAbove None = ⊥
-IsAbove (Some Free) = ⊥
-IsAbove (Some (Level n)) = most_levels < n
-IsAbove (Some (Weight n)) = most_weight < n
+abbrev pub IsAboveLimit : Option Load → Type 0
+IsAboveLimit None = ⊥
+IsAboveLimit (Some Free) = ⊥
+IsAboveLimit (Some (Level n)) = most_levels < n
+IsAboveLimit (Some (Weight n)) = most_weight < n
 
 -- in every program whose tokens begin with this prefix and this token, the token's level or weight is above its limit
 abbrev pub IsTooDeep : List Token → Token → Type 0
 IsTooDeep front t =
-    (more : List Token) (tree : TextTree) (text : Spells (front ++ t ∷ more) tree) → IsAbove (slice_get (loads_of text) (length front))
+    (more : List Token) (tree : TextTree) (text : Spells (front ++ t ∷ more) tree) → IsAboveLimit (slice_get (loads_of text) (length front))
 
 -- no token of the list is above a limit
 abbrev pub IsShallow : List Token → Type 0

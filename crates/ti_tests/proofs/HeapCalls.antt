@@ -8,13 +8,13 @@ use Rattle.ti_base.specs.declared.value.Value.{Value}
 use Rattle.ti_base.specs.declared.fault.FaultKind.{FaultKind}
 use Rattle.ti_base.specs.declared.action.ViewHow.{ViewHow}
 use Rattle.ti_base.specs.Cells.{suits}
-use Rattle.ti_base.specs.Ranges.{Range, is_empty_range, shifted}
-use Rattle.ti_base.specs.Rects.{first_range, second_range, third_range, is_empty, empty_rect, of_ranges, translated}
-use Rattle.ti_heap.specs.Contents.{Cell, same_cell, GridMap, Made, Contents, nothing, with_value, with_thing, dropped_made, without_region, Writes}
+use Rattle.ti_base.specs.Ranges.{Range, is_empty_range, shift_range}
+use Rattle.ti_base.specs.Rects.{first_range, second_range, third_range, is_empty, empty_rect, of_ranges, translate_rect}
+use Rattle.ti_heap.specs.Contents.{Cell, same_cell, GridMap, Made, Contents, empty_contents, with_cell_value, with_thing, dropped_made, without_region, WritesCell}
 
 -- ---- how much a process has made
 
-pub none_made : (s : Contents) (procs : ℕ) → s ≡ nothing procs → (q : ℕ) → length (s.made q) ≤ 0
+pub none_made : (s : Contents) (procs : ℕ) → s ≡ empty_contents procs → (q : ℕ) → length (s.made q) ≤ 0
 none_made s procs is q = subst (λ (x : Contents). length (x.made q) ≤ 0) (sym is) (lit≤ tt)
 
 pub one_more : (s t : Contents) (id : Id) (values : List Value) (grid : Option GridMap) → t ≡ with_thing id values grid s → (q n : ℕ) → length (s.made q) ≤ n
@@ -38,7 +38,7 @@ one_more_at_most f (Err e) old new values grid ok err q n few =
 pub as_many : (s t : Contents) (region : ℕ) → t ≡ without_region region s → (q n : ℕ) → length (s.made q) ≤ n → length (t.made q) ≤ n
 as_many s t region is q n few = subst (λ (x : Contents). length (x.made q) ≤ n) (sym is) (omega (arith, length-map (s.made q) (dropped_made region), few))
 
-pub as_many_written : (s t : Contents) (o : Option Cell) (v : Value) (r : Result (Unit {0}) FaultKind) → Writes s o v r t → (q n : ℕ) → length (s.made q) ≤ n
+pub as_many_written : (s t : Contents) (o : Option Cell) (v : Value) (r : Result (Unit {0}) FaultKind) → WritesCell s o v r t → (q n : ℕ) → length (s.made q) ≤ n
     → length (t.made q) ≤ n
 as_many_written s t None v r w q n few = subst (λ (x : Contents). length (x.made q) ≤ n) (sym w.1) few
 as_many_written s t (Some cell) v r w q n few = subst (λ (x : Contents). length (x.made q) ≤ n) (sym w.1) few
@@ -49,7 +49,7 @@ has_serials s q n few small = omega (arith, few, small)
 -- ---- cells
 
 -- a write takes no cell away
-pub still_there : (s t : Contents) (cell : Cell) (v : Value) → t ≡ with_value cell v s → (other : Cell) → IsSome (s.held other) → IsSome (t.held other)
+pub still_there : (s t : Contents) (cell : Cell) (v : Value) → t ≡ with_cell_value cell v s → (other : Cell) → IsSome (s.held other) → IsSome (t.held other)
 still_there s t cell v is other there = subst (λ (x : Contents). IsSome (x.held other)) (sym is) (by (same_cell other cell))
   where
     by : (b : Bool) → IsSome (if b then Some v else s.held other)
@@ -78,7 +78,7 @@ of_ranges_dim n a b c =
     } in
     either_dim n (is_empty_range a || is_empty_range b || is_empty_range c) (empty_rect n) r refl refl
 
-pub translated_dim : (r : Rect) (p : Point) → (translated r p).dim ≡ r.dim
+pub translated_dim : (r : Rect) (p : Point) → (translate_rect r p).dim ≡ r.dim
 translated_dim r p =
-    either_dim r.dim (is_empty r) r (of_ranges r.dim (shifted p.x1 (first_range r)) (shifted p.x2 (second_range r)) (shifted p.x3 (third_range r))) refl
-    (of_ranges_dim r.dim (shifted p.x1 (first_range r)) (shifted p.x2 (second_range r)) (shifted p.x3 (third_range r)))
+    either_dim r.dim (is_empty r) r (of_ranges r.dim (shift_range p.x1 (first_range r)) (shift_range p.x2 (second_range r)) (shift_range p.x3 (third_range r))) refl
+    (of_ranges_dim r.dim (shift_range p.x1 (first_range r)) (shift_range p.x2 (second_range r)) (shift_range p.x3 (third_range r)))

@@ -5,12 +5,12 @@ use std::test::Fail;
 use ti_base::{
     Action, Answer, CollKind, Deposit, Entry, Id, Memory, Place, Point, Rect, Value, ViewHow, Zero,
 };
-use ti_race::{RaceWatch, told_races};
+use ti_race::{RaceWatch, entry_races};
 use ti_watch::Watch;
 
 /// How a view of a one-dimensional grid is made.
 #[derive(Clone, Copy)]
-enum Seen {
+enum ViewMaker {
     /// Translation by this offset.
     Moved(i32),
     /// Translation by a two-dimensional point, so that there is no such view.
@@ -25,7 +25,7 @@ enum Does {
     /// Creates `GRID` with these bounds and this stride.
     MakesGrid(i32, i32, u32),
     /// Creates a view with the first identity of the grid with the second one.
-    MakesView(Id, Id, Seen),
+    MakesView(Id, Id, ViewMaker),
     MakesObject(Id),
     Puts(Id, i32),
     Gets(Id, i32),
@@ -36,12 +36,12 @@ enum Does {
 }
 
 /// A process, and what it does.
-struct Step(u32, Does);
+struct RaceStep(u32, Does);
 
 /// A list of entries, of which number n has the source location 1:n, and the expected report.
-struct Case {
+struct RaceCase {
     about: &'static str,
-    told: &'static [Step],
+    told: &'static [RaceStep],
     report: &'static str,
 }
 
@@ -73,256 +73,256 @@ const THING: Id = Id {
     region: 0,
 };
 
-const CASES: &[Case] = &[
-    Case {
+const CASES: &[RaceCase] = &[
+    RaceCase {
         about: "two writes",
         told: &[
-            Step(0, Does::MakesGrid(0, 9, 1)),
-            Step(0, Does::Puts(GRID, 3)),
-            Step(1, Does::Puts(GRID, 3)),
+            RaceStep(0, Does::MakesGrid(0, 9, 1)),
+            RaceStep(0, Does::Puts(GRID, 3)),
+            RaceStep(1, Does::Puts(GRID, 3)),
         ],
         report: "races 2\n1 p0 1:1\n2 p1 1:2\n",
     },
-    Case {
+    RaceCase {
         about: "two elements",
         told: &[
-            Step(0, Does::MakesGrid(0, 9, 1)),
-            Step(0, Does::Puts(GRID, 3)),
-            Step(1, Does::Puts(GRID, 4)),
+            RaceStep(0, Does::MakesGrid(0, 9, 1)),
+            RaceStep(0, Does::Puts(GRID, 3)),
+            RaceStep(1, Does::Puts(GRID, 4)),
         ],
         report: "races 0\n",
     },
-    Case {
+    RaceCase {
         about: "two reads",
         told: &[
-            Step(0, Does::MakesGrid(0, 9, 1)),
-            Step(0, Does::Gets(GRID, 3)),
-            Step(1, Does::Gets(GRID, 3)),
+            RaceStep(0, Does::MakesGrid(0, 9, 1)),
+            RaceStep(0, Does::Gets(GRID, 3)),
+            RaceStep(1, Does::Gets(GRID, 3)),
         ],
         report: "races 0\n",
     },
-    Case {
+    RaceCase {
         about: "uses of one process",
         told: &[
-            Step(0, Does::MakesGrid(0, 9, 1)),
-            Step(0, Does::Puts(GRID, 3)),
-            Step(0, Does::Gets(GRID, 3)),
-            Step(0, Does::Puts(GRID, 3)),
+            RaceStep(0, Does::MakesGrid(0, 9, 1)),
+            RaceStep(0, Does::Puts(GRID, 3)),
+            RaceStep(0, Does::Gets(GRID, 3)),
+            RaceStep(0, Does::Puts(GRID, 3)),
         ],
         report: "races 0\n",
     },
-    Case {
+    RaceCase {
         about: "a write and two reads",
         told: &[
-            Step(0, Does::MakesGrid(0, 9, 1)),
-            Step(1, Does::Puts(GRID, 3)),
-            Step(0, Does::Gets(GRID, 3)),
-            Step(2, Does::Gets(GRID, 3)),
+            RaceStep(0, Does::MakesGrid(0, 9, 1)),
+            RaceStep(1, Does::Puts(GRID, 3)),
+            RaceStep(0, Does::Gets(GRID, 3)),
+            RaceStep(2, Does::Gets(GRID, 3)),
         ],
         report: "races 3\n1 p1 1:1\n2 p0 1:2\n3 p2 1:3\n",
     },
-    Case {
+    RaceCase {
         about: "phases don't count arrivals",
         told: &[
-            Step(0, Does::MakesGrid(0, 9, 1)),
-            Step(0, Does::Puts(GRID, 3)),
-            Step(1, Does::Arrives),
-            Step(1, Does::Puts(GRID, 3)),
+            RaceStep(0, Does::MakesGrid(0, 9, 1)),
+            RaceStep(0, Does::Puts(GRID, 3)),
+            RaceStep(1, Does::Arrives),
+            RaceStep(1, Does::Puts(GRID, 3)),
         ],
         report: "races 2\n1 p0 1:1\n3 p1 1:3\n",
     },
-    Case {
+    RaceCase {
         about: "phases count departures",
         told: &[
-            Step(0, Does::MakesGrid(0, 9, 1)),
-            Step(0, Does::Puts(GRID, 3)),
-            Step(0, Does::Departs),
-            Step(1, Does::Departs),
-            Step(1, Does::Puts(GRID, 3)),
-            Step(0, Does::Gets(GRID, 3)),
+            RaceStep(0, Does::MakesGrid(0, 9, 1)),
+            RaceStep(0, Does::Puts(GRID, 3)),
+            RaceStep(0, Does::Departs),
+            RaceStep(1, Does::Departs),
+            RaceStep(1, Does::Puts(GRID, 3)),
+            RaceStep(0, Does::Gets(GRID, 3)),
         ],
         report: "races 2\n4 p1 1:4\n5 p0 1:5\n",
     },
-    Case {
+    RaceCase {
         about: "two views of one block",
         told: &[
-            Step(0, Does::MakesGrid(0, 9, 1)),
-            Step(0, Does::MakesView(VIEW, GRID, Seen::Moved(1))),
-            Step(1, Does::Puts(VIEW, 4)),
-            Step(0, Does::Gets(GRID, 3)),
+            RaceStep(0, Does::MakesGrid(0, 9, 1)),
+            RaceStep(0, Does::MakesView(VIEW, GRID, ViewMaker::Moved(1))),
+            RaceStep(1, Does::Puts(VIEW, 4)),
+            RaceStep(0, Does::Gets(GRID, 3)),
         ],
         report: "races 2\n2 p1 1:2\n3 p0 1:3\n",
     },
-    Case {
+    RaceCase {
         about: "a view of a view",
         told: &[
-            Step(0, Does::MakesGrid(0, 9, 1)),
-            Step(0, Does::MakesView(VIEW, GRID, Seen::Moved(1))),
-            Step(1, Does::MakesView(OTHER, VIEW, Seen::Moved(-2))),
-            Step(0, Does::Puts(GRID, 3)),
-            Step(1, Does::Puts(OTHER, 2)),
+            RaceStep(0, Does::MakesGrid(0, 9, 1)),
+            RaceStep(0, Does::MakesView(VIEW, GRID, ViewMaker::Moved(1))),
+            RaceStep(1, Does::MakesView(OTHER, VIEW, ViewMaker::Moved(-2))),
+            RaceStep(0, Does::Puts(GRID, 3)),
+            RaceStep(1, Does::Puts(OTHER, 2)),
         ],
         report: "races 2\n3 p0 1:3\n4 p1 1:4\n",
     },
-    Case {
+    RaceCase {
         about: "a part",
         told: &[
-            Step(0, Does::MakesGrid(0, 9, 1)),
-            Step(0, Does::MakesView(VIEW, GRID, Seen::Cut(2, 4))),
-            Step(0, Does::Puts(VIEW, 2)),
-            Step(1, Does::Gets(GRID, 2)),
+            RaceStep(0, Does::MakesGrid(0, 9, 1)),
+            RaceStep(0, Does::MakesView(VIEW, GRID, ViewMaker::Cut(2, 4))),
+            RaceStep(0, Does::Puts(VIEW, 2)),
+            RaceStep(1, Does::Gets(GRID, 2)),
         ],
         report: "races 2\n2 p0 1:2\n3 p1 1:3\n",
     },
-    Case {
+    RaceCase {
         about: "outside of a part",
         told: &[
-            Step(0, Does::MakesGrid(0, 9, 1)),
-            Step(0, Does::MakesView(VIEW, GRID, Seen::Cut(2, 4))),
-            Step(0, Does::Puts(VIEW, 5)),
-            Step(1, Does::Puts(GRID, 5)),
+            RaceStep(0, Does::MakesGrid(0, 9, 1)),
+            RaceStep(0, Does::MakesView(VIEW, GRID, ViewMaker::Cut(2, 4))),
+            RaceStep(0, Does::Puts(VIEW, 5)),
+            RaceStep(1, Does::Puts(GRID, 5)),
         ],
         report: "races 0\n",
     },
-    Case {
+    RaceCase {
         about: "outside of a domain",
         told: &[
-            Step(0, Does::MakesGrid(0, 9, 1)),
-            Step(0, Does::Puts(GRID, 10)),
-            Step(1, Does::Puts(GRID, 10)),
+            RaceStep(0, Does::MakesGrid(0, 9, 1)),
+            RaceStep(0, Does::Puts(GRID, 10)),
+            RaceStep(1, Does::Puts(GRID, 10)),
         ],
         report: "races 2\n1 p0 1:1\n2 p1 1:2\n",
     },
-    Case {
+    RaceCase {
         about: "a grid that wasn't told",
         told: &[
-            Step(0, Does::Puts(GRID, 3)),
-            Step(1, Does::Puts(GRID, 3)),
-            Step(1, Does::Puts(GRID, 4)),
+            RaceStep(0, Does::Puts(GRID, 3)),
+            RaceStep(1, Does::Puts(GRID, 3)),
+            RaceStep(1, Does::Puts(GRID, 4)),
         ],
         report: "races 2\n0 p0 1:0\n1 p1 1:1\n",
     },
-    Case {
+    RaceCase {
         about: "a view of one",
         told: &[
-            Step(0, Does::MakesView(VIEW, GRID, Seen::Moved(1))),
-            Step(0, Does::Puts(VIEW, 4)),
-            Step(1, Does::Puts(GRID, 3)),
-            Step(1, Does::Puts(VIEW, 4)),
+            RaceStep(0, Does::MakesView(VIEW, GRID, ViewMaker::Moved(1))),
+            RaceStep(0, Does::Puts(VIEW, 4)),
+            RaceStep(1, Does::Puts(GRID, 3)),
+            RaceStep(1, Does::Puts(VIEW, 4)),
         ],
         report: "races 2\n1 p0 1:1\n3 p1 1:3\n",
     },
-    Case {
+    RaceCase {
         about: "a view that doesn't suit",
         told: &[
-            Step(0, Does::MakesGrid(0, 9, 1)),
-            Step(0, Does::MakesView(VIEW, GRID, Seen::MovedInPlane)),
-            Step(0, Does::Puts(VIEW, 4)),
-            Step(1, Does::Puts(GRID, 4)),
+            RaceStep(0, Does::MakesGrid(0, 9, 1)),
+            RaceStep(0, Does::MakesView(VIEW, GRID, ViewMaker::MovedInPlane)),
+            RaceStep(0, Does::Puts(VIEW, 4)),
+            RaceStep(1, Does::Puts(GRID, 4)),
         ],
         report: "races 0\n",
     },
-    Case {
+    RaceCase {
         about: "a view past the greatest number",
         told: &[
-            Step(0, Does::MakesGrid(0, 9, 1)),
-            Step(0, Does::MakesView(VIEW, GRID, Seen::Moved(i32::MAX))),
-            Step(0, Does::Puts(VIEW, i32::MAX)),
-            Step(1, Does::Puts(GRID, 0)),
+            RaceStep(0, Does::MakesGrid(0, 9, 1)),
+            RaceStep(0, Does::MakesView(VIEW, GRID, ViewMaker::Moved(i32::MAX))),
+            RaceStep(0, Does::Puts(VIEW, i32::MAX)),
+            RaceStep(1, Does::Puts(GRID, 0)),
         ],
         report: "races 0\n",
     },
-    Case {
+    RaceCase {
         about: "a domain that isn't in its one form",
         told: &[
-            Step(0, Does::MakesGrid(0, 9, 2)),
-            Step(0, Does::MakesView(VIEW, GRID, Seen::Moved(1))),
-            Step(0, Does::Puts(VIEW, 1)),
-            Step(1, Does::Puts(GRID, 0)),
+            RaceStep(0, Does::MakesGrid(0, 9, 2)),
+            RaceStep(0, Does::MakesView(VIEW, GRID, ViewMaker::Moved(1))),
+            RaceStep(0, Does::Puts(VIEW, 1)),
+            RaceStep(1, Does::Puts(GRID, 0)),
         ],
         report: "races 0\n",
     },
-    Case {
+    RaceCase {
         about: "a domain with too many points",
         told: &[
-            Step(0, Does::MakesGrid(0, 1_048_576, 1)),
-            Step(0, Does::MakesView(VIEW, GRID, Seen::Moved(1))),
-            Step(0, Does::Puts(VIEW, 1)),
-            Step(1, Does::Puts(GRID, 0)),
+            RaceStep(0, Does::MakesGrid(0, 1_048_576, 1)),
+            RaceStep(0, Does::MakesView(VIEW, GRID, ViewMaker::Moved(1))),
+            RaceStep(0, Does::Puts(VIEW, 1)),
+            RaceStep(1, Does::Puts(GRID, 0)),
         ],
         report: "races 0\n",
     },
-    Case {
+    RaceCase {
         about: "a domain with as many as there may be",
         told: &[
-            Step(0, Does::MakesGrid(1, 1_048_576, 1)),
-            Step(0, Does::MakesView(VIEW, GRID, Seen::Moved(1))),
-            Step(0, Does::Puts(VIEW, 2)),
-            Step(1, Does::Puts(GRID, 1)),
+            RaceStep(0, Does::MakesGrid(1, 1_048_576, 1)),
+            RaceStep(0, Does::MakesView(VIEW, GRID, ViewMaker::Moved(1))),
+            RaceStep(0, Does::Puts(VIEW, 2)),
+            RaceStep(1, Does::Puts(GRID, 1)),
         ],
         report: "races 2\n2 p0 1:2\n3 p1 1:3\n",
     },
-    Case {
+    RaceCase {
         about: "the last making",
         told: &[
-            Step(0, Does::MakesGrid(0, 9, 1)),
-            Step(0, Does::Puts(GRID, 3)),
-            Step(0, Does::MakesGrid(0, 9, 1)),
-            Step(1, Does::Puts(GRID, 3)),
+            RaceStep(0, Does::MakesGrid(0, 9, 1)),
+            RaceStep(0, Does::Puts(GRID, 3)),
+            RaceStep(0, Does::MakesGrid(0, 9, 1)),
+            RaceStep(1, Does::Puts(GRID, 3)),
         ],
         report: "races 0\n",
     },
-    Case {
+    RaceCase {
         about: "the last making before the view",
         told: &[
-            Step(0, Does::MakesGrid(0, 9, 1)),
-            Step(0, Does::MakesView(VIEW, GRID, Seen::Moved(1))),
-            Step(0, Does::MakesGrid(0, 9, 1)),
-            Step(0, Does::Puts(VIEW, 4)),
-            Step(1, Does::Puts(GRID, 3)),
+            RaceStep(0, Does::MakesGrid(0, 9, 1)),
+            RaceStep(0, Does::MakesView(VIEW, GRID, ViewMaker::Moved(1))),
+            RaceStep(0, Does::MakesGrid(0, 9, 1)),
+            RaceStep(0, Does::Puts(VIEW, 4)),
+            RaceStep(1, Does::Puts(GRID, 3)),
         ],
         report: "races 0\n",
     },
-    Case {
+    RaceCase {
         about: "a field",
         told: &[
-            Step(0, Does::MakesObject(THING)),
-            Step(0, Does::PutsField(THING, 0)),
-            Step(1, Does::GetsField(THING, 0)),
-            Step(1, Does::GetsField(THING, 1)),
+            RaceStep(0, Does::MakesObject(THING)),
+            RaceStep(0, Does::PutsField(THING, 0)),
+            RaceStep(1, Does::GetsField(THING, 0)),
+            RaceStep(1, Does::GetsField(THING, 1)),
         ],
         report: "races 2\n1 p0 1:1\n2 p1 1:2\n",
     },
-    Case {
+    RaceCase {
         about: "a grid of the object's name",
         told: &[
-            Step(0, Does::MakesObject(GRID)),
-            Step(0, Does::PutsField(GRID, 0)),
-            Step(0, Does::MakesGrid(0, 9, 1)),
-            Step(1, Does::PutsField(GRID, 0)),
-            Step(1, Does::Puts(GRID, 0)),
+            RaceStep(0, Does::MakesObject(GRID)),
+            RaceStep(0, Does::PutsField(GRID, 0)),
+            RaceStep(0, Does::MakesGrid(0, 9, 1)),
+            RaceStep(1, Does::PutsField(GRID, 0)),
+            RaceStep(1, Does::Puts(GRID, 0)),
         ],
         report: "races 2\n1 p0 1:1\n3 p1 1:3\n",
     },
-    Case {
+    RaceCase {
         about: "the object's last making",
         told: &[
-            Step(0, Does::MakesObject(THING)),
-            Step(0, Does::PutsField(THING, 0)),
-            Step(0, Does::MakesObject(THING)),
-            Step(1, Does::PutsField(THING, 0)),
+            RaceStep(0, Does::MakesObject(THING)),
+            RaceStep(0, Does::PutsField(THING, 0)),
+            RaceStep(0, Does::MakesObject(THING)),
+            RaceStep(1, Does::PutsField(THING, 0)),
         ],
         report: "races 0\n",
     },
-    Case {
+    RaceCase {
         about: "an object that wasn't told",
         told: &[
-            Step(1, Does::PutsField(THING, 0)),
-            Step(0, Does::GetsField(THING, 0)),
+            RaceStep(1, Does::PutsField(THING, 0)),
+            RaceStep(0, Does::GetsField(THING, 0)),
         ],
         report: "races 2\n0 p1 1:0\n1 p0 1:1\n",
     },
-    Case {
+    RaceCase {
         about: "no entry",
         told: &[],
         report: "races 0\n",
@@ -349,11 +349,11 @@ fn line(low: i32, high: i32, step: u32) -> Rect {
     }
 }
 
-fn how_of(seen: Seen) -> ViewHow {
+fn how_of(seen: ViewMaker) -> ViewHow {
     match seen {
-        Seen::Moved(by) => ViewHow::Translate(at(by)),
-        Seen::MovedInPlane => ViewHow::Translate(Point { dim: 2, ..at(0) }),
-        Seen::Cut(low, high) => ViewHow::Restrict(line(low, high, 1)),
+        ViewMaker::Moved(by) => ViewHow::Translate(at(by)),
+        ViewMaker::MovedInPlane => ViewHow::Translate(Point { dim: 2, ..at(0) }),
+        ViewMaker::Cut(low, high) => ViewHow::Restrict(line(low, high, 1)),
     }
 }
 
@@ -403,10 +403,10 @@ fn answer_of(does: Does) -> Answer {
     }
 }
 
-fn entries_of(alloc: Global, told: &[Step]) -> Result<Vec<Entry>, Memory> {
+fn entries_of(alloc: Global, told: &[RaceStep]) -> Result<Vec<Entry>, Memory> {
     let mut entries = Vec::new(alloc);
     let mut col = 0;
-    for Step(proc, does) in told {
+    for RaceStep(proc, does) in told {
         entries.push(Entry {
             proc: *proc,
             place: Place { line: 1, col },
@@ -429,7 +429,7 @@ fn report_on(alloc: Global, entries: &[Entry]) -> Result<Vec<u8>, Memory> {
     Ok(out)
 }
 
-fn reported(alloc: Global, case: &Case) -> Result<Vec<u8>, Memory> {
+fn report_of(alloc: Global, case: &RaceCase) -> Result<Vec<u8>, Memory> {
     let entries = entries_of(alloc, case.told)?;
     report_on(alloc, &entries)
 }
@@ -437,7 +437,7 @@ fn reported(alloc: Global, case: &Case) -> Result<Vec<u8>, Memory> {
 #[test]
 fn races_are_told(rt: HostRuntime) -> Result<(), Fail> {
     for case in CASES {
-        let report = reported(rt.alloc(), case)?;
+        let report = report_of(rt.alloc(), case)?;
         assert!(rt;
             report.as_slice() == case.report.as_bytes(),
             "{}",
@@ -450,7 +450,7 @@ fn races_are_told(rt: HostRuntime) -> Result<(), Fail> {
 #[test]
 fn races_have_numbers(rt: HostRuntime) -> Result<(), Fail> {
     let entries = entries_of(rt.alloc(), CASES[0].told)?;
-    let numbers = told_races(rt.alloc(), &entries)?;
+    let numbers = entry_races(rt.alloc(), &entries)?;
     assert!(rt; numbers.as_slice() == [1, 2].as_slice());
     Ok(())
 }

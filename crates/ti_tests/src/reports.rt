@@ -9,14 +9,14 @@ use ti_base::{
 use ti_watch::{StatsWatch, TraceWatch, Watch};
 
 /// An operation with its result, and how the two are written.
-struct Act {
+struct ActionText {
     act: Action,
     answer: Answer,
     written: &'static str,
 }
 
 /// An operation, and how many entries have it.
-struct Count(Action, u32);
+struct ActionCount(Action, u32);
 
 const THING: Id = Id {
     maker: 1,
@@ -125,8 +125,8 @@ const NONE: Rect = Rect {
     step: [1, 1, 1],
 };
 
-const ACTS: &[Act] = &[
-    Act {
+const ACTS: &[ActionText] = &[
+    ActionText {
         act: Action::GetField {
             obj: THING,
             field: 4,
@@ -134,7 +134,7 @@ const ACTS: &[Act] = &[
         answer: Answer::Val(Value::Int(-7)),
         written: "getField obj1.2 4 -> -7",
     },
-    Act {
+    ActionText {
         act: Action::PutField {
             obj: THING,
             field: 0,
@@ -143,7 +143,7 @@ const ACTS: &[Act] = &[
         answer: Answer::Done,
         written: "putField obj1.2 0 -9223372036854775808L -> done",
     },
-    Act {
+    ActionText {
         act: Action::PutField {
             obj: OTHER,
             field: 1,
@@ -152,7 +152,7 @@ const ACTS: &[Act] = &[
         answer: Answer::Done,
         written: "putField obj31.4294967295 1 false -> done",
     },
-    Act {
+    ActionText {
         act: Action::NewObj {
             class: 5,
             region: 0,
@@ -160,7 +160,7 @@ const ACTS: &[Act] = &[
         answer: Answer::Val(Value::Obj(Some(THING))),
         written: "newObj 5 0 -> obj1.2",
     },
-    Act {
+    ActionText {
         act: Action::NewGrid {
             zero: Zero::Pt(2),
             dom: LINE,
@@ -169,7 +169,7 @@ const ACTS: &[Act] = &[
         answer: Answer::Val(Value::Grid(Some(OTHER))),
         written: "newGrid point2 [0:9:1] 3 -> grid31.4294967295",
     },
-    Act {
+    ActionText {
         act: Action::NewGrid {
             zero: Zero::Long,
             dom: PLANE,
@@ -178,7 +178,7 @@ const ACTS: &[Act] = &[
         answer: Answer::Val(Value::Grid(Some(THING))),
         written: "newGrid long [0:2:1,-1:3:4] 0 -> grid1.2",
     },
-    Act {
+    ActionText {
         act: Action::NewGrid {
             zero: Zero::Rc(1),
             dom: SPACE,
@@ -187,7 +187,7 @@ const ACTS: &[Act] = &[
         answer: Answer::Val(Value::Grid(Some(THING))),
         written: "newGrid rect1 [1:1:1,2:2:1,3:5:2] 12 -> grid1.2",
     },
-    Act {
+    ActionText {
         act: Action::NewGrid {
             zero: Zero::Grid,
             dom: NONE,
@@ -196,7 +196,7 @@ const ACTS: &[Act] = &[
         answer: Answer::Val(Value::Grid(Some(THING))),
         written: "newGrid grid empty3 0 -> grid1.2",
     },
-    Act {
+    ActionText {
         act: Action::GetElem {
             grid: THING,
             at: ONE,
@@ -204,7 +204,7 @@ const ACTS: &[Act] = &[
         answer: Answer::Val(Value::Bool(true)),
         written: "getElem grid1.2 [3] -> true",
     },
-    Act {
+    ActionText {
         act: Action::GetElem {
             grid: THING,
             at: TWO,
@@ -212,7 +212,7 @@ const ACTS: &[Act] = &[
         answer: Answer::Val(Value::Rc(NONE)),
         written: "getElem grid1.2 [1,-2] -> empty3",
     },
-    Act {
+    ActionText {
         act: Action::PutElem {
             grid: THING,
             at: ONE,
@@ -221,7 +221,7 @@ const ACTS: &[Act] = &[
         answer: Answer::Done,
         written: "putElem grid1.2 [3] [-2147483648,2147483647,0] -> done",
     },
-    Act {
+    ActionText {
         act: Action::PutElem {
             grid: THING,
             at: THREE,
@@ -230,7 +230,7 @@ const ACTS: &[Act] = &[
         answer: Answer::Done,
         written: "putElem grid1.2 [-2147483648,2147483647,0] null -> done",
     },
-    Act {
+    ActionText {
         act: Action::MakeView {
             grid: THING,
             how: ViewHow::Restrict(LINE),
@@ -238,7 +238,7 @@ const ACTS: &[Act] = &[
         answer: Answer::Val(Value::Grid(Some(OTHER))),
         written: "makeView grid1.2 restrict [0:9:1] -> grid31.4294967295",
     },
-    Act {
+    ActionText {
         act: Action::MakeView {
             grid: THING,
             how: ViewHow::Translate(TWO),
@@ -246,7 +246,7 @@ const ACTS: &[Act] = &[
         answer: Answer::Val(Value::Grid(Some(OTHER))),
         written: "makeView grid1.2 translate [1,-2] -> grid31.4294967295",
     },
-    Act {
+    ActionText {
         act: Action::MakeView {
             grid: THING,
             how: ViewHow::Slice(2, -3),
@@ -254,12 +254,12 @@ const ACTS: &[Act] = &[
         answer: Answer::Val(Value::Grid(Some(OTHER))),
         written: "makeView grid1.2 slice 2 -3 -> grid31.4294967295",
     },
-    Act {
+    ActionText {
         act: Action::DomainOf { grid: THING },
         answer: Answer::Val(Value::Rc(PLANE)),
         written: "domainOf grid1.2 -> [0:2:1,-1:3:4]",
     },
-    Act {
+    ActionText {
         act: Action::Print {
             literal: Some(4),
             value: None,
@@ -267,7 +267,7 @@ const ACTS: &[Act] = &[
         answer: Answer::Done,
         written: "print s4 - -> done",
     },
-    Act {
+    ActionText {
         act: Action::Print {
             literal: Some(0),
             value: Some(Value::Long(12)),
@@ -275,7 +275,7 @@ const ACTS: &[Act] = &[
         answer: Answer::Done,
         written: "print s0 12L -> done",
     },
-    Act {
+    ActionText {
         act: Action::Arrive {
             kind: CollKind::Broadcast,
             arg: Some(1),
@@ -284,7 +284,7 @@ const ACTS: &[Act] = &[
         answer: Answer::Done,
         written: "arrive broadcast 1 6 -> done",
     },
-    Act {
+    ActionText {
         act: Action::Arrive {
             kind: CollKind::Exchange,
             arg: None,
@@ -293,7 +293,7 @@ const ACTS: &[Act] = &[
         answer: Answer::Done,
         written: "arrive exchange - null -> done",
     },
-    Act {
+    ActionText {
         act: Action::Arrive {
             kind: CollKind::MakeRegion,
             arg: None,
@@ -302,7 +302,7 @@ const ACTS: &[Act] = &[
         answer: Answer::Done,
         written: "arrive makeRegion - - -> done",
     },
-    Act {
+    ActionText {
         act: Action::Arrive {
             kind: CollKind::DeleteRegion,
             arg: Some(2),
@@ -311,24 +311,24 @@ const ACTS: &[Act] = &[
         answer: Answer::Done,
         written: "arrive deleteRegion 2 count:3 -> done",
     },
-    Act {
+    ActionText {
         act: Action::Depart,
         answer: Answer::Val(Value::Region(4)),
         written: "depart -> region4",
     },
-    Act {
+    ActionText {
         act: Action::Take { who: 31 },
         answer: Answer::Val(Value::Int(0)),
         written: "take 31 -> 0",
     },
-    Act {
+    ActionText {
         act: Action::Fault {
             kind: FaultKind::RegionInUse,
         },
         answer: Answer::Done,
         written: "fault regionInUse -> done",
     },
-    Act {
+    ActionText {
         act: Action::NewGrid {
             zero: Zero::Int,
             dom: LINE,
@@ -337,7 +337,7 @@ const ACTS: &[Act] = &[
         answer: Answer::Done,
         written: "newGrid int [0:9:1] 0 -> done",
     },
-    Act {
+    ActionText {
         act: Action::NewGrid {
             zero: Zero::Bool,
             dom: LINE,
@@ -346,7 +346,7 @@ const ACTS: &[Act] = &[
         answer: Answer::Done,
         written: "newGrid boolean [0:9:1] 0 -> done",
     },
-    Act {
+    ActionText {
         act: Action::NewGrid {
             zero: Zero::Obj,
             dom: LINE,
@@ -416,8 +416,8 @@ fault 0
 ";
 
 /// The operations of a run of four processes, in which each fills a grid and one sums up all of them, with their numbers.
-const COUNTS: &[Count] = &[
-    Count(
+const COUNTS: &[ActionCount] = &[
+    ActionCount(
         Action::NewGrid {
             zero: Zero::Int,
             dom: LINE,
@@ -425,14 +425,14 @@ const COUNTS: &[Count] = &[
         },
         8,
     ),
-    Count(
+    ActionCount(
         Action::GetElem {
             grid: THING,
             at: ONE,
         },
         36,
     ),
-    Count(
+    ActionCount(
         Action::PutElem {
             grid: THING,
             at: ONE,
@@ -440,15 +440,15 @@ const COUNTS: &[Count] = &[
         },
         48,
     ),
-    Count(Action::DomainOf { grid: THING }, 12),
-    Count(
+    ActionCount(Action::DomainOf { grid: THING }, 12),
+    ActionCount(
         Action::Print {
             literal: Some(0),
             value: Some(Value::Int(496)),
         },
         1,
     ),
-    Count(
+    ActionCount(
         Action::Arrive {
             kind: CollKind::Barrier,
             arg: None,
@@ -456,9 +456,9 @@ const COUNTS: &[Count] = &[
         },
         8,
     ),
-    Count(Action::Depart, 8),
-    Count(Action::Take { who: 0 }, 16),
-    Count(Action::End, 4),
+    ActionCount(Action::Depart, 8),
+    ActionCount(Action::Take { who: 0 }, 16),
+    ActionCount(Action::End, 4),
 ];
 
 const LONG_STATS: &str = "stats entries 141
@@ -498,9 +498,9 @@ fn entry_of(act: Action, answer: Answer) -> Entry {
 }
 
 /// Entries with these operations, each as many times as `counts` says.
-fn entries_of(alloc: Global, counts: &[Count]) -> Result<Vec<Entry>, Memory> {
+fn entries_of(alloc: Global, counts: &[ActionCount]) -> Result<Vec<Entry>, Memory> {
     let mut entries = Vec::new(alloc);
-    for Count(act, count) in counts {
+    for ActionCount(act, count) in counts {
         for _ in 0..*count {
             entries.push(entry_of(*act, Answer::Done))?;
         }

@@ -44,7 +44,7 @@ struct Writing {
 }
 
 /// The indices of the calls that fail, whether all bytes were written, and the bytes that the sink accepted.
-struct Piece {
+struct WriteCase {
     fails: &'static [u32],
     is_written: bool,
     taken: &'static str,
@@ -176,18 +176,18 @@ const WRITINGS: &[Writing] = &[
     },
 ];
 
-const PIECES: &[Piece] = &[
-    Piece {
+const PIECES: &[WriteCase] = &[
+    WriteCase {
         fails: &[],
         is_written: true,
         taken: "abcdefg",
     },
-    Piece {
+    WriteCase {
         fails: &[0],
         is_written: false,
         taken: "",
     },
-    Piece {
+    WriteCase {
         fails: &[2],
         is_written: false,
         taken: "abcdef",
@@ -212,7 +212,7 @@ const TO_OUT: Gives = &[
 const TO_ERR: Gives = &[(Give::Write(b"err\n"), Some(4)), (Give::Flush, Some(0))];
 
 /// The result of a call of a source.
-fn taken<S: Source>(source: &mut S, call: Take, buf: &mut [u8]) -> Option<usize> {
+fn source_result<S: Source>(source: &mut S, call: Take, buf: &mut [u8]) -> Option<usize> {
     match call {
         Take::Find(name) => match source.find(name) {
             Ok(is_there) => Some(usize::from(is_there)),
@@ -225,7 +225,7 @@ fn taken<S: Source>(source: &mut S, call: Take, buf: &mut [u8]) -> Option<usize>
 /// Whether the calls of a source have the expected results.
 fn takes<S: Source>(source: &mut S, calls: &[(Take, Option<usize>)], buf: &mut [u8]) -> bool {
     for (call, answer) in calls {
-        if taken(source, *call, buf) != *answer {
+        if source_result(source, *call, buf) != *answer {
             return false;
         }
     }
@@ -233,7 +233,7 @@ fn takes<S: Source>(source: &mut S, calls: &[(Take, Option<usize>)], buf: &mut [
 }
 
 /// The result of a call of a sink.
-fn given<K: Sink>(sink: &mut K, call: Give) -> Option<usize> {
+fn sink_result<K: Sink>(sink: &mut K, call: Give) -> Option<usize> {
     match call {
         Give::Write(piece) => sink.write(piece).ok(),
         Give::Flush => match sink.flush() {
@@ -246,7 +246,7 @@ fn given<K: Sink>(sink: &mut K, call: Give) -> Option<usize> {
 /// Whether the calls of a sink have the expected results.
 fn gives<K: Sink>(sink: &mut K, calls: &[(Give, Option<usize>)]) -> bool {
     for (call, answer) in calls {
-        if given(sink, *call) != *answer {
+        if sink_result(sink, *call) != *answer {
             return false;
         }
     }

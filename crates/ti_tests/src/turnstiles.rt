@@ -3,7 +3,7 @@
 mod members;
 mod pairs;
 
-use members::{add_at, all_add, closed, members_of};
+use members::{add_at, all_add, close_members, members_of};
 use pairs::{Pairs, are_counted};
 use std::alloc::Global;
 use std::sync::Wait;
@@ -19,7 +19,7 @@ fn added_in_turn<R: Wait>(rt: &R, alloc: Global) -> Result<Pairs, Memory> {
     add_at(rt, &turnstile, &mut members, 2, 5);
     add_at(rt, &turnstile, &mut members, 1, 6);
     add_at(rt, &turnstile, &mut members, 2, 7);
-    closed(alloc, turnstile, members)
+    close_members(alloc, turnstile, members)
 }
 
 /// Four passes append the numbers below 100, each from a thread of its own.
@@ -27,7 +27,7 @@ fn added_by_threads<R: Threads + Wait + Sync>(rt: &R, alloc: Global) -> Result<P
     let (turnstile, passes) = Turnstile::new(alloc, 4, Pairs::new(alloc))?;
     let members = members_of(alloc, &turnstile, passes, 4)?;
     let members = all_add(rt, &turnstile, members, 100)?;
-    closed(alloc, turnstile, members)
+    close_members(alloc, turnstile, members)
 }
 
 #[test]

@@ -6,7 +6,7 @@ use Rattle.ti_base.specs.declared.place.Place.{Place}
 use Rattle.ti_syntax.specs.declared.token.Token.{Token}
 use Rattle.ti_syntax.specs.declared.tree.text.Tree.{Tree}
 use Rattle.ti_lang.specs.declared.program.numbered.Program.{Program}
-use Rattle.ti_lang.specs.Program.Classes.{NumberedProgram}
+use Rattle.ti_lang.specs.Program.Classes.{ProgramView}
 use Rattle.ti_lang.specs.Program.Views.{program_of}
 use Rattle.ti_align.specs.Alignment.{IsAligned}
 use Rattle.ti_syntax.specs.Trees.Text.{tree_of}
@@ -34,8 +34,8 @@ use Rattle.ti_top.specs.Mirrors.Compiling.{IsRead, ReadsProgram, Compiles, of_le
 
 -- that a text has one answer
 pub record OneAnswer : Type 0 where
-  pub one_program : (text : List ℕ) (p q : NumberedProgram) → HasProgram text p → HasProgram text q → p ≡ q
-  pub never_both : (text : List ℕ) (program : NumberedProgram) (refusal : Refusal) → HasProgram text program → IsRefusal text refusal → ⊥
+  pub one_program : (text : List ℕ) (p q : ProgramView) → HasProgram text p → HasProgram text q → p ≡ q
+  pub never_both : (text : List ℕ) (program : ProgramView) (refusal : Refusal) → HasProgram text program → IsRefusal text refusal → ⊥
 
 has_tokens : (text : List ℕ) (tokens : Vec Token Global) → Lexes text (Ok tokens) → HasTokens text tokens.items
 has_tokens text tokens lexed = record { short = lexed.0; tokenized = lexed.1 }

@@ -5,7 +5,7 @@ use Rattle.std.proofs.lemmas.Bool.{eqb-false}
 use Rattle.std.proofs.lemmas.List.Elements.{filter-append}
 use Rattle.std.proofs.lemmas.List.Folds.{list_any-append}
 use Rattle.ti_base.specs.declared.entry.Entry.{Entry}
-use Rattle.ti_lang.specs.Meaning.Processes.{Setting}
+use Rattle.ti_lang.specs.Meaning.Processes.{RunConfig}
 use Rattle.ti_lang.specs.Meaning.Histories.{is_end, is_fault, entries_of, has_end, has_fault}
 use Rattle.ti_lang.specs.Meaning.Determinacy.{IsFront}
 use Rattle.ti_lang.specs.Meaning.Runs.{IsRun, none, more, AllEnded, IsComplete}
@@ -82,7 +82,7 @@ not_behind before front e (d ∷ rest) same unended ended = by (split before e f
     by (inr k) = absurd (true_false (sym (ap (list_any ends) k.1 ∙ list_any-append ends front (d ∷ k.0) ∙ or_left (list_any ends front) (list_any ends (d ∷ k.0)) ended) ∙ unended))
 
 -- behind its end a process has no entry
-ended_last : (s : Setting) (es : List Entry) → IsRun s es → (i : ℕ) (front rest : List Entry) → entries_of i es ≡ front ++ rest → list_any ends front ≡ true → rest ≡ []
+ended_last : (s : RunConfig) (es : List Entry) → IsRun s es → (i : ℕ) (front rest : List Entry) → entries_of i es ≡ front ++ rest → list_any ends front ≡ true → rest ≡ []
 ended_last s es none i [] rest same ended = absurd (true_false (sym ended))
 ended_last s es none i (x ∷ front) rest same ended = let wrong : [] ≡ x ∷ (front ++ rest) = same in cc
 ended_last s es (more {es = before} {i = k} {e = e} run can after) i front rest same ended = by (ended_last s before run i front rest) (e.proc == i) refl
@@ -100,7 +100,7 @@ ended_last s es (more {es = before} {i = k} {e = e} run can after) i front rest 
         earlier (sym (append-nil (entries_of i before)) ∙ ap (λ xs. entries_of i before ++ xs) (sym nothing) ∙ all) ended
 
 -- a process that isn't there has none
-none_beyond : (s : Setting) (es : List Entry) → IsRun s es → (i : ℕ) → s.procs ≤ i → entries_of i es ≡ []
+none_beyond : (s : RunConfig) (es : List Entry) → IsRun s es → (i : ℕ) → s.procs ≤ i → entries_of i es ≡ []
 none_beyond s es none i beyond = refl
 none_beyond s es (more {es = before} {i = k} {e = e} run can after) i beyond =
     entries_more i before es e after ∙ ap (λ xs. xs ++ entries_of i (e ∷ [])) (none_beyond s before run i beyond) ∙ ap (λ b. cond b (e ∷ []) []) (other (e.proc == i) refl)
@@ -114,7 +114,7 @@ none_beyond s es (more {es = before} {i = k} {e = e} run can after) i beyond =
 
 -- ---- a complete run beside one that decides it
 
-module _ (s : Setting) (es ds : List Entry) (run : IsRun s es) (ended : AllEnded s es) (other : IsRun s ds) (front : (i : ℕ) → IsFront (entries_of i ds) (entries_of i es)) (complete : IsComplete s ds) where
+module _ (s : RunConfig) (es ds : List Entry) (run : IsRun s es) (ended : AllEnded s es) (other : IsRun s ds) (front : (i : ℕ) → IsFront (entries_of i ds) (entries_of i es)) (complete : IsComplete s ds) where
   -- it has no fault
   pub none_faults : has_fault ds ≡ true → ⊥
   none_faults h =

@@ -7,7 +7,7 @@ use Rattle.ti_syntax.specs.declared.token.TokenKind.TheVariants as k
 use Rattle.ti_syntax.specs.Tokenizing.{IsTokenized}
 use Rattle.ti_syntax.specs.Trees.Classes.{TextTree}
 use Rattle.ti_syntax.specs.Spelling.{Misfit, IsGrammarRefusal, fits}
-use Rattle.ti_lang.specs.Program.Classes.{NumberedProgram}
+use Rattle.ti_lang.specs.Program.Classes.{ProgramView}
 use Rattle.ti_lang.specs.Numbering.{Numbers}
 use Rattle.ti_rules.specs.declared.refusal.Refusal.{Refusal}
 use Rattle.ti_rules.specs.Refusals.{IsFirstRefusal}
@@ -22,16 +22,16 @@ use Rattle.ti_parse_expr.specs.Answers.{EndsAtEnd}
 pub record Answered : Type 0 where
   pub reading : (text : List ℕ) → ((tokens : List Token) × (length text ≤ most_bytes) × IsTokenized text tokens) ⊎ ((refusal : Refusal) × IsLexicalRefusal text refusal)
   pub fitting : (list : List Token) → EndsAtEnd list → (a : Option (Misfit × Place)) × IsGrammarRefusal list a
-  pub numbering : (tree : TextTree) → ((program : NumberedProgram) × Numbers tree program) ⊎ ((refusal : Refusal) × IsFirstRefusal (BreaksNames tree) refusal)
-  pub unbroken : (tree : TextTree) (program : NumberedProgram) → Numbers tree program → HasNone (BreaksNames tree)
-  pub found : (p : NumberedProgram) (r : Refusal) → program_refusal p ≡ Some r → IsProgramRefusal p r
-  pub fine : (p : NumberedProgram) → program_refusal p ≡ None → BreaksNothing p
+  pub numbering : (tree : TextTree) → ((program : ProgramView) × Numbers tree program) ⊎ ((refusal : Refusal) × IsFirstRefusal (BreaksNames tree) refusal)
+  pub unbroken : (tree : TextTree) (program : ProgramView) → Numbers tree program → HasNone (BreaksNames tree)
+  pub found : (p : ProgramView) (r : Refusal) → program_refusal p ≡ Some r → IsProgramRefusal p r
+  pub fine : (p : ProgramView) → program_refusal p ≡ None → BreaksNothing p
 
 abbrev Answer : List ℕ → Type 0
-Answer text = ((program : NumberedProgram) × HasProgram text program) ⊎ ((refusal : Refusal) × IsRefusal text refusal)
+Answer text = ((program : ProgramView) × HasProgram text program) ⊎ ((refusal : Refusal) × IsRefusal text refusal)
 
 -- a tree that has a program
-numbered_answer : Answered → (text : List ℕ) (tree : TextTree) (program : NumberedProgram) → HasTree text tree → HasNone (BreaksNames tree) → Numbers tree program → (o : Option Refusal)
+numbered_answer : Answered → (text : List ℕ) (tree : TextTree) (program : ProgramView) → HasTree text tree → HasNone (BreaksNames tree) → Numbers tree program → (o : Option Refusal)
     → program_refusal program ≡ o → Answer text
 numbered_answer known text tree program has none numbers None found =
     inl (program, record { tree = tree; has_tree = has; named = none; numbers = numbers; unbroken = known.fine program found })

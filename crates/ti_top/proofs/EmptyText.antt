@@ -6,7 +6,7 @@ use Rattle.ti_syntax.specs.declared.token.TokenKind.TheVariants as k
 use Rattle.ti_syntax.specs.Tokenizing.{IsTokenized, no_piece}
 use Rattle.ti_syntax.specs.Trees.Classes.{ClassTree, TextTree}
 use Rattle.ti_syntax.specs.Spelling.Classes.{Class, class, AllClasses, more}
-use Rattle.ti_lang.specs.Program.Classes.{NumberedProgram}
+use Rattle.ti_lang.specs.Program.Classes.{ProgramView}
 use Rattle.ti_rules.specs.BrokenNames.{BreaksNames}
 use Rattle.ti_rules.specs.RefusalOf.{HasNone, HasProgram}
 
@@ -44,7 +44,7 @@ nothing_before (x ∷ front) t e = absurd (not_empty front t [] (same_tail last 
 
 -- ---- no program
 
-pub no_program : ((text : List ℕ) (a b : List Token) → IsTokenized text a → IsTokenized text b → a ≡ b) → (program : NumberedProgram) → HasProgram [] program → ⊥
+pub no_program : ((text : List ℕ) (a b : List Token) → IsTokenized text a → IsTokenized text b → a ≡ b) → (program : ProgramView) → HasProgram [] program → ⊥
 no_program one_list program has =
     let tree = has.has_tree in
     let tokens : last ∷ [] ≡ tree.tokens = one_list [] _ _ tokenized tree.has_tokens.tokenized in

@@ -5,29 +5,29 @@ use Rattle.ti_io.specs.Source.{content_of, IsMissing, Holds}
 use Rattle.ti_io.specs.Sink.{GrewBy}
 use Rattle.ti_syntax.specs.declared.token.Token.{Token}
 use Rattle.ti_syntax.specs.Tokenizing.{IsTokenized}
-use Rattle.ti_lang.specs.Program.Classes.{NumberedProgram}
+use Rattle.ti_lang.specs.Program.Classes.{ProgramView}
 use Rattle.ti_lang.specs.Meaning.Histories.{entries_of, has_fault}
 use Rattle.ti_lang.specs.Meaning.Races.{races}
 use Rattle.ti_lower.specs.Programs.{program_code}
 use Rattle.ti_rules.specs.declared.refusal.Refusal.{Refusal}
 use Rattle.ti_rules.specs.RefusalOf.{HasProgram, IsRefusal}
-use Rattle.ti_runtime.specs.Ran.{IsDone}
+use Rattle.ti_runtime.specs.Ran.{AreFinishedCounts}
 use Rattle.ti_words.specs.declared.job.Job.{Job}
 use Rattle.ti_words.specs.declared.job.Mode.{Mode}
 use Rattle.ti_words.specs.declared.job.Mode.TheVariants.{Run, Check, Code, Gen, Verify, Infer}
 use Rattle.ti_words.specs.Job.{job_of}
 use Rattle.ti_top.specs.declared.fault.Fault.{Fault}
-use Rattle.ti_top.specs.Run.{HasFile, Runs, HasCode, Verifies, Infers, HasHistory, run_of, EndsWithFault}
-use Rattle.ti_top.specs.Reports.{wanted, output}
-use Rattle.ti_top.specs.Call.{most_read, Call, IsCommand, IsNoCommand, SinkRose, Yields, WantsReport}
-use Rattle.ti_top.specs.Clauses.{IsRefusalIn, ReadsText, MakesText, GetsText, WritesAll, NothingFailed, IsComplete, Meets}
+use Rattle.ti_top.specs.Run.{HasFile, RunsProgram, HasCode, Verifies, Infers, HasHistory, run_of, EndsWithFault}
+use Rattle.ti_top.specs.Reports.{wanted_watchers, output}
+use Rattle.ti_top.specs.CommandCall.{most_read, CommandCall, IsCommand, IsNoCommand, SinkRose, IsPreempted, WantsReport}
+use Rattle.ti_top.specs.Clauses.{IsRefusalIn, ReadsText, MakesText, GetsText, WritesAll, NothingFailed, IsComplete, KeepsContract}
 use Rattle.ti_top.specs.Traces.{LacksTrace, TraceDecides}
 use Rattle.ti_top.specs.Agreement.{IsUndisturbed, AskAlike, IsBySeveral, BothGrew, EndSame, EachSame, EndAlike}
 use Rattle.ti_blame.specs.declared.mark.Mark.{Mark}
-use Rattle.ti_top.specs.Ending.{status_of}
+use Rattle.ti_top.specs.Exit.{status_of}
 use Rattle.ti_top.specs.Inference.{HasMarking, IsUnmarkedRefusal, marks_text}
-use Rattle.ti_top.specs.declared.ending.Ending.{Ending}
-use Rattle.ti_top.specs.declared.ending.Ending.TheVariants.{Done, Refused, Faulted, NoCommand, CantRead, CantWrite, NoMemory, NoRun}
+use Rattle.ti_top.specs.declared.exit.Exit.{Exit}
+use Rattle.ti_top.specs.declared.exit.Exit.TheVariants.{Done, Refused, Faulted, NoCommand, CantRead, CantWrite, NoMemory, NoRun}
 use Rattle.ti_top.proofs.ClausesMet.{runs_has, runs_unverified, was_read}
 use Rattle.ti_top.proofs.InModes.{runs_marked, verifies_marked, refusal_here, refusal_in}
 use Rattle.ti_top.proofs.EachAlike.{each_same, none_faults}
@@ -38,7 +38,7 @@ use Rattle.ti_top.proofs.OneRun.{one_run}
 
 -- ---- what an undisturbed call doesn't do
 
-no_yield : (c : Call) → IsUndisturbed c → Yields c → ⊥
+no_yield : (c : CommandCall) → IsUndisturbed c → IsPreempted c → ⊥
 no_yield c u (inl six) = u.memory six
 no_yield c u (inr (five, inl out)) = u.out out
 no_yield c u (inr (five, inr err)) = u.err err
@@ -48,20 +48,20 @@ or_not never (inl a) = a
 or_not never (inr b) = absurd (never b)
 
 -- both outs grew by nothing
-nothing_grew : (c d : Call) → c.out_after.taken ≡ c.out.taken → d.out_after.taken ≡ d.out.taken → (text : List ℕ) × BothGrew c d text
+nothing_grew : (c d : CommandCall) → c.out_after.taken ≡ c.out.taken → d.out_after.taken ≡ d.out.taken → (text : List ℕ) × BothGrew c d text
 nothing_grew c d x y = ([], (x ∙ sym (append-nil c.out.taken), y ∙ sym (append-nil d.out.taken)))
 
 -- that each text has one answer, and one list of tokens
 pub record OneAnswer : Type 0 where
-  pub some : (text : List ℕ) → ((program : NumberedProgram) × HasProgram text program) ⊎ ((refusal : Refusal) × IsRefusal text refusal)
+  pub some : (text : List ℕ) → ((program : ProgramView) × HasProgram text program) ⊎ ((refusal : Refusal) × IsRefusal text refusal)
   pub one_list : (text : List ℕ) (a b : List Token) → IsTokenized text a → IsTokenized text b → a ≡ b
-  pub never_both : (text : List ℕ) (program : NumberedProgram) (refusal : Refusal) → HasProgram text program → IsRefusal text refusal → ⊥
+  pub never_both : (text : List ℕ) (program : ProgramView) (refusal : Refusal) → HasProgram text program → IsRefusal text refusal → ⊥
   -- and one greatest marking or refusal, whatever marks it has
   pub one_marking : (text : List ℕ) (a b : List Mark) → HasMarking text a → HasMarking text b → a ≡ b
   pub never_marked : (text : List ℕ) (marks : List Mark) (refusal : Refusal) → HasMarking text marks → IsUnmarkedRefusal text refusal → ⊥
 
 -- two calls that end the same, of the same text and with the same code
-all_alike : (c d : Call) → c.text ≡ d.text → c.code ≡ d.code → EndSame c d → EndAlike c d
+all_alike : (c d : CommandCall) → c.text ≡ d.text → c.code ≡ d.code → EndSame c d → EndAlike c d
 all_alike c d text code same = record {
   text = text;
   code = code;
@@ -71,7 +71,7 @@ all_alike c d text code same = record {
 
 -- ---- the words are no command
 
-no_command : (c d : Call) → Meets c → Meets d → IsUndisturbed c → IsUndisturbed d → IsNoCommand c → IsNoCommand d → EndAlike c d
+no_command : (c d : CommandCall) → KeepsContract c → KeepsContract d → IsUndisturbed c → IsUndisturbed d → IsNoCommand c → IsNoCommand d → EndAlike c d
 no_command c d m n u v x y = all_alike c d (m.beside_err.words.no_text x ∙ sym (n.beside_err.words.no_text y)) (m.beside_err.words.no_code x ∙ sym (n.beside_err.words.no_code y)) (record {
   status = or_not (no_yield c u) (m.beside_err.words.everywhere x) ∙ sym (or_not (no_yield d v) (n.beside_err.words.everywhere y));
   history = m.beside_err.words.no_history x ∙ sym (n.beside_err.words.no_history y);
@@ -82,10 +82,10 @@ no_command c d m n u v x y = all_alike c d (m.beside_err.words.no_text x ∙ sym
 -- ---- the text is missing
 
 -- it has no program
-nothing_has : OneAnswer → (c : Call) → c.text ≡ [] → (program : NumberedProgram) → HasProgram c.text program → ⊥
+nothing_has : OneAnswer → (c : CommandCall) → c.text ≡ [] → (program : ProgramView) → HasProgram c.text program → ⊥
 nothing_has known c none program has = no_program known.one_list program (subst (λ text. HasProgram text program) none has)
 
-missing_alike : OneAnswer → (job : Job) (c d : Call) → Meets c → Meets d → IsCommand c job → IsCommand d job
+missing_alike : OneAnswer → (job : Job) (c d : CommandCall) → KeepsContract c → KeepsContract d → IsCommand c job → IsCommand d job
     → (c.status ≡ 4) → (d.status ≡ 4) → c.text ≡ [] → d.text ≡ [] → EndAlike c d
 missing_alike known job c d m n x y four fourth none nought = all_alike c d (none ∙ sym nought)
     ((m.beside_err.code job x).none (nothing_has known c none) ∙ sym ((n.beside_err.code job y).none (nothing_has known d nought)))
@@ -100,18 +100,18 @@ missing_alike known job c d m n x y four fourth none nought = all_alike c d (non
 -- ---- the text is judged
 
 -- how a call ends on a text without a refusal
-abbrev Accepts : Job → Call → Type 0
+abbrev Accepts : Job → CommandCall → Type 0
 Accepts job c = (c.status ≡ 0) ⊎ (c.status ≡ 2) ⊎ (c.status ≡ 7) ⊎ ((c.status ≡ 4) × LacksTrace job c)
 
 -- in a mode that holds no trace against it
-of_run : (job : Job) (c : Call) → Meets c → IsCommand c job → (Verifies job.mode → ⊥) → Accepts job c → (c.status ≡ 0) ⊎ (c.status ≡ 2)
+of_run : (job : Job) (c : CommandCall) → KeepsContract c → IsCommand c job → (Verifies job.mode → ⊥) → Accepts job c → (c.status ≡ 0) ⊎ (c.status ≡ 2)
 of_run job c m x unverified (inl zero) = inl zero
 of_run job c m x unverified (inr (inl two)) = inr two
 of_run job c m x unverified (inr (inr (inl seven))) = absurd (unverified ((m.beside_err.trace job x).seven_only_where seven))
 of_run job c m x unverified (inr (inr (inr four))) = absurd (unverified four.1.mode)
 
 -- a text is refused
-refused_alike : (job : Job) (c d : Call) → Meets c → Meets d → IsCommand c job → IsCommand d job → IsComplete job c → IsComplete job d
+refused_alike : (job : Job) (c d : CommandCall) → KeepsContract c → KeepsContract d → IsCommand c job → IsCommand d job → IsComplete job c → IsComplete job d
     → c.text ≡ d.text → (refusal : Refusal) → IsRefusalIn job.mode c.text refusal → EndAlike c d
 refused_alike job c d m n x y whole all same refusal is =
     let is_too : IsRefusalIn job.mode d.text refusal = subst (λ text. IsRefusalIn job.mode text refusal) same is in
@@ -125,22 +125,22 @@ refused_alike job c d m n x y whole all same refusal is =
     })
 
 -- what two calls with the same history write of a program
-wrote_alike : (job : Job) (c d : Call) → (Infers job.mode → ⊥) → IsCommand c job → IsCommand d job → WritesAll c → WritesAll d → c.text ≡ d.text → c.history ≡ d.history → c.watchers ≡ d.watchers
-    → (program : NumberedProgram) → HasProgram c.text program → (text : List ℕ) × BothGrew c d text
+wrote_alike : (job : Job) (c d : CommandCall) → (Infers job.mode → ⊥) → IsCommand c job → IsCommand d job → WritesAll c → WritesAll d → c.text ≡ d.text → c.history ≡ d.history → c.watchers ≡ d.watchers
+    → (program : ProgramView) → HasProgram c.text program → (text : List ℕ) × BothGrew c d text
 wrote_alike job c d marked x y wrote written same one watchers program has = (
-  output job program c.history (wanted job c.watchers),
+  output job program c.history (wanted_watchers job c.watchers),
   (
     wrote job x marked program has,
-    subst (λ es. GrewBy d.out d.out_after (output job program es (wanted job c.watchers))) (sym one)
-        (subst (λ ws. GrewBy d.out d.out_after (output job program d.history (wanted job ws))) (sym watchers)
+    subst (λ es. GrewBy d.out d.out_after (output job program es (wanted_watchers job c.watchers))) (sym one)
+        (subst (λ ws. GrewBy d.out d.out_after (output job program d.history (wanted_watchers job ws))) (sym watchers)
         (written job y marked program (subst (λ text. HasProgram text program) same has))),
   ),
 )
 
 -- a text with a program is only checked, or its code is written
-unrun_alike : (job : Job) (c d : Call) → Meets c → Meets d → IsCommand c job → IsCommand d job → c.text ≡ d.text
+unrun_alike : (job : Job) (c d : CommandCall) → KeepsContract c → KeepsContract d → IsCommand c job → IsCommand d job → c.text ≡ d.text
     → (c.status ≡ 0) ⊎ (c.status ≡ 2) → (d.status ≡ 0) ⊎ (d.status ≡ 2) → (job.mode ≡ Check) ⊎ (job.mode ≡ Code)
-    → (program : NumberedProgram) → HasProgram c.text program → EndAlike c d
+    → (program : ProgramView) → HasProgram c.text program → EndAlike c d
 unrun_alike job c d m n x y same a b mode program has = all_alike c d same (codes mode) (record {
   status = done c m x a ∙ sym (done d n y b);
   history = histories;
@@ -152,13 +152,13 @@ unrun_alike job c d m n x y same a b mode program has = all_alike c d same (code
     marked : Infers job.mode → ⊥
     marked infers = elim mode [ inl is ↦ subst Infers is infers | inr is ↦ subst Infers is infers ]
 
-    unrun : Runs job.mode → ⊥
-    unrun runs = elim mode [ inl is ↦ subst Runs is runs | inr is ↦ subst Runs is runs ]
+    unrun : RunsProgram job.mode → ⊥
+    unrun runs = elim mode [ inl is ↦ subst RunsProgram is runs | inr is ↦ subst RunsProgram is runs ]
 
     untold : HasHistory job.mode → ⊥
     untold has = elim mode [ inl is ↦ subst HasHistory is has | inr is ↦ subst HasHistory is has ]
 
-    done : (e : Call) → Meets e → IsCommand e job → (e.status ≡ 0) ⊎ (e.status ≡ 2) → e.status ≡ 0
+    done : (e : CommandCall) → KeepsContract e → IsCommand e job → (e.status ≡ 0) ⊎ (e.status ≡ 2) → e.status ≡ 0
     done e k z (inl none) = none
     done e k z (inr two) = absurd (unrun ((k.beside_err.end job z).fault_only_where two).0)
 
@@ -173,9 +173,9 @@ unrun_alike job c d m n x y same a b mode program has = all_alike c d same (code
         ∙ sym ((n.beside_err.code job y).there (done d n y b) has_code program (subst (λ text. HasProgram text program) same has))
 
 -- a text with a program is run
-run_alike : OneAnswer → (job : Job) (c d : Call) → Meets c → Meets d → IsUndisturbed c → IsUndisturbed d → IsCommand c job → IsCommand d job → IsComplete job c → IsComplete job d
-    → c.text ≡ d.text → (c.status ≡ 0) ⊎ (c.status ≡ 2) → (d.status ≡ 0) ⊎ (d.status ≡ 2) → Runs job.mode
-    → (program : NumberedProgram) → HasProgram c.text program → EndAlike c d
+run_alike : OneAnswer → (job : Job) (c d : CommandCall) → KeepsContract c → KeepsContract d → IsUndisturbed c → IsUndisturbed d → IsCommand c job → IsCommand d job → IsComplete job c → IsComplete job d
+    → c.text ≡ d.text → (c.status ≡ 0) ⊎ (c.status ≡ 2) → (d.status ≡ 0) ⊎ (d.status ≡ 2) → RunsProgram job.mode
+    → (program : ProgramView) → HasProgram c.text program → EndAlike c d
 run_alike known job c d m n u v x y whole all same a b runs program has = record {
   text = same;
   code = codes c m x a program has ∙ sym (codes d n y b program has_too);
@@ -189,16 +189,16 @@ run_alike known job c d m n u v x y whole all same a b runs program has = record
     one_worker : (IsBySeveral c → ⊥) → job.workers ≡ 1
     one_worker alone = elim (ℕ_discrete job.workers 1) [ yes one ↦ one | no several ↦ absurd (alone (record { job = job; command = x; runs = runs; several = several })) ]
 
-    codes : (e : Call) → Meets e → IsCommand e job → (e.status ≡ 0) ⊎ (e.status ≡ 2) → (p : NumberedProgram) → HasProgram e.text p → e.code ≡ Some (program_code p)
+    codes : (e : CommandCall) → KeepsContract e → IsCommand e job → (e.status ≡ 0) ⊎ (e.status ≡ 2) → (p : ProgramView) → HasProgram e.text p → e.code ≡ Some (program_code p)
     codes e k z (inl none) p there = (k.beside_err.code job z).there none (runs_has job.mode runs) p there
     codes e k z (inr two) p there = (k.beside_err.code job z).there_at_two two p there
 
-    counts : (e : Call) → Meets e → IsCommand e job → IsComplete job e → (p : NumberedProgram) → HasProgram e.text p
-        → IsDone (program_code p) (run_of p job) e.history e.done
+    counts : (e : CommandCall) → KeepsContract e → IsCommand e job → IsComplete job e → (p : ProgramView) → HasProgram e.text p
+        → AreFinishedCounts (program_code p) (run_of p job) e.history e.done
     counts e k z complete p there = (k.beside_err.count job z).complete runs p there (complete.ended runs p there)
 
     -- a history that ends with a fault tells the status
-    two : (e : Call) → Meets e → IsUndisturbed e → IsCommand e job → (fault : Fault) → EndsWithFault e.history fault → e.status ≡ 2
+    two : (e : CommandCall) → KeepsContract e → IsUndisturbed e → IsCommand e job → (fault : Fault) → EndsWithFault e.history fault → e.status ≡ 2
     two e k w z fault is = by ((k.beside_err.end job z).fault_everywhere runs fault is)
       where
         by : (e.status ≡ 2) ⊎ (((e.status ≡ 5) × SinkRose e) ⊎ ((e.status ≡ 6) × WantsReport job e)) → e.status ≡ 2
@@ -216,7 +216,7 @@ run_alike known job c d m n u v x y whole all same a b runs program has = record
         let fault = ((m.beside_err.end job x).fault_only_where p).1 in
         p ∙ sym (two d n v y fault.0 (subst (λ es. EndsWithFault es fault.0) one fault.1))
 
-    grew : (e : Call) → Meets e → (e.status ≡ 0) ⊎ (e.status ≡ 2) → e.out.tells ≡ true → WritesAll e
+    grew : (e : CommandCall) → KeepsContract e → (e.status ≡ 0) ⊎ (e.status ≡ 2) → e.out.tells ≡ true → WritesAll e
     grew e k (inl none) told = k.beside_err.output.done none told
     grew e k (inr two) told = k.beside_err.output.faulted two told
 
@@ -256,11 +256,11 @@ none_some : (bytes : List ℕ) → ◌≡◌ {A = Option (List ℕ)} None (Some 
 none_some bytes e = cc
 
 -- a trace is held against a text with a program
-verified_alike : (job : Job) (c d : Call) → Meets c → Meets d → AskAlike c d → IsUndisturbed c → IsUndisturbed d → IsCommand c job → IsCommand d job → IsComplete job c → IsComplete job d
-    → c.text ≡ d.text → Verifies job.mode → Accepts job c → Accepts job d → (program : NumberedProgram) → HasProgram c.text program → EndAlike c d
+verified_alike : (job : Job) (c d : CommandCall) → KeepsContract c → KeepsContract d → AskAlike c d → IsUndisturbed c → IsUndisturbed d → IsCommand c job → IsCommand d job → IsComplete job c → IsComplete job d
+    → c.text ≡ d.text → Verifies job.mode → Accepts job c → Accepts job d → (program : ProgramView) → HasProgram c.text program → EndAlike c d
 verified_alike job c d m n ask u v x y whole all same verifies a b program has = by (content_of c.source.files job.against) refl
   where
-    unrun : Runs job.mode → ⊥
+    unrun : RunsProgram job.mode → ⊥
     unrun runs = runs_unverified job.mode runs verifies
 
     has_too : HasProgram d.text program
@@ -282,7 +282,7 @@ verified_alike job c d m n ask u v x y whole all same verifies a b program has =
         uncoded _ verifies has = verifies
 
     -- the trace is missing
-    four : (e : Call) → Meets e → IsUndisturbed e → IsCommand e job → Accepts job e → IsMissing e.source job.against → (e.status ≡ 4) × (e.history ≡ [])
+    four : (e : CommandCall) → KeepsContract e → IsUndisturbed e → IsCommand e job → Accepts job e → IsMissing e.source job.against → (e.status ≡ 4) × (e.history ≡ [])
     four e k w z (inl zero) gone = absurd (((k.beside_err.trace job z).traced zero verifies).there gone)
     four e k w z (inr (inl two)) gone = absurd (unrun ((k.beside_err.end job z).fault_only_where two).0)
     four e k w z (inr (inr (inl seven))) gone = absurd (((k.beside_err.trace job z).wrong seven).1.there gone)
@@ -318,28 +318,28 @@ verified_alike job c d m n ask u v x y whole all same verifies a b program has =
         decided bytes (record { tells = ask.told; some = e }) (all.verified verifies program has_too bytes (record { tells = told; some = f })) a
 
 -- a text with a program or a refusal, in a mode in which its marks count
-marked_alike : OneAnswer → (job : Job) (c d : Call) → Meets c → Meets d → AskAlike c d → IsUndisturbed c → IsUndisturbed d → IsCommand c job → IsCommand d job → IsComplete job c → IsComplete job d
+marked_alike : OneAnswer → (job : Job) (c d : CommandCall) → KeepsContract c → KeepsContract d → AskAlike c d → IsUndisturbed c → IsUndisturbed d → IsCommand c job → IsCommand d job → IsComplete job c → IsComplete job d
     → c.text ≡ d.text → (Infers job.mode → ⊥) → EndAlike c d
 marked_alike known job c d m n ask u v x y whole all same marked = by (known.some c.text)
   where
-    run_of_both : (unverified : Verifies job.mode → ⊥) → Runs job.mode → Accepts job c → Accepts job d → (program : NumberedProgram) → HasProgram c.text program → EndAlike c d
+    run_of_both : (unverified : Verifies job.mode → ⊥) → RunsProgram job.mode → Accepts job c → Accepts job d → (program : ProgramView) → HasProgram c.text program → EndAlike c d
     run_of_both unverified runs a b program has =
         run_alike known job c d m n u v x y whole all same (of_run job c m x unverified a) (of_run job d n y unverified b) runs program has
 
     unrun_of_both : (unverified : Verifies job.mode → ⊥) → (job.mode ≡ Check) ⊎ (job.mode ≡ Code) → Accepts job c → Accepts job d
-        → (program : NumberedProgram) → HasProgram c.text program → EndAlike c d
+        → (program : ProgramView) → HasProgram c.text program → EndAlike c d
     unrun_of_both unverified mode a b program has =
         unrun_alike job c d m n x y same (of_run job c m x unverified a) (of_run job d n y unverified b) mode program has
 
-    by_mode : (mode : Mode) → job.mode ≡ mode → Accepts job c → Accepts job d → (program : NumberedProgram) → HasProgram c.text program → EndAlike c d
-    by_mode Run e a b program has = run_of_both (λ verifies. subst Verifies e verifies) (subst Runs (sym e) tt) a b program has
+    by_mode : (mode : Mode) → job.mode ≡ mode → Accepts job c → Accepts job d → (program : ProgramView) → HasProgram c.text program → EndAlike c d
+    by_mode Run e a b program has = run_of_both (λ verifies. subst Verifies e verifies) (subst RunsProgram (sym e) tt) a b program has
     by_mode Check e a b program has = unrun_of_both (λ verifies. subst Verifies e verifies) (inl e) a b program has
     by_mode Code e a b program has = unrun_of_both (λ verifies. subst Verifies e verifies) (inr e) a b program has
-    by_mode Gen e a b program has = run_of_both (λ verifies. subst Verifies e verifies) (subst Runs (sym e) tt) a b program has
+    by_mode Gen e a b program has = run_of_both (λ verifies. subst Verifies e verifies) (subst RunsProgram (sym e) tt) a b program has
     by_mode Verify e a b program has = verified_alike job c d m n ask u v x y whole all same (subst Verifies (sym e) tt) a b program has
     by_mode Infer e a b program has = absurd (marked (subst Infers (sym e) tt))
 
-    by : ((program : NumberedProgram) × HasProgram c.text program) ⊎ ((refusal : Refusal) × IsRefusal c.text refusal) → EndAlike c d
+    by : ((program : ProgramView) × HasProgram c.text program) ⊎ ((refusal : Refusal) × IsRefusal c.text refusal) → EndAlike c d
     by (inl found) =
         let has : HasProgram d.text found.0 = subst (λ text. HasProgram text found.0) same found.1 in
         by_mode job.mode refl (whole.accepted (λ refusal is. known.never_both c.text found.0 refusal found.1 (refusal_here job.mode c.text refusal marked is)))
@@ -347,7 +347,7 @@ marked_alike known job c d m n ask u v x y whole all same marked = by (known.som
     by (inr found) = refused_alike job c d m n x y whole all same found.0 (refusal_in job.mode c.text found.0 marked found.1)
 
 -- the statuses that an undisturbed call can have in a mode that infers
-record IsOfInference (c : Call) : Type 0 where
+record IsOfInference (c : CommandCall) : Type 0 where
   pub not_faulted : c.status ≡ 2 → ⊥
   pub commanded : c.status ≡ 3 → ⊥
   pub read : c.status ≡ 4 → ⊥
@@ -355,7 +355,7 @@ record IsOfInference (c : Call) : Type 0 where
   pub memory : c.status ≡ 6 → ⊥
   pub not_wrong : c.status ≡ 7 → ⊥
 
-of_two : (c : Call) (ending : Ending) → c.status ≡ status_of ending → IsOfInference c → (c.status ≡ 0) ⊎ (c.status ≡ 1)
+of_two : (c : CommandCall) (ending : Exit) → c.status ≡ status_of ending → IsOfInference c → (c.status ≡ 0) ⊎ (c.status ≡ 1)
 of_two c Done is k = inl is
 of_two c (Refused refusal) is k = inr is
 of_two c (Faulted fault) is k = absurd (k.not_faulted is)
@@ -366,7 +366,7 @@ of_two c NoMemory is k = absurd (k.memory is)
 of_two c (NoRun line) is k = absurd (k.not_wrong is)
 
 -- a text whose marks are inferred
-inferred_alike : OneAnswer → (job : Job) (c d : Call) → Meets c → Meets d → IsUndisturbed c → IsUndisturbed d → IsCommand c job → IsCommand d job → IsComplete job c → IsComplete job d
+inferred_alike : OneAnswer → (job : Job) (c d : CommandCall) → KeepsContract c → KeepsContract d → IsUndisturbed c → IsUndisturbed d → IsCommand c job → IsCommand d job → IsComplete job c → IsComplete job d
     → c.text ≡ d.text → job.mode ≡ Infer → (c.status ≡ 4 → ⊥) → EndAlike c d
 inferred_alike known job c d m n u v x y whole all same mode readable =
     elim (of_two c m.beside_err.words.known.0 m.beside_err.words.known.1 kept) [ inl is ↦ accepted is | inr is ↦ refused is ]
@@ -374,8 +374,8 @@ inferred_alike known job c d m n u v x y whole all same mode readable =
     infers : Infers job.mode
     infers = subst Infers (sym mode) tt
 
-    unrun : Runs job.mode → ⊥
-    unrun runs = subst Runs mode runs
+    unrun : RunsProgram job.mode → ⊥
+    unrun runs = subst RunsProgram mode runs
 
     kept : IsOfInference c
     kept = record {
@@ -419,7 +419,7 @@ inferred_alike known job c d m n u v x y whole all same mode readable =
         done_too (inr (inr (inr lacks))) = absurd (subst Verifies mode lacks.1.mode)
 
 -- a text that both have read or made whole
-judged_alike : OneAnswer → (job : Job) (c d : Call) → Meets c → Meets d → AskAlike c d → IsUndisturbed c → IsUndisturbed d → IsCommand c job → IsCommand d job → IsComplete job c → IsComplete job d
+judged_alike : OneAnswer → (job : Job) (c d : CommandCall) → KeepsContract c → KeepsContract d → AskAlike c d → IsUndisturbed c → IsUndisturbed d → IsCommand c job → IsCommand d job → IsComplete job c → IsComplete job d
     → c.text ≡ d.text → (Infers job.mode → c.status ≡ 4 → ⊥) → EndAlike c d
 judged_alike known job c d m n ask u v x y whole all same readable = by job.mode refl
   where
@@ -432,14 +432,14 @@ judged_alike known job c d m n ask u v x y whole all same readable = by job.mode
 some_none : (l : List ℕ) → Some l ≡ None → ⊥
 some_none l e = cc
 
-nothing_failed : (job : Job) (c : Call) → IsUndisturbed c → (HasFile job.mode → IsMissing c.source job.file → ⊥) → NothingFailed job c
+nothing_failed : (job : Job) (c : CommandCall) → IsUndisturbed c → (HasFile job.mode → IsMissing c.source job.file → ⊥) → NothingFailed job c
 nothing_failed job c u there = record { source = u.source; out = u.out; err = u.err; there = there; memory = u.memory }
 
 -- where nothing failed the text was read whole
-read_text : (job : Job) (c : Call) (bytes : List ℕ) → HasFile job.mode → Holds c.source job.file bytes → IsComplete job c → c.text ≡ take most_read bytes
+read_text : (job : Job) (c : CommandCall) (bytes : List ℕ) → HasFile job.mode → Holds c.source job.file bytes → IsComplete job c → c.text ≡ take most_read bytes
 read_text job c bytes named holds whole = (was_read job.mode job c named whole.whole).told bytes holds
 
-read_alike : OneAnswer → (job : Job) (c d : Call) → Meets c → Meets d → AskAlike c d → IsUndisturbed c → IsUndisturbed d → IsCommand c job → IsCommand d job
+read_alike : OneAnswer → (job : Job) (c d : CommandCall) → KeepsContract c → KeepsContract d → AskAlike c d → IsUndisturbed c → IsUndisturbed d → IsCommand c job → IsCommand d job
     → HasFile job.mode → ReadsText job c → ReadsText job d → EndAlike c d
 read_alike known job c d m n ask u v x y named read again = by (content_of c.source.files job.file) refl
   where
@@ -465,7 +465,7 @@ read_alike known job c d m n ask u v x y named read again = by (content_of c.sou
 
 -- ---- the text is made
 
-made_alike : OneAnswer → (job : Job) (c d : Call) → Meets c → Meets d → AskAlike c d → IsUndisturbed c → IsUndisturbed d → IsCommand c job → IsCommand d job
+made_alike : OneAnswer → (job : Job) (c d : CommandCall) → KeepsContract c → KeepsContract d → AskAlike c d → IsUndisturbed c → IsUndisturbed d → IsCommand c job → IsCommand d job
     → job.mode ≡ Gen → MakesText job c → MakesText job d → EndAlike c d
 made_alike known job c d m n ask u v x y e made again =
     let no_file : HasFile job.mode → ⊥ = λ has. subst HasFile e has in
@@ -476,7 +476,7 @@ made_alike known job c d m n ask u v x y e made again =
 
 -- ---- all calls
 
-pub ended_alike : OneAnswer → (c d : Call) → Meets c → Meets d → AskAlike c d → IsUndisturbed c → IsUndisturbed d → EndAlike c d
+pub ended_alike : OneAnswer → (c d : CommandCall) → KeepsContract c → KeepsContract d → AskAlike c d → IsUndisturbed c → IsUndisturbed d → EndAlike c d
 ended_alike known c d m n ask u v = by (job_of c.words) refl
   where
     by_mode : (job : Job) (mode : Mode) → job.mode ≡ mode → IsCommand c job → IsCommand d job → GetsText mode job c → GetsText mode job d → EndAlike c d

@@ -13,7 +13,7 @@ use Rattle.ti_base.specs.declared.entry.Answer.TheVariants.{Done}
 use Rattle.ti_base.specs.declared.entry.Entry.{Entry}
 use Rattle.ti_base.specs.declared.entry.Next.{Next}
 use Rattle.ti_base.specs.declared.entry.Next.TheVariants as next
-use Rattle.ti_lang.specs.Meaning.Processes.{Setting}
+use Rattle.ti_lang.specs.Meaning.Processes.{RunConfig}
 use Rattle.ti_lang.specs.Meaning.Histories.{history_of, is_end, is_fault, entries_of, has_end, has_fault}
 use Rattle.ti_lang.specs.Meaning.HeapAnswers.{Outcome, Answers, Faults, Impossible, heap_answer}
 use Rattle.ti_lang.specs.Meaning.Runs.{entry_with, entry_of, IsRun, none, more, AllEnded, IsComplete}
@@ -41,7 +41,7 @@ pub fault_is_there : (es : List Entry) (fault : Fault) → EndsWithFault es faul
 fault_is_there es fault e = ap has_fault e.last ∙ fault_more e.before (fault_entry fault) ∙ has_last (has_fault e.before) true refl
 
 -- a run that hasn't begun isn't complete
-pub unbegun : (s : Setting) → 1 ≤ s.procs → IsComplete s [] → ⊥
+pub unbegun : (s : RunConfig) → 1 ≤ s.procs → IsComplete s [] → ⊥
 unbegun s some (inl fault) = true_false (sym fault)
 unbegun s some (inr ended) = true_false (sym (ended 0 (omega arith)))
 
@@ -70,7 +70,7 @@ of_outcome i at a (Faults kind) e says is h = (record { kind = kind; proc = i; p
 of_outcome i at a Impossible e says is h = absurd (let x = is in cc)
 
 -- an entry that is a fault, as a process takes it
-of_next : (s : Setting) (es : List Entry) (i : ℕ) (n : Next) (e : Entry) → entry_of s es i n ≡ Some e → is_fault e.act ≡ true → IsFaultEntry e
+of_next : (s : RunConfig) (es : List Entry) (i : ℕ) (n : Next) (e : Entry) → entry_of s es i n ≡ Some e → is_fault e.act ≡ true → IsFaultEntry e
 of_next s es i (next.Act at a) e is h = of_outcome i at a (heap_answer s.program (history_of es) i a) e (λ kind same. ap (heap_answer s.program (history_of es) i) same) is h
 of_next s es i (next.End at) e is h = absurd (true_false (sym h ∙ ap (λ (x : Entry). is_fault x.act) (sym (same_Some _ e is))))
 of_next s es i (next.Fault kind at) e is h = (record { kind = kind; proc = i; place = at }, sym (same_Some _ e is))
@@ -79,7 +79,7 @@ of_next s es i (next.Fault kind at) e is h = (record { kind = kind; proc = i; pl
 last_is : (before es : List Entry) (e : Entry) → has_fault before ≡ false → es ≡ before ++ e ∷ [] → has_fault es ≡ true → is_fault e.act ≡ true
 last_is before es e goes_on split h = sym (only_last (has_fault before) (is_fault e.act) goes_on) ∙ sym (fault_more before e) ∙ ap has_fault (sym split) ∙ h
 
-pub fault_is_last : (s : Setting) (es : List Entry) → IsRun s es → has_fault es ≡ true → (fault : Fault) × EndsWithFault es fault
+pub fault_is_last : (s : RunConfig) (es : List Entry) → IsRun s es → has_fault es ≡ true → (fault : Fault) × EndsWithFault es fault
 fault_is_last s es none h = absurd (true_false (sym h))
 fault_is_last s es (more {es = before} {i = i} {e = e} run take split) h =
     let is : IsFaultEntry e = of_next s before i take.next e take.entry (last_is before es e take.goes_on split h) in
@@ -102,7 +102,7 @@ still_unended i es e fault unended =
     alone false = refl
 
 -- where a run has a fault, not all processes have their end
-pub not_all_ended : (s : Setting) (es : List Entry) → IsRun s es → has_fault es ≡ true → AllEnded s es → ⊥
+pub not_all_ended : (s : RunConfig) (es : List Entry) → IsRun s es → has_fault es ≡ true → AllEnded s es → ⊥
 not_all_ended s es none h ended = true_false (sym h)
 not_all_ended s es (more {es = before} {i = i} {e = e} run take split) h ended =
     true_false (sym (ended i take.within) ∙ ap (has_end i) split ∙ still_unended i before e (last_is before es e take.goes_on split h) take.unended)

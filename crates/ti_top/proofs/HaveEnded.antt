@@ -2,14 +2,14 @@
 use Rattle.std.proofs.Common.{◌≡◌, inr, ℕ, zero, suc, ◌+◌, ◌<◌, Bool, true, false, ◌&&◌, if◌then◌else◌, List, [], arith, refl, ap, subst}
 use Rattle.std.specs.List.{list_all, range_with_len}
 use Rattle.ti_base.specs.declared.entry.Entry.{Entry}
-use Rattle.ti_lang.specs.Meaning.Processes.{Setting}
+use Rattle.ti_lang.specs.Meaning.Processes.{RunConfig}
 use Rattle.ti_lang.specs.Meaning.Histories.{has_end}
 use Rattle.ti_lang.specs.Meaning.Runs.{IsRun, AllEnded}
-use Rattle.ti_top.specs.declared.ending.Ending.{Ending}
-use Rattle.ti_top.specs.declared.ending.Ending.TheVariants.{Done, Refused, Faulted, NoCommand, CantRead, CantWrite, NoMemory, NoRun}
+use Rattle.ti_top.specs.declared.exit.Exit.{Exit}
+use Rattle.ti_top.specs.declared.exit.Exit.TheVariants.{Done, Refused, Faulted, NoCommand, CantRead, CantWrite, NoMemory, NoRun}
 use Rattle.ti_top.specs.Summary.{summary_line, have_ended, summary}
 use Rattle.ti_top.specs.Mirrors.RunEnds.{RunEnds}
-use Rattle.ti_top.specs.Mirrors.Work.{summary_after}
+use Rattle.ti_top.specs.Mirrors.JobView.{summary_after}
 use Rattle.ti_top.proofs.FaultLast.{fault_is_there, not_all_ended}
 
 -- ---- a test of each number
@@ -37,10 +37,10 @@ each_passes test a (suc n) (suc i) j all below at = each_passes test (a + 1) n i
 
 -- ---- all processes
 
-all_have : (s : Setting) (es : List Entry) → AllEnded s es → have_ended s es ≡ true
+all_have : (s : RunConfig) (es : List Entry) → AllEnded s es → have_ended s es ≡ true
 all_have s es ended = all_pass (λ i. has_end i es) 0 s.procs (λ i below. ended i (omega arith))
 
-some_has_not : (s : Setting) (es : List Entry) → (AllEnded s es → ⊥) → have_ended s es ≡ false
+some_has_not : (s : RunConfig) (es : List Entry) → (AllEnded s es → ⊥) → have_ended s es ≡ false
 some_has_not s es unended = decided (have_ended s es) (λ all. unended (λ i below. each_passes (λ i. has_end i es) 0 s.procs i i all below (omega arith)))
   where
     decided : (b : Bool) → (b ≡ true → ⊥) → b ≡ false
@@ -50,15 +50,15 @@ some_has_not s es unended = decided (have_ended s es) (λ all. unended (λ i bel
 -- ---- the summary
 
 -- that of a run in which all processes have their end
-there : (s : Setting) (es : List Entry) → AllEnded s es → summary s es ≡ summary_line es
+there : (s : RunConfig) (es : List Entry) → AllEnded s es → summary s es ≡ summary_line es
 there s es ended = ap (λ (b : Bool). if b then summary_line es else []) (all_have s es ended)
 
 -- any other has none
-pub no_summary : (s : Setting) (es : List Entry) → (AllEnded s es → ⊥) → summary s es ≡ []
+pub no_summary : (s : RunConfig) (es : List Entry) → (AllEnded s es → ⊥) → summary s es ≡ []
 no_summary s es unended = ap (λ (b : Bool). if b then summary_line es else []) (some_has_not s es unended)
 
 -- that of a run that ended so
-pub summary_is : (ended : Ending) (s : Setting) (es : List Entry) → IsRun s es → RunEnds s es ended → summary s es ≡ summary_after ended es
+pub summary_is : (ended : Exit) (s : RunConfig) (es : List Entry) → IsRun s es → RunEnds s es ended → summary s es ≡ summary_after ended es
 summary_is Done s es run ends = there s es ends.0
 summary_is (Refused refusal) s es run ends = absurd ends
 summary_is (Faulted fault) s es run ends = no_summary s es (not_all_ended s es run (fault_is_there es fault ends))

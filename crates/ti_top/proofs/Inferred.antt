@@ -1,7 +1,7 @@
 -- From the answers of the phases to that of the inference.
 use Rattle.std.proofs.Common.{◌≡◌, ℕ, List, [], Ok, Err, subst}
 use Rattle.ti_io.specs.Sink.{SinkState, GrewBy, GrewByFront, Writes}
-use Rattle.ti_lang.specs.Program.Classes.{NumberedProgram}
+use Rattle.ti_lang.specs.Program.Classes.{ProgramView}
 use Rattle.ti_rules.specs.declared.refusal.Refusal.{Refusal}
 use Rattle.ti_rules.specs.TypeRules.{type_refusals}
 use Rattle.ti_check.specs.Answer.{GivesTyped}
@@ -14,7 +14,7 @@ use Rattle.ti_infer.specs.Stripped.{stripped}
 use Rattle.ti_infer.specs.Answer.{GivesInferred}
 use Rattle.ti_top.specs.declared.compiling.CompileErr.{CompileErr}
 use Rattle.ti_top.specs.declared.compiling.CompileErr.TheVariants.{Refused, Memory}
-use Rattle.ti_top.specs.declared.ending.Ending.TheVariants.{Done, CantWrite}
+use Rattle.ti_top.specs.declared.exit.Exit.TheVariants.{Done, CantWrite}
 use Rattle.ti_top.specs.Inference.{HasMarking, IsUnmarkedRefusal, of_types, of_marks, of_tree, marks_text}
 use Rattle.ti_top.specs.Mirrors.Compiling.{IsRead, ReadsProgram, of_check}
 use Rattle.ti_top.specs.Mirrors.Inferring.{Infers, of_inference, WroteMarks}
@@ -33,23 +33,23 @@ not_read known text (Refused refusal) is = refused known text refusal is.1
 not_read known text Memory is = tt
 
 -- its program breaks a rule of types and qualifiers, without its marks
-pub not_typed : (T : Type 0) → OneAnswer → (text : List ℕ) (p plain : NumberedProgram) (e : CheckErr) → IsRead text p → plain ≡ stripped p
+pub not_typed : (T : Type 0) → OneAnswer → (text : List ℕ) (p plain : ProgramView) (e : CheckErr) → IsRead text p → plain ≡ stripped p
     → GivesTyped {T = T} plain (Err e) → Infers text (Err (of_check e))
 not_typed T known text p plain (checker.Refused refusal) read same is =
-    refused known text refusal (of_tree read.has_tree (of_types read.named read.numbers (subst (λ (q : NumberedProgram). GivesTyped {T = T} q (Err (checker.Refused refusal))) same is)))
+    refused known text refusal (of_tree read.has_tree (of_types read.named read.numbers (subst (λ (q : ProgramView). GivesTyped {T = T} q (Err (checker.Refused refusal))) same is)))
 not_typed T known text p plain checker.Memory read same is = tt
 
 -- it breaks none, and no marking is accepted
-pub not_inferred : OneAnswer → (text : List ℕ) (p plain : NumberedProgram) (e : InferErr) → IsRead text p → plain ≡ stripped p → type_refusals plain ≡ []
+pub not_inferred : OneAnswer → (text : List ℕ) (p plain : ProgramView) (e : InferErr) → IsRead text p → plain ≡ stripped p → type_refusals plain ≡ []
     → GivesInferred plain (Err e) → Infers text (Err (of_inference e))
 not_inferred known text p plain (infer.NoMarking at) read same typed is =
     refused known text (record { rule = _; place = at })
-    (of_tree read.has_tree (of_marks read.named read.numbers (subst (λ (q : NumberedProgram). type_refusals q ≡ []) same typed)
-    (subst (λ (q : NumberedProgram). GivesInferred q (Err (infer.NoMarking at))) same is)))
+    (of_tree read.has_tree (of_marks read.named read.numbers (subst (λ (q : ProgramView). type_refusals q ≡ []) same typed)
+    (subst (λ (q : ProgramView). GivesInferred q (Err (infer.NoMarking at))) same is)))
 not_inferred known text p plain infer.Memory read same typed is = tt
 
 -- one is, and the greatest was found
-pub inferred : OneAnswer → (text : List ℕ) (p plain : NumberedProgram) (marks : List Mark) → IsRead text p → plain ≡ stripped p → type_refusals plain ≡ []
+pub inferred : OneAnswer → (text : List ℕ) (p plain : ProgramView) (marks : List Mark) → IsRead text p → plain ≡ stripped p → type_refusals plain ≡ []
     → GivesInferred plain (Ok marks) → Infers text (Ok marks)
 inferred known text p plain marks read same typed is =
     let has : HasMarking text marks = record {
@@ -58,8 +58,8 @@ inferred known text p plain marks read same typed is =
       named = read.named;
       program = p;
       numbers = read.numbers;
-      typed = subst (λ (q : NumberedProgram). type_refusals q ≡ []) same typed;
-      greatest = subst (λ (q : NumberedProgram). GivesInferred q (Ok marks)) same is;
+      typed = subst (λ (q : ProgramView). type_refusals q ≡ []) same typed;
+      greatest = subst (λ (q : ProgramView). GivesInferred q (Ok marks)) same is;
     } in
     record {
       has = has;

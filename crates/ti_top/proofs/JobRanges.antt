@@ -3,11 +3,11 @@ use Rattle.std.proofs.Common.{◌≡◌, inl, inr, ℕ, ◌≤◌, ◌*◌, nat_
 use Rattle.std.proofs.lemmas.Bool.Decides.{leb_tells}
 use Rattle.std.proofs.lemmas.Option.{same_Some}
 use Rattle.ti_words.specs.Uses.{Word}
-use Rattle.ti_words.specs.Job.{Values, values_in, mode_of, file_of, against_of, seed_of, is_number, number_of, number_in, number_within, most_fuel, procs_of, workers_of, fuel_of, job_by, job_of}
+use Rattle.ti_words.specs.Job.{Values, parse_values, mode_of, file_of, against_of, seed_of, is_number, decimal_value, number_in, number_within, most_total_fuel, procs_of, workers_of, fuel_of, job_by, job_of}
 use Rattle.ti_words.specs.declared.job.Job.{Job}
 use Rattle.ti_words.specs.declared.job.Mode.{Mode}
-use Rattle.ti_store.specs.Conditions.{IsWithin}
-use Rattle.ti_top.specs.Mirrors.Work.{IsInRanges}
+use Rattle.ti_store.specs.Conditions.{IsWithinRunLimits}
+use Rattle.ti_top.specs.Mirrors.JobView.{IsInRanges}
 
 no_some : {A B : Type 0} (b : B) → ◌≡◌ {A = Option B} None (Some b) → A
 no_some {A} {B} b h = absurd (wrong b h)
@@ -46,18 +46,18 @@ picked false b c k n e = no_some n e
 -- a number that a word writes
 in_range : (least most : ℕ) (word : Word) (n : ℕ) → number_in least most word ≡ Some n → (least ≤ n) × (n ≤ most)
 in_range least most word n e =
-    let p = picked (is_number word) (nat_le least (number_of word)) (nat_le (number_of word) most) (number_of word) n e in
-    (subst (λ k. least ≤ k) p.2 (low least (number_of word) p.0), subst (λ k. k ≤ most) p.2 (low (number_of word) most p.1))
+    let p = picked (is_number word) (nat_le least (decimal_value word)) (nat_le (decimal_value word) most) (decimal_value word) n e in
+    (subst (λ k. least ≤ k) p.2 (low least (decimal_value word) p.0), subst (λ k. k ≤ most) p.2 (low (decimal_value word) most p.1))
 
 -- or the default
 within_range : (least most default : ℕ) (word : Option Word) (n : ℕ) → least ≤ default → default ≤ most → number_within least most default word ≡ Some n → (least ≤ n) × (n ≤ most)
 within_range least most default None n some few e = let same = same_Some default n e in (subst (λ k. least ≤ k) same some, subst (λ k. k ≤ most) same few)
 within_range least most default (Some word) n some few e = in_range least most word n e
 
-fuel_within : (procs : ℕ) (values : Values) (n : ℕ) → fuel_of procs values ≡ Some n → (1 ≤ n) × (n ≤ most_fuel)
+fuel_within : (procs : ℕ) (values : Values) (n : ℕ) → fuel_of procs values ≡ Some n → (1 ≤ n) × (n ≤ most_total_fuel)
 fuel_within procs values n e =
-    let k = stepped (number_within 1 most_fuel 100000 values.fuel) (λ fuel. if nat_le (procs * fuel) most_fuel then Some fuel else None) n e in
-    subst (λ m. (1 ≤ m) × (m ≤ most_fuel)) (kept (nat_le (procs * k.first) most_fuel) k.first k.next) (within_range 1 most_fuel 100000 values.fuel k.first (omega arith) (omega arith) k.is)
+    let k = stepped (number_within 1 most_total_fuel 100000 values.fuel) (λ fuel. if nat_le (procs * fuel) most_total_fuel then Some fuel else None) n e in
+    subst (λ m. (1 ≤ m) × (m ≤ most_total_fuel)) (kept (nat_le (procs * k.first) most_total_fuel) k.first k.next) (within_range 1 most_total_fuel 100000 values.fuel k.first (omega arith) (omega arith) k.is)
   where
     kept : (test : Bool) (m : ℕ) → (if test then Some m else None) ≡ Some n → m ≡ n
     kept true m h = same_Some m n h
@@ -86,7 +86,7 @@ abbrev named : Values → Mode → Word → Option Job
 named values mode file = option_and_then (traced values mode file) (against_of mode values.against)
 
 within : (values : Values) (mode : Mode) (file against : Word) (seed procs workers fuel : ℕ) (job : Job)
-    → job_with values mode file against seed procs workers fuel ≡ job → IsWithin procs fuel → 1 ≤ workers → IsInRanges job
+    → job_with values mode file against seed procs workers fuel ≡ job → IsWithinRunLimits procs fuel → 1 ≤ workers → IsInRanges job
 within values _ file against seed procs workers fuel job same is some = subst IsInRanges same (record { within = is; workers = some })
 
 ranges : (values : Values) (job : Job) → job_by values ≡ Some job → IsInRanges job
@@ -104,4 +104,4 @@ ranges values job e =
     within values mode.first file.first against.first seed.first procs.first workers.first fuel.0 job fuel.2 (record { some = p.0; few = p.1; fueled = f.0; limited = f.1 }) w.0
 
 pub in_ranges : (words : List Word) (job : Job) → job_of words ≡ Some job → IsInRanges job
-in_ranges words job e = let k = stepped (values_in words) job_by job e in ranges k.first job k.next
+in_ranges words job e = let k = stepped (parse_values words) job_by job e in ranges k.first job k.next

@@ -1,7 +1,7 @@
 -- The complete run in which each entry is that of the lowest-numbered process that can take one is one alone.
 use Rattle.std.proofs.Common.{◌≡◌, ◌⊎◌, inl, inr, ℕ, ◌<◌, nat_lt, Bool, true, false, List, [], ◌∷◌, ◌++◌, refl, sym, ◌∙◌, ap, subst, arith, ltb-true, ltb-false, append-nil, append_assoc}
 use Rattle.ti_base.specs.declared.entry.Entry.{Entry}
-use Rattle.ti_lang.specs.Meaning.Processes.{Setting}
+use Rattle.ti_lang.specs.Meaning.Processes.{RunConfig}
 use Rattle.ti_lang.specs.Meaning.Runs.{CanTake, IsSolo, IsComplete}
 use Rattle.ti_lang.specs.Meaning.Runs as r
 use Rattle.ti_lang.proofs.Lemmas.{entry_same}
@@ -36,12 +36,12 @@ split (c ∷ bs) b (x ∷ xs) d ys e = by (split bs b xs d ys (same_tail c x _ _
 -- ---- the next entry
 
 -- the entry is that of the lowest-numbered process that can take one
-record Comes (s : Setting) (es : List Entry) (e : Entry) : Type 0 where
+record Comes (s : RunConfig) (es : List Entry) (e : Entry) : Type 0 where
   taker : ℕ
   take : CanTake s es taker e
   least : (j : ℕ) (d : Entry) → j < taker → CanTake s es j d → ⊥
 
-one_comes : (s : Setting) (es : List Entry) (d e : Entry) → Comes s es d → Comes s es e → d ≡ e
+one_comes : (s : RunConfig) (es : List Entry) (d e : Entry) → Comes s es d → Comes s es e → d ≡ e
 one_comes s es d e x y = by (nat_lt x.taker y.taker) refl (nat_lt y.taker x.taker) refl
   where
     by : (t : Bool) → nat_lt x.taker y.taker ≡ t → (u : Bool) → nat_lt y.taker x.taker ≡ u → d ≡ e
@@ -52,7 +52,7 @@ one_comes s es d e x y = by (nat_lt x.taker y.taker) refl (nat_lt y.taker x.take
         entry_same s es x.taker d e x.take (subst (λ i. CanTake s es i e) same y.take)
 
 -- each entry of the run comes so behind those before it
-comes : (s : Setting) (es all : List Entry) (d : Entry) (rest : List Entry) → IsSolo s all → all ≡ es ++ d ∷ rest → Comes s es d
+comes : (s : RunConfig) (es all : List Entry) (d : Entry) (rest : List Entry) → IsSolo s all → all ≡ es ++ d ∷ rest → Comes s es d
 comes s es all d rest r.none e = absurd (none_more es d rest e)
 comes s es all d rest (r.more {es = before} {i = i} {e = last} run take least z) e = by (λ zs k. comes s es before d zs run k) (split before last es d rest (sym z ∙ e))
   where
@@ -66,12 +66,12 @@ true_false : (b : Bool) → b ≡ true → b ≡ false → ⊥
 true_false b x y = cc
 
 -- behind a complete run no entry comes
-over : (s : Setting) (es : List Entry) (e : Entry) → IsComplete s es → Comes s es e → ⊥
+over : (s : RunConfig) (es : List Entry) (e : Entry) → IsComplete s es → Comes s es e → ⊥
 over s es e (inl fault) x = true_false _ fault x.take.goes_on
 over s es e (inr ended) x = true_false _ (ended x.taker x.take.within) x.take.unended
 
 -- two complete runs with one front go on alike behind it
-goes_alike : (s : Setting) (front xs ys es ds : List Entry) → IsSolo s es → es ≡ front ++ xs → IsComplete s es → IsSolo s ds → ds ≡ front ++ ys → IsComplete s ds → xs ≡ ys
+goes_alike : (s : RunConfig) (front xs ys es ds : List Entry) → IsSolo s es → es ≡ front ++ xs → IsComplete s es → IsSolo s ds → ds ≡ front ++ ys → IsComplete s ds → xs ≡ ys
 goes_alike s front [] [] es ds run a end ran b ended = refl
 goes_alike s front [] (y ∷ ys) es ds run a end ran b ended =
     absurd (over s front y (subst (IsComplete s) (a ∙ append-nil front) end) (comes s front ds y ys ran b))
@@ -83,5 +83,5 @@ goes_alike s front (x ∷ xs) (y ∷ ys) es ds run a end ran b ended =
     let d : ds ≡ (front ++ x ∷ []) ++ ys = b ∙ ap (λ z. front ++ z ∷ ys) (sym same) ∙ sym (append_assoc front (x ∷ []) ys) in
     both_same x y xs ys same (goes_alike s (front ++ x ∷ []) xs ys es ds run c end ran d ended)
 
-pub one_run : (s : Setting) (es ds : List Entry) → IsSolo s es → IsComplete s es → IsSolo s ds → IsComplete s ds → es ≡ ds
+pub one_run : (s : RunConfig) (es ds : List Entry) → IsSolo s es → IsComplete s es → IsSolo s ds → IsComplete s ds → es ≡ ds
 one_run s es ds run end ran ended = goes_alike s [] es ds es ds run refl end ran refl ended

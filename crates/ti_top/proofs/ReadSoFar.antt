@@ -2,7 +2,7 @@
 use Rattle.std.proofs.Common.{◌≡◌, inl, ℕ, ◌≤◌, ◌<◌, true, List, [], ◌++◌, length, take, Some, arith, refl, sym, ◌∙◌, ap}
 use Rattle.std.proofs.lemmas.List.{append-nil, take_all, take_at}
 use Rattle.ti_io.specs.Source.{SourceState, SameFiles, ReadAnswers, IsMissing, Holds, content_of}
-use Rattle.ti_top.specs.Call.{most_read}
+use Rattle.ti_top.specs.CommandCall.{most_read}
 use Rattle.ti_top.specs.Mirrors.Reading.{ReadsWhole}
 use Rattle.ti_top.specs.declared.reading.ReadEnd.TheVariants.{Whole}
 

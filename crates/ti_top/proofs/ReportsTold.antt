@@ -7,8 +7,8 @@ use Rattle.ti_io.specs.Sink.{SinkState}
 use Rattle.ti_io.proofs.Lemmas.{rose_since}
 use Rattle.ti_top.specs.declared.reports.ReportEnd.{ReportEnd}
 use Rattle.ti_top.specs.declared.reports.ReportEnd.TheVariants.{Written}
-use Rattle.ti_top.specs.Reports.{Watcher, report_of, reports}
-use Rattle.ti_top.specs.Mirrors.Reporting.{Reported}
+use Rattle.ti_top.specs.Reports.{Watcher, watcher_report, reports}
+use Rattle.ti_top.specs.Mirrors.Reporting.{WritesReports}
 
 -- a turn of a loop over a list: what is left loses its first item
 pub left_turn : {X Y : Type 0} (f : X → Y) (all seen left rest : List X) (x : X) → map f all ≡ map f seen ++ map f left → left ≡ x ∷ rest → map f all ≡ map f (seen ++ x ∷ []) ++ map f rest
@@ -16,7 +16,7 @@ left_turn f all seen left rest x split next =
     split ∙ ap (λ t. map f seen ++ map f t) next ∙ sym (append_assoc (map f seen) (f x ∷ []) (map f rest)) ∙ ap (λ t. t ++ map f rest) (sym (map-append f seen (x ∷ [])))
 
 reports_append : (xs ys : List Watcher) (h : List Entry) → reports (xs ++ ys) h ≡ reports xs h ++ reports ys h
-reports_append xs ys h = flat_map-append (report_of h) xs ys
+reports_append xs ys h = flat_map-append (watcher_report h) xs ys
 
 nil_right : {X : Type 0} (xs ys : List X) → xs ++ ys ≡ [] → ys ≡ []
 nil_right [] ys e = e
@@ -27,7 +27,7 @@ nil_left [] ys e = refl
 nil_left (x ∷ xs) ys e = cc
 
 -- some watchers report, and then others
-pub reported_then : (xs ys : List Watcher) (h : List Entry) (s0 s1 s2 : SinkState) (end : ReportEnd) → Reported xs h s0 s1 Written → Reported ys h s1 s2 end → Reported (xs ++ ys) h s0 s2 end
+pub reported_then : (xs ys : List Watcher) (h : List Entry) (s0 s1 s2 : SinkState) (end : ReportEnd) → WritesReports xs h s0 s1 Written → WritesReports ys h s1 s2 end → WritesReports (xs ++ ys) h s0 s2 end
 reported_then xs ys h s0 s1 s2 end first next = record {
   never_falls = omega arith;
   tells = next.tells ∙ first.tells;
@@ -57,7 +57,7 @@ reported_then xs ys h s0 s1 s2 end first next = record {
 }
 
 -- some watchers report, and the others don't come to it
-pub reported_stop : (xs ys : List Watcher) (h : List Entry) (s0 s1 : SinkState) (end : ReportEnd) → (end ≡ Written → ⊥) → Reported xs h s0 s1 end → Reported (xs ++ ys) h s0 s1 end
+pub reported_stop : (xs ys : List Watcher) (h : List Entry) (s0 s1 : SinkState) (end : ReportEnd) → (end ≡ Written → ⊥) → WritesReports xs h s0 s1 end → WritesReports (xs ++ ys) h s0 s1 end
 reported_stop xs ys h s0 s1 end stopped first = record {
   never_falls = first.never_falls;
   tells = first.tells;
@@ -80,8 +80,8 @@ reported_stop xs ys h s0 s1 end stopped first = record {
 
 -- a loop over watchers that ends at one of them
 pub reported_end : {X : Type 0} (f : X → Watcher) (all seen left rest : List X) (x : X) (h : List Entry) (s0 s1 s2 : SinkState)
-    (end : ReportEnd) → map f all ≡ map f seen ++ map f left → left ≡ x ∷ rest → Reported (map f seen) h s0 s1 Written
-    → Reported (f x ∷ []) h s1 s2 end → (end ≡ Written → ⊥) → Reported (map f all) h s0 s2 end
+    (end : ReportEnd) → map f all ≡ map f seen ++ map f left → left ≡ x ∷ rest → WritesReports (map f seen) h s0 s1 Written
+    → WritesReports (f x ∷ []) h s1 s2 end → (end ≡ Written → ⊥) → WritesReports (map f all) h s0 s2 end
 reported_end f all seen left rest x h s0 s1 s2 end split next first last stopped =
     let whole : map f all ≡ map f seen ++ (f x ∷ map f rest) = split ∙ ap (λ t. map f seen ++ map f t) next in
     rw whole (reported_then (map f seen) (f x ∷ map f rest) h s0 s1 s2 end first (reported_stop (f x ∷ []) (map f rest) h s1 s2 end stopped last))

@@ -3,28 +3,28 @@ use Rattle.std.proofs.Common.{◌≡◌, ◌⊎◌, inl, inr, ℕ, arith, refl, 
 use Rattle.ti_io.specs.Source.{IsMissing}
 use Rattle.ti_top.specs.declared.reading.ReadEnd.{ReadEnd}
 use Rattle.ti_top.specs.declared.reading.ReadEnd.TheVariants as Read
-use Rattle.ti_top.specs.declared.ending.Ending.{Ending}
-use Rattle.ti_top.specs.declared.ending.Ending.TheVariants.{NoCommand, CantRead, NoMemory}
+use Rattle.ti_top.specs.declared.exit.Exit.{Exit}
+use Rattle.ti_top.specs.declared.exit.Exit.TheVariants.{NoCommand, CantRead, NoMemory}
 use Rattle.ti_words.specs.declared.job.Job.{Job}
 use Rattle.ti_top.specs.Mirrors.Reading.{ReadsWhole}
-use Rattle.ti_top.specs.Ending.{status_of}
-use Rattle.ti_top.specs.Call.{Call, SourceFailed, Yields}
+use Rattle.ti_top.specs.Exit.{status_of}
+use Rattle.ti_top.specs.CommandCall.{CommandCall, SourceFailed, IsPreempted}
 use Rattle.ti_top.specs.Clauses.{IsReadWhole, ReadsText}
 use Rattle.ti_top.specs.Run.{Verifies}
 use Rattle.ti_top.proofs.StatusFrom.{StatusFrom, not_five, is_no_command, is_cant_read}
 
 -- the ending that a call may have where its reading ended so
-abbrev pub EndsAs : ReadEnd → Ending → Type 0
+abbrev pub EndsAs : ReadEnd → Exit → Type 0
 EndsAs Read.Whole before = (before ≡ NoCommand → ⊥) × (before ≡ CantRead → ⊥)
 EndsAs Read.CantRead before = before ≡ CantRead
 EndsAs Read.NoMemory before = before ≡ NoMemory
 
 -- a missing name isn't read whole
-not_whole : (job : Job) (c : Call) → ReadsWhole job.file c.source c.source_after c.text Read.Whole → IsMissing c.source job.file → ⊥
+not_whole : (job : Job) (c : CommandCall) → ReadsWhole job.file c.source c.source_after c.text Read.Whole → IsMissing c.source job.file → ⊥
 not_whole job c read missing = let e = read.missing missing in cc
 
 -- a text that was read to its end was read whole
-pub read_whole : (before : Ending) (job : Job) (c : Call) → ReadsWhole job.file c.source c.source_after c.text Read.Whole → EndsAs Read.Whole before → StatusFrom before c → IsReadWhole job c
+pub read_whole : (before : Exit) (job : Job) (c : CommandCall) → ReadsWhole job.file c.source c.source_after c.text Read.Whole → EndsAs Read.Whole before → StatusFrom before c → IsReadWhole job c
 read_whole before job c read fits from = record {
   there = not_whole job c read;
   told = λ bytes holds. read.whole bytes holds refl;
@@ -33,19 +33,19 @@ read_whole before job c read fits from = record {
 }
 
 -- with a status that no failed reading has, the text was read whole
-whole_at : (n : ℕ) (end : ReadEnd) (before : Ending) (job : Job) (c : Call) → ReadsWhole job.file c.source c.source_after c.text end → EndsAs end before → StatusFrom before c → c.status ≡ n
+whole_at : (n : ℕ) (end : ReadEnd) (before : Exit) (job : Job) (c : CommandCall) → ReadsWhole job.file c.source c.source_after c.text end → EndsAs end before → StatusFrom before c → c.status ≡ n
     → (4 ≡ n → ⊥) → (5 ≡ n → ⊥) → (6 ≡ n → ⊥) → IsReadWhole job c
 whole_at n Read.Whole before job c read fits from is four five six = read_whole before job c read fits from
 whole_at n Read.CantRead before job c read fits from is four five six = absurd (four (sym (ap status_of fits) ∙ not_five before n c from is (λ x. five (sym x))))
 whole_at n Read.NoMemory before job c read fits from is four five six = absurd (six (sym (ap status_of fits) ∙ not_five before n c from is (λ x. five (sym x))))
 
-cause_of_four : (end : ReadEnd) (before : Ending) (job : Job) (c : Call) → ReadsWhole job.file c.source c.source_after c.text end → EndsAs end before → before ≡ CantRead → end ≡ Read.CantRead
+cause_of_four : (end : ReadEnd) (before : Exit) (job : Job) (c : CommandCall) → ReadsWhole job.file c.source c.source_after c.text end → EndsAs end before → before ≡ CantRead → end ≡ Read.CantRead
 cause_of_four Read.Whole before job c read fits is = absurd (fits.1 is)
 cause_of_four Read.CantRead before job c read fits is = refl
 cause_of_four Read.NoMemory before job c read fits is = absurd (let e = sym fits ∙ is in cc)
 
-missing_is_told : (end : ReadEnd) (before : Ending) (job : Job) (c : Call) → ReadsWhole job.file c.source c.source_after c.text end
-    → EndsAs end before → StatusFrom before c → IsMissing c.source job.file → (c.status ≡ 4) ⊎ Yields c
+missing_is_told : (end : ReadEnd) (before : Exit) (job : Job) (c : CommandCall) → ReadsWhole job.file c.source c.source_after c.text end
+    → EndsAs end before → StatusFrom before c → IsMissing c.source job.file → (c.status ≡ 4) ⊎ IsPreempted c
 missing_is_told Read.Whole before job c read fits from missing = absurd (not_whole job c read missing)
 missing_is_told Read.CantRead before job c read fits from missing =
     elim from [ inl same ↦ inl (same ∙ ap status_of fits) | inr cut ↦ inr (inr (cut.0, inr cut.1)) ]
@@ -53,14 +53,14 @@ missing_is_told Read.NoMemory before job c read fits from missing =
     elim from [ inl same ↦ inr (inl (same ∙ ap status_of fits)) | inr cut ↦ inr (inr (cut.0, inr cut.1)) ]
 
 -- where a call of the source failed, the reading ended as one that can't read
-failed_is_told : (end : ReadEnd) (before : Ending) (job : Job) (c : Call) → ReadsWhole job.file c.source c.source_after c.text end
-    → EndsAs end before → StatusFrom before c → SourceFailed c → (c.status ≡ 4) ⊎ Yields c
+failed_is_told : (end : ReadEnd) (before : Exit) (job : Job) (c : CommandCall) → ReadsWhole job.file c.source c.source_after c.text end
+    → EndsAs end before → StatusFrom before c → SourceFailed c → (c.status ≡ 4) ⊎ IsPreempted c
 failed_is_told Read.Whole before job c read fits from failed = elim read.failed [ inl same ↦ absurd (omega (arith, same, failed)) | inr e ↦ absurd (let x = e in cc) ]
 failed_is_told Read.CantRead before job c read fits from failed =
     elim from [ inl same ↦ inl (same ∙ ap status_of fits) | inr cut ↦ inr (inr (cut.0, inr cut.1)) ]
 failed_is_told Read.NoMemory before job c read fits from failed = elim read.failed [ inl same ↦ absurd (omega (arith, same, failed)) | inr e ↦ absurd (let x = e in cc) ]
 
-pub reads_text : (end : ReadEnd) (before : Ending) (job : Job) (c : Call) → (Verifies job.mode → ⊥) → ReadsWhole job.file c.source c.source_after c.text end → EndsAs end before → StatusFrom before c
+pub reads_text : (end : ReadEnd) (before : Exit) (job : Job) (c : CommandCall) → (Verifies job.mode → ⊥) → ReadsWhole job.file c.source c.source_after c.text end → EndsAs end before → StatusFrom before c
     → ReadsText job c
 reads_text end before job c unverified read fits from = record {
   front = read.front;

@@ -1,7 +1,7 @@
 -- From what was done with a program to what became of its text.
 use Rattle.std.proofs.Common.{◌≡◌, ◌⊎◌, inl, inr, ℕ, List, [], None, Err, sym, subst}
 use Rattle.ti_io.specs.Sink.{SinkState}
-use Rattle.ti_lang.specs.Program.Classes.{NumberedProgram}
+use Rattle.ti_lang.specs.Program.Classes.{ProgramView}
 use Rattle.ti_rules.specs.declared.refusal.Refusal.{Refusal}
 use Rattle.ti_blame.specs.declared.mark.Mark.{Mark}
 use Rattle.ti_words.specs.declared.job.Job.{Job}
@@ -10,17 +10,17 @@ use Rattle.ti_words.specs.declared.job.Mode.TheVariants.{Run, Check, Code, Gen, 
 use Rattle.ti_top.specs.declared.compiling.CompileErr.{CompileErr}
 use Rattle.ti_top.specs.declared.compiling.CompileErr.TheVariants as error
 use Rattle.ti_top.specs.declared.fault.Fault.{Fault}
-use Rattle.ti_top.specs.declared.ending.Ending.{Ending}
-use Rattle.ti_top.specs.declared.ending.Ending.TheVariants.{Done, Refused, Faulted, NoCommand, CantRead, CantWrite, NoMemory, NoRun}
-use Rattle.ti_top.specs.Run.{Runs}
+use Rattle.ti_top.specs.declared.exit.Exit.{Exit}
+use Rattle.ti_top.specs.declared.exit.Exit.TheVariants.{Done, Refused, Faulted, NoCommand, CantRead, CantWrite, NoMemory, NoRun}
+use Rattle.ti_top.specs.Run.{RunsProgram}
 use Rattle.ti_top.specs.Reports.{Watcher}
 use Rattle.ti_top.specs.Mirrors.Coding.{CodeSays}
 use Rattle.ti_top.specs.Mirrors.Compiling.{IsCompiled, Compiles, ending_by}
-use Rattle.ti_top.specs.Mirrors.Inferring.{IsInferred, Infers, MarksSay}
-use Rattle.ti_top.specs.Mirrors.Work.{Kept, RanNothing, RunSays, RunTextSays, CheckTextSays, CodeTextSays, InferTextSays, TextSays, Work, FileDone, SeedDone, TraceDone, WorkSays}
+use Rattle.ti_top.specs.Mirrors.Inferring.{IsOnlyMarking, Infers, MarksSay}
+use Rattle.ti_top.specs.Mirrors.JobView.{Artifacts, RanNothing, RunSays, RunTextSays, CheckTextSays, CodeTextSays, InferTextSays, TextSays, JobView, FileDone, SeedDone, TraceDone, JobSays}
 
 -- the endings of a run
-abbrev IsOfRun : Ending → Type 0
+abbrev IsOfRun : Exit → Type 0
 IsOfRun ending = (ending ≡ Done) ⊎ ((fault : Fault) × (ending ≡ Faulted fault)) ⊎ (ending ≡ NoMemory) ⊎ (ending ≡ CantWrite)
 
 not_refused : (refusal : Refusal) → IsOfRun (Refused refusal) → ⊥
@@ -48,7 +48,7 @@ not_no_run line (inr (inr (inl e))) = let x = e in cc
 not_no_run line (inr (inr (inr e))) = let x = e in cc
 
 -- the program of the text was run
-pub ran_text : (ending : Ending) (p : NumberedProgram) (job : Job) (ws : List Watcher) (text : List ℕ) (out after : SinkState) (k : Kept)
+pub ran_text : (ending : Exit) (p : ProgramView) (job : Job) (ws : List Watcher) (text : List ℕ) (out after : SinkState) (k : Artifacts)
     → IsCompiled text p → RunSays p job ws out after k ending → RunTextSays ending job ws text out after k
 ran_text Done p job ws text out after k compiled says = record { program = p; compiled = compiled; says = says }
 ran_text (Refused refusal) p job ws text out after k compiled says = absurd (not_refused refusal says.known)
@@ -60,7 +60,7 @@ ran_text NoMemory p job ws text out after k compiled says = inr (record { progra
 ran_text (NoRun line) p job ws text out after k compiled says = absurd (not_no_run line says.known)
 
 -- the code of the text's program was written
-pub coded_text : (ending : Ending) (p : NumberedProgram) (text : List ℕ) (out after : SinkState) (k : Kept) → IsCompiled text p → k.history
+pub coded_text : (ending : Exit) (p : ProgramView) (text : List ℕ) (out after : SinkState) (k : Artifacts) → IsCompiled text p → k.history
     ≡ [] → k.done ≡ [] → CodeSays ending p out after k.code → CodeTextSays ending text out after k
 coded_text Done p text out after k compiled none uncounted says = record { program = p; compiled = compiled; wrote = says; no_entry = none; no_count = uncounted }
 coded_text (Refused refusal) p text out after k compiled none uncounted says = absurd says
@@ -72,67 +72,67 @@ coded_text NoMemory p text out after k compiled none uncounted says = record { u
 coded_text (NoRun line) p text out after k compiled none uncounted says = absurd says
 
 -- the modes that run
-pub run_or_gen : (mode : Mode) → (mode ≡ Run) ⊎ (mode ≡ Gen) → Runs mode
-run_or_gen m (inl is) = subst Runs (sym is) tt
-run_or_gen m (inr is) = subst Runs (sym is) tt
+pub run_or_gen : (mode : Mode) → (mode ≡ Run) ⊎ (mode ≡ Gen) → RunsProgram mode
+run_or_gen m (inl is) = subst RunsProgram (sym is) tt
+run_or_gen m (inr is) = subst RunsProgram (sym is) tt
 
 -- what was done where a file is named
-pub done_by_file : (mode : Mode) (job : Job) (ending : Ending) (w : Work) → (mode ≡ Run) ⊎ (mode ≡ Check) ⊎ (mode ≡ Code) ⊎ (mode ≡ Infer)
-    → FileDone job ending w → WorkSays mode job ending w
-done_by_file m job ending w (inl is) done = subst (λ (m : Mode). WorkSays m job ending w) (sym is) done
-done_by_file m job ending w (inr (inl is)) done = subst (λ (m : Mode). WorkSays m job ending w) (sym is) done
-done_by_file m job ending w (inr (inr (inl is))) done = subst (λ (m : Mode). WorkSays m job ending w) (sym is) done
-done_by_file m job ending w (inr (inr (inr is))) done = subst (λ (m : Mode). WorkSays m job ending w) (sym is) done
+pub done_by_file : (mode : Mode) (job : Job) (ending : Exit) (w : JobView) → (mode ≡ Run) ⊎ (mode ≡ Check) ⊎ (mode ≡ Code) ⊎ (mode ≡ Infer)
+    → FileDone job ending w → JobSays mode job ending w
+done_by_file m job ending w (inl is) done = subst (λ (m : Mode). JobSays m job ending w) (sym is) done
+done_by_file m job ending w (inr (inl is)) done = subst (λ (m : Mode). JobSays m job ending w) (sym is) done
+done_by_file m job ending w (inr (inr (inl is))) done = subst (λ (m : Mode). JobSays m job ending w) (sym is) done
+done_by_file m job ending w (inr (inr (inr is))) done = subst (λ (m : Mode). JobSays m job ending w) (sym is) done
 
 -- and where none is
-pub done_by_seed : (mode : Mode) (job : Job) (ending : Ending) (w : Work) → mode ≡ Gen → SeedDone job ending w → WorkSays mode job ending w
-done_by_seed m job ending w is done = subst (λ (m : Mode). WorkSays m job ending w) (sym is) done
+pub done_by_seed : (mode : Mode) (job : Job) (ending : Exit) (w : JobView) → mode ≡ Gen → SeedDone job ending w → JobSays mode job ending w
+done_by_seed m job ending w is done = subst (λ (m : Mode). JobSays m job ending w) (sym is) done
 
 -- and where a trace is named as well
-pub done_by_trace : (mode : Mode) (job : Job) (ending : Ending) (w : Work) → mode ≡ Verify → TraceDone job ending w → WorkSays mode job ending w
-done_by_trace m job ending w is done = subst (λ (m : Mode). WorkSays m job ending w) (sym is) done
+pub done_by_trace : (mode : Mode) (job : Job) (ending : Exit) (w : JobView) → mode ≡ Verify → TraceDone job ending w → JobSays mode job ending w
+done_by_trace m job ending w is done = subst (λ (m : Mode). JobSays m job ending w) (sym is) done
 
 -- what a run says is said in its mode
-pub run_in_mode : (mode : Mode) (ending : Ending) (job : Job) (ws : List Watcher) (text : List ℕ) (out after : SinkState) (k : Kept) → Runs mode
+pub run_in_mode : (mode : Mode) (ending : Exit) (job : Job) (ws : List Watcher) (text : List ℕ) (out after : SinkState) (k : Artifacts) → RunsProgram mode
     → RunTextSays ending job ws text out after k → TextSays mode ending job ws text out after k
 run_in_mode Run ending job ws text out after k runs says = says
 run_in_mode Gen ending job ws text out after k runs says = says
 run_in_mode _ ending job ws text out after k runs says = absurd runs
 
 -- what was checked is said in the modes that do no more with a text
-pub checked_in_mode : (mode : Mode) (ending : Ending) (job : Job) (ws : List Watcher) (text : List ℕ) (out after : SinkState) (k : Kept)
+pub checked_in_mode : (mode : Mode) (ending : Exit) (job : Job) (ws : List Watcher) (text : List ℕ) (out after : SinkState) (k : Artifacts)
     → (mode ≡ Check) ⊎ (mode ≡ Verify) → CheckTextSays ending text out after k → TextSays mode ending job ws text out after k
 checked_in_mode m ending job ws text out after k (inl is) says = subst (λ (m : Mode). TextSays m ending job ws text out after k) (sym is) says
 checked_in_mode m ending job ws text out after k (inr is) says = subst (λ (m : Mode). TextSays m ending job ws text out after k) (sym is) says
 
 -- so it is with code
-pub coded_in_mode : (mode : Mode) (ending : Ending) (job : Job) (ws : List Watcher) (text : List ℕ) (out after : SinkState) (k : Kept) → mode ≡ Code
+pub coded_in_mode : (mode : Mode) (ending : Exit) (job : Job) (ws : List Watcher) (text : List ℕ) (out after : SinkState) (k : Artifacts) → mode ≡ Code
     → CodeTextSays ending text out after k → TextSays mode ending job ws text out after k
 coded_in_mode m ending job ws text out after k is says = subst (λ (m : Mode). TextSays m ending job ws text out after k) (sym is) says
 
 -- and with marks
-pub inferred_in_mode : (mode : Mode) (ending : Ending) (job : Job) (ws : List Watcher) (text : List ℕ) (out after : SinkState) (k : Kept) → mode ≡ Infer
+pub inferred_in_mode : (mode : Mode) (ending : Exit) (job : Job) (ws : List Watcher) (text : List ℕ) (out after : SinkState) (k : Artifacts) → mode ≡ Infer
     → InferTextSays ending text out after k → TextSays mode ending job ws text out after k
 inferred_in_mode m ending job ws text out after k is says = subst (λ (m : Mode). TextSays m ending job ws text out after k) (sym is) says
 
 -- ---- a text without a program
 
-pub not_run : (e : CompileErr) (job : Job) (ws : List Watcher) (text : List ℕ) (out after : SinkState) (k : Kept) → Compiles text (Err e) → RanNothing out after k
+pub not_run : (e : CompileErr) (job : Job) (ws : List Watcher) (text : List ℕ) (out after : SinkState) (k : Artifacts) → Compiles text (Err e) → RanNothing out after k
     → RunTextSays (ending_by e) job ws text out after k
 not_run (error.Refused refusal) job ws text out after k is nothing = record { is = is.0; no_program = is.1; nothing = nothing }
 not_run error.Memory job ws text out after k is nothing = inl nothing
 
-pub not_checked : (e : CompileErr) (text : List ℕ) (out after : SinkState) (k : Kept) → Compiles text (Err e) → RanNothing out after k
+pub not_checked : (e : CompileErr) (text : List ℕ) (out after : SinkState) (k : Artifacts) → Compiles text (Err e) → RanNothing out after k
     → CheckTextSays (ending_by e) text out after k
 not_checked (error.Refused refusal) text out after k is nothing = record { is = is.0; no_program = is.1; nothing = nothing }
 not_checked error.Memory text out after k is nothing = nothing
 
-pub not_coded : (e : CompileErr) (text : List ℕ) (out after : SinkState) (k : Kept) → Compiles text (Err e) → RanNothing out after k
+pub not_coded : (e : CompileErr) (text : List ℕ) (out after : SinkState) (k : Artifacts) → Compiles text (Err e) → RanNothing out after k
     → CodeTextSays (ending_by e) text out after k
 not_coded (error.Refused refusal) text out after k is nothing = record { is = is.0; no_program = is.1; nothing = nothing }
 not_coded error.Memory text out after k is nothing = nothing
 
-pub not_inferred : (e : CompileErr) (text : List ℕ) (out after : SinkState) (k : Kept) → Infers text (Err e) → RanNothing out after k
+pub not_inferred : (e : CompileErr) (text : List ℕ) (out after : SinkState) (k : Artifacts) → Infers text (Err e) → RanNothing out after k
     → InferTextSays (ending_by e) text out after k
 not_inferred (error.Refused refusal) text out after k is nothing = record { is = is.0; nothing = nothing }
 not_inferred error.Memory text out after k is nothing = nothing
@@ -140,11 +140,11 @@ not_inferred error.Memory text out after k is nothing = nothing
 -- ---- a text with one
 
 -- it is checked alone
-pub checked_text : (p : NumberedProgram) (text : List ℕ) (out after : SinkState) (k : Kept) → IsCompiled text p → RanNothing out after k → CheckTextSays Done text out after k
+pub checked_text : (p : ProgramView) (text : List ℕ) (out after : SinkState) (k : Artifacts) → IsCompiled text p → RanNothing out after k → CheckTextSays Done text out after k
 checked_text p text out after k compiled nothing = record { program = p; compiled = compiled; nothing = nothing }
 
 -- its marks were inferred
-pub inferred_text : (ending : Ending) (marks : List Mark) (text : List ℕ) (out after : SinkState) (k : Kept) → IsInferred text marks → k.history ≡ [] → k.code ≡ None → k.done ≡ []
+pub inferred_text : (ending : Exit) (marks : List Mark) (text : List ℕ) (out after : SinkState) (k : Artifacts) → IsOnlyMarking text marks → k.history ≡ [] → k.code ≡ None → k.done ≡ []
     → MarksSay ending marks out after → InferTextSays ending text out after k
 inferred_text Done marks text out after k has none uncoded uncounted says =
     record { marks = marks; inferred = has; wrote = says; no_entry = none; no_code = uncoded; no_count = uncounted }

@@ -1,26 +1,26 @@
 -- From the verdict on a trace to what a call says of it.
 use Rattle.std.proofs.Common.{◌≡◌, ◌⊎◌, inl, inr, ℕ, List, refl, sym, ◌∙◌, ap, subst}
 use Rattle.ti_io.specs.Source.{SourceState, Holds}
-use Rattle.ti_lang.specs.Program.Classes.{NumberedProgram}
-use Rattle.ti_lang.specs.Meaning.Processes.{Setting}
+use Rattle.ti_lang.specs.Program.Classes.{ProgramView}
+use Rattle.ti_lang.specs.Meaning.Processes.{RunConfig}
 use Rattle.ti_lang.specs.Meaning.Races.{races}
 use Rattle.ti_lang.specs.Meaning.Spots.{races_told}
 use Rattle.ti_lang.specs.Meaning.Runs.{IsRun, IsComplete}
 use Rattle.ti_trace_check.specs.Verdicts.{IsTraceOf, IsWrongAt}
 use Rattle.ti_words.specs.declared.job.Job.{Job}
-use Rattle.ti_top.specs.declared.ending.Ending.{Ending}
-use Rattle.ti_top.specs.declared.ending.Ending.TheVariants.{Done, NoRun}
-use Rattle.ti_top.specs.Ending.{status_of}
+use Rattle.ti_top.specs.declared.exit.Exit.{Exit}
+use Rattle.ti_top.specs.declared.exit.Exit.TheVariants.{Done, NoRun}
+use Rattle.ti_top.specs.Exit.{status_of}
 use Rattle.ti_top.specs.Run.{run_of}
-use Rattle.ti_top.specs.Call.{Call}
+use Rattle.ti_top.specs.CommandCall.{CommandCall}
 use Rattle.ti_top.specs.Traces.{IsTraced, IsWrongTrace, TraceDecides}
 use Rattle.ti_top.specs.Mirrors.Compiling.{IsCompiled}
 use Rattle.ti_top.specs.Mirrors.Verifying.{HasOneVerdict, FoundRun, FoundWrong, HeldText, WasRead}
 use Rattle.ti_top.proofs.TraceRead.{says_before}
 
 -- a verdict was found on the trace of a call that ends so
-pub record Verdict (before : Ending) (job : Job) (c : Call) : Type 0 where
-  pub program : NumberedProgram
+pub record Verdict (before : Exit) (job : Job) (c : CommandCall) : Type 0 where
+  pub program : ProgramView
   pub compiled : IsCompiled c.text program
   pub known : (before ≡ Done) ⊎ ((line : ℕ) × (before ≡ NoRun line))
   pub run : IsRun (run_of program job) c.history
@@ -32,7 +32,7 @@ pub record Verdict (before : Ending) (job : Job) (c : Call) : Type 0 where
   pub told_wrong : (line : ℕ) → before ≡ NoRun line → (bytes : List ℕ) → Holds c.source job.against bytes → IsWrongAt (run_of program job) bytes line c.history
 
 -- the trace is that of a complete run
-pub verdict_run : (job : Job) (c : Call) (mid : SourceState) → WasRead c.source mid → HeldText Done job c.text mid c.source_after c.history → Verdict Done job c
+pub verdict_run : (job : Job) (c : CommandCall) (mid : SourceState) → WasRead c.source mid → HeldText Done job c.text mid c.source_after c.history → Verdict Done job c
 verdict_run job c mid read held = record {
   program = held.program;
   compiled = held.compiled;
@@ -57,7 +57,7 @@ same_line : (a b : ℕ) → NoRun a ≡ NoRun b → a ≡ b
 same_line a b e = cc
 
 -- the trace is wrong at a line
-pub verdict_wrong : (line : ℕ) (job : Job) (c : Call) (mid : SourceState) → WasRead c.source mid → HeldText (NoRun line) job c.text mid c.source_after c.history → Verdict (NoRun line) job c
+pub verdict_wrong : (line : ℕ) (job : Job) (c : CommandCall) (mid : SourceState) → WasRead c.source mid → HeldText (NoRun line) job c.text mid c.source_after c.history → Verdict (NoRun line) job c
 verdict_wrong line job c mid read held = record {
   program = held.program;
   compiled = held.compiled;
@@ -82,11 +82,11 @@ verdict_wrong line job c mid read held = record {
     }
 
 -- the bytes of the trace decide the status
-pub decides : (before : Ending) (job : Job) (c : Call) (x : Verdict before job c) → c.status ≡ status_of before → (bytes : List ℕ)
+pub decides : (before : Exit) (job : Job) (c : CommandCall) (x : Verdict before job c) → c.status ≡ status_of before → (bytes : List ℕ)
     → Holds c.source job.against bytes → TraceDecides (run_of x.program job) bytes c
 decides before job c x is bytes holds = by x.known
   where
-    s : Setting
+    s : RunConfig
     s = run_of x.program job
 
     by : (before ≡ Done) ⊎ ((line : ℕ) × (before ≡ NoRun line)) → TraceDecides s bytes c

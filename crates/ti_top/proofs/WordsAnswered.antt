@@ -1,24 +1,24 @@
 -- From the ending of a call to the clause on its words.
 use Rattle.std.proofs.Common.{◌≡◌, inl, inr, [], arith}
-use Rattle.ti_top.specs.declared.ending.Ending.{Ending}
-use Rattle.ti_top.specs.declared.ending.Ending.TheVariants.{NoCommand, CantWrite}
+use Rattle.ti_top.specs.declared.exit.Exit.{Exit}
+use Rattle.ti_top.specs.declared.exit.Exit.TheVariants.{NoCommand, CantWrite}
 use Rattle.ti_words.specs.declared.job.Job.{Job}
-use Rattle.ti_top.specs.Ending.{status_of}
-use Rattle.ti_top.specs.Call.{Call, IsCommand, IsNoCommand}
+use Rattle.ti_top.specs.Exit.{status_of}
+use Rattle.ti_top.specs.CommandCall.{CommandCall, IsCommand, IsNoCommand}
 use Rattle.ti_top.specs.Clauses.{AnswersWords}
-use Rattle.ti_top.specs.Mirrors.Work.{kept_in, RanNothing}
+use Rattle.ti_top.specs.Mirrors.JobView.{artifacts_in, RanNothing}
 use Rattle.ti_top.proofs.StatusFrom.{StatusFrom, not_five, is_no_command}
 
-pub known : (before : Ending) (c : Call) → StatusFrom before c → (ending : Ending) × (c.status ≡ status_of ending)
+pub known : (before : Exit) (c : CommandCall) → StatusFrom before c → (ending : Exit) × (c.status ≡ status_of ending)
 known before c (inl same) = (before, same)
 known before c (inr cut) = (CantWrite, cut.0)
 
 -- words are a command or none
-pub not_both : (c : Call) (job : Job) → IsCommand c job → IsNoCommand c → ⊥
+pub not_both : (c : CommandCall) (job : Job) → IsCommand c job → IsNoCommand c → ⊥
 not_both c job some none = cc
 
 -- the words are no command, and nothing was done
-pub no_command_answers : (c : Call) → IsNoCommand c → c.source_after ≡ c.source → c.text ≡ [] → RanNothing c.out c.out_after (kept_in c) → StatusFrom NoCommand c → AnswersWords c
+pub no_command_answers : (c : CommandCall) → IsNoCommand c → c.source_after ≡ c.source → c.text ≡ [] → RanNothing c.out c.out_after (artifacts_in c) → StatusFrom NoCommand c → AnswersWords c
 no_command_answers c none source text nothing from = record {
   known = known NoCommand c from;
   only_where = λ _. none;
@@ -31,7 +31,7 @@ no_command_answers c none source text nothing from = record {
 }
 
 -- the words are a command
-pub command_answers : (before : Ending) (c : Call) (job : Job) → IsCommand c job → (before ≡ NoCommand → ⊥) → StatusFrom before c → AnswersWords c
+pub command_answers : (before : Exit) (c : CommandCall) (job : Job) → IsCommand c job → (before ≡ NoCommand → ⊥) → StatusFrom before c → AnswersWords c
 command_answers before c job some other from = record {
   known = known before c from;
   only_where = λ is. absurd (other (is_no_command before (not_five before 3 c from is (λ e. omega arith))));

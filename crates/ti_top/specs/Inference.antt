@@ -2,7 +2,7 @@
 use Rattle.std.specs.Prelude.{◌≡◌, ℕ, List, [], ◌++◌, flat_map, Contains, codes, decimal}
 use Rattle.ti_base.specs.declared.place.Place.{Place}
 use Rattle.ti_syntax.specs.Trees.Classes.{TextTree}
-use Rattle.ti_lang.specs.Program.Classes.{NumberedProgram}
+use Rattle.ti_lang.specs.Program.Classes.{ProgramView}
 use Rattle.ti_lang.specs.Numbering.{Numbers}
 use Rattle.ti_rules.specs.declared.rule.Rule.TheVariants.{B1}
 use Rattle.ti_rules.specs.declared.refusal.Refusal.{Refusal}
@@ -23,7 +23,7 @@ pub record HasMarking (text : List ℕ) (marks : List Mark) : Type 0 where
   pub tree : TextTree
   pub has_tree : HasTree text tree
   pub named : HasNone (BreaksNames tree)
-  pub program : NumberedProgram
+  pub program : ProgramView
   pub numbers : Numbers tree program
   pub typed : type_refusals (stripped program) ≡ []
   pub greatest : IsGreatest (stripped program) marks
@@ -38,9 +38,9 @@ HasSomeMarking text = (marks : List Mark) × HasMarking text marks
 -- none of these is broken either, at the first collective that no marking aligns
 pub data IsUnmarkedTreeRefusal (tree : TextTree) : Refusal → Type 0 where
   of_names : {refusal : Refusal} → IsFirstRefusal (BreaksNames tree) refusal → IsUnmarkedTreeRefusal tree refusal
-  of_types : {program : NumberedProgram} {refusal : Refusal} → HasNone (BreaksNames tree) → Numbers tree program
+  of_types : {program : ProgramView} {refusal : Refusal} → HasNone (BreaksNames tree) → Numbers tree program
       → IsFirstRefusal (Contains (type_refusals (stripped program))) refusal → IsUnmarkedTreeRefusal tree refusal
-  of_marks : {program : NumberedProgram} {place : Place} → HasNone (BreaksNames tree) → Numbers tree program
+  of_marks : {program : ProgramView} {place : Place} → HasNone (BreaksNames tree) → Numbers tree program
       → type_refusals (stripped program) ≡ []
       → IsFirstUnaligned (stripped program) place → IsUnmarkedTreeRefusal tree (record { rule = B1; place = place })
 

@@ -1,7 +1,7 @@
 pub mod Agreement
-pub mod Call
+pub mod CommandCall
 pub mod Clauses
-pub mod Ending
+pub mod Exit
 pub mod Flushing
 pub mod Inference
 pub mod Mirrors

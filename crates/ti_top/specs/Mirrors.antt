@@ -1,7 +1,7 @@
 -- Definitions that mirror code, as its private contracts speak of it: nobody has to believe them.
 pub mod Coding
 pub mod Compiling
-pub mod Ended
+pub mod EndsWithLine
 pub mod Inferring
 pub mod Leaving
 pub mod Line
@@ -9,4 +9,4 @@ pub mod Reading
 pub mod Reporting
 pub mod RunEnds
 pub mod Verifying
-pub mod Work
+pub mod JobView

@@ -3,8 +3,8 @@ use Rattle.std.specs.Prelude.{◌≡◌, ◌++◌, ◌∷◌, [], List}
 use Rattle.ti_base.specs.declared.action.Action.TheVariants as act
 use Rattle.ti_base.specs.declared.entry.Answer.TheVariants.{Done}
 use Rattle.ti_base.specs.declared.entry.Entry.{Entry}
-use Rattle.ti_lang.specs.Program.Classes.{NumberedProgram}
-use Rattle.ti_lang.specs.Meaning.Processes.{Setting}
+use Rattle.ti_lang.specs.Program.Classes.{ProgramView}
+use Rattle.ti_lang.specs.Meaning.Processes.{RunConfig}
 use Rattle.ti_words.specs.declared.job.Job.{Job}
 use Rattle.ti_words.specs.declared.job.Mode.{Mode}
 use Rattle.ti_words.specs.declared.job.Mode.TheVariants.{Run, Check, Code, Gen, Verify, Infer}
@@ -16,10 +16,10 @@ HasFile Gen = ⊥
 HasFile _ = Unit {0}
 
 -- these modes run the text's program
-abbrev pub Runs : Mode → Type 0
-Runs Run = Unit {0}
-Runs Gen = Unit {0}
-Runs _ = ⊥
+abbrev pub RunsProgram : Mode → Type 0
+RunsProgram Run = Unit {0}
+RunsProgram Gen = Unit {0}
+RunsProgram _ = ⊥
 
 -- these modes make the program's code
 abbrev pub HasCode : Mode → Type 0
@@ -46,7 +46,7 @@ HasHistory Infer = ⊥
 HasHistory _ = Unit {0}
 
 -- the program, with the number of processes and the fuel that the job gives
-abbrev pub run_of : NumberedProgram → Job → Setting
+abbrev pub run_of : ProgramView → Job → RunConfig
 run_of program job = record { program = program; procs = job.procs; fuel = job.fuel }
 
 -- the entry of a fault

@@ -7,7 +7,7 @@ ghost use Rattle.ti_lower.specs.Programs.{program_code};
 ghost use Rattle.ti_top.specs.Mirrors.Coding.{CodeSays};
 ghost use Rattle.ti_top.specs.Mirrors.Leaving.{LeavesOut};
 
-use crate::ending::Ending;
+use crate::exit::Exit;
 use crate::reports::write_text;
 use std::alloc::Global;
 use ti_base::Memory;
@@ -18,8 +18,8 @@ use ti_rules::Checked;
 
 /// How writing the code ended, and the code.
 #[derive(Drop)]
-pub struct Coded {
-    pub ending: Ending,
+pub struct CodeResult {
+    pub ending: Exit,
     pub code: Option<Code>,
 }
 
@@ -42,23 +42,23 @@ fn listing_of(alloc: Global, checked: &Checked) -> Result<Listing, Memory>
 }
 
 /// Writes the listing of a program's code, in one write. Out of memory, nothing is written.
-pub fn write_code<K: Sink>(alloc: Global, checked: &Checked, out: &mut K) -> Coded
+pub fn write_code<K: Sink>(alloc: Global, checked: &Checked, out: &mut K) -> CodeResult
     ensures says { CodeSays result.ending (program_of checked.now.program.parts) (K.state out.old) (K.state out.new) result.code }
     ensures leaves { LeavesOut result.ending (K.state out.old) (K.state out.new) }
 {
     match listing_of(alloc, checked) {
         Ok(Listing { code, text }) => match write_text(out, &text) {
-            Ok(()) => Coded {
-                ending: Ending::Done,
+            Ok(()) => CodeResult {
+                ending: Exit::Done,
                 code: Some(code),
             },
-            Err(_) => Coded {
-                ending: Ending::CantWrite,
+            Err(_) => CodeResult {
+                ending: Exit::CantWrite,
                 code: Some(code),
             },
         },
-        Err(Memory) => Coded {
-            ending: Ending::NoMemory,
+        Err(Memory) => CodeResult {
+            ending: Exit::NoMemory,
             code: None,
         },
     }

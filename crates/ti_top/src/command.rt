@@ -1,10 +1,10 @@
 // The call that is the command: reads the arguments, does the job, and writes the line on standard error.
 ghost use Rattle.std.specs.Prelude.{◌≡◌, [], None, map, string_bytes};
-ghost use Rattle.ti_top.specs.Clauses.{Meets};
+ghost use Rattle.ti_top.specs.Clauses.{KeepsContract};
 ghost use Rattle.ti_top.specs.Reports.{Watcher};
 
-use crate::ending::{Ending, end_with};
-use crate::work::work;
+use crate::exit::{Exit, end_with};
+use crate::run_job::run_job;
 use std::alloc::{AllocGlobal, Global};
 use std::sync::Wait;
 use std::thread::Threads;
@@ -64,9 +64,9 @@ impl Outcome {
 /// - `verify` checks whether a trace is that of a complete run of the program, and names the first wrong line on `err` if not;
 /// - `infer` ignores the marks of single values in the program, and writes the greatest set of marks with which it is accepted.
 ///
-/// The arguments are `--mode MODE`, `--procs N`, `--workers N`, `--fuel N`, `--trace`, `--stats` and `--races`, each at most once, and a file's
-/// name; in mode gen `--seed N` in its place, and in mode verify `--against TRACE` as well. docs/COMMAND.md has their
-/// ranges. The contract is `Meets`, with one record of `specs/Clauses.antt` for each clause.
+/// The arguments are `--mode MODE`, `--procs N`, `--workers N`, `--fuel N`, `--trace`, `--stats` and `--races`, each at most once, and a
+/// file's name; in mode gen `--seed N` in its place, and in mode verify `--against TRACE` as well. docs/COMMAND.md has their ranges. The
+/// contract is `KeepsContract`, with one record of `specs/Clauses.antt` for each clause.
 pub fn titan_top<R: AllocGlobal + Threads + Wait + Sync, S: Source, K: Sink, G: Gate + Sync>(
     rt: &R,
     words: &[String],
@@ -76,7 +76,7 @@ pub fn titan_top<R: AllocGlobal + Threads + Wait + Sync, S: Source, K: Sink, G: 
     gate: &G,
     watchers: Vec<Box<dyn Watch>>,
 ) -> Outcome
-    ensures { Meets (record {
+    ensures { KeepsContract (record {
       words = map string_bytes words.now;
       watchers = map {B = Watcher} (λ w. record { kind = kind_of w; told = told w }) watchers.items;
       source = S.state source.old;
@@ -96,19 +96,19 @@ pub fn titan_top<R: AllocGlobal + Threads + Wait + Sync, S: Source, K: Sink, G: 
     let job = match read_words(alloc, words) {
         Ok(job) => job,
         Err(WordsErr::Usage) => {
-            return Outcome::nothing(alloc, end_with(err, Ending::NoCommand, ""));
+            return Outcome::nothing(alloc, end_with(err, Exit::NoCommand, ""));
         }
         Err(WordsErr::Memory) => {
-            return Outcome::nothing(alloc, end_with(err, Ending::NoMemory, ""));
+            return Outcome::nothing(alloc, end_with(err, Exit::NoMemory, ""));
         }
     };
-    let worked = work(rt, alloc, &job, source, out, gate, watchers);
-    let status = end_with(err, worked.ending, job.file.as_str());
+    let job_result = run_job(rt, alloc, &job, source, out, gate, watchers);
+    let status = end_with(err, job_result.ending, job.file.as_str());
     Outcome {
         status,
-        text: worked.text,
-        code: worked.kept.code,
-        history: worked.kept.history,
-        done: worked.kept.done,
+        text: job_result.text,
+        code: job_result.artifacts.code,
+        history: job_result.artifacts.history,
+        done: job_result.artifacts.done,
     }
 }

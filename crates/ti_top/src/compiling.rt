@@ -1,11 +1,11 @@
 // From a text to its checked program: the phases in order, each of which may refuse.
 ghost use Rattle.std.specs.Prelude.{◌≡◌, ◌⊎◌, ℕ, List};
-ghost use Rattle.ti_lang.specs.Program.Classes.{NumberedProgram};
+ghost use Rattle.ti_lang.specs.Program.Classes.{ProgramView};
 ghost use Rattle.ti_rules.specs.declared.refusal.Refusal.{Refusal as RefusalSeen};
 ghost use Rattle.ti_rules.specs.RefusalOf.{HasProgram, IsRefusal};
 ghost use Rattle.ti_top.specs.Mirrors.Compiling.{ReadsProgram, Compiles};
 
-use crate::ending::Ending;
+use crate::exit::Exit;
 use std::alloc::Global;
 use ti_align::aligned;
 use ti_check::{CheckErr, check};
@@ -29,12 +29,12 @@ impl CompileErr {
     ghost use Rattle.ti_top.specs.Mirrors.Compiling.{ending_by};
 
     /// The ending that this error leads to.
-    pub fn ending(self) -> Ending
+    pub fn ending(self) -> Exit
         ensures { result ≡ ending_by self }
     {
         match self {
-            CompileErr::Refused(refusal) => Ending::Refused(refusal),
-            CompileErr::Memory => Ending::NoMemory,
+            CompileErr::Refused(refusal) => Exit::Refused(refusal),
+            CompileErr::Memory => Exit::NoMemory,
         }
     }
 }
@@ -45,8 +45,8 @@ impl From<LexErr> for CompileErr {
 
     ghost from_gives = { λ e found. found ≡ of_lexer e };
 
-    fn from(e: LexErr) -> CompileErr {
-        match e {
+    fn from(error: LexErr) -> CompileErr {
+        match error {
             LexErr::Refused(refusal) => CompileErr::Refused(refusal),
             LexErr::Memory => CompileErr::Memory,
         }
@@ -59,8 +59,8 @@ impl From<ParseErr> for CompileErr {
 
     ghost from_gives = { λ e found. found ≡ of_parser e };
 
-    fn from(e: ParseErr) -> CompileErr {
-        match e {
+    fn from(error: ParseErr) -> CompileErr {
+        match error {
             ParseErr::Refused(refusal) => CompileErr::Refused(refusal),
             ParseErr::Memory => CompileErr::Memory,
         }
@@ -73,8 +73,8 @@ impl From<NameErr> for CompileErr {
 
     ghost from_gives = { λ e found. found ≡ of_names e };
 
-    fn from(e: NameErr) -> CompileErr {
-        match e {
+    fn from(error: NameErr) -> CompileErr {
+        match error {
             NameErr::Refused(refusal) => CompileErr::Refused(refusal),
             NameErr::Memory => CompileErr::Memory,
         }
@@ -87,8 +87,8 @@ impl From<CheckErr> for CompileErr {
 
     ghost from_gives = { λ e found. found ≡ of_check e };
 
-    fn from(e: CheckErr) -> CompileErr {
-        match e {
+    fn from(error: CheckErr) -> CompileErr {
+        match error {
             CheckErr::Refused(refusal) => CompileErr::Refused(refusal),
             CheckErr::Memory => CompileErr::Memory,
         }
@@ -97,11 +97,11 @@ impl From<CheckErr> for CompileErr {
 
 /// A law: a text has one program or one refusal, and never both.
 pub fn one_answer()
-    ensures some { (text : List ℕ) → ((program : NumberedProgram) × HasProgram text program)
+    ensures some { (text : List ℕ) → ((program : ProgramView) × HasProgram text program)
         ⊎ ((refusal : RefusalSeen) × IsRefusal text refusal) }
-    ensures one_program { (text : List ℕ) (p q : NumberedProgram) → HasProgram text p → HasProgram text q → p ≡ q }
+    ensures one_program { (text : List ℕ) (p q : ProgramView) → HasProgram text p → HasProgram text q → p ≡ q }
     ensures one_refusal { (text : List ℕ) (a b : RefusalSeen) → IsRefusal text a → IsRefusal text b → a ≡ b }
-    ensures never_both { (text : List ℕ) (program : NumberedProgram) (refusal : RefusalSeen) → HasProgram text program
+    ensures never_both { (text : List ℕ) (program : ProgramView) (refusal : RefusalSeen) → HasProgram text program
         → IsRefusal text refusal → ⊥ }
 {
     one_reading();

@@ -7,7 +7,7 @@ ghost use Rattle.ti_top.specs.Mirrors.Inferring.{Infers, MarksSay};
 ghost use Rattle.ti_top.specs.Mirrors.Leaving.{LeavesOut};
 
 use crate::compiling::{CompileErr, one_answer, read_program};
-use crate::ending::Ending;
+use crate::exit::Exit;
 use crate::reports::write_text;
 use std::alloc::Global;
 use ti_base::Memory;
@@ -27,8 +27,8 @@ impl From<InferErr> for CompileErr {
 
     ghost from_gives = { λ e found. found ≡ of_inference e };
 
-    fn from(e: InferErr) -> CompileErr {
-        match e {
+    fn from(error: InferErr) -> CompileErr {
+        match error {
             InferErr::NoMarking(place) => CompileErr::Refused(Refusal {
                 rule: Rule::B1,
                 place,
@@ -111,15 +111,15 @@ fn marks_text(alloc: Global, marks: &[Mark]) -> Result<Vec<u8>, Memory>
 }
 
 /// Writes a line for each mark, all in one write. Out of memory, nothing is written.
-pub fn write_marks<K: Sink>(alloc: Global, marking: &Marking, out: &mut K) -> Ending
+pub fn write_marks<K: Sink>(alloc: Global, marking: &Marking, out: &mut K) -> Exit
     ensures says { MarksSay result marking.now (K.state out.old) (K.state out.new) }
     ensures leaves { LeavesOut result (K.state out.old) (K.state out.new) }
 {
     match marks_text(alloc, marking.marks()) {
         Ok(text) => match write_text(out, &text) {
-            Ok(()) => Ending::Done,
-            Err(_) => Ending::CantWrite,
+            Ok(()) => Exit::Done,
+            Err(_) => Exit::CantWrite,
         },
-        Err(Memory) => Ending::NoMemory,
+        Err(Memory) => Exit::NoMemory,
     }
 }

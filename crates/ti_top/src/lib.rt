@@ -2,21 +2,21 @@
 //! this call and nothing else, so the call's contract is that of the command.
 #![tactic(auto)]
 
+mod artifacts;
 mod coding;
 mod command;
 mod compiling;
-mod ending;
+mod exit;
 mod fault;
 mod inferring;
-mod kept;
 mod laws;
 mod printing;
 mod reading;
 mod reports;
+mod run_job;
 mod run_line;
 mod summary;
 mod verifying;
-mod work;
 
 pub use command::{Outcome, titan_top};
 pub use compiling::one_answer;

@@ -3,11 +3,11 @@ ghost use Rattle.std.specs.Prelude.{◌≡◌, ◌≤◌, ◌++◌, ◌∷◌, [
 ghost use Rattle.ti_io.specs.Sink.{Writes};
 ghost use Rattle.ti_lang.specs.Meaning.Lines.{line_of as line_spec, lines_of, literal_text, printed_text};
 ghost use Rattle.ti_lang.specs.Program.Views.{program_of};
-ghost use Rattle.ti_top.specs.Mirrors.Leaving.{Unfailed};
-ghost use Rattle.ti_top.specs.Mirrors.Line.{HasRoom};
-ghost use Rattle.ti_top.specs.Mirrors.Work.{head_after, summary_after};
+ghost use Rattle.ti_top.specs.Mirrors.Leaving.{HasNoFailure};
+ghost use Rattle.ti_top.specs.Mirrors.Line.{HasLineRoom};
+ghost use Rattle.ti_top.specs.Mirrors.JobView.{head_after, summary_after};
 
-use crate::ending::Ending;
+use crate::exit::Exit;
 use crate::run_line::RunLine;
 use crate::summary::summary_line;
 use ti_base::{Action, Entry, Value};
@@ -52,9 +52,9 @@ fn value_line(value: Option<Value>) -> Line
 
 // Forms the line of an action. It is empty unless the action is a print.
 fn form_line(line: &mut RunLine, literals: &[Spelled], action: Action)
-    requires { HasRoom literals.now line.old }
+    requires { HasLineRoom literals.now line.old }
     ensures bytes { line.new.taken ≡ line_spec literals.now action }
-    ensures room { HasRoom literals.now line.new }
+    ensures room { HasLineRoom literals.now line.new }
 {
     line.clear();
     if let Action::Print { literal, value } = action {
@@ -71,7 +71,7 @@ fn write_entries<K: Sink>(
     program: &Program,
     history: &[Entry],
 ) -> Result<(), Failed>
-    requires { HasRoom program.now.parts.literals.items line.old }
+    requires { HasLineRoom program.now.parts.literals.items line.old }
     ensures { Writes (lines_of (program_of program.now.parts) history.now) (K.state out.old) (K.state out.new) result }
 {
     'entries: for entry in history {
@@ -88,21 +88,21 @@ fn write_lines<K: Sink>(
     program: &Program,
     history: &[Entry],
 ) -> Result<(), Failed>
-    requires { HasRoom program.now.parts.literals.items line.old }
+    requires { HasLineRoom program.now.parts.literals.items line.old }
     ensures written { Writes (lines_of (program_of program.now.parts) history.now) (K.state out.old) (K.state out.new) result }
-    ensures unfailed { OnOk result (Unfailed (K.state out.old) (K.state out.new)) }
+    ensures unfailed { OnOk result (HasNoFailure (K.state out.old) (K.state out.new)) }
 {
     write_entries(out, line, program, history)?;
     out.flush()
 }
 
 // Writes the summary of a run, and flushes standard output.
-fn write_summary<K: Sink>(out: &mut K, ended: Ending, history: &[Entry]) -> Result<(), Failed>
+fn write_summary<K: Sink>(out: &mut K, ended: Exit, history: &[Entry]) -> Result<(), Failed>
     ensures written { Writes (summary_after ended history.now) (K.state out.old) (K.state out.new) result }
-    ensures unfailed { OnOk result (Unfailed (K.state out.old) (K.state out.new)) }
+    ensures unfailed { OnOk result (HasNoFailure (K.state out.old) (K.state out.new)) }
 {
     match ended {
-        Ending::Done => {
+        Exit::Done => {
             write_piece(out, summary_line(history).as_slice())?;
             out.flush()
         }
@@ -115,13 +115,13 @@ pub fn write_head<K: Sink>(
     out: &mut K,
     line: &mut RunLine,
     mode: Mode,
-    ended: Ending,
+    ended: Exit,
     program: &Program,
     history: &[Entry],
 ) -> Result<(), Failed>
-    requires { HasRoom program.now.parts.literals.items line.old }
+    requires { HasLineRoom program.now.parts.literals.items line.old }
     ensures written { Writes (head_after mode ended (program_of program.now.parts) history.now) (K.state out.old) (K.state out.new) result }
-    ensures unfailed { OnOk result (Unfailed (K.state out.old) (K.state out.new)) }
+    ensures unfailed { OnOk result (HasNoFailure (K.state out.old) (K.state out.new)) }
 {
     match mode {
         Mode::Run => write_lines(out, line, program, history),

@@ -2,9 +2,9 @@
 ghost use Rattle.std.specs.Prelude.{◌≡◌, ◌++◌, ◌∷◌, [], map, OnOk, OnErr};
 ghost use Rattle.ti_io.specs.Sink.{Writes};
 ghost use Rattle.ti_watch.specs.Reports.{watch_text};
-ghost use Rattle.ti_top.specs.Reports.{Watcher, is_kind_wanted, wanted};
-ghost use Rattle.ti_top.specs.Mirrors.Leaving.{Unfailed, ReportsLeave};
-ghost use Rattle.ti_top.specs.Mirrors.Reporting.{Reported};
+ghost use Rattle.ti_top.specs.Reports.{Watcher, is_kind_wanted, wanted_watchers};
+ghost use Rattle.ti_top.specs.Mirrors.Leaving.{HasNoFailure, ReportsLeave};
+ghost use Rattle.ti_top.specs.Mirrors.Reporting.{WritesReports};
 
 use std::alloc::Global;
 use ti_base::{Entry, Memory};
@@ -38,7 +38,7 @@ fn is_asked_for(watcher: &Box<dyn Watch>, trace: bool, stats: bool, races: bool)
 /// Keeps the watchers whose option is given, and drops the others.
 pub fn keep_wanted(watchers: &mut Vec<Box<dyn Watch>>, job: &Job)
     ensures { map {B = Watcher} (λ w. record { kind = kind_of w; told = told w }) watchers.new.items
-        ≡ wanted job.now (map {B = Watcher} (λ w. record { kind = kind_of w; told = told w }) watchers.old.items) }
+        ≡ wanted_watchers job.now (map {B = Watcher} (λ w. record { kind = kind_of w; told = told w }) watchers.old.items) }
 {
     let trace = job.trace;
     let stats = job.stats;
@@ -79,7 +79,7 @@ fn tell(watcher: &mut Box<dyn Watch>, history: &[Entry]) -> Result<(), Memory>
 /// Writes a text in one write, and flushes standard output.
 pub fn write_text<K: Sink>(out: &mut K, text: &[u8]) -> Result<(), Failed>
     ensures written { Writes text.now (K.state out.old) (K.state out.new) result }
-    ensures unfailed { OnOk result (Unfailed (K.state out.old) (K.state out.new)) }
+    ensures unfailed { OnOk result (HasNoFailure (K.state out.old) (K.state out.new)) }
 {
     write_piece(out, text)?;
     out.flush()
@@ -92,7 +92,7 @@ fn write_report<K: Sink>(
     history: &[Entry],
     out: &mut K,
 ) -> ReportEnd
-    ensures reported { Reported (record { kind = kind_of watcher; told = told watcher } ∷ []) history.now (K.state out.old)
+    ensures reported { WritesReports (record { kind = kind_of watcher; told = told watcher } ∷ []) history.now (K.state out.old)
         (K.state out.new) result }
     ensures leaves { ReportsLeave result (K.state out.old) (K.state out.new) }
 {
@@ -117,7 +117,7 @@ pub fn write_reports<K: Sink>(
     history: &[Entry],
     out: &mut K,
 ) -> ReportEnd
-    ensures reported { Reported (map {B = Watcher} (λ w. record { kind = kind_of w; told = told w }) watchers.items) history.now
+    ensures reported { WritesReports (map {B = Watcher} (λ w. record { kind = kind_of w; told = told w }) watchers.items) history.now
         (K.state out.old) (K.state out.new) result }
     ensures leaves { ReportsLeave result (K.state out.old) (K.state out.new) }
 {

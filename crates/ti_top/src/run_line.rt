@@ -1,6 +1,6 @@
 // The line of a print. Its buffer is allocated before the run, so that writing the output of a run can't be out of memory.
 ghost use Rattle.std.specs.Prelude.{◌≡◌, ℕ, ◌+◌, ◌^◌, ◌<◌, ◌≤◌, [], ◌++◌, length, slice_index_or, IfOk};
-ghost use Rattle.ti_top.specs.Mirrors.Line.{HasRoom};
+ghost use Rattle.ti_top.specs.Mirrors.Line.{HasLineRoom};
 
 use std::alloc::Global;
 use std::marker::Model;
@@ -40,7 +40,7 @@ fn longest(literals: &[Spelled]) -> usize
 impl RunLine {
     /// An empty line with room for any of these literals, a value and a line end.
     pub fn with_room(alloc: Global, literals: &[Spelled]) -> Result<Self, Memory>
-        ensures { IfOk result (λ line. HasRoom literals.now line) }
+        ensures { IfOk result (λ line. HasLineRoom literals.now line) }
     {
         let bytes = Vec::with_capacity(alloc, longest(literals) + VALUE_ROOM)?;
         Ok(RunLine { bytes })

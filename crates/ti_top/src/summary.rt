@@ -2,7 +2,7 @@
 ghost use Rattle.std.specs.Prelude.{◌≡◌};
 ghost use Rattle.std.specs.Int.{w32};
 ghost use Rattle.ti_base.specs.WholeNumbers.{wrap};
-ghost use Rattle.ti_top.specs.Summary.{is_print as print_spec, printed_int as int_spec, prints, printed_sum as sum_spec, summary_line as line_spec};
+ghost use Rattle.ti_top.specs.Summary.{is_print as print_spec, printed_int as int_spec, print_count, printed_sum as sum_spec, summary_line as line_spec};
 
 use ti_base::{Action, Entry, Value, int_add};
 use ti_watch::Line;
@@ -29,7 +29,7 @@ fn printed_int(action: Action) -> i32
 
 // How many prints there are.
 fn count_prints(history: &[Entry]) -> usize
-    ensures { result ≡ prints history.now }
+    ensures { result ≡ print_count history.now }
 {
     history.iter().filter(|e| is_print(e.act)).count()
 }

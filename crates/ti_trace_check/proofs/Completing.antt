@@ -3,22 +3,22 @@ use Rattle.std.proofs.Common.{◌≡◌, inl, inr, ℕ, zero, suc, ◌+◌, ◌<
 use Rattle.std.specs.List.{list_all}
 use Rattle.std.proofs.lemmas.List.{take_all, length-take-le}
 use Rattle.ti_base.specs.declared.entry.Entry.{Entry}
-use Rattle.ti_lang.specs.Meaning.Processes.{Setting}
+use Rattle.ti_lang.specs.Meaning.Processes.{RunConfig}
 use Rattle.ti_lang.specs.Meaning.Histories.{has_end, has_fault}
 use Rattle.ti_lang.specs.Meaning.Runs.{IsRun, IsComplete, AllEnded}
 use Rattle.ti_align.specs.Alignment.{OfEveryRun}
 use Rattle.ti_align.specs.Answering.{AnswersFit}
 use Rattle.ti_code.specs.Programs.{Code}
 use Rattle.ti_code.specs.Follows.{Follows}
-use Rattle.ti_store.specs.Conditions.{IsWithin}
-use Rattle.ti_store.specs.Stores.{StoreState, setting_of}
+use Rattle.ti_store.specs.Conditions.{IsWithinRunLimits}
+use Rattle.ti_store.specs.Stores.{StoreState, config_of}
 use Rattle.ti_watch.specs.Reports.{trace_text}
 use Rattle.ti_trace_check.specs.declared.replayed.ReplayedProc.{ReplayedProc}
 use Rattle.ti_trace_check.specs.declared.replay.ReplayEnd.{ReplayEnd}
 use Rattle.ti_trace_check.specs.declared.verdict.Verdict.{Verdict}
 use Rattle.ti_trace_check.specs.declared.verdict.Verdict.TheVariants.{Run, NoRun}
-use Rattle.ti_trace_check.specs.Mirrors.Seats.{IsOpen, Stands, ReplayOutcome, LeavesText, Gives}
-use Rattle.ti_trace_check.specs.Verdicts.{IsWrong, Judges, Keeps}
+use Rattle.ti_trace_check.specs.Mirrors.Replaying.{AcceptsActions, IsReplayState, ReplayOutcome, LeavesText, Gives}
+use Rattle.ti_trace_check.specs.Verdicts.{IsWrong, Judges, HasRun}
 
 true_false : true ≡ false → ⊥
 true_false e = cc
@@ -26,18 +26,18 @@ true_false e = cc
 -- ---- before the first line
 
 -- a store of these terms that nothing halted yet
-pub opens : (code : Code) (store : StoreState) (s : Setting) → setting_of store ≡ s → store.halted ≡ false → IsWithin s.procs s.fuel
-    → Follows code s.program → OfEveryRun AnswersFit s.program → IsOpen code store
+pub opens : (code : Code) (store : StoreState) (s : RunConfig) → config_of store ≡ s → store.halted ≡ false → IsWithinRunLimits s.procs s.fuel
+    → Follows code s.program → OfEveryRun AnswersFit s.program → AcceptsActions code store
 opens code store s same unhalted within follows fit = record {
   unhalted = unhalted;
-  within = subst (λ (t : Setting). IsWithin t.procs t.fuel) (sym same) within;
-  follows = subst (λ (t : Setting). Follows code t.program) (sym same) follows;
-  fit = subst (λ (t : Setting). OfEveryRun AnswersFit t.program) (sym same) fit;
+  within = subst (λ (t : RunConfig). IsWithinRunLimits t.procs t.fuel) (sym same) within;
+  follows = subst (λ (t : RunConfig). Follows code t.program) (sym same) follows;
+  fit = subst (λ (t : RunConfig). OfEveryRun AnswersFit t.program) (sym same) fit;
 }
 
 -- the processes stand there
-pub stands_first : (code : Code) (s t : Setting) (es : List Entry) (processes : List ReplayedProc) → t ≡ s → es ≡ [] → Stands code s [] processes → Stands code t es processes
-stands_first code s t es processes same none x = subst (λ es. Stands code t es processes) (sym none) (subst (λ t. Stands code t [] processes) (sym same) x)
+pub stands_first : (code : Code) (s t : RunConfig) (es : List Entry) (processes : List ReplayedProc) → t ≡ s → es ≡ [] → IsReplayState code s [] processes → IsReplayState code t es processes
+stands_first code s t es processes same none x = subst (λ es. IsReplayState code t es processes) (sym none) (subst (λ t. IsReplayState code t [] processes) (sym same) x)
 
 -- ---- whether all had their end
 
@@ -90,7 +90,7 @@ not_all es k (x ∷ xs) t h all =
     by true e h = h
     by false e h = cc
 
-module _ (code : Code) (s : Setting) (es : List Entry) (processes : List ReplayedProc) (x : Stands code s es processes) where
+module _ (code : Code) (s : RunConfig) (es : List Entry) (processes : List ReplayedProc) (x : IsReplayState code s es processes) where
   tells : Tells es 0 processes
   tells d i l = subst (λ n. has_end n es ≡ (get_or processes i d).ended) (plain i) (x.seated d i l).ended
     where
@@ -120,7 +120,7 @@ module _ (code : Code) (s : Setting) (es : List Entry) (processes : List Replaye
 
 -- ---- verdicts
 
-module _ (code : Code) (s : Setting) (all : List Entry) (processes : List ReplayedProc) (end : ReplayEnd) (came : ReplayOutcome code s all processes end) (b : Bool) (yes : end.is_end ≡ true → b ≡ true → IsComplete s all) (no : end.is_end ≡ true → b ≡ false → IsComplete s all → ⊥) where
+module _ (code : Code) (s : RunConfig) (all : List Entry) (processes : List ReplayedProc) (end : ReplayEnd) (came : ReplayOutcome code s all processes end) (b : Bool) (yes : end.is_end ≡ true → b ≡ true → IsComplete s all) (no : end.is_end ≡ true → b ≡ false → IsComplete s all → ⊥) where
   whole : end.is_end ≡ true → take end.taken all ≡ all
   whole e = take_all end.taken all (least (length all) end.taken (came.whole e).0)
     where
@@ -130,7 +130,7 @@ module _ (code : Code) (s : Setting) (all : List Entry) (processes : List Replay
   counted : length (take end.taken all) ≡ end.taken
   counted = length-take-le end.taken all came.within
 
-  pub keeps : (v : Verdict) → Gives end b all v → Keeps s v
+  pub keeps : (v : Verdict) → Gives end b all v → HasRun s v
   keeps (Run es) g = (
     subst (IsRun s) (sym g.2) came.run,
     subst (IsComplete s) (sym (g.2 ∙ whole g.0)) (yes g.0 g.1),

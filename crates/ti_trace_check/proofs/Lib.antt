@@ -3,7 +3,7 @@ pub mod Names
 pub mod LineEnds
 pub mod Texts
 pub mod ByCode
-pub mod Seats
+pub mod UpToDate
 pub mod Turns
 pub mod OfLines
 pub mod Taking

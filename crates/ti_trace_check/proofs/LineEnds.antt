@@ -29,8 +29,8 @@ use Rattle.ti_base.specs.declared.value.Zero.TheVariants as z
 use Rattle.ti_base.specs.FaultNames.{name_of}
 use Rattle.ti_base.specs.Ranges.{Range}
 use Rattle.ti_base.specs.Rects.{first_range, second_range, third_range, is_empty}
-use Rattle.ti_watch.specs.Texts.{place_text, listed, point_text, range_text, range_texts, rect_text, id_text, object_text, grid_text, value_text, zero_text}
-use Rattle.ti_watch.specs.Acts.{word_of, optional, literal_text, collective_text, deposit_text, view_text, field_text, element_text, operands_text, act_text, answer_text}
+use Rattle.ti_watch.specs.Texts.{place_text, comma_list, point_text, range_text, range_texts, rect_text, id_text, object_text, grid_text, trace_value_text, zero_text}
+use Rattle.ti_watch.specs.Acts.{action_word, optional, literal_number_text, collective_text, deposit_text, view_text, field_text, element_text, operands_text, act_text, answer_text}
 use Rattle.ti_watch.specs.Reports.{entry_text}
 use Rattle.ti_trace_check.specs.Lines.{has_no_end}
 
@@ -98,13 +98,13 @@ all_taken zero ts h = tt
 all_taken (suc k) [] h = tt
 all_taken (suc k) (t ∷ ts) h = (h.0, all_taken k ts h.1)
 
-all_listed : (ts : List (List ℕ)) → All ts → No (listed ts)
+all_listed : (ts : List (List ℕ)) → All ts → No (comma_list ts)
 all_listed [] h = record { is = refl }
 all_listed (t ∷ []) h = h.0
 all_listed (t ∷ next ∷ rest) h = plus _ _ (plus _ _ h.0 (record { is = refl })) (all_listed (next ∷ rest) h.1)
 
-in_brackets : (ts : List (List ℕ)) → All ts → No (codes "[" ++ listed ts ++ codes "]")
-in_brackets ts h = plus (codes "[" ++ listed ts) (codes "]") (plus (codes "[") (listed ts) (record { is = refl }) (all_listed ts h)) (record { is = refl })
+in_brackets : (ts : List (List ℕ)) → All ts → No (codes "[" ++ comma_list ts ++ codes "]")
+in_brackets ts h = plus (codes "[" ++ comma_list ts) (codes "]") (plus (codes "[") (comma_list ts) (record { is = refl }) (all_listed ts h)) (record { is = refl })
 
 point : (p : Point) → No (point_text p)
 point p = in_brackets _ (all_taken p.dim _ (signed p.x1, (signed p.x2, (signed p.x3, tt))))
@@ -115,7 +115,7 @@ range r = plus _ _ (plus _ _ (plus _ _ (plus _ _ (signed r.low) (record { is = r
 rect : (r : Rect) → No (rect_text r)
 rect r = by (is_empty r)
   where
-    by : (b : Bool) → No (cond b (codes "empty" ++ decimal r.dim) (codes "[" ++ listed (range_texts r) ++ codes "]"))
+    by : (b : Bool) → No (cond b (codes "empty" ++ decimal r.dim) (codes "[" ++ comma_list (range_texts r) ++ codes "]"))
     by true = plus (codes "empty") (decimal r.dim) (record { is = refl }) (number r.dim)
     by false = in_brackets _ (all_taken r.dim _ (range (first_range r), (range (second_range r), (range (third_range r), tt))))
 
@@ -130,7 +130,7 @@ object i = plus (codes "obj") (id_text i) (record { is = refl }) (id i)
 grid : (i : Id) → No (grid_text i)
 grid i = plus (codes "grid") (id_text i) (record { is = refl }) (id i)
 
-value : (x : Value) → No (value_text x)
+value : (x : Value) → No (trace_value_text x)
 value (v.Int n) = signed n
 value (v.Long n) = plus _ _ (signed n) (record { is = refl })
 value (v.Bool true) = record { is = refl }
@@ -208,21 +208,21 @@ element g at = two _ _ (grid g) (point at)
 
 operands : (a : Action) → No (operands_text a)
 operands (act.GetField obj n) = field obj n
-operands (act.PutField obj n x) = plus (field_text obj n ++ codes " ") (value_text x) (plus (field_text obj n) (codes " ") (field obj n) (record { is = refl })) (value x)
+operands (act.PutField obj n x) = plus (field_text obj n ++ codes " ") (trace_value_text x) (plus (field_text obj n) (codes " ") (field obj n) (record { is = refl })) (value x)
 operands (act.NewObj class region) = two _ _ (number class) (number region)
 operands (act.NewGrid initial domain region) = three _ _ _ (zero_of initial) (rect domain) (number region)
 operands (act.GetElem g at) = element g at
-operands (act.PutElem g at x) = plus (element_text g at ++ codes " ") (value_text x) (plus (element_text g at) (codes " ") (element g at) (record { is = refl })) (value x)
+operands (act.PutElem g at x) = plus (element_text g at ++ codes " ") (trace_value_text x) (plus (element_text g at) (codes " ") (element g at) (record { is = refl })) (value x)
 operands (act.MakeView g how) = two _ _ (grid g) (view how)
 operands (act.DomainOf g) = blank _ (grid g)
-operands (act.Print literal x) = two _ _ (option literal_text (λ n. plus (codes "s") (decimal n) (record { is = refl }) (number n)) literal) (option value_text value x)
+operands (act.Print literal x) = two _ _ (option literal_number_text (λ n. plus (codes "s") (decimal n) (record { is = refl }) (number n)) literal) (option trace_value_text value x)
 operands (act.Arrive kind arg d) = three _ _ _ (collective kind) (option decimal number arg) (deposit d)
 operands act.Depart = record { is = refl }
 operands (act.Take who) = blank _ (number who)
 operands act.End = record { is = refl }
 operands (act.Fault kind) = blank _ (fault_name kind)
 
-word : (a : Action) → No (word_of a)
+word : (a : Action) → No (action_word a)
 word (act.GetField obj n) = record { is = refl }
 word (act.PutField obj n x) = record { is = refl }
 word (act.NewObj class region) = record { is = refl }

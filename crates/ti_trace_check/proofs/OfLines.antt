@@ -2,7 +2,7 @@
 use Rattle.std.proofs.Common.{◌≡◌, ◌⊎◌, inl, inr, ℕ, ◌<◌, ◌≤◌, ◌^◌, ◌==◌, Bool, true, false, eq-eqb, List, [], ◌∷◌, ◌++◌, length, take, refl, ap, sym, ◌∙◌, subst, arith, append_assoc, append-nil}
 use Rattle.std.proofs.lemmas.List.{take_all}
 use Rattle.ti_base.specs.declared.entry.Entry.{Entry}
-use Rattle.ti_lang.specs.Meaning.Processes.{Setting}
+use Rattle.ti_lang.specs.Meaning.Processes.{RunConfig}
 use Rattle.ti_lang.specs.Meaning.Runs.{IsRun}
 use Rattle.ti_code.specs.Programs.{Code}
 use Rattle.ti_store.specs.Stores.{StoreState}
@@ -10,7 +10,7 @@ use Rattle.ti_watch.specs.Lines.{line_room}
 use Rattle.ti_watch.specs.Reports.{entry_text, trace_text}
 use Rattle.ti_trace_check.specs.declared.replayed.ReplayedProc.{ReplayedProc}
 use Rattle.ti_trace_check.specs.Mirrors.LineReader.{TakesLine}
-use Rattle.ti_trace_check.specs.Mirrors.Seats.{IsOpen, Stands, GoesOn, IsOff, ReplayOutcome, LeavesText}
+use Rattle.ti_trace_check.specs.Mirrors.Replaying.{AcceptsActions, IsReplayState, ReplaysEntry, IsWrongLine, ReplayOutcome, LeavesText}
 use Rattle.ti_trace_check.specs.Lines.{first_line}
 use Rattle.ti_trace_check.specs.Verdicts.{IsTrace}
 use Rattle.ti_trace_check.proofs.FirstLines.{none_more, some_line}
@@ -26,8 +26,8 @@ no_room : (line : List ℕ) → line ≡ [] → line_room ≤ length line → �
 no_room line e l = absurd (omega (arith, ap length e, l))
 
 -- a store that goes on does so with other entries
-pub open_still : (code : Code) (old now : StoreState) → now ≡ record old { entries = now.entries } → IsOpen code old → IsOpen code now
-open_still code old now same o = subst (IsOpen code) (sym same) (record { unhalted = o.unhalted; within = o.within; follows = o.follows; fit = o.fit })
+pub open_still : (code : Code) (old now : StoreState) → now ≡ record old { entries = now.entries } → AcceptsActions code old → AcceptsActions code now
+open_still code old now same o = subst (AcceptsActions code) (sym same) (record { unhalted = o.unhalted; within = o.within; follows = o.follows; fit = o.fit })
 
 -- an empty line is taken at the end alone
 pub at_end : (left line rest : List ℕ) → line ≡ [] → TakesLine left line rest → left ≡ []
@@ -42,8 +42,8 @@ pub begins : (text line rest : List ℕ) (es : List Entry) → es ≡ [] → Tak
 begins text line rest es none t = record { left = text; begins = ap (λ xs. trace_text xs ++ text) (sym none); takes = t }
 
 -- behind a line
-pub goes : (code : Code) (s : Setting) (text : List ℕ) (es : List Entry) (old new : List ReplayedProc) (all : List Entry)
-    (line rest next later : List ℕ) → GoesOn code s es old all new line → Goes text es line rest → TakesLine rest next later
+pub goes : (code : Code) (s : RunConfig) (text : List ℕ) (es : List Entry) (old new : List ReplayedProc) (all : List Entry)
+    (line rest next later : List ℕ) → ReplaysEntry code s es old all new line → Goes text es line rest → TakesLine rest next later
     → Goes text all next later
 goes code s text es old new all line rest next later g x t = record {
   left = rest;
@@ -55,7 +55,7 @@ goes code s text es old new all line rest next later g x t = record {
 }
 
 -- at the end of the text
-pub came_whole : (code : Code) (s : Setting) (es : List Entry) (processes : List ReplayedProc) (taken : ℕ) → Stands code s es processes → taken ≡ length es
+pub came_whole : (code : Code) (s : RunConfig) (es : List Entry) (processes : List ReplayedProc) (taken : ℕ) → IsReplayState code s es processes → taken ≡ length es
     → ReplayOutcome code s es processes (record { taken = taken; is_end = true })
 came_whole code s es processes taken x e = record {
   within = same taken (length es) e;
@@ -66,7 +66,7 @@ came_whole code s es processes taken x e = record {
     same : (m n : ℕ) → m ≡ n → m ≤ n
     same m n e = omega (arith, e)
 
-pub left_whole : (s : Setting) (text line rest : List ℕ) (es : List Entry) (taken : ℕ) → taken ≡ length es → line ≡ []
+pub left_whole : (s : RunConfig) (text line rest : List ℕ) (es : List Entry) (taken : ℕ) → taken ≡ length es → line ≡ []
     → Goes text es line rest → LeavesText s text es (record { taken = taken; is_end = true })
 left_whole s text line rest es taken e none x = record {
   left = x.left;
@@ -82,8 +82,8 @@ left_whole s text line rest es taken e none x = record {
     true_false e = cc
 
 -- at a line that is off
-pub came_off : (code : Code) (s : Setting) (es all : List Entry) (processes : List ReplayedProc) (line : List ℕ) (taken : ℕ) → taken ≡ length es
-    → IsRun s es → IsOff s es all line → ReplayOutcome code s all processes (record { taken = taken; is_end = false })
+pub came_off : (code : Code) (s : RunConfig) (es all : List Entry) (processes : List ReplayedProc) (line : List ℕ) (taken : ℕ) → taken ≡ length es
+    → IsRun s es → IsWrongLine s es all line → ReplayOutcome code s all processes (record { taken = taken; is_end = false })
 came_off code s es all processes line taken e ran off = record {
   within = subst (λ n. n ≤ length all) (sym e) off.within;
   run = subst (IsRun s) (sym (ap (λ n. take n all) e ∙ off.kept)) ran;
@@ -97,8 +97,8 @@ some_text : (text line rest : List ℕ) → (line ≡ [] → ⊥) → text ≡ l
 some_text text [] rest some off none = some refl
 some_text text (x ∷ xs) rest some off none = none_more x (xs ++ rest) (sym none ∙ off)
 
-pub left_off : (s : Setting) → s.procs < 2 ^ 64 → (text line rest : List ℕ) (es all : List Entry) (taken : ℕ) → taken ≡ length es
-    → IsRun s es → (line ≡ [] → ⊥) → IsOff s es all line → Goes text es line rest
+pub left_off : (s : RunConfig) → s.procs < 2 ^ 64 → (text line rest : List ℕ) (es all : List Entry) (taken : ℕ) → taken ≡ length es
+    → IsRun s es → (line ≡ [] → ⊥) → IsWrongLine s es all line → Goes text es line rest
     → LeavesText s text all (record { taken = taken; is_end = false })
 left_off s few text line rest es all taken e ran some off x = record {
   left = x.left;
@@ -129,6 +129,6 @@ not_empty_line held line b same is other none = by b is other (ap length (same �
         false_true e = cc
 
 -- the same of a line and a setting that are the same
-pub goes_of : (code : Code) (s t : Setting) (es : List Entry) (old : List ReplayedProc) (all : List Entry) (new : List ReplayedProc) (line same : List ℕ)
-    → s ≡ t → line ≡ same → GoesOn code s es old all new line → GoesOn code t es old all new same
-goes_of code s t es old all new line same e f x = subst (λ l. GoesOn code t es old all new l) f (subst (λ z. GoesOn code z es old all new line) e x)
+pub goes_of : (code : Code) (s t : RunConfig) (es : List Entry) (old : List ReplayedProc) (all : List Entry) (new : List ReplayedProc) (line same : List ℕ)
+    → s ≡ t → line ≡ same → ReplaysEntry code s es old all new line → ReplaysEntry code t es old all new same
+goes_of code s t es old all new line same e f x = subst (λ l. ReplaysEntry code t es old all new l) f (subst (λ z. ReplaysEntry code z es old all new line) e x)

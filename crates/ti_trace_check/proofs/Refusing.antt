@@ -5,12 +5,12 @@ use Rattle.std.proofs.lemmas.List.{take_at, take_all, get_or_push}
 use Rattle.std.proofs.lemmas.Fmt.{length-decimal-le}
 use Rattle.std.proofs.lemmas.Option.{same_Some}
 use Rattle.ti_base.specs.declared.entry.Entry.{Entry}
-use Rattle.ti_lang.specs.Meaning.Processes.{Setting}
+use Rattle.ti_lang.specs.Meaning.Processes.{RunConfig}
 use Rattle.ti_lang.specs.Meaning.Runs.{CanTake}
 use Rattle.ti_lang.proofs.Lemmas.{entry_same}
 use Rattle.ti_watch.specs.Lines.{line_room}
 use Rattle.ti_watch.specs.Reports.{entry_text}
-use Rattle.ti_trace_check.specs.Mirrors.Seats.{IsOff}
+use Rattle.ti_trace_check.specs.Mirrors.Replaying.{IsWrongLine}
 use Rattle.ti_trace_check.proofs.FirstLines.{same_byte, same_rest}
 use Rattle.ti_trace_check.proofs.Texts.{behind, cut}
 
@@ -84,10 +84,10 @@ pub short_of : (xs es : List Entry) → xs ≡ es → length (decimal (length xs
 short_of xs es same f = subst (λ (zs : List Entry). length (decimal (length zs)) ≤ 20) same f
 
 -- the same of a line and a setting that are the same
-pub off_of : (s t : Setting) (es all : List Entry) (line same : List ℕ) → s ≡ t → line ≡ same → IsOff s es all line → IsOff t es all same
-off_of s t es all line same e f x = subst (λ l. IsOff t es all l) f (subst (λ z. IsOff z es all line) e x)
+pub off_of : (s t : RunConfig) (es all : List Entry) (line same : List ℕ) → s ≡ t → line ≡ same → IsWrongLine s es all line → IsWrongLine t es all same
+off_of s t es all line same e f x = subst (λ l. IsWrongLine t es all l) f (subst (λ z. IsWrongLine z es all line) e x)
 
-module _ (s : Setting) (es : List Entry) (line : List ℕ) (few : s.procs ≤ 32) (result : Option ℕ) (names : Finds es line result)
+module _ (s : RunConfig) (es : List Entry) (line : List ℕ) (few : s.procs ≤ 32) (result : Option ℕ) (names : Finds es line result)
     (short : length (decimal (length es)) ≤ 20) where
   below : (i n : ℕ) → i < n → n ≤ 32 → i < 100
   below i n l m = omega arith
@@ -102,7 +102,7 @@ module _ (s : Setting) (es : List Entry) (line : List ℕ) (few : s.procs ≤ 32
   not_longer n = omega arith
 
   -- it names no process
-  pub unnamed : result ≡ None → IsOff s es es line
+  pub unnamed : result ≡ None → IsWrongLine s es es line
   unnamed none = record {
     kept = take_all (length es) es (not_longer (length es));
     within = not_longer (length es);
@@ -110,7 +110,7 @@ module _ (s : Setting) (es : List Entry) (line : List ℕ) (few : s.procs ≤ 32
   }
 
   -- one that isn't there
-  pub outside : (p : ℕ) → result ≡ Some p → s.procs ≤ p → IsOff s es es line
+  pub outside : (p : ℕ) → result ≡ Some p → s.procs ≤ p → IsWrongLine s es es line
   outside p is l = record {
     kept = take_all (length es) es (not_longer (length es));
     within = not_longer (length es);
@@ -123,7 +123,7 @@ module _ (s : Setting) (es : List Entry) (line : List ℕ) (few : s.procs ≤ 32
       apart p q n h k l = absurd (omega (arith, h, k, l))
 
   -- one that can take no entry
-  pub none_taken : (p : ℕ) (all : List Entry) → result ≡ Some p → all ≡ es → ((e : Entry) → CanTake s es p e → ⊥) → IsOff s es all line
+  pub none_taken : (p : ℕ) (all : List Entry) → result ≡ Some p → all ≡ es → ((e : Entry) → CanTake s es p e → ⊥) → IsWrongLine s es all line
   none_taken p all is same none = record {
     kept = ap (take (length es)) same ∙ take_all (length es) es (not_longer (length es));
     within = subst (λ xs. length es ≤ length xs) (sym same) (not_longer (length es));
@@ -133,7 +133,7 @@ module _ (s : Setting) (es : List Entry) (line : List ℕ) (few : s.procs ≤ 32
   -- its entry has another line
   pub other_line : (p : ℕ) (entry : Entry) (all : List Entry) → result ≡ Some p → CanTake s es p entry → all ≡ es ++ entry ∷ []
       → (entry_text (length es) entry ≡ line → ⊥) → length (entry_text (length es) entry) ≤ 345
-      → IsOff s es all line
+      → IsWrongLine s es all line
   other_line p entry all is can after other bound = record {
     kept = ap (take (length es)) after ∙ take_at es (entry ∷ []) (length es) refl;
     within = subst (λ xs. length es ≤ length xs) (sym after) (more_left (length es) (length (es ++ entry ∷ [])) (length-append es (entry ∷ [])));

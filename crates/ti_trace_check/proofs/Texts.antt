@@ -6,7 +6,7 @@ use Rattle.std.specs.Str.Parse.{AllDigits}
 use Rattle.std.proofs.lemmas.List.{append_cancel_left, same_from_push}
 use Rattle.std.proofs.lemmas.Fmt.{decimal_is_IsNumeral, decimal_injective}
 use Rattle.ti_base.specs.declared.entry.Entry.{Entry}
-use Rattle.ti_lang.specs.Meaning.Processes.{Setting}
+use Rattle.ti_lang.specs.Meaning.Processes.{RunConfig}
 use Rattle.ti_lang.specs.Meaning.Runs.{CanTake, IsRun, IsComplete}
 use Rattle.ti_lang.specs.Meaning.Runs as run
 use Rattle.ti_lang.proofs.Lemmas.{taker, fronts, entry_same}
@@ -83,7 +83,7 @@ trace_more es e = let same : 0 + length es ≡ length es = omega arith in lines_
 
 -- ---- runs
 
-last_taken : (s : Setting) (es all : List Entry) (e : Entry) → IsRun s all → all ≡ es ++ e ∷ [] → CanTake s es e.proc e
+last_taken : (s : RunConfig) (es all : List Entry) (e : Entry) → IsRun s all → all ≡ es ++ e ∷ [] → CanTake s es e.proc e
 last_taken s es all e run.none z = absurd (none es z)
   where
     none_left : (x : Entry) (xs : List Entry) → [] ≡ x ∷ xs → ⊥
@@ -97,7 +97,7 @@ last_taken s es all e (run.more {es = before} {i = i} {e = last} ran t y) z =
     let own : CanTake s before last.proc last = subst (λ j. CanTake s before j last) (sym (taker s before i last t)) t in
     subst (λ x. CanTake s es x.proc x) same.1 (subst (λ xs. CanTake s xs last.proc last) same.0 own)
 
-pub taken : (s : Setting) (done : List Entry) (e : Entry) (rest : List Entry) → IsRun s (done ++ e ∷ rest) → CanTake s done e.proc e
+pub taken : (s : RunConfig) (done : List Entry) (e : Entry) (rest : List Entry) → IsRun s (done ++ e ∷ rest) → CanTake s done e.proc e
 taken s done e rest ran = last_taken s done (done ++ e ∷ []) e (fronts s (done ++ e ∷ []) rest (subst (IsRun s) (sym (append_assoc done (e ∷ []) rest)) ran)) refl
 
 one_longer : (xs : List Entry) (x : Entry) → length (xs ++ x ∷ []) ≡ length xs + 1
@@ -121,7 +121,7 @@ ahead_on done e d es ds x y same h = record {
 }
 
 -- of two runs whose traces begin one text, one goes on from the other
-common : (s : Setting) → s.procs < 2 ^ 64 → (done es ds : List Entry) (x y : List ℕ) → IsRun s (done ++ es) → IsRun s (done ++ ds) → lines_from (length done) es ++ x ≡ lines_from (length done) ds ++ y
+common : (s : RunConfig) → s.procs < 2 ^ 64 → (done es ds : List Entry) (x y : List ℕ) → IsRun s (done ++ es) → IsRun s (done ++ ds) → lines_from (length done) es ++ x ≡ lines_from (length done) ds ++ y
     → Ahead (length (done ++ es)) es ds x y ⊎ Ahead (length (done ++ ds)) ds es y x
 common s few done [] ds x y a b z = inl (record { more = ds; is = refl; text = z ∙ ap (λ (xs : List Entry). lines_from (length xs) ds ++ y) (sym (append-nil done)) })
 common s few done (e ∷ es) [] x y a b z = inr (record { more = e ∷ es; is = refl; text = sym z ∙ ap (λ (xs : List Entry). lines_from (length xs) (e ∷ es) ++ x) (sym (append-nil done)) })
@@ -168,7 +168,7 @@ lines_none : (n : ℕ) (more : List Entry) → lines_from n more ≡ [] → more
 lines_none n more z = (none_left n more [] (sym z ∙ sym (append-nil (lines_from n more)))).0
 
 -- where the trace of a run is that of another and the first line of a text, the run goes on from the other by one entry, whose text is the line
-pub one_more : (s : Setting) → s.procs < 2 ^ 64 → (es ds : List Entry) (text : List ℕ) → IsRun s es → IsRun s ds → (text ≡ [] → ⊥) → trace_text es ++ first_line text ≡ trace_text ds
+pub one_more : (s : RunConfig) → s.procs < 2 ^ 64 → (es ds : List Entry) (text : List ℕ) → IsRun s es → IsRun s ds → (text ≡ [] → ⊥) → trace_text es ++ first_line text ≡ trace_text ds
     → (e : Entry) × (first_line text ≡ entry_text (length es) e) × CanTake s es e.proc e
 one_more s few es ds text a b some z = elim (common s few [] es ds (first_line text) [] a b (z ∙ sym (append-nil (trace_text ds)))) [
   | inl h ↦ by h.more h.is (h.text ∙ append-nil (lines_from (length es) h.more))
@@ -184,7 +184,7 @@ one_more s few es ds text a b some z = elim (common s few [] es ds (first_line t
 -- ---- verdicts
 
 -- a text that goes on by the text of an entry which can be taken isn't wrong
-not_wrong : (s : Setting) (es : List Entry) (e : Entry) (rest : List Entry) (left y : List ℕ) → IsRun s (es ++ e ∷ rest) → left ≡ lines_from (length es) (e ∷ rest) ++ y → IsWrong s es left → ⊥
+not_wrong : (s : RunConfig) (es : List Entry) (e : Entry) (rest : List Entry) (left y : List ℕ) → IsRun s (es ++ e ∷ rest) → left ≡ lines_from (length es) (e ∷ rest) ++ y → IsWrong s es left → ⊥
 not_wrong s es e rest left y ran z (inl f) =
     f (
       es ++ e ∷ [],
@@ -193,18 +193,18 @@ not_wrong s es e rest left y ran z (inl f) =
     )
 not_wrong s es e rest left y ran z (inr w) = not_empty (length es) e _ (sym w.0 ∙ z ∙ append_assoc (entry_text (length es) e) _ y)
 
-pub one_run : (s : Setting) (text : List ℕ) (es ds : List Entry) → s.procs < 2 ^ 64 → IsTraceOf s text es → IsTraceOf s text ds → es ≡ ds
+pub one_run : (s : RunConfig) (text : List ℕ) (es ds : List Entry) → s.procs < 2 ^ 64 → IsTraceOf s text es → IsTraceOf s text ds → es ≡ ds
 one_run s text es ds few a b = elim (common s few [] es ds [] [] a.run b.run (append-nil (trace_text es) ∙ sym a.is ∙ b.is ∙ sym (append-nil (trace_text ds)))) [
   | inl h ↦ sym (h.is ∙ ap (λ m. es ++ m) (none_left (length es) h.more [] h.text).0 ∙ append-nil es)
   | inr h ↦ h.is ∙ ap (λ m. ds ++ m) (none_left (length ds) h.more [] h.text).0 ∙ append-nil ds
 ]
 
 -- nothing is left behind the trace of a complete run
-nothing_left : (s : Setting) (text left : List ℕ) (es ds : List Entry) → IsTraceOf s text es → IsRun s ds → ds ≡ es → left ≡ [] → IsWrong s ds left → ⊥
+nothing_left : (s : RunConfig) (text left : List ℕ) (es ds : List Entry) → IsTraceOf s text es → IsRun s ds → ds ≡ es → left ≡ [] → IsWrong s ds left → ⊥
 nothing_left s text left es ds a ran same none (inl f) = f (ds, ran, ap (λ l. trace_text ds ++ first_line l) none ∙ append-nil (trace_text ds))
 nothing_left s text left es ds a ran same none (inr w) = w.1 (subst (IsComplete s) (sym same) a.complete)
 
-pub not_both : (s : Setting) (text : List ℕ) (line : ℕ) (es ds : List Entry) → s.procs < 2 ^ 64 → IsTraceOf s text es → IsWrongAt s text line ds → ⊥
+pub not_both : (s : RunConfig) (text : List ℕ) (line : ℕ) (es ds : List Entry) → s.procs < 2 ^ 64 → IsTraceOf s text es → IsWrongAt s text line ds → ⊥
 not_both s text line es ds few a b = elim (common s few [] ds es b.left [] b.run a.run (sym b.begins ∙ a.is ∙ sym (append-nil (trace_text es)))) [
   | inl h ↦ by h.more h.is h.text
   | inr h ↦
@@ -216,7 +216,7 @@ not_both s text line es ds few a b = elim (common s few [] ds es b.left [] b.run
     by [] is z = nothing_left s text b.left es ds a b.run (sym (is ∙ append-nil ds)) z b.wrong
     by (e ∷ rest) is z = not_wrong s ds e rest b.left [] (subst (IsRun s) is a.run) z b.wrong
 
-pub one_wrong : (s : Setting) (text : List ℕ) (j k : ℕ) (es ds : List Entry) → s.procs < 2 ^ 64 → IsWrongAt s text j es → IsWrongAt s text k ds → es ≡ ds
+pub one_wrong : (s : RunConfig) (text : List ℕ) (j k : ℕ) (es ds : List Entry) → s.procs < 2 ^ 64 → IsWrongAt s text j es → IsWrongAt s text k ds → es ≡ ds
 one_wrong s text j k es ds few a b = elim (common s few [] es ds a.left b.left a.run b.run (sym a.begins ∙ b.begins)) [
   | inl h ↦ by es ds a.left b.left a.wrong b.run h.more h.is h.text
   | inr h ↦ sym (by ds es b.left a.left b.wrong a.run h.more h.is h.text)

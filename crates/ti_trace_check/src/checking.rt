@@ -5,12 +5,12 @@ ghost use Rattle.ti_code.specs.Follows.{Follows};
 ghost use Rattle.ti_io.specs.Faults.{Rose};
 ghost use Rattle.ti_io.specs.Source.{SameFiles};
 ghost use Rattle.ti_lang.specs.Meaning.Histories.{has_fault as fault_in};
-ghost use Rattle.ti_lang.specs.Program.Classes.{NumberedProgram};
+ghost use Rattle.ti_lang.specs.Program.Classes.{ProgramView};
 ghost use Rattle.ti_lang.specs.Program.Views.{program_of};
-ghost use Rattle.ti_store.specs.Conditions.{IsWithin};
+ghost use Rattle.ti_store.specs.Conditions.{IsWithinRunLimits};
 ghost use Rattle.ti_trace_check.specs.declared.error.TraceErr.TheVariants.{Read};
-ghost use Rattle.ti_trace_check.specs.Mirrors.Seats.{Stands, Gives};
-ghost use Rattle.ti_trace_check.specs.Verdicts.{Keeps, Judges};
+ghost use Rattle.ti_trace_check.specs.Mirrors.Replaying.{IsReplayState, Gives};
+ghost use Rattle.ti_trace_check.specs.Verdicts.{HasRun, Judges};
 
 use crate::error::TraceErr;
 use crate::replay::{ReplayEnd, replay_lines};
@@ -23,9 +23,9 @@ use ti_base::{Action, Entry, Memory};
 use ti_code::Code;
 use ti_io::Source;
 use ti_lower::lower;
-use ti_machine::has_one_next;
+use ti_machine::next_is_unique;
 use ti_rules::Checked;
-use ti_store::{Store, Terms};
+use ti_store::{RunConfigOf, Store};
 
 // The processes of a run before the first entry.
 fn start_processes(
@@ -34,12 +34,12 @@ fn start_processes(
     procs: u32,
     fuel: u32,
 ) -> Result<Vec<ReplayedProc>, Memory>
-    requires within { IsWithin procs fuel }
-    requires follows { (program : NumberedProgram) × Follows code.now program }
-    ensures { IfOk result (λ processes. (program : NumberedProgram) → Follows code.now program
-        → Stands code.now (record { program = program; procs = procs; fuel = fuel }) [] processes.items) }
+    requires within { IsWithinRunLimits procs fuel }
+    requires follows { (program : ProgramView) × Follows code.now program }
+    ensures { IfOk result (λ processes. (program : ProgramView) → Follows code.now program
+        → IsReplayState code.now (record { program = program; procs = procs; fuel = fuel }) [] processes.items) }
 {
-    has_one_next();
+    next_is_unique();
     let mut processes = Vec::with_capacity(alloc, procs as usize)?;
     for number in 0..procs {
         let replayed = ReplayedProc::take(alloc, code, number, procs, fuel)?;
@@ -85,51 +85,52 @@ fn verdict_of(end: ReplayEnd, is_complete: bool, mut entries: Vec<Entry>) -> Ver
 }
 
 // The verdict, under type-level terms that the caller has picked.
-fn check_by<J: Terms, S: Source>(
+fn check_by<J: RunConfigOf, S: Source>(
     alloc: Global,
-    c: &Checked,
+    checked: &Checked,
     procs: u32,
     fuel: u32,
     source: &mut S,
 ) -> Result<Verdict, TraceErr>
-    requires within { IsWithin procs fuel }
-    requires terms { record { program = program_of c.now.program.parts; procs = procs; fuel = fuel } ≡ J.setting }
+    requires within { IsWithinRunLimits procs fuel }
+    requires terms { record { program = program_of checked.now.program.parts; procs = procs; fuel = fuel } ≡ J.config }
     ensures never_falls { (S.state source.old).faults ≤ (S.state source.new).faults }
     ensures same { SameFiles (S.state source.old) (S.state source.new) }
-    ensures keeps { IfOk result (λ v. Keeps (record { program = program_of c.now.program.parts; procs = procs; fuel = fuel }) v) }
+    ensures keeps { IfOk result (λ v. HasRun (record { program = program_of checked.now.program.parts; procs = procs; fuel = fuel }) v) }
     ensures judges { IfOk result (λ v. (S.state source.old).tells ≡ true
-        → Judges (record { program = program_of c.now.program.parts; procs = procs; fuel = fuel }) (S.state source.old).left v) }
+        → Judges (record { program = program_of checked.now.program.parts; procs = procs; fuel = fuel }) (S.state source.old).left v) }
     ensures read { IfErr result (λ e. e ≡ Read → Rose (S.state source.old).faults (S.state source.new).faults) }
     ensures failed { (S.state source.old).faults < (S.state source.new).faults → result ≡ Err Read }
 {
-    answers_fit(c);
-    let code = lower(alloc, c)?;
-    let mut store = Store::<J>::new(alloc, c, procs, fuel)?;
+    answers_fit(checked);
+    let code = lower(alloc, checked)?;
+    let mut store = Store::<J>::new(alloc, checked, procs, fuel)?;
     let mut processes = start_processes(alloc, &code, procs, fuel)?;
     let end = replay_lines(alloc, &code, &mut processes, &mut store, source)?;
     let is_complete = one_of_two(have_ended(&processes), has_fault(store.history()));
     Ok(verdict_of(end, is_complete, store.into_history()))
 }
 
-/// Checks whether the rest of a source is the trace of a complete run of a checked program, with `procs` processes and `fuel` ticks for each.
+/// Checks whether the rest of a source is the trace of a complete run of a checked program, with `procs` processes and `fuel` ticks for
+/// each.
 ///
-/// Each line names the process whose next entry it has to be. The source is read in blocks, and one line is held at a time. `Err(Read)` comes
-/// exactly if the source's count of faults is greater after the call than before, `Err(Memory)` when out of memory.
+/// Each line names the process whose next entry it has to be. The source is read in blocks, and one line is held at a time. `Err(Read)`
+/// comes exactly if the source's count of faults is greater after the call than before, `Err(Memory)` when out of memory.
 pub fn check_trace<S: Source>(
     alloc: Global,
-    c: &Checked,
+    checked: &Checked,
     procs: u32,
     fuel: u32,
     source: &mut S,
 ) -> Result<Verdict, TraceErr>
-    requires within { IsWithin procs fuel }
+    requires within { IsWithinRunLimits procs fuel }
     ensures never_falls { (S.state source.old).faults ≤ (S.state source.new).faults }
     ensures same { SameFiles (S.state source.old) (S.state source.new) }
-    ensures keeps { IfOk result (λ v. Keeps (record { program = program_of c.now.program.parts; procs = procs; fuel = fuel }) v) }
+    ensures keeps { IfOk result (λ v. HasRun (record { program = program_of checked.now.program.parts; procs = procs; fuel = fuel }) v) }
     ensures judges { IfOk result (λ v. (S.state source.old).tells ≡ true
-        → Judges (record { program = program_of c.now.program.parts; procs = procs; fuel = fuel }) (S.state source.old).left v) }
+        → Judges (record { program = program_of checked.now.program.parts; procs = procs; fuel = fuel }) (S.state source.old).left v) }
     ensures read { IfErr result (λ e. e ≡ Read → Rose (S.state source.old).faults (S.state source.new).faults) }
     ensures failed { (S.state source.old).faults < (S.state source.new).faults → result ≡ Err Read }
 {
-    check_by::<Brand, S>(alloc, c, procs, fuel, source)
+    check_by::<Brand, S>(alloc, checked, procs, fuel, source)
 }

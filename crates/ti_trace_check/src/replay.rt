@@ -2,9 +2,9 @@
 ghost use Rattle.std.specs.Prelude.{◌≡◌, ◌<◌, ◌≤◌, [], true, IfOk, IfErr};
 ghost use Rattle.ti_io.specs.Faults.{Rose};
 ghost use Rattle.ti_io.specs.Source.{SameFiles};
-ghost use Rattle.ti_store.specs.Stores.{setting_of};
+ghost use Rattle.ti_store.specs.Stores.{config_of};
 ghost use Rattle.ti_trace_check.specs.declared.error.TraceErr.TheVariants.{Read};
-ghost use Rattle.ti_trace_check.specs.Mirrors.Seats.{IsOpen, Stands, ReplaysLine, ReplayOutcome, LeavesText};
+ghost use Rattle.ti_trace_check.specs.Mirrors.Replaying.{AcceptsActions, IsReplayState, ReplaysLine, ReplayOutcome, LeavesText};
 
 use crate::error::TraceErr;
 use crate::line::entry_line;
@@ -15,7 +15,7 @@ use std::alloc::Global;
 use ti_base::Memory;
 use ti_code::Code;
 use ti_io::Source;
-use ti_store::{Store, Terms};
+use ti_store::{RunConfigOf, Store};
 
 /// How far a trace was replayed: how many lines were right, and whether the trace ended after them.
 #[derive(Clone, Copy)]
@@ -25,16 +25,16 @@ pub struct ReplayEnd {
 }
 
 // Lets the process that a line names take its next entry. False if it can't take one, or the line isn't that of the entry.
-fn replay_line<J: Terms>(
+fn replay_line<J: RunConfigOf>(
     alloc: Global,
     code: &Code,
     processes: &mut Vec<ReplayedProc>,
     store: &mut Store<J>,
     line: &[u8],
 ) -> Result<bool, Memory>
-    requires open { IsOpen code.now store.old }
-    requires stands { Stands code.now (setting_of store.old) store.old.entries processes.old.items }
-    ensures meets { IfOk result (λ met. ReplaysLine code.now (setting_of store.old) store.old.entries processes.old.items store.new.entries
+    requires open { AcceptsActions code.now store.old }
+    requires stands { IsReplayState code.now (config_of store.old) store.old.entries processes.old.items }
+    ensures meets { IfOk result (λ met. ReplaysLine code.now (config_of store.old) store.old.entries processes.old.items store.new.entries
         processes.new.items line.now met) }
     ensures store { store.new ≡ record store.old { entries = store.new.entries } }
 {
@@ -52,21 +52,21 @@ fn replay_line<J: Terms>(
 }
 
 /// Replays the lines of a trace, up to its end or its first wrong line.
-pub fn replay_lines<J: Terms, S: Source>(
+pub fn replay_lines<J: RunConfigOf, S: Source>(
     alloc: Global,
     code: &Code,
     processes: &mut Vec<ReplayedProc>,
     store: &mut Store<J>,
     source: &mut S,
 ) -> Result<ReplayEnd, TraceErr>
-    requires open { IsOpen code.now store.old }
+    requires open { AcceptsActions code.now store.old }
     requires none { store.old.entries ≡ [] }
-    requires stands { Stands code.now (setting_of store.old) store.old.entries processes.old.items }
+    requires stands { IsReplayState code.now (config_of store.old) store.old.entries processes.old.items }
     ensures never_falls { (S.state source.old).faults ≤ (S.state source.new).faults }
     ensures same { SameFiles (S.state source.old) (S.state source.new) }
-    ensures came { IfOk result (λ end. ReplayOutcome code.now (setting_of store.old) store.new.entries processes.new.items end) }
+    ensures came { IfOk result (λ end. ReplayOutcome code.now (config_of store.old) store.new.entries processes.new.items end) }
     ensures leaves { IfOk result (λ end. (S.state source.old).tells ≡ true
-        → LeavesText (setting_of store.old) (S.state source.old).left store.new.entries end) }
+        → LeavesText (config_of store.old) (S.state source.old).left store.new.entries end) }
     ensures read { IfErr result (λ e. e ≡ Read → Rose (S.state source.old).faults (S.state source.new).faults) }
     ensures failed { (S.state source.old).faults < (S.state source.new).faults → result ≡ Err Read }
     ensures store { store.new ≡ record store.old { entries = store.new.entries } }

@@ -6,10 +6,10 @@ use lib.ListN.{get_elem?, length-map}
 use Rattle.atomic_table.specs.Table.{Me, Final, Seen}
 use Rattle.atomic_table.specs.Seated.{TableId}
 use Rattle.ti_turnstile.specs.declared.turnstile.Pass.{Pass}
-use Rattle.ti_turnstile.specs.declared.view.View.{View}
-use Rattle.ti_turnstile.specs.Parts.{first_number, number_in, seen_in}
-use Rattle.ti_turnstile.specs.Mirrors.Views.{view, fresh, outside, Sound}
-use Rattle.ti_turnstile.specs.Turnstiles.{turnstile_of, number_of, seen_by, part_of, AreNew, AreOf, AreLegal, OneHasSeen, AreAll, AreDistinct}
+use Rattle.ti_turnstile.specs.declared.seat_view.SeatView.{SeatView}
+use Rattle.ti_turnstile.specs.PassViews.{first_number, number_in, seen_in}
+use Rattle.ti_turnstile.specs.Mirrors.Views.{view, new_passes, outside, TableInvariant}
+use Rattle.ti_turnstile.specs.Turnstiles.{turnstile_of, number_of, seen_by, pass_view_of, AreNew, AreOf, AreLegal, OneHasSeen, AreAll, AreDistinct}
 use Rattle.ti_turnstile.proofs.Lists.{at_end}
 use Rattle.ti_turnstile.proofs.Steps.{closes_value}
 
@@ -35,14 +35,14 @@ module _ {V I : Type 0} {g : _} (table : TableId) where
 
 module _ {V I : Type 0} {g : _} (log_of : V → List (ℕ × I)) where
   -- once all passes are in one seat, the value is in its slot, and its log is legal with each of them
-  pub closing : (n id : ℕ) (me : Me (Option V) (View I)) (passes left done : List (Pass V I g)) (words : List ℕ) (slots : List (Option V))
-      → passes ≡ left ++ done → length left ≡ 0 → me ≡ (view false (map part_of done), []) → length passes ≡ n
-      → Final (Seen (Sound log_of n) id me.0) words slots → (x : V) × (get_elem? slots 0 ≡ some (Some x)) × AreLegal (log_of x) passes
+  pub closing : (n id : ℕ) (me : Me (Option V) (SeatView I)) (passes left done : List (Pass V I g)) (words : List ℕ) (slots : List (Option V))
+      → passes ≡ left ++ done → length left ≡ 0 → me ≡ (view false (map pass_view_of done), []) → length passes ≡ n
+      → Final (Seen (TableInvariant log_of n) id me.0) words slots → (x : V) × (get_elem? slots 0 ≡ some (Some x)) × AreLegal (log_of x) passes
       × OneHasSeen (log_of x) passes × AreAll n passes × AreDistinct passes
   closing n id me passes left done words slots all empty is count final =
       let same : done ≡ passes = sym (all ∙ ap (λ l. l ++ done) (nothing left empty)) in
-      let t = closes_value log_of n id (map part_of done) words slots
-      (subst (λ v. Final (Seen (Sound log_of n) id v) words slots) (ap (λ m. m.0) is) final) (length-map done part_of ∙ ap length same
+      let t = closes_value log_of n id (map pass_view_of done) words slots
+      (subst (λ v. Final (Seen (TableInvariant log_of n) id v) words slots) (ap (λ m. m.0) is) final) (length-map done pass_view_of ∙ ap length same
       ∙ count) in
       (t.0, t.1, subst (λ ps. AreLegal (log_of t.0) ps) same t.2, subst (λ ps. OneHasSeen (log_of t.0) ps) same t.3, subst (λ ps. AreAll n ps) same t.4, subst (λ ps. AreDistinct ps) same t.5)
 
@@ -55,8 +55,8 @@ module _ {V I : Type 0} {g : _} (log_of : V → List (ℕ × I)) where
       (subst (λ x. AreLegal (log_of x) passes) same t.2, subst (λ x. OneHasSeen (log_of x) passes) same t.3, t.4, t.5)
 
 module _ (I : Type 0) where
-  pub cut_left : (i m : ℕ) → drop 1 (fresh {I = I} i (m + 1)) ≡ fresh (i + 1) m
-  cut_left i m = ap (λ k. drop 1 (fresh i k)) (add-one m) ∙ ap (λ k. fresh k m) (sym (add-one i))
+  pub cut_left : (i m : ℕ) → drop 1 (new_passes {I = I} i (m + 1)) ≡ new_passes (i + 1) m
+  cut_left i m = ap (λ k. drop 1 (new_passes i k)) (add-one m) ∙ ap (λ k. new_passes k m) (sym (add-one i))
 
-  pub cut_number : (i m : ℕ) → first_number (fresh {I = I} i (m + 1)) ≡ i
-  cut_number i m = ap (λ k. first_number (fresh {I = I} i k)) (add-one m)
+  pub cut_number : (i m : ℕ) → first_number (new_passes {I = I} i (m + 1)) ≡ i
+  cut_number i m = ap (λ k. first_number (new_passes {I = I} i k)) (add-one m)

@@ -15,11 +15,11 @@ use Rattle.atomic_table.specs.contracts.send_lease.SendLease as lease
 use Rattle.atomic_table.proofs.send_lease.SendLease.TheSendSync as of_leases
 use Rattle.atomic_table.proofs.shared.Seat.TheSendSync as of_seats
 use Rattle.atomic_table.proofs.shared.Shared.TheSendSync as of_tables
-use Rattle.ti_turnstile.specs.contracts.law.Law as law
-use Rattle.ti_turnstile.specs.contracts.law.LawTableRuleOptionViewItemU32.TheImpl as rule
+use Rattle.ti_turnstile.specs.contracts.protocol.TurnstileRule as law
+use Rattle.ti_turnstile.specs.contracts.protocol.TurnstileRuleTableRuleOptionSeatViewItemU32.TheImpl as rule
 use Rattle.ti_turnstile.specs.contracts.turnstile.Pass as pass
 use Rattle.ti_turnstile.specs.contracts.turnstile.Turnstile as turnstile
-use Rattle.ti_turnstile.specs.contracts.view.View as view
+use Rattle.ti_turnstile.specs.contracts.seat_view.SeatView as view
 use Rattle.ti_turnstile.specs.declared.kept.Kept.{Ghosts}
 
 option_send : (V : RattleType) → IsSend V → IsSend (option.the_row V)

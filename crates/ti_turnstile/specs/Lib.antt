@@ -1,4 +1,4 @@
 pub mod Passes
-pub mod Parts
+pub mod PassViews
 pub mod Mirrors
 pub mod Turnstiles

@@ -14,13 +14,13 @@ module _ {I : Type 0} where
   items_of k (e ∷ es) = if e.0 == k then e ∷ items_of k es else items_of k es
 
   -- all items have this number
-  abbrev pub AllOf : ℕ → List (ℕ × I) → Type 0
-  AllOf k [] = Unit {0}
-  AllOf k (e ∷ es) = (e.0 ≡ k) × AllOf k es
+  abbrev pub AllNumbered : ℕ → List (ℕ × I) → Type 0
+  AllNumbered k [] = Unit {0}
+  AllNumbered k (e ∷ es) = (e.0 ≡ k) × AllNumbered k es
 
   -- the log has grown only by items with this number
   abbrev pub GrownBy : ℕ → List (ℕ × I) → List (ℕ × I) → Type 0
-  GrownBy k before after = (rest : List (ℕ × I)) × (after ≡ before ++ rest) × AllOf k rest
+  GrownBy k before after = (rest : List (ℕ × I)) × (after ≡ before ++ rest) × AllNumbered k rest
 
   -- what was seen is a prefix of the log
   abbrev pub StartsWith : List (ℕ × I) → List (ℕ × I) → Type 0

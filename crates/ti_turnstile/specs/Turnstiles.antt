@@ -7,8 +7,8 @@ use Rattle.ti_turnstile.specs.declared.turnstile.Turnstile.{Turnstile}
 use Rattle.ti_turnstile.specs.declared.turnstile.Pass.{Pass}
 use Rattle.ti_turnstile.specs.declared.turnstile.Inside.{Inside}
 use Rattle.ti_turnstile.specs.Passes.{IsLegal}
-use Rattle.ti_turnstile.specs.declared.view.Part.{Part}
-use Rattle.ti_turnstile.specs.Parts.{part, number_in, seen_in, AllParts, HasSeen, HasNumber, Distinct}
+use Rattle.ti_turnstile.specs.declared.seat_view.PassView.{PassView}
+use Rattle.ti_turnstile.specs.PassViews.{pass_view, number_in, seen_in, AllPasses, HasSeen, HasNumber, Distinct}
 
 -- ---- single passes
 
@@ -31,20 +31,20 @@ seen_by p = seen_in p.seat.me
 
 -- the turnstile that a pass is inside of, its number, the value, and the log that the value had when it entered
 abbrev pub turnstile_around : {V I : Type 0} {g : _} → Inside V I g → TableId
-turnstile_around i = i.place.seat.table_id
+turnstile_around i = i.held.seat.table_id
 
 abbrev pub number_inside : {V I : Type 0} {g : _} → Inside V I g → ℕ
-number_inside i = number_in i.place.seat.me
+number_inside i = number_in i.held.seat.me
 
 abbrev pub value_inside : {V I : Type 0} {g : _} → Inside V I g → V
 value_inside i = i.value
 
 abbrev pub found_inside : {V I : Type 0} {g : _} → Inside V I g → List (ℕ × I)
-found_inside i = seen_in i.place.seat.me
+found_inside i = seen_in i.held.seat.me
 
 -- the pass inside, with another value
 abbrev pub with_value : {V I : Type 0} {g : _} → Inside V I g → V → Inside V I g
-with_value i x = record { place = i.place; value = x }
+with_value i x = record { held = i.held; value = x }
 
 -- ---- lists of passes
 
@@ -58,21 +58,21 @@ AreOf turnstile [] = Unit {0}
 AreOf turnstile (p ∷ ps) = (turnstile_of p ≡ turnstile) × AreOf turnstile ps
 
 -- a pass's number, with what it has seen
-abbrev pub part_of : {V I : Type 0} {g : _} → Pass V I g → Part I
-part_of p = part (number_of p) (seen_by p)
+abbrev pub pass_view_of : {V I : Type 0} {g : _} → Pass V I g → PassView I
+pass_view_of p = pass_view (number_of p) (seen_by p)
 
 -- what each pass has seen is legal for the log
 abbrev pub AreLegal : {V I : Type 0} {g : _} → List (ℕ × I) → List (Pass V I g) → Type 0
-AreLegal log ps = AllParts (λ q. IsLegal log q.number q.seen) (map part_of ps)
+AreLegal log ps = AllPasses (λ q. IsLegal log q.number q.seen) (map pass_view_of ps)
 
 -- one pass has seen the whole log
 abbrev pub OneHasSeen : {V I : Type 0} {g : _} → List (ℕ × I) → List (Pass V I g) → Type 0
-OneHasSeen log ps = HasSeen log (map part_of ps)
+OneHasSeen log ps = HasSeen log (map pass_view_of ps)
 
 -- each number below n is that of a pass
 abbrev pub AreAll : {V I : Type 0} {g : _} → ℕ → List (Pass V I g) → Type 0
-AreAll n ps = (k : ℕ) → k < n → HasNumber k (map part_of ps)
+AreAll n ps = (k : ℕ) → k < n → HasNumber k (map pass_view_of ps)
 
 -- no two passes have one number
 abbrev pub AreDistinct : {V I : Type 0} {g : _} → List (Pass V I g) → Type 0
-AreDistinct ps = Distinct (map part_of ps)
+AreDistinct ps = Distinct (map pass_view_of ps)

@@ -15,8 +15,8 @@ pub trait Kept {
     fn len(&self) -> usize
         ensures { result ≡ length (log self.now) };
 
-    /// The number of the item with index `i`.
-    fn number_at(&self, i: usize) -> u32
-        requires { i < length (log self.now) }
-        ensures { result ≡ number_at (log self.now) i };
+    /// The number of the item with `index`.
+    fn number_at(&self, index: usize) -> u32
+        requires { index < length (log self.now) }
+        ensures { result ≡ number_at (log self.now) index };
 }

@@ -5,9 +5,9 @@
 #![tactic(auto)]
 
 mod kept;
-mod law;
+mod protocol;
+mod seat_view;
 mod turnstile;
-mod view;
 
 pub use kept::Kept;
 pub use turnstile::{Inside, Pass, Turnstile};

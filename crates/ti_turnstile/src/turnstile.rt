@@ -3,12 +3,12 @@
 
 ghost use Rattle.std.specs.Prelude.{◌≡◌, ℕ, ◌<◌, ◌+◌, [], ◌∷◌, length, drop, IsTrue, false, Some, IfOk};
 ghost use Rattle.ti_turnstile.specs.Passes.{GrownBy, IsLegal};
-ghost use Rattle.ti_turnstile.specs.Parts.{number_in, seen_in};
-ghost use Rattle.ti_turnstile.specs.Mirrors.Views.{IsPass, IsInside, Entered, HasValue, carried_log, inside, outside, view, fresh};
+ghost use Rattle.ti_turnstile.specs.PassViews.{number_in, seen_in};
+ghost use Rattle.ti_turnstile.specs.Mirrors.Views.{IsPass, IsInside, HasEntered, HasValue, carried_log, inside, outside, view, new_passes};
 
 use crate::kept::Kept;
-use crate::law::{Both, Cut, Enter, Law, Leave, See};
-use crate::view::View;
+use crate::protocol::{Enter, JoinPasses, Leave, Publish, SplitPass, TurnstileRule};
+use crate::seat_view::SeatView;
 use atomic_table::{Seat, Table};
 use crossbeam_utils::Backoff;
 use std::alloc::Global;
@@ -21,17 +21,17 @@ use ti_base::Memory;
 const TRIES: u32 = 8;
 
 // The longest sleep, in microseconds: a thread that misses a wake-up continues after it.
-const NAP: u64 = 50;
+const PARK_MICROS: u64 = 50;
 
 /// A lock around one value, which one pass at a time may hold.
 ///
 /// Contracts see which turnstile it is (`identity_of`) and how many passes it has (`passes_of`).
 #[derive(Drop)]
 pub struct Turnstile<V: Kept> {
-    table: Table<Option<V>, View<V::Item>, u32, Law<V>, Global>,
-    // How many threads sleep in `enter`, and how many in `nap`, or are about to. The counts decide only whether threads are woken.
+    table: Table<Option<V>, SeatView<V::Item>, u32, TurnstileRule<V>, Global>,
+    // How many threads sleep in `enter`, and how many in `park_briefly`, or are about to. The counts decide only whether threads are woken.
     entering: AtomicUsize,
-    napping: AtomicUsize,
+    parked: AtomicUsize,
     ghost shape: { (table.shared.table_id.words ≡ 2) × (table.shared.table_id.slots ≡ 1) × (0 < table.shared.key) },
 }
 
@@ -41,13 +41,13 @@ pub struct Turnstile<V: Kept> {
 /// `number_of`, `seen_by`).
 #[derive(Drop)]
 pub struct Pass<V: Kept> {
-    seat: Seat<Option<V>, View<V::Item>>,
+    seat: Seat<Option<V>, SeatView<V::Item>>,
     ghost is_pass: { IsPass seat.me },
 }
 
 // A seat that is inside, and has taken the value out of the slot.
-pub struct Place<V: Kept> {
-    seat: Seat<Option<V>, View<V::Item>>,
+pub struct HeldSeat<V: Kept> {
+    seat: Seat<Option<V>, SeatView<V::Item>>,
     ghost is_inside: { IsInside seat.me },
 }
 
@@ -56,7 +56,7 @@ pub struct Place<V: Kept> {
 /// Contracts see its turnstile, its number, the value, and the log that the value had when the pass entered (`turnstile_around`,
 /// `number_inside`, `value_inside`, `found_inside`).
 pub struct Inside<V: Kept> {
-    place: Place<V>,
+    held: HeldSeat<V>,
     value: V,
 }
 
@@ -75,68 +75,68 @@ impl<V: Kept> Inside<V> {
 }
 
 impl<V: Kept> Turnstile<V> {
-    ghost use Rattle.ti_turnstile.specs.Turnstiles.{identity_of, passes_of, turnstile_of, number_of, seen_by, turnstile_around, number_inside, value_inside, found_inside, AreNew, AreOf, AreLegal, OneHasSeen, AreAll, AreDistinct, part_of};
+    ghost use Rattle.ti_turnstile.specs.Turnstiles.{identity_of, passes_of, turnstile_of, number_of, seen_by, turnstile_around, number_inside, value_inside, found_inside, AreNew, AreOf, AreLegal, OneHasSeen, AreAll, AreDistinct, pass_view_of};
 
-    /// A turnstile with `n` passes, which have the numbers from 0 on and have seen nothing. The value's log must be empty.
-    pub fn new(alloc: Global, n: u32, value: V) -> Result<(Turnstile<V>, Vec<Pass<V>>), Memory>
+    /// A turnstile with `count` passes, which have the numbers from 0 on and have seen nothing. The value's log must be empty.
+    pub fn new(alloc: Global, count: u32, value: V) -> Result<(Turnstile<V>, Vec<Pass<V>>), Memory>
     where
         V: Drop,
-        requires some_pass { 0 < n }
+        requires some_pass { 0 < count }
         requires empty { V.log value ≡ [] }
-        ensures passes { IfOk result (λ r. passes_of r.0 ≡ n) }
-        ensures all { IfOk result (λ r. length r.1.items ≡ n) }
+        ensures passes { IfOk result (λ r. passes_of r.0 ≡ count) }
+        ensures all { IfOk result (λ r. length r.1.items ≡ count) }
         ensures new { IfOk result (λ r. AreNew (identity_of r.0) r.1.items) }
     {
         let mut slots = Vec::with_capacity(alloc, 1)?;
         slots.push(Some(value))?;
-        let Ok((table, mut dealer)) = Table::new(alloc, &[0, 0], slots, &n) else {
+        let Ok((table, mut dealer)) = Table::new(alloc, &[0, 0], slots, &count) else {
             return Err(Memory);
         };
         let turnstile = Turnstile {
             table,
             entering: AtomicUsize::new(0),
-            napping: AtomicUsize::new(0),
+            parked: AtomicUsize::new(0),
         };
-        let passes = turnstile.cut_passes(alloc, &mut dealer, n)?;
+        let passes = turnstile.split_passes(alloc, &mut dealer, count)?;
         Ok((turnstile, passes))
     }
 
     // Splits off the next of the passes that the dealer has.
-    fn cut(&self, dealer: &mut Seat<Option<V>, View<V::Item>>) -> Pass<V>
+    fn split_pass(&self, dealer: &mut Seat<Option<V>, SeatView<V::Item>>) -> Pass<V>
         requires table { dealer.old.table_id ≡ identity_of self.now }
-        requires dealer { (i : ℕ) × (m : ℕ) × (dealer.old.me.0 ≡ view false (fresh i (m + 1))) × (dealer.old.me.1 ≡ []) }
+        requires dealer { (i : ℕ) × (m : ℕ) × (dealer.old.me.0 ≡ view false (new_passes i (m + 1))) × (dealer.old.me.1 ≡ []) }
         ensures table { (dealer.new.table_id ≡ dealer.old.table_id) × (result.seat.table_id ≡ dealer.old.table_id) }
-        ensures left { dealer.new.me ≡ (view false (drop 1 dealer.old.me.0.parts), []) }
+        ensures left { dealer.new.me ≡ (view false (drop 1 dealer.old.me.0.passes), []) }
         ensures right { result.seat.me ≡ (outside (number_in dealer.old.me) [], []) }
     {
-        let seat = self.table.shared.split_seat::<Cut>(dealer);
+        let seat = self.table.shared.split_seat::<SplitPass>(dealer);
         Pass { seat }
     }
 
-    // Splits off all `n` passes that the dealer has.
-    fn cut_passes(
+    // Splits off all `count` passes that the dealer has.
+    fn split_passes(
         &self,
         alloc: Global,
-        dealer: &mut Seat<Option<V>, View<V::Item>>,
-        n: u32,
+        dealer: &mut Seat<Option<V>, SeatView<V::Item>>,
+        count: u32,
     ) -> Result<Vec<Pass<V>>, Memory>
         requires table { dealer.old.table_id ≡ identity_of self.now }
-        requires dealer { dealer.old.me ≡ (view false (fresh 0 n), []) }
-        ensures { IfOk result (λ ps. (length ps.items ≡ n) × AreNew (identity_of self.now) ps.items) }
+        requires dealer { dealer.old.me ≡ (view false (new_passes 0 count), []) }
+        ensures { IfOk result (λ ps. (length ps.items ≡ count) × AreNew (identity_of self.now) ps.items) }
     {
-        let mut passes = Vec::with_capacity(alloc, n as usize)?;
-        for _i in 0..n {
-            passes.push(self.cut(dealer))?;
+        let mut passes = Vec::with_capacity(alloc, count as usize)?;
+        for _i in 0..count {
+            passes.push(self.split_pass(dealer))?;
         }
         Ok(passes)
     }
 
     // Tries to acquire the lock once; returns whether the seat is inside now.
-    fn try_in(&self, seat: &mut Seat<Option<V>, View<V::Item>>) -> bool
+    fn try_acquire(&self, seat: &mut Seat<Option<V>, SeatView<V::Item>>) -> bool
         requires table { seat.old.table_id ≡ identity_of self.now }
         requires pass { IsPass seat.old.me }
         ensures table { seat.new.table_id ≡ seat.old.table_id }
-        ensures entered { IsTrue result → Entered V.log seat.old.me seat.new.me }
+        ensures entered { IsTrue result → HasEntered V.log seat.old.me seat.new.me }
         ensures same { result ≡ false → seat.new.me ≡ seat.old.me }
     {
         let found = self
@@ -147,16 +147,16 @@ impl<V: Kept> Turnstile<V> {
     }
 
     // Tries to acquire the lock for about as long as another pass stays inside; returns whether the seat is inside now.
-    fn try_for_a_while(&self, seat: &mut Seat<Option<V>, View<V::Item>>) -> bool
+    fn spin_acquire(&self, seat: &mut Seat<Option<V>, SeatView<V::Item>>) -> bool
         requires table { seat.old.table_id ≡ identity_of self.now }
         requires pass { IsPass seat.old.me }
         ensures table { seat.new.table_id ≡ seat.old.table_id }
-        ensures entered { IsTrue result → Entered V.log seat.old.me seat.new.me }
+        ensures entered { IsTrue result → HasEntered V.log seat.old.me seat.new.me }
         ensures same { result ≡ false → seat.new.me ≡ seat.old.me }
     {
         let backoff = Backoff::new();
         for _ in 0..TRIES {
-            if self.try_in(seat) {
+            if self.try_acquire(seat) {
                 return true;
             }
             backoff.spin();
@@ -181,7 +181,7 @@ impl<V: Kept> Turnstile<V> {
     {
         let Pass { mut seat } = pass;
         for _ in rt.forever() {
-            if self.try_for_a_while(&mut seat) {
+            if self.spin_acquire(&mut seat) {
                 break;
             }
             self.sleep(rt, &self.entering, 0, 1);
@@ -190,31 +190,31 @@ impl<V: Kept> Turnstile<V> {
     }
 
     // Takes the value out of its slot.
-    fn take_value(&self, mut seat: Seat<Option<V>, View<V::Item>>) -> Inside<V>
+    fn take_value(&self, mut seat: Seat<Option<V>, SeatView<V::Item>>) -> Inside<V>
         requires table { seat.table_id ≡ identity_of self.now }
         requires value { HasValue V.log seat.me }
         ensures table { turnstile_around result ≡ seat.table_id }
-        ensures view { result.place.seat.me.0 ≡ seat.me.0 }
+        ensures view { result.held.seat.me.0 ≡ seat.me.0 }
         ensures log { found_inside result ≡ V.log (value_inside result) }
     {
         let Some(value) = self.table.shared.exchange(&mut seat, 0, None) else {
             unreachable!()
         };
         Inside {
-            place: Place { seat },
+            held: HeldSeat { seat },
             value,
         }
     }
 
     // Puts the value back into its slot.
-    fn put_value(&self, inside: Inside<V>) -> Seat<Option<V>, View<V::Item>>
+    fn put_value(&self, inside: Inside<V>) -> Seat<Option<V>, SeatView<V::Item>>
         requires { turnstile_around inside ≡ identity_of self.now }
         ensures table { result.table_id ≡ turnstile_around inside }
-        ensures view { result.me.0 ≡ inside.place.seat.me.0 }
+        ensures view { result.me.0 ≡ inside.held.seat.me.0 }
         ensures slot { result.me.1 ≡ (0, Some (value_inside inside)) ∷ [] }
     {
-        let Inside { place, value } = inside;
-        let Place { mut seat } = place;
+        let Inside { held, value } = inside;
+        let HeldSeat { mut seat } = held;
         match self.table.shared.exchange(&mut seat, 0, Some(value)) {
             None => seat,
             Some(_) => unreachable!(),
@@ -222,7 +222,7 @@ impl<V: Kept> Turnstile<V> {
     }
 
     // Makes the seat's view the log of the value in its slot, and stores the hint.
-    fn see(&self, seat: &mut Seat<Option<V>, View<V::Item>>, hint: u64)
+    fn publish(&self, seat: &mut Seat<Option<V>, SeatView<V::Item>>, hint: u64)
         requires table { seat.old.table_id ≡ identity_of self.now }
         requires value { (x : _) × (seat.old.me.0 ≡ inside (number_in seat.old.me) (seen_in seat.old.me))
             × (seat.old.me.1 ≡ (0, Some x) ∷ []) × GrownBy (number_in seat.old.me) (seen_in seat.old.me) (V.log x) }
@@ -230,11 +230,11 @@ impl<V: Kept> Turnstile<V> {
         ensures view { seat.new.me.0 ≡ inside (number_in seat.old.me) (carried_log V.log seat.old.me.1) }
         ensures slot { seat.new.me.1 ≡ seat.old.me.1 }
     {
-        self.table.shared.store::<See<V>>(seat, 1, hint);
+        self.table.shared.store::<Publish<V>>(seat, 1, hint);
     }
 
     // Releases the lock, so that another seat can enter.
-    fn go_out(&self, seat: &mut Seat<Option<V>, View<V::Item>>)
+    fn release(&self, seat: &mut Seat<Option<V>, SeatView<V::Item>>)
         requires table { seat.old.table_id ≡ identity_of self.now }
         requires value { (x : _) × (seat.old.me.0 ≡ inside (number_in seat.old.me) (V.log x)) × (seat.old.me.1 ≡ (0, Some x) ∷ []) }
         ensures table { seat.new.table_id ≡ seat.old.table_id }
@@ -253,8 +253,8 @@ impl<V: Kept> Turnstile<V> {
         ensures seen { seen_by result ≡ V.log (value_inside inside) }
     {
         let mut seat = self.put_value(inside);
-        self.see(&mut seat, hint);
-        self.go_out(&mut seat);
+        self.publish(&mut seat, hint);
+        self.release(&mut seat);
         Pass { seat }
     }
 
@@ -271,7 +271,7 @@ impl<V: Kept> Turnstile<V> {
     }
 
     /// Leaves the turnstile like `leave`, and wakes one thread that sleeps in `enter`, if any: for a thread that is about to wait itself.
-    pub fn leave_and_pass_on(&self, inside: Inside<V>) -> Pass<V>
+    pub fn leave_and_wake_one(&self, inside: Inside<V>) -> Pass<V>
         requires turnstile { turnstile_around inside ≡ identity_of self.now }
         requires grown { GrownBy (number_inside inside) (found_inside inside) (V.log (value_inside inside)) }
         ensures turnstile { turnstile_of result ≡ turnstile_around inside }
@@ -283,9 +283,9 @@ impl<V: Kept> Turnstile<V> {
         pass
     }
 
-    /// Leaves the turnstile like `leave_and_pass_on`, after a change that others may wait for: the hint changes, and all threads that sleep in
-    /// `nap` are woken. If no thread sleeps, there is no system call.
-    pub fn leave_and_wake(&self, inside: Inside<V>) -> Pass<V>
+    /// Leaves the turnstile like `leave_and_wake_one`, after a change that others may wait for: the hint changes, and all threads that sleep in
+    /// `park_briefly` are woken. If no thread sleeps, there is no system call.
+    pub fn leave_and_wake_all(&self, inside: Inside<V>) -> Pass<V>
         requires turnstile { turnstile_around inside ≡ identity_of self.now }
         requires grown { GrownBy (number_inside inside) (found_inside inside) (V.log (value_inside inside)) }
         ensures turnstile { turnstile_of result ≡ turnstile_around inside }
@@ -293,7 +293,7 @@ impl<V: Kept> Turnstile<V> {
         ensures seen { seen_by result ≡ V.log (value_inside inside) }
     {
         let pass = self.leave_hint(inside, self.hint().wrapping_add(1));
-        if self.napping.load(Ordering::SeqCst) > 0 {
+        if self.parked.load(Ordering::SeqCst) > 0 {
             self.table.shared.wake_all(1);
         }
         self.wake_one_entering();
@@ -322,12 +322,12 @@ impl<V: Kept> Turnstile<V> {
         };
         let Pass { mut seat } = last;
         while let Some(pass) = passes.pop() {
-            seat = self.joined(pass, seat);
+            seat = self.join_pass(pass, seat);
         }
         let Turnstile {
             table,
             entering: _,
-            napping: _,
+            parked: _,
         } = self;
         let mut closed = table.close_with(seat);
         let value = closed.take(0);
@@ -339,29 +339,29 @@ impl<V: Kept> Turnstile<V> {
     }
 
     // Joins the pass's seat with one that represents other passes.
-    fn joined(
+    fn join_pass(
         &self,
         pass: Pass<V>,
-        other: Seat<Option<V>, View<V::Item>>,
-    ) -> Seat<Option<V>, View<V::Item>>
+        other: Seat<Option<V>, SeatView<V::Item>>,
+    ) -> Seat<Option<V>, SeatView<V::Item>>
         requires table { (turnstile_of pass ≡ identity_of self.now) × (other.table_id ≡ identity_of self.now) }
-        requires other { other.me ≡ (view false other.me.0.parts, []) }
+        requires other { other.me ≡ (view false other.me.0.passes, []) }
         ensures table { result.table_id ≡ identity_of self.now }
-        ensures both { result.me ≡ (view false (part_of pass ∷ other.me.0.parts), []) }
+        ensures both { result.me ≡ (view false (pass_view_of pass ∷ other.me.0.passes), []) }
     {
         let Pass { mut seat } = pass;
-        self.table.shared.join_seat::<Both>(&mut seat, other);
+        self.table.shared.join_seat::<JoinPasses>(&mut seat, other);
         seat
     }
 
-    /// A number that `leave_and_wake` changes. Nothing that is proved depends on it.
+    /// A number that `leave_and_wake_all` changes. Nothing that is proved depends on it.
     pub fn hint(&self) -> u64 {
         self.table.shared.peek(1)
     }
 
     /// Sleeps until it is woken, at most for 50 microseconds, unless the hint is no longer `hint` (compared by the lower 32 bits).
-    pub fn nap<R: Wait>(&self, rt: &R, hint: u64) {
-        self.sleep(rt, &self.napping, 1, (hint & 0xffff_ffff) as u32);
+    pub fn park_briefly<R: Wait>(&self, rt: &R, hint: u64) {
+        self.sleep(rt, &self.parked, 1, (hint & 0xffff_ffff) as u32);
     }
 
     // Sleeps until it is woken, at most for 50 microseconds, unless the table's word with this index no longer has this number. The thread
@@ -369,7 +369,7 @@ impl<V: Kept> Turnstile<V> {
     fn sleep<R: Wait>(&self, rt: &R, asleep: &AtomicUsize, word: usize, number: u32)
         requires { word < 2 }
     {
-        let moment = Duration::from_micros(NAP);
+        let moment = Duration::from_micros(PARK_MICROS);
         asleep.fetch_add(1, Ordering::SeqCst);
         self.table.shared.park_timeout(rt, word, number, moment);
         asleep.fetch_sub(1, Ordering::SeqCst);

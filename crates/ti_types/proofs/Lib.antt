@@ -4,8 +4,8 @@ mod Rows
 mod Loops
 mod Parameters
 mod Repeated
-mod Told
-mod ToldNodes
+mod Summaries
+mod NodeSummaries
 mod Walked
 mod Taken
 mod WordsAlone

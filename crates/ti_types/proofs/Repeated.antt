@@ -5,7 +5,7 @@ use Rattle.ti_syntax.specs.declared.tree.types.Qualifier.{Qualifier}
 use Rattle.ti_lang.specs.Scopes.{is_single_word}
 use Rattle.ti_rules.specs.declared.rule.Rule.TheVariants.{Y7}
 use Rattle.ti_rules.specs.Refusals.{refused_if}
-use Rattle.ti_rules.specs.Mirrors.First.{first_of}
+use Rattle.ti_rules.specs.Mirrors.First.{earliest}
 use Rattle.ti_rules.specs.Broken.Words.{same_qualifier, repeated_qualifiers}
 use Rattle.ti_lang.specs.Typing.Kinds.{same_truth}
 use Rattle.ti_types.specs.Mirrors.Words.{qualifiers_again}
@@ -45,7 +45,7 @@ again_is before (q ∷ rest) =
     ap (λ b. refused_if b Y7 q.place ++ qualifiers_again (any_single (q ∷ before)) (any_local (q ∷ before)) rest) (among q before)
     ∙ ap (λ l. refused_if (list_any (same_qualifier q) before) Y7 q.place ++ l) (again_is (q ∷ before) rest)
 
-pub none_before : (words : List Qualifier) → first_of (qualifiers_again false false words) ≡ first_of (repeated_qualifiers [] words)
-none_before words = ap first_of (again_is [] words)
+pub none_before : (words : List Qualifier) → earliest (qualifiers_again false false words) ≡ earliest (repeated_qualifiers [] words)
+none_before words = ap earliest (again_is [] words)
 
 pub ruleset repeated = (none_before)

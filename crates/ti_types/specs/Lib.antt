@@ -1,3 +1,3 @@
 pub mod Answer
-pub mod Judging
+pub mod Results
 pub mod Mirrors

@@ -3,29 +3,29 @@ ghost use Rattle.std.specs.Prelude.{◌≡◌, [], ◌∷◌, None};
 ghost use Rattle.std.specs.Option.{option_map, option_and_then};
 ghost use Rattle.ti_lang.specs.Program.Views.{program_of};
 ghost use Rattle.ti_lang.specs.Typing.BuiltIn.{same_grids, has_local_elements, can_copy, can_exchange, member_type, Contains, Restrict, Translate};
-ghost use Rattle.ti_rules.specs.Mirrors.First.{first_of};
+ghost use Rattle.ti_rules.specs.Mirrors.First.{earliest};
 ghost use Rattle.ti_rules.specs.Broken.Calls.{has_member, arity, copy_refusals, exchange_refusals, slice_refusals, takes_local};
-ghost use Rattle.ti_lang.specs.Typing.Seen.{seen, built_in_of};
-ghost use Rattle.ti_types.specs.Mirrors.Arguments.{told_of};
-ghost use Rattle.ti_types.specs.Mirrors.BuiltIn.{arguments_by, told_member, other_refusals, one_refusals, told_arguments, told_built_in};
-ghost use Rattle.ti_types.specs.Judging.{typed_of};
+ghost use Rattle.ti_lang.specs.Typing.TyRef.{ty_view, built_in_of};
+ghost use Rattle.ti_types.specs.Mirrors.Arguments.{summary_of};
+ghost use Rattle.ti_types.specs.Mirrors.BuiltIn.{arguments_by, summary_member_type, other_refusals, one_refusals, summary_argument_refusals, summary_built_in_refusals};
+ghost use Rattle.ti_types.specs.Results.{typed_of};
 ghost use Rattle.ti_lang.specs.Typing.Expressions.{plain};
 ghost use Rattle.ti_lang.specs.Typing.Kinds.{where_true};
 
 use crate::arguments::{ArgumentTypes, is_int};
-use crate::fitting::fits;
-use crate::judged::Judged;
-use crate::refused::mistaken;
+use crate::fitting::is_assignable;
+use crate::refusals::operand_refusal;
+use crate::typed_expr::TypedExpr;
 use ti_base::Place;
-use ti_lang::typing::{BuiltIn, Seen, same_elements};
-use ti_rules::{Refusal, Rule, refused_if, sooner};
+use ti_lang::typing::{BuiltIn, TyRef, same_elements};
+use ti_rules::{Refusal, Rule, earlier_of, refused_if};
 
-fn has_member(b: BuiltIn, t: Seen) -> bool
-    ensures { result ≡ has_member (built_in_of b) (seen t.entry) }
+fn has_member(member: BuiltIn, ty: TyRef) -> bool
+    ensures { result ≡ has_member (built_in_of member) (ty_view ty.entry) }
 {
-    match (b, t) {
-        (BuiltIn::Size | BuiltIn::Contains, _) => t.domain_dim().is_some(),
-        (BuiltIn::Min | BuiltIn::Max, Seen::Rc(_)) => true,
+    match (member, ty) {
+        (BuiltIn::Size | BuiltIn::Contains, _) => ty.domain_dim().is_some(),
+        (BuiltIn::Min | BuiltIn::Max, TyRef::Rc(_)) => true,
         (
             BuiltIn::Domain
             | BuiltIn::Restrict
@@ -33,17 +33,17 @@ fn has_member(b: BuiltIn, t: Seen) -> bool
             | BuiltIn::Slice
             | BuiltIn::Copy
             | BuiltIn::Exchange,
-            Seen::Grid { .. },
+            TyRef::Grid { .. },
         ) => true,
-        (BuiltIn::Delete, Seen::Region) => true,
+        (BuiltIn::Delete, TyRef::Region) => true,
         _ => false,
     }
 }
 
-fn arity(b: BuiltIn) -> usize
-    ensures { result ≡ arity (built_in_of b) }
+fn arity(member: BuiltIn) -> usize
+    ensures { result ≡ arity (built_in_of member) }
 {
-    match b {
+    match member {
         BuiltIn::Contains
         | BuiltIn::Restrict
         | BuiltIn::Translate
@@ -54,136 +54,144 @@ fn arity(b: BuiltIn) -> usize
     }
 }
 
-fn same_grids<'a>(t: Seen<'a>, u: Seen<'a>) -> bool
-    ensures { result ≡ same_grids (seen t.entry) (seen u.entry) }
+fn same_grids<'a>(ty: TyRef<'a>, arg: TyRef<'a>) -> bool
+    ensures { result ≡ same_grids (ty_view ty.entry) (ty_view arg.entry) }
 {
-    match (t, u) {
+    match (ty, arg) {
         (
-            Seen::Grid {
-                elem: t,
+            TyRef::Grid {
+                elem: ty,
                 any_dim: t_any,
                 dim: n,
                 local: _,
             },
-            Seen::Grid {
-                elem: u,
+            TyRef::Grid {
+                elem: arg,
                 any_dim: u_any,
                 dim: m,
                 local: _,
             },
-        ) => same_elements(t, t_any, u, u_any) && n == m,
+        ) => same_elements(ty, t_any, arg, u_any) && n == m,
         _ => false,
     }
 }
 
-fn has_local_elements(t: Seen) -> bool
-    ensures { result ≡ has_local_elements (seen t.entry) }
+fn has_local_elements(ty: TyRef) -> bool
+    ensures { result ≡ has_local_elements (ty_view ty.entry) }
 {
-    match t {
-        Seen::Grid { elem, any_dim, .. } => Seen::of(elem, any_dim).is_local(),
+    match ty {
+        TyRef::Grid { elem, any_dim, .. } => TyRef::of(elem, any_dim).is_local(),
         _ => false,
     }
 }
 
-fn can_copy<'a>(t: Seen<'a>, u: Seen<'a>) -> bool
-    ensures { result ≡ can_copy (seen t.entry) (seen u.entry) }
+fn can_copy<'a>(ty: TyRef<'a>, arg: TyRef<'a>) -> bool
+    ensures { result ≡ can_copy (ty_view ty.entry) (ty_view arg.entry) }
 {
-    !has_local_elements(t) || t.is_local() && u.is_local()
+    !has_local_elements(ty) || ty.is_local() && arg.is_local()
 }
 
-fn can_exchange<'a>(t: Seen<'a>, u: Seen<'a>) -> bool
-    ensures { result ≡ can_exchange (seen t.entry) (seen u.entry) }
+fn can_exchange<'a>(ty: TyRef<'a>, arg: TyRef<'a>) -> bool
+    ensures { result ≡ can_exchange (ty_view ty.entry) (ty_view arg.entry) }
 {
-    match t {
-        Seen::Grid {
+    match ty {
+        TyRef::Grid {
             elem,
             any_dim,
             dim,
             ..
-        } => dim == 1 && fits(u, Seen::of(elem, any_dim)),
+        } => dim == 1 && is_assignable(arg, TyRef::of(elem, any_dim)),
         _ => false,
     }
 }
 
-/// The result type of a built-in member without arguments, if `t` has it.
-fn given_none<'a>(b: BuiltIn, t: Seen<'a>) -> Option<Seen<'a>>
-    ensures { option_map seen result ≡ member_type (built_in_of b) (seen t.entry) [] }
+/// The result type of a built-in member without arguments, if `ty` has it.
+fn type_without_arguments<'a>(member: BuiltIn, ty: TyRef<'a>) -> Option<TyRef<'a>>
+    ensures { option_map ty_view result ≡ member_type (built_in_of member) (ty_view ty.entry) [] }
 {
-    match (b, t) {
-        (BuiltIn::Size, Seen::Rc(_) | Seen::Dm(_)) => Some(Seen::Int),
-        (BuiltIn::Min | BuiltIn::Max, Seen::Rc(n)) => Some(Seen::Pt(n)),
-        (BuiltIn::Domain, Seen::Grid { dim, .. }) => Some(Seen::Rc(dim)),
-        (BuiltIn::Delete, Seen::Region) => Some(Seen::Void),
+    match (member, ty) {
+        (BuiltIn::Size, TyRef::Rc(_) | TyRef::Dm(_)) => Some(TyRef::Int),
+        (BuiltIn::Min | BuiltIn::Max, TyRef::Rc(n)) => Some(TyRef::Pt(n)),
+        (BuiltIn::Domain, TyRef::Grid { dim, .. }) => Some(TyRef::Rc(dim)),
+        (BuiltIn::Delete, TyRef::Region) => Some(TyRef::Void),
         _ => None,
     }
 }
 
-fn where_true<'a>(test: bool, t: Seen<'a>) -> Option<Seen<'a>>
-    ensures { option_map seen result ≡ where_true test (seen t.entry) }
+fn where_true<'a>(test: bool, ty: TyRef<'a>) -> Option<TyRef<'a>>
+    ensures { option_map ty_view result ≡ where_true test (ty_view ty.entry) }
 {
-    if test { Some(t) } else { None }
+    if test { Some(ty) } else { None }
 }
 
-fn contains_type<'a>(t: Seen<'a>, u: Seen<'a>) -> Option<Seen<'a>>
-    ensures { option_map seen result ≡ member_type Contains (seen t.entry) (seen u.entry ∷ []) }
+fn contains_type<'a>(ty: TyRef<'a>, arg: TyRef<'a>) -> Option<TyRef<'a>>
+    ensures { option_map ty_view result ≡ member_type Contains (ty_view ty.entry) (ty_view arg.entry ∷ []) }
 {
-    match (t, u) {
-        (Seen::Rc(n), Seen::Pt(m)) => where_true(n == m, Seen::Bool),
-        (Seen::Dm(n), Seen::Pt(m)) => where_true(n == m, Seen::Bool),
+    match (ty, arg) {
+        (TyRef::Rc(n), TyRef::Pt(m)) => where_true(n == m, TyRef::Bool),
+        (TyRef::Dm(n), TyRef::Pt(m)) => where_true(n == m, TyRef::Bool),
         _ => None,
     }
 }
 
-fn restrict_type<'a>(t: Seen<'a>, u: Seen<'a>) -> Option<Seen<'a>>
-    ensures { option_map seen result ≡ member_type Restrict (seen t.entry) (seen u.entry ∷ []) }
+fn restrict_type<'a>(ty: TyRef<'a>, arg: TyRef<'a>) -> Option<TyRef<'a>>
+    ensures { option_map ty_view result ≡ member_type Restrict (ty_view ty.entry) (ty_view arg.entry ∷ []) }
 {
-    match (t, u) {
-        (Seen::Grid { dim, .. }, Seen::Rc(m)) => where_true(dim == m, t),
+    match (ty, arg) {
+        (TyRef::Grid { dim, .. }, TyRef::Rc(m)) => where_true(dim == m, ty),
         _ => None,
     }
 }
 
-fn translate_type<'a>(t: Seen<'a>, u: Seen<'a>) -> Option<Seen<'a>>
-    ensures { option_map seen result ≡ member_type Translate (seen t.entry) (seen u.entry ∷ []) }
+fn translate_type<'a>(ty: TyRef<'a>, arg: TyRef<'a>) -> Option<TyRef<'a>>
+    ensures { option_map ty_view result ≡ member_type Translate (ty_view ty.entry) (ty_view arg.entry ∷ []) }
 {
-    match (t, u) {
-        (Seen::Grid { dim, .. }, Seen::Pt(m)) => where_true(dim == m, t),
+    match (ty, arg) {
+        (TyRef::Grid { dim, .. }, TyRef::Pt(m)) => where_true(dim == m, ty),
         _ => None,
     }
 }
 
-/// The result type of a built-in member with one argument, if `t` has it and it accepts the argument.
-fn given_one<'a>(b: BuiltIn, t: Seen<'a>, u: Seen<'a>) -> Option<Seen<'a>>
-    ensures { option_map seen result ≡ member_type (built_in_of b) (seen t.entry) (seen u.entry ∷ []) }
+/// The result type of a built-in member with one argument, if `ty` has it and it accepts the argument.
+fn type_with_one<'a>(member: BuiltIn, ty: TyRef<'a>, arg: TyRef<'a>) -> Option<TyRef<'a>>
+    ensures { option_map ty_view result ≡ member_type (built_in_of member) (ty_view ty.entry) (ty_view arg.entry ∷ []) }
 {
-    match b {
-        BuiltIn::Contains => contains_type(t, u),
-        BuiltIn::Restrict => restrict_type(t, u),
-        BuiltIn::Translate => translate_type(t, u),
-        BuiltIn::Copy => where_true(same_grids(t, u) && can_copy(t, u), Seen::Void),
-        BuiltIn::Exchange => where_true(can_exchange(t, u) && !has_local_elements(t), Seen::Void),
+    match member {
+        BuiltIn::Contains => contains_type(ty, arg),
+        BuiltIn::Restrict => restrict_type(ty, arg),
+        BuiltIn::Translate => translate_type(ty, arg),
+        BuiltIn::Copy => where_true(same_grids(ty, arg) && can_copy(ty, arg), TyRef::Void),
+        BuiltIn::Exchange => where_true(
+            can_exchange(ty, arg) && !has_local_elements(ty),
+            TyRef::Void,
+        ),
         _ => None,
     }
 }
 
-/// The result type of a built-in member with two arguments, if `t` has it and it accepts them.
-fn given_two<'a>(b: BuiltIn, t: Seen<'a>, u: Seen<'a>, v: Seen<'a>) -> Option<Seen<'a>>
-    ensures { option_map seen result ≡ member_type (built_in_of b) (seen t.entry) (seen u.entry ∷ seen v.entry ∷ []) }
+/// The result type of a built-in member with two arguments, if `ty` has it and it accepts them.
+fn type_with_two<'a>(
+    member: BuiltIn,
+    ty: TyRef<'a>,
+    arg: TyRef<'a>,
+    second: TyRef<'a>,
+) -> Option<TyRef<'a>>
+    ensures { option_map ty_view result ≡ member_type (built_in_of member) (ty_view ty.entry) (ty_view arg.entry ∷ ty_view second.entry ∷ []) }
 {
-    match (b, t, u, v) {
+    match (member, ty, arg, second) {
         (
             BuiltIn::Slice,
-            Seen::Grid {
+            TyRef::Grid {
                 elem,
                 any_dim,
                 dim,
                 local,
             },
-            Seen::Int,
-            Seen::Int,
+            TyRef::Int,
+            TyRef::Int,
         ) => {
             if dim > 1 {
-                Some(Seen::Grid {
+                Some(TyRef::Grid {
                     elem,
                     any_dim,
                     dim: dim - 1,
@@ -197,65 +205,87 @@ fn given_two<'a>(b: BuiltIn, t: Seen<'a>, u: Seen<'a>, v: Seen<'a>) -> Option<Se
     }
 }
 
-/// The result type of a built-in member with `count` arguments, if `t` has it and it accepts them.
-pub fn given<'a>(b: BuiltIn, t: Seen<'a>, count: usize, told: ArgumentTypes<'a>) -> Option<Seen<'a>>
-    ensures { option_map seen result ≡ told_member (built_in_of b) (seen t.entry) count (told_of told.entry) }
+/// The result type of a built-in member with `count` arguments, if `ty` has it and it accepts them.
+pub fn built_in_type<'a>(
+    member: BuiltIn,
+    ty: TyRef<'a>,
+    count: usize,
+    summary: ArgumentTypes<'a>,
+) -> Option<TyRef<'a>>
+    ensures { option_map ty_view result ≡ summary_member_type (built_in_of member) (ty_view ty.entry) count (summary_of summary.entry) }
 {
-    match (told.first, told.second) {
-        (None, _) => if count == 0 { given_none(b, t) } else { None },
-        (Some(u), None) => if count == 1 { given_one(b, t, u) } else { None },
-        (Some(u), Some(v)) => if count == 2 {
-            given_two(b, t, u, v)
+    match (summary.first, summary.second) {
+        (None, _) => if count == 0 {
+            type_without_arguments(member, ty)
+        } else {
+            None
+        },
+        (Some(arg), None) => if count == 1 {
+            type_with_one(member, ty, arg)
+        } else {
+            None
+        },
+        (Some(arg), Some(second)) => if count == 2 {
+            type_with_two(member, ty, arg, second)
         } else {
             None
         },
     }
 }
 
-#[tactic(auto, unfolding(ti_rules::specs::Mirrors::First::first_of))]
-fn copy_refusal<'a>(place: Place, t: Seen<'a>, u: Seen<'a>) -> Option<Refusal>
-    ensures { result ≡ first_of (copy_refusals place (seen t.entry) (seen u.entry ∷ [])) }
+#[tactic(auto, unfolding(ti_rules::specs::Mirrors::First::earliest))]
+fn copy_refusal<'a>(place: Place, ty: TyRef<'a>, arg: TyRef<'a>) -> Option<Refusal>
+    ensures { result ≡ earliest (copy_refusals place (ty_view ty.entry) (ty_view arg.entry ∷ [])) }
 {
-    if same_grids(t, u) {
-        refused_if(!can_copy(t, u), Rule::Q2, place)
+    if same_grids(ty, arg) {
+        refused_if(!can_copy(ty, arg), Rule::Q2, place)
     } else {
-        mistaken(place, false, same_grids(t.one_dim(), u.one_dim()))
+        operand_refusal(place, false, same_grids(ty.erase_dims(), arg.erase_dims()))
     }
 }
 
-fn takes_local<'a>(t: Seen<'a>, u: Seen<'a>) -> bool
-    ensures { result ≡ takes_local (seen t.entry) (seen u.entry) }
+fn takes_local<'a>(ty: TyRef<'a>, arg: TyRef<'a>) -> bool
+    ensures { result ≡ takes_local (ty_view ty.entry) (ty_view arg.entry) }
 {
-    match t {
-        Seen::Grid {
+    match ty {
+        TyRef::Grid {
             elem,
             any_dim,
             dim,
             ..
-        } => dim == 1 && fits(u.with_local(true), Seen::of(elem, any_dim)),
+        } => dim == 1 && is_assignable(arg.with_local(true), TyRef::of(elem, any_dim)),
         _ => false,
     }
 }
 
 #[tactic(auto, using(ti_rules::proofs::Lemmas::firsts))]
-fn exchange_refusal<'a>(place: Place, t: Seen<'a>, u: Seen<'a>) -> Option<Refusal>
-    ensures { result ≡ first_of (exchange_refusals place (seen t.entry) (seen u.entry ∷ [])) }
+fn exchange_refusal<'a>(place: Place, ty: TyRef<'a>, arg: TyRef<'a>) -> Option<Refusal>
+    ensures { result ≡ earliest (exchange_refusals place (ty_view ty.entry) (ty_view arg.entry ∷ [])) }
 {
-    let taken = can_exchange(t, u) || takes_local(t, u);
-    sooner(
-        mistaken(place, taken, can_exchange(t.one_dim(), u.one_dim())),
-        refused_if(has_local_elements(t), Rule::Q3, place),
+    let taken = can_exchange(ty, arg) || takes_local(ty, arg);
+    earlier_of(
+        operand_refusal(
+            place,
+            taken,
+            can_exchange(ty.erase_dims(), arg.erase_dims()),
+        ),
+        refused_if(has_local_elements(ty), Rule::Q3, place),
     )
 }
 
-#[tactic(auto, unfolding(ti_rules::specs::Mirrors::First::first_of))]
-fn slice_refusal<'a>(place: Place, t: Seen<'a>, u: Seen<'a>, v: Seen<'a>) -> Option<Refusal>
-    ensures { result ≡ first_of (slice_refusals place (seen t.entry) (seen u.entry ∷ seen v.entry ∷ [])) }
+#[tactic(auto, unfolding(ti_rules::specs::Mirrors::First::earliest))]
+fn slice_refusal<'a>(
+    place: Place,
+    ty: TyRef<'a>,
+    arg: TyRef<'a>,
+    second: TyRef<'a>,
+) -> Option<Refusal>
+    ensures { result ≡ earliest (slice_refusals place (ty_view ty.entry) (ty_view arg.entry ∷ ty_view second.entry ∷ [])) }
 {
-    match t {
-        Seen::Grid { dim, .. } => {
+    match ty {
+        TyRef::Grid { dim, .. } => {
             if dim > 1 {
-                mistaken(place, is_int(u) && is_int(v), false)
+                operand_refusal(place, is_int(arg) && is_int(second), false)
             } else {
                 refused_if(true, Rule::Y5, place)
             }
@@ -264,42 +294,56 @@ fn slice_refusal<'a>(place: Place, t: Seen<'a>, u: Seen<'a>, v: Seen<'a>) -> Opt
     }
 }
 
-#[tactic(auto, unfolding(ti_rules::specs::Mirrors::First::first_of))]
+#[tactic(auto, unfolding(ti_rules::specs::Mirrors::First::earliest))]
 fn refusal_of_none<'a>(
     place: Place,
-    b: BuiltIn,
-    t: Seen<'a>,
-    first: Option<Seen<'a>>,
+    member: BuiltIn,
+    ty: TyRef<'a>,
+    first: Option<TyRef<'a>>,
 ) -> Option<Refusal>
-    ensures { result ≡ first_of (arguments_by place (built_in_of b) (seen t.entry) 0 (option_map seen first.entry) None) }
+    ensures { result ≡ earliest (arguments_by place (built_in_of member) (ty_view ty.entry) 0 (option_map ty_view first.entry) None) }
 {
     match first {
         None => {
-            let taken = given_none(b, t).is_some();
-            mistaken(place, taken, given_none(b, t.one_dim()).is_some())
+            let taken = type_without_arguments(member, ty).is_some();
+            operand_refusal(
+                place,
+                taken,
+                type_without_arguments(member, ty.erase_dims()).is_some(),
+            )
         }
         Some(_) => None,
     }
 }
 
 /// The error of an argument that a built-in member doesn't accept by its type: Y5 if only the number of dimensions is wrong, else Y1.
-fn other_refusal<'a>(place: Place, b: BuiltIn, t: Seen<'a>, u: Seen<'a>) -> Option<Refusal>
-    ensures { result ≡ first_of (other_refusals place (built_in_of b) (seen t.entry) (seen u.entry ∷ [])) }
+fn other_refusal<'a>(
+    place: Place,
+    member: BuiltIn,
+    ty: TyRef<'a>,
+    arg: TyRef<'a>,
+) -> Option<Refusal>
+    ensures { result ≡ earliest (other_refusals place (built_in_of member) (ty_view ty.entry) (ty_view arg.entry ∷ [])) }
 {
-    let taken = given_one(b, t, u).is_some();
-    mistaken(
+    let taken = type_with_one(member, ty, arg).is_some();
+    operand_refusal(
         place,
         taken,
-        given_one(b, t.one_dim(), u.one_dim()).is_some(),
+        type_with_one(member, ty.erase_dims(), arg.erase_dims()).is_some(),
     )
 }
 
-fn refusal_of_one<'a>(place: Place, b: BuiltIn, t: Seen<'a>, u: Seen<'a>) -> Option<Refusal>
-    ensures { result ≡ first_of (one_refusals place (built_in_of b) (seen t.entry) (seen u.entry)) }
+fn refusal_of_one<'a>(
+    place: Place,
+    member: BuiltIn,
+    ty: TyRef<'a>,
+    arg: TyRef<'a>,
+) -> Option<Refusal>
+    ensures { result ≡ earliest (one_refusals place (built_in_of member) (ty_view ty.entry) (ty_view arg.entry)) }
 {
-    match b {
-        BuiltIn::Copy => copy_refusal(place, t, u),
-        BuiltIn::Exchange => exchange_refusal(place, t, u),
+    match member {
+        BuiltIn::Copy => copy_refusal(place, ty, arg),
+        BuiltIn::Exchange => exchange_refusal(place, ty, arg),
         BuiltIn::Size
         | BuiltIn::Min
         | BuiltIn::Max
@@ -308,28 +352,28 @@ fn refusal_of_one<'a>(place: Place, b: BuiltIn, t: Seen<'a>, u: Seen<'a>) -> Opt
         | BuiltIn::Restrict
         | BuiltIn::Translate
         | BuiltIn::Slice
-        | BuiltIn::Delete => other_refusal(place, b, t, u),
+        | BuiltIn::Delete => other_refusal(place, member, ty, arg),
     }
 }
 
 /// The first error of a built-in member's arguments, given that their number is right.
-#[tactic(auto, unfolding(ti_rules::specs::Mirrors::First::first_of))]
+#[tactic(auto, unfolding(ti_rules::specs::Mirrors::First::earliest))]
 fn argument_refusal<'a>(
     place: Place,
-    b: BuiltIn,
-    t: Seen<'a>,
-    told: ArgumentTypes<'a>,
+    member: BuiltIn,
+    ty: TyRef<'a>,
+    summary: ArgumentTypes<'a>,
 ) -> Option<Refusal>
-    ensures { result ≡ first_of (told_arguments place (built_in_of b) (seen t.entry) (told_of told.entry)) }
+    ensures { result ≡ earliest (summary_argument_refusals place (built_in_of member) (ty_view ty.entry) (summary_of summary.entry)) }
 {
-    match arity(b) {
-        0 => refusal_of_none(place, b, t, told.first),
-        1 => match (told.first, told.second) {
-            (Some(u), None) => refusal_of_one(place, b, t, u),
+    match arity(member) {
+        0 => refusal_of_none(place, member, ty, summary.first),
+        1 => match (summary.first, summary.second) {
+            (Some(arg), None) => refusal_of_one(place, member, ty, arg),
             _ => None,
         },
-        _ => match (told.first, told.second) {
-            (Some(u), Some(v)) => slice_refusal(place, t, u, v),
+        _ => match (summary.first, summary.second) {
+            (Some(arg), Some(second)) => slice_refusal(place, ty, arg, second),
             _ => None,
         },
     }
@@ -337,59 +381,59 @@ fn argument_refusal<'a>(
 
 /// The first error of a member of a value that isn't an object: Y1 if it has no such member, Y4 if the number of arguments is wrong,
 /// else that of the arguments.
-#[tactic(auto, unfolding(ti_rules::specs::Mirrors::First::first_of))]
+#[tactic(auto, unfolding(ti_rules::specs::Mirrors::First::earliest))]
 fn built_in_refusal<'a>(
     place: Place,
-    b: Option<BuiltIn>,
-    t: Seen<'a>,
+    member: Option<BuiltIn>,
+    ty: TyRef<'a>,
     count: usize,
-    told: ArgumentTypes<'a>,
+    summary: ArgumentTypes<'a>,
 ) -> Option<Refusal>
-    ensures { result ≡ first_of (told_built_in place (option_map built_in_of b) (seen t.entry) count (told_of told.entry)) }
+    ensures { result ≡ earliest (summary_built_in_refusals place (option_map built_in_of member) (ty_view ty.entry) count (summary_of summary.entry)) }
 {
-    match b {
+    match member {
         None => refused_if(true, Rule::Y1, place),
-        Some(b) => {
-            if !has_member(b, t) {
+        Some(member) => {
+            if !has_member(member, ty) {
                 refused_if(true, Rule::Y1, place)
-            } else if count != arity(b) {
+            } else if count != arity(member) {
                 refused_if(true, Rule::Y4, place)
             } else {
-                argument_refusal(place, b, t, told)
+                argument_refusal(place, member, ty, summary)
             }
         }
     }
 }
 
-fn maybe_given<'a>(
-    b: Option<BuiltIn>,
-    t: Seen<'a>,
+fn maybe_built_in_type<'a>(
+    member: Option<BuiltIn>,
+    ty: TyRef<'a>,
     count: usize,
-    told: ArgumentTypes<'a>,
-) -> Option<Seen<'a>>
-    ensures { option_map seen result ≡ option_and_then (λ b. told_member b (seen t.entry) count (told_of told.entry))
-        (option_map built_in_of b) }
+    summary: ArgumentTypes<'a>,
+) -> Option<TyRef<'a>>
+    ensures { option_map ty_view result ≡ option_and_then (λ member. summary_member_type member (ty_view ty.entry) count (summary_of summary.entry))
+        (option_map built_in_of member) }
 {
-    match b {
-        Some(b) => given(b, t, count, told),
+    match member {
+        Some(member) => built_in_type(member, ty, count, summary),
         None => None,
     }
 }
 
 /// The typing result of a member of a value that isn't an object, by itself.
-pub fn member_given<'a>(
+pub fn typed_built_in<'a>(
     place: Place,
-    b: Option<BuiltIn>,
-    t: Seen<'a>,
+    member: Option<BuiltIn>,
+    ty: TyRef<'a>,
     count: usize,
-    told: ArgumentTypes<'a>,
-) -> Judged<'a>
-    ensures known { typed_of result ≡ plain (option_and_then (λ b. told_member b (seen t.entry) count (told_of told.entry))
-        (option_map built_in_of b)) }
-    ensures first { result.first ≡ first_of (told_built_in place (option_map built_in_of b) (seen t.entry) count (told_of told.entry)) }
+    summary: ArgumentTypes<'a>,
+) -> TypedExpr<'a>
+    ensures known { typed_of result ≡ plain (option_and_then (λ member. summary_member_type member (ty_view ty.entry) count (summary_of summary.entry))
+        (option_map built_in_of member)) }
+    ensures first { result.first ≡ earliest (summary_built_in_refusals place (option_map built_in_of member) (ty_view ty.entry) count (summary_of summary.entry)) }
 {
-    Judged::plain(
-        maybe_given(b, t, count, told),
-        built_in_refusal(place, b, t, count, told),
+    TypedExpr::plain(
+        maybe_built_in_type(member, ty, count, summary),
+        built_in_refusal(place, member, ty, count, summary),
     )
 }

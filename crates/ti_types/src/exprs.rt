@@ -4,57 +4,62 @@ ghost use Rattle.std.specs.Option.{option_map};
 ghost use Rattle.ti_lang.specs.Program.Scope.{contents_of};
 ghost use Rattle.ti_lang.specs.Program.Views.{program_of, expression_of, bound_of, numbered_method_of};
 ghost use Rattle.ti_lang.specs.Program.Expressions.{numbered_exps, numbered_ranges};
-ghost use Rattle.ti_types.specs.Mirrors.Arguments.{wanted_types};
-ghost use Rattle.ti_types.specs.Mirrors.Walk.{AreArguments, IsRange, AreRanges};
-ghost use Rattle.ti_types.specs.Judging.{IsJudged};
-ghost use Rattle.ti_lang.specs.Typing.Seen.{seen};
-ghost use Rattle.ti_types.specs.Mirrors.Nodes.{behind};
+ghost use Rattle.ti_types.specs.Mirrors.Arguments.{parameter_types};
+ghost use Rattle.ti_types.specs.Mirrors.Walk.{AreTypedArguments, IsTypedRange, AreTypedRanges};
+ghost use Rattle.ti_types.specs.Results.{IsTypedExpr};
+ghost use Rattle.ti_lang.specs.Typing.TyRef.{ty_view};
+ghost use Rattle.ti_types.specs.Mirrors.Nodes.{member_method};
 
-use crate::arguments::{Arguments, called, wanted};
-use crate::judged::Judged;
+use crate::arguments::{Arguments, parameter_type, typed_call};
 use crate::nodes::{index, member, point, select};
-use crate::rects::{Bounds, rect};
-use ti_lang::program::{Expr, Method, Parts, Range, Scope};
-use ti_lang::typing::{Seen, method, method_behind, own_field_type, this_type, variable_type};
+use crate::rects::{TypedRanges, rect};
+use crate::typed_expr::TypedExpr;
+use ti_lang::program::{Expr, Method, ProgramData, Range, Scope};
+use ti_lang::typing::{TyRef, method, method_behind, own_field_type, this_type, variable_type};
 
 /// The type checker for the expressions of a program. It doesn't allocate: the types in its results are borrowed from the program.
 #[derive(Clone, Copy)]
-pub struct Judge<'a> {
-    pub program: &'a Parts,
+pub struct TypeChecker<'a> {
+    pub program: &'a ProgramData,
 }
 
-impl<'a> Judge<'a> {
-    /// The typing result of an argument list; `m` is the method that is called, if there is one.
+impl<'a> TypeChecker<'a> {
+    /// The typing result of an argument list; `method` is the method that is called, if there is one.
     #[cycle(exp)]
-    fn arguments(&self, scope: &'a Scope, xs: &'a [Expr], m: Option<&'a Method>) -> Arguments<'a>
-        ensures { AreArguments (program_of self.now.program.now) (contents_of scope.now) (numbered_exps (map expression_of xs.now))
-            (wanted_types (option_map (λ m. numbered_method_of m.now) m.entry)) result }
+    fn arguments(
+        &self,
+        scope: &'a Scope,
+        args: &'a [Expr],
+        method: Option<&'a Method>,
+    ) -> Arguments<'a>
+        ensures { AreTypedArguments (program_of self.now.program.now) (contents_of scope.now) (numbered_exps (map expression_of args.now))
+            (parameter_types (option_map (λ method. numbered_method_of method.now) method.entry)) result }
     {
         let mut found = Arguments::none();
-        for i in (0..xs.len()).rev() {
-            let x = &xs[i];
+        for i in (0..args.len()).rev() {
+            let x = &args[i];
             let judged = self.exp(scope, x);
-            found = found.more(x.place(), judged, wanted(m, i));
+            found = found.prepend(x.place(), judged, parameter_type(method, i));
         }
         found
     }
 
     /// The typing result of a range.
     #[cycle(exp)]
-    fn range(&self, scope: &'a Scope, r: &'a Range) -> Bounds<'a>
-        ensures { IsRange (program_of self.now.program.now) (contents_of scope.now) (bound_of r.now) result }
+    fn range(&self, scope: &'a Scope, range: &'a Range) -> TypedRanges<'a>
+        ensures { IsTypedRange (program_of self.now.program.now) (contents_of scope.now) (bound_of range.now) result }
     {
-        match r {
+        match range {
             Range::Plain { low, high } => {
                 let first = self.exp(scope, low);
                 let last = self.exp(scope, high);
-                Bounds::plain(low.place(), first, high.place(), last)
+                TypedRanges::plain(low.place(), first, high.place(), last)
             }
             Range::Stepped { low, high, step } => {
                 let first = self.exp(scope, low);
                 let last = self.exp(scope, high);
                 let by = self.exp(scope, step);
-                Bounds::plain(low.place(), first, high.place(), last).stepped(
+                TypedRanges::plain(low.place(), first, high.place(), last).with_step(
                     first,
                     last,
                     step.place(),
@@ -66,39 +71,39 @@ impl<'a> Judge<'a> {
 
     /// The typing result of a list of ranges.
     #[cycle(exp)]
-    pub(crate) fn ranges(&self, scope: &'a Scope, rs: &'a [Range]) -> Bounds<'a>
-        ensures { AreRanges (program_of self.now.program.now) (contents_of scope.now) (numbered_ranges (map bound_of rs.now)) result }
+    pub(crate) fn ranges(&self, scope: &'a Scope, ranges: &'a [Range]) -> TypedRanges<'a>
+        ensures { AreTypedRanges (program_of self.now.program.now) (contents_of scope.now) (numbered_ranges (map bound_of ranges.now)) result }
     {
-        let mut found = Bounds::none();
-        for i in (0..rs.len()).rev() {
-            let range = self.range(scope, &rs[i]);
-            found = range.before(found);
+        let mut found = TypedRanges::none();
+        for i in (0..ranges.len()).rev() {
+            let range = self.range(scope, &ranges[i]);
+            found = range.prepend_to(found);
         }
         found
     }
 
-    /// The method that a member call on a value of type `t` refers to.
-    fn behind(&self, t: Option<Seen<'a>>, name: u32) -> Option<&'a Method>
-        ensures { option_map (λ m. numbered_method_of m.now) result ≡ behind (program_of self.now.program.now)
-            (option_map seen t.entry) name }
+    /// The method that a member call on a value of type `ty` refers to.
+    fn member_method(&self, ty: Option<TyRef<'a>>, name: u32) -> Option<&'a Method>
+        ensures { option_map (λ m. numbered_method_of m.now) result ≡ member_method (program_of self.now.program.now)
+            (option_map ty_view ty.entry) name }
     {
-        match t {
-            Some(t) => method_behind(self.program, t, name),
+        match ty {
+            Some(ty) => method_behind(self.program, ty, name),
             None => None,
         }
     }
 
     /// The typing result of the most frequent expressions without parts; None for others.
     #[tactic(auto, using(ti_rules::proofs::Lemmas::firsts, ti_lang::proofs::Lemmas::program_bridges))]
-    fn leaf(&self, scope: &'a Scope, e: &'a Expr) -> Option<Judged<'a>>
-        ensures { IfSome result (λ j. IsJudged (program_of self.now.program.now) (contents_of scope.now) (expression_of e.now) j) }
+    fn leaf(&self, scope: &'a Scope, expr: &'a Expr) -> Option<TypedExpr<'a>>
+        ensures { IfSome result (λ j. IsTypedExpr (program_of self.now.program.now) (contents_of scope.now) (expression_of expr.now) j) }
     {
-        match e {
-            Expr::Int(_, _) => Some(Judged::sound(Some(Seen::Int))),
-            Expr::Long(_, _) => Some(Judged::sound(Some(Seen::Long))),
-            Expr::Truth(_, _) => Some(Judged::sound(Some(Seen::Bool))),
-            Expr::Variable(_, v) => Some(Judged::sound(variable_type(scope, v))),
-            Expr::OwnField(_, field) => Some(Judged::sound(own_field_type(
+        match expr {
+            Expr::Int(_, _) => Some(TypedExpr::sound(Some(TyRef::Int))),
+            Expr::Long(_, _) => Some(TypedExpr::sound(Some(TyRef::Long))),
+            Expr::Bool(_, _) => Some(TypedExpr::sound(Some(TyRef::Bool))),
+            Expr::Variable(_, v) => Some(TypedExpr::sound(variable_type(scope, v))),
+            Expr::OwnField(_, field) => Some(TypedExpr::sound(own_field_type(
                 self.program,
                 scope.this,
                 *field,
@@ -110,25 +115,25 @@ impl<'a> Judge<'a> {
     /// The typing result of an expression: its type, if it has one, and its first type error. It has no precondition: a name that refers
     /// to nothing has no type.
     #[cycle(exp)]
-    pub fn exp(&self, scope: &'a Scope, e: &'a Expr) -> Judged<'a>
-        ensures { IsJudged (program_of self.now.program.now) (contents_of scope.now) (expression_of e.now) result }
+    pub fn exp(&self, scope: &'a Scope, expr: &'a Expr) -> TypedExpr<'a>
+        ensures { IsTypedExpr (program_of self.now.program.now) (contents_of scope.now) (expression_of expr.now) result }
     {
-        if let Some(judged) = self.leaf(scope, e) {
+        if let Some(judged) = self.leaf(scope, expr) {
             return judged;
         }
-        match self.operated(scope, e) {
+        match self.operation(scope, expr) {
             Some(judged) => judged,
-            None => self.form(scope, e),
+            None => self.form(scope, expr),
         }
     }
 
     /// The typing result of a unary or binary operation; None for other expressions.
     #[cycle(exp)]
     #[tactic(auto, using(ti_rules::proofs::Lemmas::firsts, ti_lang::proofs::Lemmas::program_bridges))]
-    fn operated(&self, scope: &'a Scope, e: &'a Expr) -> Option<Judged<'a>>
-        ensures { IfSome result (λ j. IsJudged (program_of self.now.program.now) (contents_of scope.now) (expression_of e.now) j) }
+    fn operation(&self, scope: &'a Scope, expr: &'a Expr) -> Option<TypedExpr<'a>>
+        ensures { IfSome result (λ j. IsTypedExpr (program_of self.now.program.now) (contents_of scope.now) (expression_of expr.now) j) }
     {
-        match e {
+        match expr {
             Expr::Binary {
                 place,
                 operator,
@@ -154,23 +159,23 @@ impl<'a> Judge<'a> {
     /// The typing result of an expression of any form.
     #[cycle(exp)]
     #[tactic(auto, using(ti_rules::proofs::Lemmas::firsts, ti_lang::proofs::Lemmas::program_bridges))]
-    fn form(&self, scope: &'a Scope, e: &'a Expr) -> Judged<'a>
-        ensures { IsJudged (program_of self.now.program.now) (contents_of scope.now) (expression_of e.now) result }
+    fn form(&self, scope: &'a Scope, expr: &'a Expr) -> TypedExpr<'a>
+        ensures { IsTypedExpr (program_of self.now.program.now) (contents_of scope.now) (expression_of expr.now) result }
     {
-        match e {
-            Expr::Int(_, _) => Judged::sound(Some(Seen::Int)),
-            Expr::Long(_, _) => Judged::sound(Some(Seen::Long)),
-            Expr::Truth(_, _) => Judged::sound(Some(Seen::Bool)),
-            Expr::Null(_) => Judged::sound(Some(Seen::Null)),
-            Expr::This(_) => Judged::sound(this_type(scope.this)),
-            Expr::Variable(_, v) => Judged::sound(variable_type(scope, v)),
-            Expr::OwnField(_, field) => Judged::sound(own_field_type(
+        match expr {
+            Expr::Int(_, _) => TypedExpr::sound(Some(TyRef::Int)),
+            Expr::Long(_, _) => TypedExpr::sound(Some(TyRef::Long)),
+            Expr::Bool(_, _) => TypedExpr::sound(Some(TyRef::Bool)),
+            Expr::Null(_) => TypedExpr::sound(Some(TyRef::Null)),
+            Expr::This(_) => TypedExpr::sound(this_type(scope.this)),
+            Expr::Variable(_, v) => TypedExpr::sound(variable_type(scope, v)),
+            Expr::OwnField(_, field) => TypedExpr::sound(own_field_type(
                 self.program,
                 scope.this,
                 *field,
             )),
-            Expr::ThisProc(_) => Judged::sound(Some(Seen::Int)),
-            Expr::NumProcs(_) => Judged::sound(Some(Seen::Int)),
+            Expr::ThisProc(_) => TypedExpr::sound(Some(TyRef::Int)),
+            Expr::NumProcs(_) => TypedExpr::sound(Some(TyRef::Int)),
             Expr::Call {
                 place,
                 method: number,
@@ -178,7 +183,7 @@ impl<'a> Judge<'a> {
             } => {
                 let m = method(self.program, *number);
                 let found = self.arguments(scope, args, m);
-                found.whole(called(*place, m, None, args, found.types))
+                found.add_to(typed_call(*place, m, None, args, found.types))
             }
             Expr::OwnCall {
                 place,
@@ -187,15 +192,15 @@ impl<'a> Judge<'a> {
             } => {
                 let m = method(self.program, *number);
                 let found = self.arguments(scope, args, m);
-                found.whole(called(*place, m, None, args, found.types))
+                found.add_to(typed_call(*place, m, None, args, found.types))
             }
             Expr::Point(place, parts) => {
                 let found = self.arguments(scope, parts, None);
-                found.whole(point(*place, parts.len(), found.types))
+                found.add_to(point(*place, parts.len(), found.types))
             }
             Expr::Rect(place, ranges) => {
                 let found = self.ranges(scope, ranges);
-                found.whole(rect(*place, ranges.len(), found.types))
+                found.add_to(rect(*place, ranges.len(), found.types))
             }
             Expr::Unary {
                 place,
@@ -226,7 +231,7 @@ impl<'a> Judge<'a> {
             } => {
                 let judged = self.exp(scope, receiver);
                 let field = select(self.program, *place, judged.operand(), *name);
-                judged.whole(receiver.place(), field)
+                judged.add_to(receiver.place(), field)
             }
             Expr::Member {
                 place,
@@ -236,7 +241,7 @@ impl<'a> Judge<'a> {
             } => {
                 let judged = self.exp(scope, receiver);
                 let t = judged.operand();
-                let m = self.behind(t, *name);
+                let m = self.member_method(t, *name);
                 let found = self.arguments(scope, args, m);
                 let own = member(self.program, *place, t, *name, m, args, found.types);
                 judged.with(receiver.place(), found, own)

@@ -1,35 +1,35 @@
 // Assignability of types.
 ghost use Rattle.std.specs.Prelude.{◌≡◌};
 ghost use Rattle.ti_lang.specs.Typing.Fits.{becomes, fits, casts};
-ghost use Rattle.ti_lang.specs.Typing.Seen.{seen};
+ghost use Rattle.ti_lang.specs.Typing.TyRef.{ty_view};
 
-use ti_lang::typing::Seen;
+use ti_lang::typing::TyRef;
 
-fn becomes(t: Seen, u: Seen) -> bool
-    ensures { result ≡ becomes (seen t.entry) (seen u.entry) }
+fn widens_to(ty: TyRef, target: TyRef) -> bool
+    ensures { result ≡ becomes (ty_view ty.entry) (ty_view target.entry) }
 {
-    match (t, u) {
-        (Seen::Int, Seen::Long) => true,
-        (Seen::Rc(n), Seen::Dm(m)) => n == m,
+    match (ty, target) {
+        (TyRef::Int, TyRef::Long) => true,
+        (TyRef::Rc(n), TyRef::Dm(m)) => n == m,
         _ => false,
     }
 }
 
-/// Whether a value of type `t` can be assigned to a target of type `u`.
-pub fn fits<'p>(t: Seen<'p>, u: Seen<'p>) -> bool
-    ensures { result ≡ fits (seen t.entry) (seen u.entry) }
+/// Whether a value of type `ty` can be assigned to a target of type `target`.
+pub fn is_assignable<'p>(ty: TyRef<'p>, target: TyRef<'p>) -> bool
+    ensures { result ≡ fits (ty_view ty.entry) (ty_view target.entry) }
 {
-    t.same(u)
-        || becomes(t, u)
-        || t.is_reference() && t.with_local(false).same(u)
-        || t.is_null() && u.is_reference()
+    ty.same(target)
+        || widens_to(ty, target)
+        || ty.is_reference() && ty.with_local(false).same(target)
+        || ty.is_null() && target.is_reference()
 }
 
-/// Whether a value of type `t` can be cast to type `to`.
-pub fn casts<'p>(to: Seen<'p>, t: Seen<'p>) -> bool
-    ensures { result ≡ casts (seen to.entry) (seen t.entry) }
+/// Whether a value of type `ty` can be cast to type `to`.
+pub fn is_castable<'p>(to: TyRef<'p>, ty: TyRef<'p>) -> bool
+    ensures { result ≡ casts (ty_view to.entry) (ty_view ty.entry) }
 {
-    to.with_local(false).same(t.with_local(false))
-        || to.is_reference() && t.is_null()
-        || to.is_whole() && t.is_whole()
+    to.with_local(false).same(ty.with_local(false))
+        || to.is_reference() && ty.is_null()
+        || to.is_whole() && ty.is_whole()
 }

@@ -5,30 +5,30 @@ ghost use Rattle.ti_lang.specs.Program.Types.{Pt};
 ghost use Rattle.ti_lang.specs.Program.Expressions.{numbered_exps};
 ghost use Rattle.ti_lang.specs.Program.Views.{program_of, expression_of, numbered_method_of};
 ghost use Rattle.ti_lang.specs.Typing.Kinds.{where_true};
-ghost use Rattle.ti_lang.specs.Typing.Expressions.{plain, both, select_type};
-ghost use Rattle.ti_rules.specs.Mirrors.First.{first_of};
-ghost use Rattle.ti_rules.specs.Broken.Refused.{judged, both_judged, mistaken as mistaken_at};
+ghost use Rattle.ti_lang.specs.Typing.Expressions.{plain, and_then_both, select_type};
+ghost use Rattle.ti_rules.specs.Mirrors.First.{earliest};
+ghost use Rattle.ti_rules.specs.Broken.Refused.{judged, both_judged, operand_refusal as mistaken_at};
 ghost use Rattle.ti_rules.specs.Broken.Expressions.{places_of};
-ghost use Rattle.ti_types.specs.Judging.{typed_of};
-ghost use Rattle.ti_lang.specs.Typing.Seen.{seen};
-ghost use Rattle.ti_types.specs.Mirrors.Arguments.{ToldTypes, told_of};
-ghost use Rattle.ti_types.specs.Mirrors.Nodes.{are_indices, told_index, is_index, told_other, told_behind, behind_refusal};
+ghost use Rattle.ti_types.specs.Results.{typed_of};
+ghost use Rattle.ti_lang.specs.Typing.TyRef.{ty_view};
+ghost use Rattle.ti_types.specs.Mirrors.Arguments.{ArgumentSummary, summary_of};
+ghost use Rattle.ti_types.specs.Mirrors.Nodes.{are_indices, summary_index_type, is_index, summary_other_indices, summary_member, summary_member_refusal};
 
-use crate::arguments::{ArgumentTypes, called};
-use crate::built_in::member_given;
-use crate::judged::Judged;
-use crate::refused::mistaken;
+use crate::arguments::{ArgumentTypes, typed_call};
+use crate::built_in::typed_built_in;
+use crate::refusals::operand_refusal;
+use crate::typed_expr::TypedExpr;
 use ti_base::Place;
-use ti_lang::program::{Expr, Method, Parts};
-use ti_lang::typing::{Seen, built_in, select_type};
+use ti_lang::program::{Expr, Method, ProgramData};
+use ti_lang::typing::{TyRef, built_in, select_type};
 use ti_rules::{Refusal, Rule, refused_if};
 
-fn point_type<'a>(count: usize, types: Option<ArgumentTypes<'a>>) -> Option<Seen<'a>>
-    ensures { option_map seen result ≡ option_and_then (λ (t : ToldTypes). where_true t.ints (Pt count)) (option_map told_of types.entry) }
+fn point_type<'a>(count: usize, types: Option<ArgumentTypes<'a>>) -> Option<TyRef<'a>>
+    ensures { option_map ty_view result ≡ option_and_then (λ (t : ArgumentSummary). where_true t.ints (Pt count)) (option_map summary_of types.entry) }
 {
     match types {
-        Some(told) => if told.ints {
-            Some(Seen::Pt(count))
+        Some(summary) => if summary.ints {
+            Some(TyRef::Pt(count))
         } else {
             None
         },
@@ -36,51 +36,51 @@ fn point_type<'a>(count: usize, types: Option<ArgumentTypes<'a>>) -> Option<Seen
     }
 }
 
-#[tactic(auto, unfolding(ti_rules::specs::Mirrors::First::first_of))]
+#[tactic(auto, unfolding(ti_rules::specs::Mirrors::First::earliest))]
 fn point_refusal(place: Place, types: Option<ArgumentTypes>) -> Option<Refusal>
-    ensures { result ≡ first_of (judged (option_map told_of types.entry) (λ (t : ToldTypes). mistaken_at place t.ints false)) }
+    ensures { result ≡ earliest (judged (option_map summary_of types.entry) (λ (t : ArgumentSummary). mistaken_at place t.ints false)) }
 {
     match types {
-        Some(told) => mistaken(place, told.ints, false),
+        Some(summary) => operand_refusal(place, summary.ints, false),
         None => None,
     }
 }
 
 /// The typing result of a point literal with `count` coordinates, by itself.
-pub fn point<'a>(place: Place, count: usize, types: Option<ArgumentTypes<'a>>) -> Judged<'a>
-    ensures known { typed_of result ≡ plain (option_and_then (λ (t : ToldTypes). where_true t.ints (Pt count))
-        (option_map told_of types.entry)) }
-    ensures first { result.first ≡ first_of (judged (option_map told_of types.entry) (λ (t : ToldTypes). mistaken_at place t.ints false)) }
+pub fn point<'a>(place: Place, count: usize, types: Option<ArgumentTypes<'a>>) -> TypedExpr<'a>
+    ensures known { typed_of result ≡ plain (option_and_then (λ (t : ArgumentSummary). where_true t.ints (Pt count))
+        (option_map summary_of types.entry)) }
+    ensures first { result.first ≡ earliest (judged (option_map summary_of types.entry) (λ (t : ArgumentSummary). mistaken_at place t.ints false)) }
 {
-    Judged::plain(point_type(count, types), point_refusal(place, types))
+    TypedExpr::plain(point_type(count, types), point_refusal(place, types))
 }
 
-fn are_indices<'a>(dim: usize, count: usize, first: Option<Seen<'a>>, ints: bool) -> bool
-    ensures { result ≡ are_indices dim count (option_map seen first.entry) ints }
+fn are_indices<'a>(dim: usize, count: usize, first: Option<TyRef<'a>>, ints: bool) -> bool
+    ensures { result ≡ are_indices dim count (option_map ty_view first.entry) ints }
 {
     match first {
-        Some(Seen::Pt(m)) => count == 1 && dim == m,
+        Some(TyRef::Pt(m)) => count == 1 && dim == m,
         _ => ints && count == dim,
     }
 }
 
-fn index_type<'a>(count: usize, t: Seen<'a>, told: ArgumentTypes<'a>) -> Option<Seen<'a>>
-    ensures { option_map seen result ≡ told_index count (seen t.entry) (told_of told.entry) }
+fn index_type<'a>(count: usize, ty: TyRef<'a>, summary: ArgumentTypes<'a>) -> Option<TyRef<'a>>
+    ensures { option_map ty_view result ≡ summary_index_type count (ty_view ty.entry) (summary_of summary.entry) }
 {
-    match t {
-        Seen::Pt(_) => if told.ints && count == 1 {
-            Some(Seen::Int)
+    match ty {
+        TyRef::Pt(_) => if summary.ints && count == 1 {
+            Some(TyRef::Int)
         } else {
             None
         },
-        Seen::Grid {
+        TyRef::Grid {
             elem,
             any_dim,
             dim,
             local,
         } => {
-            if are_indices(dim, count, told.first, told.ints) {
-                Some(Seen::of(elem, any_dim).read_through(local))
+            if are_indices(dim, count, summary.first, summary.ints) {
+                Some(TyRef::of(elem, any_dim).read_through(local))
             } else {
                 None
             }
@@ -89,20 +89,20 @@ fn index_type<'a>(count: usize, t: Seen<'a>, told: ArgumentTypes<'a>) -> Option<
     }
 }
 
-fn is_index(first: Option<Seen>) -> bool
-    ensures { result ≡ is_index (option_map seen first.entry) }
+fn is_index(first: Option<TyRef>) -> bool
+    ensures { result ≡ is_index (option_map ty_view first.entry) }
 {
-    matches!(first, Some(Seen::Int | Seen::Pt(_)))
+    matches!(first, Some(TyRef::Int | TyRef::Pt(_)))
 }
 
-fn other_indices<'a>(count: usize, t: Seen<'a>, told: ArgumentTypes<'a>) -> bool
-    ensures { result ≡ told_other count (seen t.entry) (told_of told.entry) }
+fn other_indices<'a>(count: usize, ty: TyRef<'a>, summary: ArgumentTypes<'a>) -> bool
+    ensures { result ≡ summary_other_indices count (ty_view ty.entry) (summary_of summary.entry) }
 {
-    match t {
-        Seen::Pt(_) => count != 1,
-        Seen::Grid { dim, .. } => {
+    match ty {
+        TyRef::Pt(_) => count != 1,
+        TyRef::Grid { dim, .. } => {
             if count == 1 {
-                is_index(told.first)
+                is_index(summary.first)
             } else {
                 count != dim
             }
@@ -113,115 +113,126 @@ fn other_indices<'a>(count: usize, t: Seen<'a>, told: ArgumentTypes<'a>) -> bool
 
 fn maybe_index<'a>(
     count: usize,
-    t: Option<Seen<'a>>,
+    ty: Option<TyRef<'a>>,
     types: Option<ArgumentTypes<'a>>,
-) -> Option<Seen<'a>>
-    ensures { option_map seen result ≡ both (option_map seen t.entry) (option_map told_of types.entry) (told_index count) }
+) -> Option<TyRef<'a>>
+    ensures { option_map ty_view result ≡ and_then_both (option_map ty_view ty.entry) (option_map summary_of types.entry) (summary_index_type count) }
 {
-    match (t, types) {
-        (Some(t), Some(told)) => index_type(count, t, told),
+    match (ty, types) {
+        (Some(ty), Some(summary)) => index_type(count, ty, summary),
         _ => None,
     }
 }
 
-#[tactic(auto, unfolding(ti_rules::specs::Mirrors::First::first_of))]
+#[tactic(auto, unfolding(ti_rules::specs::Mirrors::First::earliest))]
 fn index_refusal<'a>(
     place: Place,
     count: usize,
-    t: Option<Seen<'a>>,
+    ty: Option<TyRef<'a>>,
     types: Option<ArgumentTypes<'a>>,
 ) -> Option<Refusal>
-    ensures { result ≡ first_of (both_judged (option_map seen t.entry) (option_map told_of types.entry)
-        (λ u told. mistaken_at place (is_some (told_index count u told)) (told_other count u told))) }
+    ensures { result ≡ earliest (both_judged (option_map ty_view ty.entry) (option_map summary_of types.entry)
+        (λ u summary. mistaken_at place (is_some (summary_index_type count u summary)) (summary_other_indices count u summary))) }
 {
-    match (t, types) {
-        (Some(t), Some(told)) => {
-            let taken = index_type(count, t, told).is_some();
-            mistaken(place, taken, other_indices(count, t, told))
+    match (ty, types) {
+        (Some(ty), Some(summary)) => {
+            let taken = index_type(count, ty, summary).is_some();
+            operand_refusal(place, taken, other_indices(count, ty, summary))
         }
         _ => None,
     }
 }
 
-/// The typing result of an index with `count` indices into a value of type `t`, by itself.
+/// The typing result of an index with `count` indices into a value of type `ty`, by itself.
 pub fn index<'a>(
     place: Place,
     count: usize,
-    t: Option<Seen<'a>>,
+    ty: Option<TyRef<'a>>,
     types: Option<ArgumentTypes<'a>>,
-) -> Judged<'a>
-    ensures known { typed_of result ≡ plain (both (option_map seen t.entry) (option_map told_of types.entry) (told_index count)) }
-    ensures first { result.first ≡ first_of (both_judged (option_map seen t.entry) (option_map told_of types.entry)
-        (λ u told. mistaken_at place (is_some (told_index count u told)) (told_other count u told))) }
+) -> TypedExpr<'a>
+    ensures known { typed_of result ≡ plain (and_then_both (option_map ty_view ty.entry) (option_map summary_of types.entry) (summary_index_type count)) }
+    ensures first { result.first ≡ earliest (both_judged (option_map ty_view ty.entry) (option_map summary_of types.entry)
+        (λ u summary. mistaken_at place (is_some (summary_index_type count u summary)) (summary_other_indices count u summary))) }
 {
-    Judged::plain(
-        maybe_index(count, t, types),
-        index_refusal(place, count, t, types),
+    TypedExpr::plain(
+        maybe_index(count, ty, types),
+        index_refusal(place, count, ty, types),
     )
 }
 
-/// The typing result of a member call on a value of type `t`, by itself; `m` is the method if `t` is a class.
-#[tactic(auto, unfolding(ti_rules::specs::Mirrors::First::first_of))]
+/// The typing result of a member call on a value of type `ty`, by itself; `method` is the method if `ty` is a class.
+#[tactic(auto, unfolding(ti_rules::specs::Mirrors::First::earliest))]
 pub fn member<'a>(
-    program: &'a Parts,
+    program: &'a ProgramData,
     place: Place,
-    t: Option<Seen<'a>>,
+    ty: Option<TyRef<'a>>,
     name: u32,
-    m: Option<&'a Method>,
+    method: Option<&'a Method>,
     args: &'a [Expr],
     types: Option<ArgumentTypes<'a>>,
-) -> Judged<'a>
-    ensures known { typed_of result ≡ told_behind (program_of program.now) (option_map seen t.entry) name
-        (option_map (λ m. numbered_method_of m.now) m.entry) (length args.now) (option_map told_of types.entry) }
-    ensures first { result.first ≡ behind_refusal (program_of program.now) place (places_of (numbered_exps (map expression_of args.now)))
-        (option_map seen t.entry) name (option_map (λ m. numbered_method_of m.now) m.entry) (length args.now)
-        (option_map told_of types.entry) }
+) -> TypedExpr<'a>
+    ensures known { typed_of result ≡ summary_member (program_of program.now) (option_map ty_view ty.entry) name
+        (option_map (λ method. numbered_method_of method.now) method.entry) (length args.now) (option_map summary_of types.entry) }
+    ensures first { result.first ≡ summary_member_refusal (program_of program.now) place (places_of (numbered_exps (map expression_of args.now)))
+        (option_map ty_view ty.entry) name (option_map (λ method. numbered_method_of method.now) method.entry) (length args.now)
+        (option_map summary_of types.entry) }
 {
-    let Some(t) = t else {
-        return Judged::plain(None, None);
+    let Some(ty) = ty else {
+        return TypedExpr::plain(None, None);
     };
-    if t.is_object() {
-        return called(place, m, refused_if(true, Rule::Y1, place), args, types);
+    if ty.is_object() {
+        return typed_call(
+            place,
+            method,
+            refused_if(true, Rule::Y1, place),
+            args,
+            types,
+        );
     }
     match types {
-        Some(told) => member_given(place, built_in(program, name), t, args.len(), told),
-        None => Judged::plain(None, None),
+        Some(summary) => typed_built_in(place, built_in(program, name), ty, args.len(), summary),
+        None => TypedExpr::plain(None, None),
     }
 }
 
-fn field_of<'a>(program: &'a Parts, t: Option<Seen<'a>>, name: u32) -> Option<Seen<'a>>
-    ensures { option_map seen result ≡ option_and_then (λ t. select_type (program_of program.now) t name) (option_map seen t.entry) }
+fn field_of<'a>(program: &'a ProgramData, ty: Option<TyRef<'a>>, name: u32) -> Option<TyRef<'a>>
+    ensures { option_map ty_view result ≡ option_and_then (λ ty. select_type (program_of program.now) ty name) (option_map ty_view ty.entry) }
 {
-    match t {
-        Some(t) => select_type(program, t, name),
+    match ty {
+        Some(ty) => select_type(program, ty, name),
         None => None,
     }
 }
 
-#[tactic(auto, unfolding(ti_rules::specs::Mirrors::First::first_of))]
+#[tactic(auto, unfolding(ti_rules::specs::Mirrors::First::earliest))]
 fn field_refusal<'a>(
-    program: &'a Parts,
+    program: &'a ProgramData,
     place: Place,
-    t: Option<Seen<'a>>,
+    ty: Option<TyRef<'a>>,
     name: u32,
 ) -> Option<Refusal>
-    ensures { result ≡ first_of (judged (option_map seen t.entry) (λ t. mistaken_at place
-        (is_some (select_type (program_of program.now) t name)) false)) }
+    ensures { result ≡ earliest (judged (option_map ty_view ty.entry) (λ ty. mistaken_at place
+        (is_some (select_type (program_of program.now) ty name)) false)) }
 {
-    match t {
-        Some(t) => mistaken(place, select_type(program, t, name).is_some(), false),
+    match ty {
+        Some(ty) => operand_refusal(place, select_type(program, ty, name).is_some(), false),
         None => None,
     }
 }
 
-/// The typing result of a field selection on a value of type `t`, by itself.
-pub fn select<'a>(program: &'a Parts, place: Place, t: Option<Seen<'a>>, name: u32) -> Judged<'a>
-    ensures known { typed_of result ≡ plain (option_and_then (λ t. select_type (program_of program.now) t name) (option_map seen t.entry)) }
-    ensures first { result.first ≡ first_of (judged (option_map seen t.entry)
-        (λ t. mistaken_at place (is_some (select_type (program_of program.now) t name)) false)) }
+/// The typing result of a field selection on a value of type `ty`, by itself.
+pub fn select<'a>(
+    program: &'a ProgramData,
+    place: Place,
+    ty: Option<TyRef<'a>>,
+    name: u32,
+) -> TypedExpr<'a>
+    ensures known { typed_of result ≡ plain (option_and_then (λ ty. select_type (program_of program.now) ty name) (option_map ty_view ty.entry)) }
+    ensures first { result.first ≡ earliest (judged (option_map ty_view ty.entry)
+        (λ ty. mistaken_at place (is_some (select_type (program_of program.now) ty name)) false)) }
 {
-    Judged::plain(
-        field_of(program, t, name),
-        field_refusal(program, place, t, name),
+    TypedExpr::plain(
+        field_of(program, ty, name),
+        field_refusal(program, place, ty, name),
     )
 }

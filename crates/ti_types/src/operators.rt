@@ -4,169 +4,179 @@ ghost use Rattle.std.specs.Option.{option_map, option_or};
 ghost use Rattle.ti_lang.specs.Typing.Operators.{wider, whole_type, truth_type, point_type, rect_type, domain_type, are_references, are_comparable, are_ordered, Sum, Product, Shift, Bits, row_type, binary_type, unary_type};
 ghost use Rattle.ti_lang.specs.Program.Types.{Boolean};
 ghost use Rattle.ti_lang.specs.Typing.Kinds.{where_true};
-ghost use Rattle.ti_lang.specs.Typing.Seen.{seen};
+ghost use Rattle.ti_lang.specs.Typing.TyRef.{ty_view};
 
-use ti_lang::typing::Seen;
+use ti_lang::typing::TyRef;
 use ti_syntax::tree::{BinaryOperator, UnaryOperator};
 
-fn whole_type<'p>(t: Seen<'p>, u: Seen<'p>) -> Option<Seen<'p>>
-    ensures { option_map seen result ≡ whole_type (seen t.entry) (seen u.entry) }
+fn whole_type<'p>(left: TyRef<'p>, right: TyRef<'p>) -> Option<TyRef<'p>>
+    ensures { option_map ty_view result ≡ whole_type (ty_view left.entry) (ty_view right.entry) }
 {
-    match (t, u) {
-        (Seen::Int, Seen::Int) => Some(Seen::Int),
-        (Seen::Int | Seen::Long, Seen::Int | Seen::Long) => Some(Seen::Long),
+    match (left, right) {
+        (TyRef::Int, TyRef::Int) => Some(TyRef::Int),
+        (TyRef::Int | TyRef::Long, TyRef::Int | TyRef::Long) => Some(TyRef::Long),
         _ => None,
     }
 }
 
-fn truth_type<'p>(t: Seen<'p>, u: Seen<'p>) -> Option<Seen<'p>>
-    ensures { option_map seen result ≡ truth_type (seen t.entry) (seen u.entry) }
+fn truth_type<'p>(left: TyRef<'p>, right: TyRef<'p>) -> Option<TyRef<'p>>
+    ensures { option_map ty_view result ≡ truth_type (ty_view left.entry) (ty_view right.entry) }
 {
-    match (t, u) {
-        (Seen::Bool, Seen::Bool) => Some(Seen::Bool),
+    match (left, right) {
+        (TyRef::Bool, TyRef::Bool) => Some(TyRef::Bool),
         _ => None,
     }
 }
 
-fn point_type<'p>(t: Seen<'p>, u: Seen<'p>) -> Option<Seen<'p>>
-    ensures { option_map seen result ≡ point_type (seen t.entry) (seen u.entry) }
+fn point_type<'p>(left: TyRef<'p>, right: TyRef<'p>) -> Option<TyRef<'p>>
+    ensures { option_map ty_view result ≡ point_type (ty_view left.entry) (ty_view right.entry) }
 {
-    match (t, u) {
-        (Seen::Pt(n), Seen::Pt(m)) if n == m => Some(Seen::Pt(n)),
+    match (left, right) {
+        (TyRef::Pt(n), TyRef::Pt(m)) if n == m => Some(TyRef::Pt(n)),
         _ => None,
     }
 }
 
-fn rect_type<'p>(t: Seen<'p>, u: Seen<'p>) -> Option<Seen<'p>>
-    ensures { option_map seen result ≡ rect_type (seen t.entry) (seen u.entry) }
+fn rect_type<'p>(left: TyRef<'p>, right: TyRef<'p>) -> Option<TyRef<'p>>
+    ensures { option_map ty_view result ≡ rect_type (ty_view left.entry) (ty_view right.entry) }
 {
-    match (t, u) {
-        (Seen::Rc(n), Seen::Rc(m)) if n == m => Some(Seen::Rc(n)),
+    match (left, right) {
+        (TyRef::Rc(n), TyRef::Rc(m)) if n == m => Some(TyRef::Rc(n)),
         _ => None,
     }
 }
 
-fn domain_type<'p>(t: Seen<'p>, u: Seen<'p>) -> Option<Seen<'p>>
-    ensures { option_map seen result ≡ domain_type (seen t.entry) (seen u.entry) }
+fn domain_type<'p>(left: TyRef<'p>, right: TyRef<'p>) -> Option<TyRef<'p>>
+    ensures { option_map ty_view result ≡ domain_type (ty_view left.entry) (ty_view right.entry) }
 {
-    match (t.domain_dim(), u.domain_dim()) {
-        (Some(n), Some(m)) if n == m => Some(Seen::Dm(n)),
+    match (left.domain_dim(), right.domain_dim()) {
+        (Some(n), Some(m)) if n == m => Some(TyRef::Dm(n)),
         _ => None,
     }
 }
 
-fn are_references<'p>(t: Seen<'p>, u: Seen<'p>) -> bool
-    ensures { result ≡ are_references (seen t.entry) (seen u.entry) }
+fn are_references<'p>(left: TyRef<'p>, right: TyRef<'p>) -> bool
+    ensures { result ≡ are_references (ty_view left.entry) (ty_view right.entry) }
 {
-    (t.is_reference() || t.is_null())
-        && (u.is_reference() || u.is_null())
-        && (t.is_null() || u.is_null() || t.with_local(false).same(u.with_local(false)))
+    (left.is_reference() || left.is_null())
+        && (right.is_reference() || right.is_null())
+        && (left.is_null()
+            || right.is_null()
+            || left.with_local(false).same(right.with_local(false)))
 }
 
-fn are_comparable<'p>(t: Seen<'p>, u: Seen<'p>) -> bool
-    ensures { result ≡ are_comparable (seen t.entry) (seen u.entry) }
+fn are_comparable<'p>(left: TyRef<'p>, right: TyRef<'p>) -> bool
+    ensures { result ≡ are_comparable (ty_view left.entry) (ty_view right.entry) }
 {
-    match (t, u) {
-        (Seen::Bool, Seen::Bool) | (Seen::Region, Seen::Region) => true,
-        (Seen::Pt(n), Seen::Pt(m)) => n == m,
-        (Seen::Rc(n), Seen::Rc(m)) => n == m,
-        (Seen::Rc(n), Seen::Dm(m)) => n == m,
-        (Seen::Dm(n), Seen::Rc(m)) => n == m,
-        (Seen::Dm(n), Seen::Dm(m)) => n == m,
-        _ => t.is_whole() && u.is_whole() || are_references(t, u),
+    match (left, right) {
+        (TyRef::Bool, TyRef::Bool) | (TyRef::Region, TyRef::Region) => true,
+        (TyRef::Pt(n), TyRef::Pt(m)) => n == m,
+        (TyRef::Rc(n), TyRef::Rc(m)) => n == m,
+        (TyRef::Rc(n), TyRef::Dm(m)) => n == m,
+        (TyRef::Dm(n), TyRef::Rc(m)) => n == m,
+        (TyRef::Dm(n), TyRef::Dm(m)) => n == m,
+        _ => left.is_whole() && right.is_whole() || are_references(left, right),
     }
 }
 
-fn are_ordered(t: Seen, u: Seen) -> bool
-    ensures { result ≡ are_ordered (seen t.entry) (seen u.entry) }
+fn are_ordered(left: TyRef, right: TyRef) -> bool
+    ensures { result ≡ are_ordered (ty_view left.entry) (ty_view right.entry) }
 {
-    match (t, u) {
-        (Seen::Pt(n), Seen::Pt(m)) => n == m,
-        _ => t.is_whole() && u.is_whole(),
+    match (left, right) {
+        (TyRef::Pt(n), TyRef::Pt(m)) => n == m,
+        _ => left.is_whole() && right.is_whole(),
     }
 }
 
-fn either<'p>(t: Option<Seen<'p>>, u: Option<Seen<'p>>) -> Option<Seen<'p>>
-    ensures { option_map seen result ≡ option_or (option_map seen t.entry) (option_map seen u.entry) }
+fn either_type<'p>(left: Option<TyRef<'p>>, right: Option<TyRef<'p>>) -> Option<TyRef<'p>>
+    ensures { option_map ty_view result ≡ option_or (option_map ty_view left.entry) (option_map ty_view right.entry) }
 {
-    match t {
-        Some(t) => Some(t),
-        None => u,
+    match left {
+        Some(left) => Some(left),
+        None => right,
     }
 }
 
-fn truth_if<'p>(test: bool) -> Option<Seen<'p>>
-    ensures { option_map seen result ≡ where_true test Boolean }
+fn truth_if<'p>(test: bool) -> Option<TyRef<'p>>
+    ensures { option_map ty_view result ≡ where_true test Boolean }
 {
-    if test { Some(Seen::Bool) } else { None }
+    if test { Some(TyRef::Bool) } else { None }
 }
 
 // The result type of `+` and `-`.
-fn sum_type<'p>(t: Seen<'p>, u: Seen<'p>) -> Option<Seen<'p>>
-    ensures { option_map seen result ≡ row_type Sum (seen t.entry) (seen u.entry) }
+fn sum_type<'p>(left: TyRef<'p>, right: TyRef<'p>) -> Option<TyRef<'p>>
+    ensures { option_map ty_view result ≡ row_type Sum (ty_view left.entry) (ty_view right.entry) }
 {
-    let others = either(point_type(t, u), domain_type(t, u));
-    either(whole_type(t, u), others)
+    let others = either_type(point_type(left, right), domain_type(left, right));
+    either_type(whole_type(left, right), others)
 }
 
 // The result type of `*`.
-fn product_type<'p>(t: Seen<'p>, u: Seen<'p>) -> Option<Seen<'p>>
-    ensures { option_map seen result ≡ row_type Product (seen t.entry) (seen u.entry) }
+fn product_type<'p>(left: TyRef<'p>, right: TyRef<'p>) -> Option<TyRef<'p>>
+    ensures { option_map ty_view result ≡ row_type Product (ty_view left.entry) (ty_view right.entry) }
 {
-    let others = either(rect_type(t, u), domain_type(t, u));
-    either(whole_type(t, u), others)
+    let others = either_type(rect_type(left, right), domain_type(left, right));
+    either_type(whole_type(left, right), others)
 }
 
 // The result type of a shift.
-fn shift_type<'p>(t: Seen<'p>, u: Seen<'p>) -> Option<Seen<'p>>
-    ensures { option_map seen result ≡ row_type Shift (seen t.entry) (seen u.entry) }
+fn shift_type<'p>(left: TyRef<'p>, right: TyRef<'p>) -> Option<TyRef<'p>>
+    ensures { option_map ty_view result ≡ row_type Shift (ty_view left.entry) (ty_view right.entry) }
 {
-    if t.is_whole() && u.is_whole() {
-        Some(t)
+    if left.is_whole() && right.is_whole() {
+        Some(left)
     } else {
         None
     }
 }
 
 // The result type of `&`, `|` and `^`.
-fn bits_type<'p>(t: Seen<'p>, u: Seen<'p>) -> Option<Seen<'p>>
-    ensures { option_map seen result ≡ row_type Bits (seen t.entry) (seen u.entry) }
+fn bits_type<'p>(left: TyRef<'p>, right: TyRef<'p>) -> Option<TyRef<'p>>
+    ensures { option_map ty_view result ≡ row_type Bits (ty_view left.entry) (ty_view right.entry) }
 {
-    either(whole_type(t, u), truth_type(t, u))
+    either_type(whole_type(left, right), truth_type(left, right))
 }
 
 /// The result type of a binary operator, if it accepts these operands.
-pub fn binary_type<'p>(op: BinaryOperator, t: Seen<'p>, u: Seen<'p>) -> Option<Seen<'p>>
-    ensures { option_map seen result ≡ binary_type op (seen t.entry) (seen u.entry) }
+pub fn binary_type<'p>(
+    operator: BinaryOperator,
+    left: TyRef<'p>,
+    right: TyRef<'p>,
+) -> Option<TyRef<'p>>
+    ensures { option_map ty_view result ≡ binary_type operator (ty_view left.entry) (ty_view right.entry) }
 {
-    match op {
-        BinaryOperator::Add | BinaryOperator::Subtract => sum_type(t, u),
-        BinaryOperator::Multiply => product_type(t, u),
-        BinaryOperator::Divide | BinaryOperator::Remainder => whole_type(t, u),
+    match operator {
+        BinaryOperator::Add | BinaryOperator::Subtract => sum_type(left, right),
+        BinaryOperator::Multiply => product_type(left, right),
+        BinaryOperator::Divide | BinaryOperator::Remainder => whole_type(left, right),
         BinaryOperator::ShiftLeft
         | BinaryOperator::ShiftRight
-        | BinaryOperator::UnsignedShiftRight => shift_type(t, u),
-        BinaryOperator::Or | BinaryOperator::Xor | BinaryOperator::And => bits_type(t, u),
-        BinaryOperator::OrElse | BinaryOperator::AndThen => truth_type(t, u),
+        | BinaryOperator::UnsignedShiftRight => shift_type(left, right),
+        BinaryOperator::Or | BinaryOperator::Xor | BinaryOperator::And => bits_type(left, right),
+        BinaryOperator::OrElse | BinaryOperator::AndThen => truth_type(left, right),
         BinaryOperator::Less
         | BinaryOperator::LessEqual
         | BinaryOperator::Greater
-        | BinaryOperator::GreaterEqual => truth_if(are_ordered(t, u)),
-        BinaryOperator::Equal | BinaryOperator::NotEqual => truth_if(are_comparable(t, u)),
+        | BinaryOperator::GreaterEqual => truth_if(are_ordered(left, right)),
+        BinaryOperator::Equal | BinaryOperator::NotEqual => truth_if(are_comparable(left, right)),
     }
 }
 
 /// The result type of a unary operator, if it accepts this operand.
-pub fn unary_type<'p>(op: UnaryOperator, t: Seen<'p>) -> Option<Seen<'p>>
-    ensures { option_map seen result ≡ unary_type op (seen t.entry) }
+pub fn unary_type<'p>(operator: UnaryOperator, operand: TyRef<'p>) -> Option<TyRef<'p>>
+    ensures { option_map ty_view result ≡ unary_type operator (ty_view operand.entry) }
 {
-    match op {
-        UnaryOperator::Not => match t {
-            Seen::Bool => Some(Seen::Bool),
+    match operator {
+        UnaryOperator::Not => match operand {
+            TyRef::Bool => Some(TyRef::Bool),
             _ => None,
         },
         UnaryOperator::Minus | UnaryOperator::Plus | UnaryOperator::Complement => {
-            if t.is_whole() { Some(t) } else { None }
+            if operand.is_whole() {
+                Some(operand)
+            } else {
+                None
+            }
         }
     }
 }

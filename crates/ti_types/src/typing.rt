@@ -5,19 +5,21 @@ ghost use Rattle.ti_rules.specs.Known.{IsKnown};
 ghost use Rattle.ti_types.specs.Answer.{GivesType};
 
 use crate::error::TypeErr;
-use crate::exprs::Judge;
+use crate::exprs::TypeChecker;
 use std::alloc::Global;
 use ti_lang::program::{Expr, Program, Scope, Ty};
 
 /// The type of an expression in a scope of a program.
 ///
 /// Error: the first type error, by position, and at one position by the order in which the rules are listed; or Memory.
-pub fn type_of(alloc: Global, p: &Program, s: &Scope, e: &Expr) -> Result<Ty, TypeErr>
-    requires { IsKnown (program_of p.now.parts) (contents_of s.now) (expression_of e.now) }
-    ensures { GivesType (program_of p.now.parts) (contents_of s.now) (expression_of e.now) result }
+pub fn type_of(alloc: Global, program: &Program, scope: &Scope, expr: &Expr) -> Result<Ty, TypeErr>
+    requires { IsKnown (program_of program.now.parts) (contents_of scope.now) (expression_of expr.now) }
+    ensures { GivesType (program_of program.now.parts) (contents_of scope.now) (expression_of expr.now) result }
 {
-    let judge = Judge { program: &p.parts };
-    let judged = judge.exp(s, e);
+    let checker = TypeChecker {
+        program: &program.parts,
+    };
+    let judged = checker.exp(scope, expr);
     match judged.first {
         Some(refusal) => Err(TypeErr::Refused(refusal)),
         None => match judged.ty {

@@ -17,24 +17,24 @@ use Rattle.ti_base.specs.declared.value.Id.{Id}
 use Rattle.ti_base.specs.declared.value.Value.{Value}
 use Rattle.ti_base.specs.declared.value.Zero.{Zero}
 use Rattle.ti_base.specs.FaultNames.{name_of}
-use Rattle.ti_watch.specs.Texts.{point_text, rect_text, object_text, grid_text, value_text, zero_text}
+use Rattle.ti_watch.specs.Texts.{point_text, rect_text, object_text, grid_text, trace_value_text, zero_text}
 
 -- the name of an operation
-abbrev pub word_of : Action → List ℕ
-word_of (act.GetField obj field) = codes "getField"
-word_of (act.PutField obj field value) = codes "putField"
-word_of (act.NewObj class region) = codes "newObj"
-word_of (act.NewGrid zero domain region) = codes "newGrid"
-word_of (act.GetElem grid at) = codes "getElem"
-word_of (act.PutElem grid at value) = codes "putElem"
-word_of (act.MakeView grid how) = codes "makeView"
-word_of (act.DomainOf grid) = codes "domainOf"
-word_of (act.Print literal value) = codes "print"
-word_of (act.Arrive kind arg deposit) = codes "arrive"
-word_of act.Depart = codes "depart"
-word_of (act.Take who) = codes "take"
-word_of act.End = codes "end"
-word_of (act.Fault kind) = codes "fault"
+abbrev pub action_word : Action → List ℕ
+action_word (act.GetField obj field) = codes "getField"
+action_word (act.PutField obj field value) = codes "putField"
+action_word (act.NewObj class region) = codes "newObj"
+action_word (act.NewGrid zero domain region) = codes "newGrid"
+action_word (act.GetElem grid at) = codes "getElem"
+action_word (act.PutElem grid at value) = codes "putElem"
+action_word (act.MakeView grid how) = codes "makeView"
+action_word (act.DomainOf grid) = codes "domainOf"
+action_word (act.Print literal value) = codes "print"
+action_word (act.Arrive kind arg deposit) = codes "arrive"
+action_word act.Depart = codes "depart"
+action_word (act.Take who) = codes "take"
+action_word act.End = codes "end"
+action_word (act.Fault kind) = codes "fault"
 
 -- ---- operands, each after a space
 
@@ -43,8 +43,8 @@ abbrev pub optional : {A : Type 0} → (A → List ℕ) → Option A → List �
 optional text None = codes "-"
 optional text (Some x) = text x
 
-abbrev pub literal_text : ℕ → List ℕ
-literal_text number = codes "s" ++ decimal number
+abbrev pub literal_number_text : ℕ → List ℕ
+literal_number_text number = codes "s" ++ decimal number
 
 abbrev pub collective_text : CollKind → List ℕ
 collective_text Barrier = codes "barrier"
@@ -56,7 +56,7 @@ collective_text DeleteRegion = codes "deleteRegion"
 -- what a process contributes at its arrival
 abbrev pub deposit_text : Deposit → List ℕ
 deposit_text Nothing = codes "-"
-deposit_text (One value) = value_text value
+deposit_text (One value) = trace_value_text value
 deposit_text (Count n) = codes "count:" ++ decimal n
 
 -- how a view is made
@@ -78,7 +78,7 @@ abbrev pub view_of_text : Id → ViewHow → List ℕ
 view_of_text grid how = codes " " ++ grid_text grid ++ codes " " ++ view_text how
 
 abbrev pub print_text : Option ℕ → Option Value → List ℕ
-print_text literal value = codes " " ++ optional literal_text literal ++ codes " " ++ optional value_text value
+print_text literal value = codes " " ++ optional literal_number_text literal ++ codes " " ++ optional trace_value_text value
 
 abbrev pub arrival_text : CollKind → Option ℕ → Deposit → List ℕ
 arrival_text kind arg deposit = codes " " ++ collective_text kind ++ codes " " ++ optional decimal arg ++ codes " " ++ deposit_text deposit
@@ -86,11 +86,11 @@ arrival_text kind arg deposit = codes " " ++ collective_text kind ++ codes " " +
 -- all operands of an operation
 abbrev pub operands_text : Action → List ℕ
 operands_text (act.GetField obj field) = field_text obj field
-operands_text (act.PutField obj field value) = field_text obj field ++ codes " " ++ value_text value
+operands_text (act.PutField obj field value) = field_text obj field ++ codes " " ++ trace_value_text value
 operands_text (act.NewObj class region) = codes " " ++ decimal class ++ codes " " ++ decimal region
 operands_text (act.NewGrid zero domain region) = new_grid_text zero domain region
 operands_text (act.GetElem grid at) = element_text grid at
-operands_text (act.PutElem grid at value) = element_text grid at ++ codes " " ++ value_text value
+operands_text (act.PutElem grid at value) = element_text grid at ++ codes " " ++ trace_value_text value
 operands_text (act.MakeView grid how) = view_of_text grid how
 operands_text (act.DomainOf grid) = codes " " ++ grid_text grid
 operands_text (act.Print literal value) = print_text literal value
@@ -103,8 +103,8 @@ operands_text (act.Fault kind) = codes " " ++ name_of kind
 -- ---- operations and results
 
 abbrev pub act_text : Action → List ℕ
-act_text a = word_of a ++ operands_text a
+act_text a = action_word a ++ operands_text a
 
 abbrev pub answer_text : Answer → List ℕ
 answer_text Done = codes "done"
-answer_text (Val value) = value_text value
+answer_text (Val value) = trace_value_text value

@@ -3,7 +3,7 @@ use Rattle.std.specs.Prelude.{ℕ, ◌+◌, ◌==◌, if◌then◌else◌, List,
 use Rattle.ti_base.specs.declared.entry.Entry.{Entry}
 use Rattle.ti_lang.specs.Meaning.Spots.{races_text}
 use Rattle.ti_watch.specs.Texts.{place_text}
-use Rattle.ti_watch.specs.Acts.{word_of, act_text, answer_text}
+use Rattle.ti_watch.specs.Acts.{action_word, act_text, answer_text}
 
 -- ---- traces
 
@@ -38,7 +38,7 @@ number_text n = codes " " ++ decimal n ++ 10 ∷ []
 
 -- the line of an operation: its name, and how many entries have it
 abbrev pub count_text : List Entry → List ℕ → List ℕ
-count_text es word = word ++ number_text (count_by (λ (e : Entry). bytes_eq (word_of e.act) word) es)
+count_text es word = word ++ number_text (count_by (λ (e : Entry). bytes_eq (action_word e.act) word) es)
 
 -- the number of all entries, then that of each operation
 unfoldable pub stats_text : List Entry → List ℕ

@@ -17,10 +17,10 @@ abbrev pub place_text : Place → List ℕ
 place_text p = decimal p.line ++ codes ":" ++ decimal p.col
 
 -- byte strings with `,` between them
-abbrev pub listed : List (List ℕ) → List ℕ
-listed [] = []
-listed (t ∷ []) = t
-listed (t ∷ next ∷ rest) = t ++ codes "," ++ listed (next ∷ rest)
+abbrev pub comma_list : List (List ℕ) → List ℕ
+comma_list [] = []
+comma_list (t ∷ []) = t
+comma_list (t ∷ next ∷ rest) = t ++ codes "," ++ comma_list (next ∷ rest)
 
 -- ---- points and domains
 
@@ -29,7 +29,7 @@ abbrev pub coordinate_texts : Point → List (List ℕ)
 coordinate_texts p = take p.dim (signed_decimal p.x1 ∷ signed_decimal p.x2 ∷ signed_decimal p.x3 ∷ [])
 
 abbrev pub point_text : Point → List ℕ
-point_text p = codes "[" ++ listed (coordinate_texts p) ++ codes "]"
+point_text p = codes "[" ++ comma_list (coordinate_texts p) ++ codes "]"
 
 -- lower bound, upper bound and stride
 abbrev pub range_text : Range → List ℕ
@@ -41,7 +41,7 @@ range_texts r = take r.dim (range_text (first_range r) ∷ range_text (second_ra
 
 -- of an empty domain only the number of dimensions is written
 abbrev pub rect_text : Rect → List ℕ
-rect_text r = if is_empty r then codes "empty" ++ decimal r.dim else codes "[" ++ listed (range_texts r) ++ codes "]"
+rect_text r = if is_empty r then codes "empty" ++ decimal r.dim else codes "[" ++ comma_list (range_texts r) ++ codes "]"
 
 -- ---- references and values
 
@@ -55,18 +55,18 @@ object_text id = codes "obj" ++ id_text id
 abbrev pub grid_text : Id → List ℕ
 grid_text id = codes "grid" ++ id_text id
 
-abbrev pub value_text : Value → List ℕ
-value_text (v.Int n) = signed_decimal n
-value_text (v.Long n) = signed_decimal n ++ codes "L"
-value_text (v.Bool true) = codes "true"
-value_text (v.Bool false) = codes "false"
-value_text (v.Pt p) = point_text p
-value_text (v.Rc r) = rect_text r
-value_text (v.Obj None) = codes "null"
-value_text (v.Obj (Some id)) = object_text id
-value_text (v.Grid None) = codes "null"
-value_text (v.Grid (Some id)) = grid_text id
-value_text (v.Region n) = codes "region" ++ decimal n
+abbrev pub trace_value_text : Value → List ℕ
+trace_value_text (v.Int n) = signed_decimal n
+trace_value_text (v.Long n) = signed_decimal n ++ codes "L"
+trace_value_text (v.Bool true) = codes "true"
+trace_value_text (v.Bool false) = codes "false"
+trace_value_text (v.Pt p) = point_text p
+trace_value_text (v.Rc r) = rect_text r
+trace_value_text (v.Obj None) = codes "null"
+trace_value_text (v.Obj (Some id)) = object_text id
+trace_value_text (v.Grid None) = codes "null"
+trace_value_text (v.Grid (Some id)) = grid_text id
+trace_value_text (v.Region n) = codes "region" ++ decimal n
 
 -- the type of the initial value of elements
 abbrev pub zero_text : Zero → List ℕ

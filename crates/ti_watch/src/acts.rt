@@ -12,7 +12,7 @@ use ti_base::{
 
 /// The name of an operation, of at most 8 bytes.
 pub fn act_word(act: Action) -> &'static str
-    ensures word { result.now ≡ spec.word_of act }
+    ensures word { result.now ≡ spec.action_word act }
     ensures short { length result.now ≤ 8 }
 {
     match act {
@@ -65,7 +65,7 @@ impl Line {
     {
         self.text(b" ");
         match number {
-            Some(n) => self.labelled(label, n),
+            Some(n) => self.labelled_number(label, n),
             None => self.text(b"-"),
         }
     }
@@ -73,7 +73,7 @@ impl Line {
     /// Appends a space and a value.
     pub fn operand(&mut self, value: Value)
         requires { length self.old + 107 ≤ line_room }
-        ensures text { self.new ≡ self.old ++ codes " " ++ text.value_text value }
+        ensures text { self.new ≡ self.old ++ codes " " ++ text.trace_value_text value }
         ensures bound { length self.new ≤ length self.old + 107 }
     {
         self.text(b" ");
@@ -81,9 +81,9 @@ impl Line {
     }
 
     // Appends a space and a value, or a space and `-` if there is none.
-    fn printed(&mut self, value: Option<Value>)
+    fn printed_value(&mut self, value: Option<Value>)
         requires { length self.old + 107 ≤ line_room }
-        ensures text { self.new ≡ self.old ++ codes " " ++ spec.optional text.value_text value }
+        ensures text { self.new ≡ self.old ++ codes " " ++ spec.optional text.trace_value_text value }
         ensures bound { length self.new ≤ length self.old + 107 }
     {
         match value {
@@ -101,7 +101,7 @@ impl Line {
         match deposit {
             Deposit::Nothing => self.text(b" -"),
             Deposit::One(value) => self.operand(value),
-            Deposit::Count(n) => self.labelled(b" count:", n),
+            Deposit::Count(n) => self.labelled_number(b" count:", n),
         }
     }
 
@@ -121,8 +121,8 @@ impl Line {
                 self.point(&by);
             }
             ViewHow::Slice(k, j) => {
-                self.labelled(b" slice ", k);
-                self.labelled(b" ", j);
+                self.labelled_number(b" slice ", k);
+                self.labelled_number(b" ", j);
             }
         }
     }
@@ -134,18 +134,18 @@ impl Line {
         ensures bound { length self.new ≤ length self.old + 37 }
     {
         self.id(b" obj", obj);
-        self.labelled(b" ", field);
+        self.labelled_number(b" ", field);
     }
 
     // Appends a grid and the point of its element.
-    fn element(&mut self, grid: Id, at: &Point)
+    fn element(&mut self, grid: Id, index_point: &Point)
         requires { length self.old + 64 ≤ line_room }
-        ensures text { self.new ≡ self.old ++ spec.element_text grid at.now }
+        ensures text { self.new ≡ self.old ++ spec.element_text grid index_point.now }
         ensures bound { length self.new ≤ length self.old + 64 }
     {
         self.id(b" grid", grid);
         self.text(b" ");
-        self.point(at);
+        self.point(index_point);
     }
 
     // Appends the initial value of the elements of a new grid, its domain and its region.
@@ -158,7 +158,7 @@ impl Line {
         self.zero(zero);
         self.text(b" ");
         self.domain(dom);
-        self.labelled(b" ", region);
+        self.labelled_number(b" ", region);
     }
 
     // Appends the operands of an arrival: the collective, its argument and the contribution.
@@ -186,8 +186,8 @@ impl Line {
                 self.operand(value);
             }
             Action::NewObj { class, region } => {
-                self.labelled(b" ", class);
-                self.labelled(b" ", region);
+                self.labelled_number(b" ", class);
+                self.labelled_number(b" ", region);
             }
             Action::NewGrid { zero, dom, region } => self.new_grid(zero, &dom, region),
             Action::GetElem { grid, at } => self.element(grid, &at),
@@ -202,11 +202,11 @@ impl Line {
             Action::DomainOf { grid } => self.id(b" grid", grid),
             Action::Print { literal, value } => {
                 self.optional(b"s", literal);
-                self.printed(value);
+                self.printed_value(value);
             }
             Action::Arrive { kind, arg, deposit } => self.arrival(kind, arg, deposit),
             Action::Depart => {}
-            Action::Take { who } => self.labelled(b" ", who),
+            Action::Take { who } => self.labelled_number(b" ", who),
             Action::End => {}
             Action::Fault { kind } => {
                 self.text(b" ");

@@ -47,22 +47,22 @@ impl Line {
     }
 
     /// Appends an integer in decimal digits, after `-` if it is negative. There has to be space for the longest number of its type.
-    pub fn number<I: Integer>(&mut self, n: I)
+    pub fn number<I: Integer>(&mut self, number: I)
         requires { length self.old + I.MAX_STR_LEN ≤ line_room }
-        ensures text { self.new ≡ self.old ++ I.text n }
+        ensures text { self.new ≡ self.old ++ I.text number }
         ensures bound { length self.new ≤ length self.old + I.MAX_STR_LEN }
     {
         let mut buffer = Buffer::new();
-        self.text(buffer.format(n).as_bytes());
+        self.text(buffer.format(number).as_bytes());
     }
 
     /// Appends a label and, directly after it, an integer in decimal digits.
-    pub fn labelled<I: Integer>(&mut self, label: &[u8], n: I)
+    pub fn labelled_number<I: Integer>(&mut self, label: &[u8], integer: I)
         requires { length self.old + length label.now + I.MAX_STR_LEN ≤ line_room }
-        ensures text { self.new ≡ self.old ++ label.now ++ I.text n }
+        ensures text { self.new ≡ self.old ++ label.now ++ I.text integer }
         ensures bound { length self.new ≤ length self.old + length label.now + I.MAX_STR_LEN }
     {
         self.text(label);
-        self.number(n);
+        self.number(integer);
     }
 }

@@ -1,6 +1,6 @@
 // Statistics: the number of entries of each operation.
 ghost use Rattle.std.specs.Prelude.{◌≡◌, ◌≤◌, [], ◌++◌, length, take, vec_len, count_by, flat_map, bytes_eq, OnOk};
-ghost use Rattle.ti_watch.specs.Acts.{word_of};
+ghost use Rattle.ti_watch.specs.Acts.{action_word};
 ghost use Rattle.ti_watch.specs.Reports.{number_text, count_text, stats_text};
 
 use crate::Watch;
@@ -44,7 +44,7 @@ impl StatsWatch {
 
 // The number of entries of the operation with this name.
 fn count_of(entries: &[Entry], word: &str) -> usize
-    ensures { result ≡ count_by (λ e. bytes_eq (word_of e.act) word.now) entries.now }
+    ensures { result ≡ count_by (λ e. bytes_eq (action_word e.act) word.now) entries.now }
 {
     let mut count = 0;
     for e in entries {
@@ -56,13 +56,13 @@ fn count_of(entries: &[Entry], word: &str) -> usize
 }
 
 // A line with a label, a space and a number.
-fn number_line(label: &[u8], n: usize) -> Line
+fn number_line(label: &[u8], count: usize) -> Line
     requires { length label.now ≤ 100 }
-    ensures { result ≡ label.now ++ number_text n }
+    ensures { result ≡ label.now ++ number_text count }
 {
     let mut line = Line::new();
     line.text(label);
-    line.labelled(b" ", n);
+    line.labelled_number(b" ", count);
     line.text(b"\n");
     line
 }
@@ -106,8 +106,8 @@ impl Watch for StatsWatch {
         1
     }
 
-    fn see(&mut self, e: &Entry) -> Result<(), Memory> {
-        self.told.push(*e)?;
+    fn see(&mut self, entry: &Entry) -> Result<(), Memory> {
+        self.told.push(*entry)?;
         Ok(())
     }
 

@@ -37,28 +37,28 @@ impl TraceWatch {
 
 impl Line {
     // Appends the line of an entry: its number, process, source location, operation and result. Requires 345 free bytes.
-    fn entry(&mut self, number: usize, e: &Entry)
+    fn entry(&mut self, number: usize, entry: &Entry)
         requires { length self.old + 345 ≤ line_room }
-        ensures { self.new ≡ self.old ++ entry_text number e.now }
+        ensures { self.new ≡ self.old ++ entry_text number entry.now }
     {
         self.number(number);
-        self.labelled(b" p", e.proc);
-        self.labelled(b" ", e.place.line);
-        self.labelled(b":", e.place.col);
+        self.labelled_number(b" p", entry.proc);
+        self.labelled_number(b" ", entry.place.line);
+        self.labelled_number(b":", entry.place.col);
         self.text(b" ");
-        self.act(e.act);
+        self.act(entry.act);
         self.text(b" -> ");
-        self.answer(e.answer);
+        self.answer(entry.answer);
         self.text(b"\n");
     }
 }
 
 // The line of an entry, whose index in the history is `number`.
-fn entry_line(number: usize, e: &Entry) -> Line
-    ensures { result ≡ entry_text number e.now }
+fn entry_line(number: usize, entry: &Entry) -> Line
+    ensures { result ≡ entry_text number entry.now }
 {
     let mut line = Line::new();
-    line.entry(number, e);
+    line.entry(number, entry);
     line
 }
 
@@ -82,8 +82,8 @@ impl Watch for TraceWatch {
         0
     }
 
-    fn see(&mut self, e: &Entry) -> Result<(), Memory> {
-        self.told.push(*e)?;
+    fn see(&mut self, entry: &Entry) -> Result<(), Memory> {
+        self.told.push(*entry)?;
         Ok(())
     }
 

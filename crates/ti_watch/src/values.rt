@@ -8,41 +8,41 @@ use crate::line::Line;
 use ti_base::{Id, Point, Rect, Value, Zero};
 
 // Whether the domain is empty.
-fn has_no_points(r: &Rect) -> bool
-    ensures { result ≡ is_empty r.now }
+fn has_no_points(rect: &Rect) -> bool
+    ensures { result ≡ is_empty rect.now }
 {
-    r.hi.x1 < r.lo.x1 || r.hi.x2 < r.lo.x2 || r.hi.x3 < r.lo.x3
+    rect.hi.x1 < rect.lo.x1 || rect.hi.x2 < rect.lo.x2 || rect.hi.x3 < rect.lo.x3
 }
 
 impl Line {
     // Appends as many coordinates of a point as it has dimensions, with commas between them.
-    fn coordinates(&mut self, p: &Point)
+    fn coordinates(&mut self, point: &Point)
         requires { length self.old + 35 ≤ line_room }
-        ensures text { self.new ≡ self.old ++ text.listed (text.coordinate_texts p.now) }
+        ensures text { self.new ≡ self.old ++ text.comma_list (text.coordinate_texts point.now) }
         ensures bound { length self.new ≤ length self.old + 35 }
     {
-        if p.dim == 0 {
+        if point.dim == 0 {
             return;
         }
-        self.number(p.x1);
-        if p.dim == 1 {
+        self.number(point.x1);
+        if point.dim == 1 {
             return;
         }
-        self.labelled(b",", p.x2);
-        if p.dim == 2 {
+        self.labelled_number(b",", point.x2);
+        if point.dim == 2 {
             return;
         }
-        self.labelled(b",", p.x3);
+        self.labelled_number(b",", point.x3);
     }
 
     /// Appends a point, in brackets. Requires 37 free bytes.
-    pub fn point(&mut self, p: &Point)
+    pub fn point(&mut self, point: &Point)
         requires { length self.old + 37 ≤ line_room }
-        ensures text { self.new ≡ self.old ++ text.point_text p.now }
+        ensures text { self.new ≡ self.old ++ text.point_text point.now }
         ensures bound { length self.new ≤ length self.old + 37 }
     {
         self.text(b"[");
-        self.coordinates(p);
+        self.coordinates(point);
         self.text(b"]");
     }
 
@@ -52,43 +52,43 @@ impl Line {
         ensures text { self.new ≡ self.old ++ label.now ++ text.range_text (record { low = low; high = high; step = step }) }
         ensures bound { length self.new ≤ length self.old + length label.now + 34 }
     {
-        self.labelled(label, low);
-        self.labelled(b":", high);
-        self.labelled(b":", step);
+        self.labelled_number(label, low);
+        self.labelled_number(b":", high);
+        self.labelled_number(b":", step);
     }
 
     // Appends as many ranges of a domain as it has dimensions, with commas between them.
-    fn ranges(&mut self, r: &Rect)
+    fn ranges(&mut self, rect: &Rect)
         requires { length self.old + 104 ≤ line_room }
-        ensures text { self.new ≡ self.old ++ text.listed (text.range_texts r.now) }
+        ensures text { self.new ≡ self.old ++ text.comma_list (text.range_texts rect.now) }
         ensures bound { length self.new ≤ length self.old + 104 }
     {
-        if r.dim == 0 {
+        if rect.dim == 0 {
             return;
         }
-        self.range(b"", r.lo.x1, r.hi.x1, r.step[0]);
-        if r.dim == 1 {
+        self.range(b"", rect.lo.x1, rect.hi.x1, rect.step[0]);
+        if rect.dim == 1 {
             return;
         }
-        self.range(b",", r.lo.x2, r.hi.x2, r.step[1]);
-        if r.dim == 2 {
+        self.range(b",", rect.lo.x2, rect.hi.x2, rect.step[1]);
+        if rect.dim == 2 {
             return;
         }
-        self.range(b",", r.lo.x3, r.hi.x3, r.step[2]);
+        self.range(b",", rect.lo.x3, rect.hi.x3, rect.step[2]);
     }
 
     /// Appends a rectangular domain: its ranges in brackets, or `empty` with the number of dimensions. Requires 106 free bytes.
-    pub fn domain(&mut self, r: &Rect)
+    pub fn domain(&mut self, rect: &Rect)
         requires { length self.old + 106 ≤ line_room }
-        ensures text { self.new ≡ self.old ++ text.rect_text r.now }
+        ensures text { self.new ≡ self.old ++ text.rect_text rect.now }
         ensures bound { length self.new ≤ length self.old + 106 }
     {
-        if has_no_points(r) {
-            self.labelled(b"empty", r.dim);
+        if has_no_points(rect) {
+            self.labelled_number(b"empty", rect.dim);
             return;
         }
         self.text(b"[");
-        self.ranges(r);
+        self.ranges(rect);
         self.text(b"]");
     }
 
@@ -98,14 +98,14 @@ impl Line {
         ensures text { self.new ≡ self.old ++ label.now ++ text.id_text id }
         ensures bound { length self.new ≤ length self.old + length label.now + 21 }
     {
-        self.labelled(label, id.maker);
-        self.labelled(b".", id.serial);
+        self.labelled_number(label, id.maker);
+        self.labelled_number(b".", id.serial);
     }
 
     /// Appends a value. Requires 106 free bytes.
     pub fn value(&mut self, value: Value)
         requires { length self.old + 106 ≤ line_room }
-        ensures text { self.new ≡ self.old ++ text.value_text value }
+        ensures text { self.new ≡ self.old ++ text.trace_value_text value }
         ensures bound { length self.new ≤ length self.old + 106 }
     {
         match value {
@@ -122,7 +122,7 @@ impl Line {
             Value::Obj(Some(id)) => self.id(b"obj", id),
             Value::Grid(None) => self.text(b"null"),
             Value::Grid(Some(id)) => self.id(b"grid", id),
-            Value::Region(n) => self.labelled(b"region", n),
+            Value::Region(n) => self.labelled_number(b"region", n),
         }
     }
 
@@ -136,8 +136,8 @@ impl Line {
             Zero::Int => self.text(b"int"),
             Zero::Long => self.text(b"long"),
             Zero::Bool => self.text(b"boolean"),
-            Zero::Pt(dim) => self.labelled(b"point", dim),
-            Zero::Rc(dim) => self.labelled(b"rect", dim),
+            Zero::Pt(dim) => self.labelled_number(b"point", dim),
+            Zero::Rc(dim) => self.labelled_number(b"rect", dim),
             Zero::Obj => self.text(b"object"),
             Zero::Grid => self.text(b"grid"),
         }

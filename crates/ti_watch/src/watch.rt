@@ -18,9 +18,9 @@ pub trait Watch: Drop {
         ensures { result ≡ kind_of self.now };
 
     /// Observes an entry. If it runs out of memory, it hasn't observed it.
-    fn see(&mut self, e: &Entry) -> Result<(), Memory>
+    fn see(&mut self, entry: &Entry) -> Result<(), Memory>
         ensures kind { kind_of self.new ≡ kind_of self.old }
-        ensures told { OnOk result (told self.new ≡ told self.old ++ e.now ∷ []) }
+        ensures told { OnOk result (told self.new ≡ told self.old ++ entry.now ∷ []) }
         ensures kept { OnErr result (told self.new ≡ told self.old) };
 
     /// Appends the report of its kind on the entries observed so far. If it runs out of memory, `out` is unchanged.

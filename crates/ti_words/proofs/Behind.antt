@@ -4,38 +4,38 @@ use Rattle.std.specs.Prelude.{MatchOption}
 use Rattle.std.specs.Borrow.{Bor}
 use Rattle.std.specs.Str.{bytes_eq}
 use Rattle.std.proofs.lemmas.Bool.Decides.{nat_tests}
-use Rattle.ti_words.specs.Uses.{Piece, Word, as_report, as_setting, awaits, behind, dashed, dashed_piece, gives, with_value, wrong}
+use Rattle.ti_words.specs.Uses.{ArgKind, Word, as_report, as_setting, awaits, strip_front, with_dashes, dashed_piece, gives, option_with_value, wrong}
 use Rattle.ti_words.specs.Mirrors.Command.{can_stand, is_left, is_setting}
 use Rattle.ti_words.proofs.Views.{behind_is, front}
 
-behind_at : (p r : Word) → behind p (p ++ r) ≡ Some r
+behind_at : (p r : Word) → strip_front p (p ++ r) ≡ Some r
 behind_at [] r = refl
 behind_at (x ∷ p) r = go (x == x) (grind (arith, nat_tests)) (behind_at p r)
   where
-    go : (b : Bool) → b ≡ true → behind p (p ++ r) ≡ Some r → cond b (behind p (p ++ r)) None ≡ Some r
+    go : (b : Bool) → b ≡ true → strip_front p (p ++ r) ≡ Some r → cond b (strip_front p (p ++ r)) None ≡ Some r
     go true e next = next
     go false e next = cc
 
 -- what the strip of a prefix answers
-pub behind_from : (p s : Word) (r : Option (Bor Word)) → MatchOption r ((rest : Word) → s ≢ p ++ rest) (λ x. s ≡ p ++ x.now) → option_map (λ t. t.now) r ≡ behind p s
-behind_from p s None h = go (behind p s) refl
+pub behind_from : (p s : Word) (r : Option (Bor Word)) → MatchOption r ((rest : Word) → s ≢ p ++ rest) (λ x. s ≡ p ++ x.now) → option_map (λ t. t.now) r ≡ strip_front p s
+behind_from p s None h = go (strip_front p s) refl
   where
-    go : (o : Option Word) → behind p s ≡ o → None ≡ o
+    go : (o : Option Word) → strip_front p s ≡ o → None ≡ o
     go None e = refl
     go (Some r) e = absurd (h r (behind_is p s r e))
-behind_from p s (Some x) h = sym (ap (behind p) h ∙ behind_at p x.now)
+behind_from p s (Some x) h = sym (ap (strip_front p) h ∙ behind_at p x.now)
 
-setting_stands : (name word : Word) (piece : Piece) → can_stand (as_setting name word piece) ≡ (is_setting (dashed name) (front name) word || can_stand piece)
-setting_stands name word piece = go (bytes_eq word (dashed name)) (behind (front name) word)
+setting_stands : (name word : Word) (piece : ArgKind) → can_stand (as_setting name word piece) ≡ (is_setting (with_dashes name) (front name) word || can_stand piece)
+setting_stands name word piece = go (bytes_eq word (with_dashes name)) (strip_front (front name) word)
   where
-    go : (b : Bool) (o : Option Word) → can_stand (cond b (awaits name) (with_value name o piece)) ≡ ((b || is_left o) || can_stand piece)
+    go : (b : Bool) (o : Option Word) → can_stand (cond b (awaits name) (option_with_value name o piece)) ≡ ((b || is_left o) || can_stand piece)
     go true o = refl
     go false None = refl
     go false (Some []) = refl
     go false (Some (x ∷ xs)) = refl
 
-report_stands : (name word : Word) (piece : Piece) → can_stand (as_report name word piece) ≡ (bytes_eq word (dashed name) || can_stand piece)
-report_stands name word piece = go (bytes_eq word (dashed name))
+report_stands : (name word : Word) (piece : ArgKind) → can_stand (as_report name word piece) ≡ (bytes_eq word (with_dashes name) || can_stand piece)
+report_stands name word piece = go (bytes_eq word (with_dashes name))
   where
     go : (b : Bool) → can_stand (cond b (gives (record { name = name; value = codes "true" })) piece) ≡ (b || can_stand piece)
     go true = refl
@@ -56,7 +56,7 @@ from_left false false false false false false false false false = refl
 
 -- the tests of a word, each with those before it
 abbrev setting_of : Word → Word → Bool
-setting_of name = is_setting (dashed name) (front name)
+setting_of name = is_setting (with_dashes name) (front name)
 
 abbrev pub first_two : Word → Bool
 first_two word = setting_of (codes "mode") word || setting_of (codes "procs") word

@@ -11,7 +11,7 @@ use Rattle.clap.specs.Walk.{Row, Rule, Text, default_rows, first_of, has_row, mo
 use Rattle.clap.specs.declared.builder.value_parser.Reading.TheVariants.{AsWritten}
 use Rattle.clap.specs.declared.parser.matches.ValueSource.{ValueSource}
 use Rattle.clap.specs.declared.parser.matches.ValueSource.TheVariants.{DefaultValue}
-use Rattle.ti_words.specs.Uses.{Use, Word, is_used, value_of}
+use Rattle.ti_words.specs.Uses.{OptionUse, Word, is_used, value_of}
 use Rattle.ti_words.specs.Mirrors.Command.{file_rule, is_from_words, report_rule, setting_rule}
 use Rattle.ti_words.proofs.Views.{IsReport, races, stats, trace}
 use Rattle.ti_words.proofs.Turns.{at_row_none, row_of_use, rules}
@@ -119,7 +119,7 @@ lookup_finished id rows =
     ∙ ap (or_default (codes "stats") id) (lookup_default trace id rows)))
 
 -- the row of the first use of this name
-lookup_use : (id : Word) (us : List Use) → lookup id (map row_of_use us) ≡ option_map row_of_use (find (λ u. bytes_eq u.name id) us)
+lookup_use : (id : Word) (us : List OptionUse) → lookup id (map row_of_use us) ≡ option_map row_of_use (find (λ u. bytes_eq u.name id) us)
 lookup_use id [] = refl
 lookup_use id (u ∷ us) = go (bytes_eq u.name id) (lookup_use id us)
   where
@@ -129,7 +129,7 @@ lookup_use id (u ∷ us) = go (bytes_eq u.name id) (lookup_use id us)
     go false e = e
 
 -- an argument without a default has the value of its use
-pub value_found : (id : Word) (us : List Use) → bytes_eq (codes "trace") id ≡ false → bytes_eq (codes "stats") id ≡ false → bytes_eq (codes "races") id ≡ false
+pub value_found : (id : Word) (us : List OptionUse) → bytes_eq (codes "trace") id ≡ false → bytes_eq (codes "stats") id ≡ false → bytes_eq (codes "races") id ≡ false
     → first_of id (fold with_default (map row_of_use us) rules) ≡ value_of id us
 value_found id us no_trace no_stats no_races =
     ap (option_and_then (λ (r : Row). slice_get r.values 0))
@@ -139,7 +139,7 @@ value_found id us no_trace no_stats no_races =
     ∙ (other_report (codes "trace") id _ no_trace ∙ lookup_use id us))))
     ∙ go (find (λ u. bytes_eq u.name id) us)
   where
-    go : (o : Option Use) → option_and_then (λ (r : Row). slice_get r.values 0) (option_map row_of_use o) ≡ option_map (λ u. u.value) o
+    go : (o : Option OptionUse) → option_and_then (λ (r : Row). slice_get r.values 0) (option_map row_of_use o) ≡ option_map (λ u. u.value) o
     go None = refl
     go (Some u) = refl
 
@@ -147,7 +147,7 @@ value_found id us no_trace no_stats no_races =
 abbrev pub source_in : Word → List Row → Option ValueSource
 source_in id rows = option_and_then (λ (r : Row). r.source) (lookup id rows)
 
-some_found : (id : Word) (us : List Use) (default : Row) → default.source ≡ Some DefaultValue
+some_found : (id : Word) (us : List OptionUse) (default : Row) → default.source ≡ Some DefaultValue
     → is_from_words (option_and_then (λ (r : Row). r.source) (option_or (lookup id (map row_of_use us)) (Some default))) ≡ is_used id us
 some_found id [] default e = ap is_from_words e
 some_found id (u ∷ us) default e = go (bytes_eq u.name id) (some_found id us default e)
@@ -158,7 +158,7 @@ some_found id (u ∷ us) default e = go (bytes_eq u.name id) (some_found id us d
     go false f = f
 
 -- a report is asked for by the words or not at all
-pub report_found : {name : Word} → IsReport name → (us : List Use) → is_from_words (source_in name (fold with_default (map row_of_use us) rules)) ≡ is_used name us
+pub report_found : {name : Word} → IsReport name → (us : List OptionUse) → is_from_words (source_in name (fold with_default (map row_of_use us) rules)) ≡ is_used name us
 report_found trace us =
     ap (λ o. is_from_words (option_and_then (λ (r : Row). r.source) o)) (lookup_finished (codes "trace") (map row_of_use us)
     ∙ (other_report (codes "races") (codes "trace") _ refl ∙ other_report (codes "stats") (codes "trace") _ refl))

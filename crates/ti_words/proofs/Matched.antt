@@ -8,7 +8,7 @@ use Rattle.clap.specs.Faults.{turn_fault, fault_of}
 use Rattle.clap.specs.Simple.{built}
 use Rattle.clap.specs.Walk.{Held, Row, Walk, has_row, idle, nothing_held, option, settled, walk_from, walked}
 use Rattle.clap.proofs.FaultLemmas.{leaf_fault}
-use Rattle.ti_words.specs.Uses.{Piece, Use, Word, awaits, dashed, dashed_piece, gives, is_used, piece_of, plain}
+use Rattle.ti_words.specs.Uses.{ArgKind, OptionUse, Word, awaits, with_dashes, dashed_piece, gives, is_used, piece_of, plain}
 use Rattle.ti_words.specs.Mirrors.Command.{all_stand, can_stand, titan}
 use Rattle.ti_words.proofs.Views.{IsReport, IsSetting, View, against, alone, front, fuel, joined, mode, none, other, procs, races, report, seed, stats, trace, view, workers}
 use Rattle.ti_words.proofs.Turns.{alone_turn, alone_walk, at, file_settled, file_settles, file_turn, file_walk, guard, held_for, held_with}
@@ -17,11 +17,11 @@ use Rattle.ti_words.proofs.Turns.{rest_fault, row_of_use, rules, settles, shape,
 use Rattle.ti_words.proofs.Turns.{value_turn, value_walk, waits_in_vain, whole}
 
 -- the use of FILE
-abbrev pub file_use : Word → Use
+abbrev pub file_use : Word → OptionUse
 file_use word = record { name = codes "FILE"; value = word }
 
 -- the uses after these pieces, where none is used twice
-abbrev pub after : List Use → List Piece → Option (List Use)
+abbrev pub after : List OptionUse → List ArgKind → Option (List OptionUse)
 after us [] = Some us
 after us (gives u ∷ ps) = guard (not (is_used u.name us)) (after (us ++ u ∷ []) ps)
 after us (plain file ∷ ps) = guard (not (is_used (codes "FILE") us)) (after (us ++ file_use file ∷ []) ps)
@@ -29,11 +29,11 @@ after us (awaits name ∷ plain value ∷ ps) =
     guard (not (is_used name us)) (after (us ++ record { name = name; value = value } ∷ []) ps)
 after us _ = None
 
-abbrev rows_of_uses : List Use → List Row
+abbrev rows_of_uses : List OptionUse → List Row
 rows_of_uses = map row_of_use
 
 -- the position that the next word takes that is no flag and no value
-abbrev position_of : List Use → ℕ
+abbrev position_of : List OptionUse → ℕ
 position_of us = cond (is_used (codes "FILE") us) 2 1
 
 -- ---- small facts
@@ -62,24 +62,24 @@ not_true : (b : Bool) → not b ≡ true → b ≡ false
 not_true true e = sym e
 not_true false e = refl
 
-pub has_row-uses : (name : Word) (us : List Use) → has_row name (rows_of_uses us) ≡ is_used name us
+pub has_row-uses : (name : Word) (us : List OptionUse) → has_row name (rows_of_uses us) ≡ is_used name us
 has_row-uses name [] = refl
 has_row-uses name (u ∷ us) = ap (λ b. bytes_eq u.name name || b) (has_row-uses name us)
 
-position-push : (us : List Use) (u : Use) → bytes_eq u.name (codes "FILE") ≡ false → position_of (us ++ u ∷ []) ≡ position_of us
+position-push : (us : List OptionUse) (u : OptionUse) → bytes_eq u.name (codes "FILE") ≡ false → position_of (us ++ u ∷ []) ≡ position_of us
 position-push us u e = ap (λ b. cond b 2 1)
-    (list_any-append (λ (v : Use). bytes_eq v.name (codes "FILE")) us (u ∷ []) ∙ (ap (λ b. is_used (codes "FILE") us || (b || false)) e ∙ or_false (is_used (codes "FILE") us)))
+    (list_any-append (λ (v : OptionUse). bytes_eq v.name (codes "FILE")) us (u ∷ []) ∙ (ap (λ b. is_used (codes "FILE") us || (b || false)) e ∙ or_false (is_used (codes "FILE") us)))
 
-position-file : (us : List Use) (file : Word) → position_of (us ++ file_use file ∷ []) ≡ 2
-position-file us file = ap (λ b. cond b 2 1) (list_any-append (λ (v : Use). bytes_eq v.name (codes "FILE")) us (file_use file ∷ []) ∙ or_true (is_used (codes "FILE") us))
+position-file : (us : List OptionUse) (file : Word) → position_of (us ++ file_use file ∷ []) ≡ 2
+position-file us file = ap (λ b. cond b 2 1) (list_any-append (λ (v : OptionUse). bytes_eq v.name (codes "FILE")) us (file_use file ∷ []) ∙ or_true (is_used (codes "FILE") us))
 
-rows_push : (us : List Use) (u : Use) (rows : List Row) → rows ≡ rows_of_uses us → is_used u.name us ≡ false → used_rows u rows ≡ rows_of_uses (us ++ u ∷ [])
+rows_push : (us : List OptionUse) (u : OptionUse) (rows : List Row) → rows ≡ rows_of_uses us → is_used u.name us ≡ false → used_rows u rows ≡ rows_of_uses (us ++ u ∷ [])
 rows_push us u rows same unused =
     ap (used_rows u) same ∙ (new_row u (rows_of_uses us) (has_row-uses u.name us ∙ unused) ∙ sym (map-append row_of_use us (u ∷ [])))
 
 -- ---- pieces
 
-alone_piece : {name : Word} → IsSetting name → piece_of (dashed name) ≡ awaits name
+alone_piece : {name : Word} → IsSetting name → piece_of (with_dashes name) ≡ awaits name
 alone_piece mode = refl
 alone_piece procs = refl
 alone_piece workers = refl
@@ -95,7 +95,7 @@ joined_piece fuel x xs = refl
 joined_piece seed x xs = refl
 joined_piece against x xs = refl
 
-report_piece : {name : Word} → IsReport name → piece_of (dashed name) ≡ gives (record { name = name; value = codes "true" })
+report_piece : {name : Word} → IsReport name → piece_of (with_dashes name) ≡ gives (record { name = name; value = codes "true" })
 report_piece trace = refl
 report_piece stats = refl
 report_piece races = refl
@@ -119,11 +119,11 @@ report_no_file races = refl
 -- ---- the walk over the words, from between two words, and from where a setting waits for its value
 
 abbrev Idle : List Word → Type 0
-Idle words = (us : List Use) (h : Held) → (settles h ≡ true → (settled rules h).rows ≡ rows_of_uses us)
+Idle words = (us : List OptionUse) (h : Held) → (settles h ≡ true → (settled rules h).rows ≡ rows_of_uses us)
     → outcome (at idle h (position_of us)) words ≡ guard (settles h) (option_map rows_of_uses (after us (map piece_of words)))
 
 abbrev Waits : List Word → Type 0
-Waits words = (name : Word) → IsSetting name → (us : List Use) (h : Held) → (settled rules h).rows ≡ rows_of_uses us
+Waits words = (name : Word) → IsSetting name → (us : List OptionUse) (h : Held) → (settled rules h).rows ≡ rows_of_uses us
     → outcome (at (option name) (held_for name h) (position_of us)) words ≡ option_map rows_of_uses (after us (awaits name ∷ map piece_of words))
 
 idle_end : Idle []
@@ -138,7 +138,7 @@ waits_end name is us h rows =
     outcome-end (at (option name) (held_for name h) (position_of us)) ∙ ap (λ b. guard b (Some (settled rules (held_for name h)).rows)) (waits_in_vain is h)
 
 -- a whole use in one word
-idle_gives : (u : Use) (word : Word) → bytes_eq u.name (codes "FILE") ≡ false → piece_of word ≡ gives u
+idle_gives : (u : OptionUse) (word : Word) → bytes_eq u.name (codes "FILE") ≡ false → piece_of word ≡ gives u
     → ((h : Held) (p : ℕ) → no (turn_fault shape [] (at idle h p) word) ≡ (settles h && not (has_row u.name (settled rules h).rows)))
     → ((h : Held) (p : ℕ) → walked rules [] (at idle h p) word ≡ at idle (whole u.name u.value h) p)
     → (words : List Word) → Idle words → Idle (word ∷ words)
@@ -162,24 +162,24 @@ idle_gives u word no_file piece turn walk words next us h rows =
         ap (λ b. guard (not b) (outcome (at idle (whole u.name u.value h) (position_of us)) words)) (ap (has_row u.name) (rows e) ∙ has_row-uses u.name us)
         ∙ (used (is_used u.name us) refl (rows e)
         ∙ (sym (guard_map rows_of_uses (not (is_used u.name us)) (after (us ++ u ∷ []) (map piece_of words)))
-        ∙ ap (λ (piece : Piece). option_map rows_of_uses (after us (piece ∷ map piece_of words))) (sym piece)))
+        ∙ ap (λ (piece : ArgKind). option_map rows_of_uses (after us (piece ∷ map piece_of words))) (sym piece)))
 
-idle_alone : {name : Word} → IsSetting name → (words : List Word) → Waits words → Idle (dashed name ∷ words)
+idle_alone : {name : Word} → IsSetting name → (words : List Word) → Waits words → Idle (with_dashes name ∷ words)
 idle_alone {name} is words waits us h rows =
-    outcome-more (at idle h (position_of us)) (dashed name) words
+    outcome-more (at idle h (position_of us)) (with_dashes name) words
     ∙ (ap₂ guard (alone_turn is None h (position_of us)) (ap (λ (w : Walk). outcome w words) (alone_walk is h (position_of us)))
     ∙ go (settles h) refl)
   where
     go : (b : Bool) → settles h ≡ b
-        → guard b (outcome (at (option name) (held_for name h) (position_of us)) words) ≡ guard b (option_map rows_of_uses (after us (piece_of (dashed name) ∷ map piece_of words)))
+        → guard b (outcome (at (option name) (held_for name h) (position_of us)) words) ≡ guard b (option_map rows_of_uses (after us (piece_of (with_dashes name) ∷ map piece_of words)))
     go false e = refl
-    go true e = waits name is us h (rows e) ∙ ap (λ (piece : Piece). option_map rows_of_uses (after us (piece ∷ map piece_of words))) (sym (alone_piece is))
+    go true e = waits name is us h (rows e) ∙ ap (λ (piece : ArgKind). option_map rows_of_uses (after us (piece ∷ map piece_of words))) (sym (alone_piece is))
 
 idle_plain : (x : ℕ) (xs : Word) → (x == 45) ≡ false → (words : List Word) → Idle words → Idle ((x ∷ xs) ∷ words)
 idle_plain x xs e words next us h rows =
     filed (is_used (codes "FILE") us) refl
     ∙ (ap (guard (settles h)) (sym (guard_map rows_of_uses (not (is_used (codes "FILE") us)) (after (us ++ file_use (x ∷ xs) ∷ []) (map piece_of words))))
-    ∙ ap (λ (piece : Piece). guard (settles h) (option_map rows_of_uses (after us (piece ∷ map piece_of words)))) (sym (plain_piece x xs e)))
+    ∙ ap (λ (piece : ArgKind). guard (settles h) (option_map rows_of_uses (after us (piece ∷ map piece_of words)))) (sym (plain_piece x xs e)))
   where
     unfiled : (b : Bool) → settles h ≡ b → is_used (codes "FILE") us ≡ false
         → guard b (outcome (at idle (held_with (codes "FILE") (x ∷ xs) h) 2) words) ≡ guard b (option_map rows_of_uses (after (us ++ file_use (x ∷ xs) ∷ []) (map piece_of words)))
@@ -203,7 +203,7 @@ idle_plain x xs e words next us h rows =
 
 waits_plain : (x : ℕ) (xs : Word) → (x == 45) ≡ false → (words : List Word) → Idle words → Waits ((x ∷ xs) ∷ words)
 waits_plain x xs e words next name is us h rows =
-    let u : Use = record { name = name; value = x ∷ xs } in
+    let u : OptionUse = record { name = name; value = x ∷ xs } in
     let held : Held = held_with name (x ∷ xs) h in
     let unless : settles held ≡ not (is_used name us) = value_settles is (x ∷ xs) h ∙ ap not (ap (has_row name) rows ∙ has_row-uses name us) in
     outcome-more (at (option name) (held_for name h) (position_of us)) (x ∷ xs) words
@@ -212,34 +212,34 @@ waits_plain x xs e words next name is us h rows =
     ∙ (next (us ++ u ∷ []) held (λ s. value_settled is (x ∷ xs) h ∙ rows_push us u (settled rules h).rows rows (not_true (is_used name us) (sym unless ∙ s)))
     ∙ (ap (λ b. guard b (option_map rows_of_uses (after (us ++ u ∷ []) (map piece_of words)))) unless
     ∙ (sym (guard_map rows_of_uses (not (is_used name us)) (after (us ++ u ∷ []) (map piece_of words)))
-    ∙ ap (λ (piece : Piece). option_map rows_of_uses (after us (awaits name ∷ piece ∷ map piece_of words))) (sym (plain_piece x xs e)))))))
+    ∙ ap (λ (piece : ArgKind). option_map rows_of_uses (after us (awaits name ∷ piece ∷ map piece_of words))) (sym (plain_piece x xs e)))))))
 
 -- no value comes
-waits_vain : (word : Word) (piece : Piece) → piece_of word ≡ piece → ((name : Word) (us : List Use) (ps : List Piece) → after us (awaits name ∷ piece ∷ ps) ≡ None)
+waits_vain : (word : Word) (piece : ArgKind) → piece_of word ≡ piece → ((name : Word) (us : List OptionUse) (ps : List ArgKind) → after us (awaits name ∷ piece ∷ ps) ≡ None)
     → ((name : Word) → IsSetting name → (h : Held) (p : ℕ) → no (turn_fault shape [] (at (option name) (held_for name h) p) word) ≡ false)
     → (words : List Word) → Waits (word ∷ words)
 waits_vain word piece is_piece vain turn words name is us h rows =
     outcome-more (at (option name) (held_for name h) (position_of us)) word words
     ∙ (ap (λ b. guard b (outcome (walked rules [] (at (option name) (held_for name h) (position_of us)) word) words)) (turn name is h (position_of us))
-    ∙ sym (ap (option_map rows_of_uses) (ap (λ (q : Piece). after us (awaits name ∷ q ∷ map piece_of words)) is_piece ∙ vain name us (map piece_of words))))
+    ∙ sym (ap (option_map rows_of_uses) (ap (λ (q : ArgKind). after us (awaits name ∷ q ∷ map piece_of words)) is_piece ∙ vain name us (map piece_of words))))
 
 idle_more : {word : Word} → View word → (words : List Word) → can_stand (piece_of word) ≡ true → Idle words → Waits words → Idle (word ∷ words)
 idle_more (alone is) words stands next waits = idle_alone is words waits
 idle_more (joined {name} is x xs) words stands next waits =
     idle_gives (record { name = name; value = x ∷ xs }) (front name ++ x ∷ xs) (setting_no_file is) (joined_piece is x xs) (joined_turn is x xs None) (joined_walk is x xs) words next
 idle_more (report {name} is) words stands next waits =
-    idle_gives (record { name = name; value = codes "true" }) (dashed name) (report_no_file is) (report_piece is) (report_turn is None) (report_walk is) words next
+    idle_gives (record { name = name; value = codes "true" }) (with_dashes name) (report_no_file is) (report_piece is) (report_turn is None) (report_walk is) words next
 idle_more (other x xs e) words stands next waits = idle_plain x xs e words next
 idle_more (none word e) words stands next waits = absurd (true≢false (sym stands ∙ e))
 
 waits_more : {word : Word} → View word → (words : List Word) → can_stand (piece_of word) ≡ true → Idle words → Waits (word ∷ words)
 waits_more (alone {name} is) words stands next =
-    waits_vain (dashed name) (awaits name) (alone_piece is) (λ n us ps. refl) (λ n s h p. alone_turn is (Some n) (held_for n h) p ∙ waits_in_vain s h) words
+    waits_vain (with_dashes name) (awaits name) (alone_piece is) (λ n us ps. refl) (λ n s h p. alone_turn is (Some n) (held_for n h) p ∙ waits_in_vain s h) words
 waits_more (joined {name} is x xs) words stands next =
     waits_vain (front name ++ x ∷ xs) (gives (record { name = name; value = x ∷ xs })) (joined_piece is x xs) (λ n us ps. refl)
     (λ n s h p. joined_turn is x xs (Some n) (held_for n h) p ∙ ap (λ b. b && not (has_row name (settled rules (held_for n h)).rows)) (waits_in_vain s h)) words
 waits_more (report {name} is) words stands next =
-    waits_vain (dashed name) (gives (record { name = name; value = codes "true" })) (report_piece is) (λ n us ps. refl)
+    waits_vain (with_dashes name) (gives (record { name = name; value = codes "true" })) (report_piece is) (λ n us ps. refl)
     (λ n s h p. report_turn is (Some n) (held_for n h) p ∙ ap (λ b. b && not (has_row name (settled rules (held_for n h)).rows)) (waits_in_vain s h)) words
 waits_more (other x xs e) words stands next = waits_plain x xs e words next
 waits_more (none word e) words stands next = absurd (true≢false (sym stands ∙ e))

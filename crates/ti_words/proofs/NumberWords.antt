@@ -5,7 +5,7 @@ use Rattle.std.specs.List.{list_all}
 use Rattle.std.specs.Str.Parse.{ParsesUnsigned}
 use Rattle.std.proofs.lemmas.Bool.Decides.{leb_tells, eqb_tells}
 use Rattle.std.proofs.lemmas.Str.Parse.{IsNumeralModel, numerals_by_value, parse_digits}
-use Rattle.ti_words.specs.Job.{is_number, number_in, number_of}
+use Rattle.ti_words.specs.Job.{is_number, number_in, decimal_value}
 
 -- a word of 1 to 10 bytes is a number where each byte is a digit
 pub number_by_digits : (word : List ℕ) → false ≡ (length word == 0) → length word ≤ 10 → is_number word ≡ list_all is_ascii_digit word
@@ -16,7 +16,7 @@ number_by_digits word some few =
     ]
 
 -- digits and what they write
-digits : IsNumeralModel (λ ds. list_all is_ascii_digit ds ≡ true) number_of
+digits : IsNumeralModel (λ ds. list_all is_ascii_digit ds ≡ true) decimal_value
 digits = numerals_by_value _ (search rules)
 
 some_digits : (word : List ℕ) → is_number word ≡ true → 0 < length word
@@ -25,7 +25,7 @@ some_digits word is = elim (leb_tells 1 (length word)) [ inl low ↦ low.1 | inr
 -- a word that is a number but isn't parsed is too large
 pub number_in-not_parsed : {E : Type 0} (least most : ℕ) (word : List ℕ) (e : E) → most < 2 ^ 32 → is_number word ≡ true → ParsesUnsigned 32 10 word (Err e) → number_in least most word ≡ None
 number_in-not_parsed least most word e bound is parsed =
-    elim (leb_tells (number_of word) most) [
+    elim (leb_tells (decimal_value word) most) [
       | inl small ↦ absurd (parse_digits digits 32 word (Err e) parsed (let h = is in search rules) (some_digits word is, omega arith))
-      | inr large ↦ elim (leb_tells least (number_of word)) [ inl low ↦ rw (is, low.0, large.0) refl | inr low ↦ rw (is, low.0) refl ]
+      | inr large ↦ elim (leb_tells least (decimal_value word)) [ inl low ↦ rw (is, low.0, large.0) refl | inr low ↦ rw (is, low.0) refl ]
     ]

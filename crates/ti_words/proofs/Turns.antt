@@ -14,7 +14,7 @@ use Rattle.clap.specs.Walk.{is_empty, is_pending, option, positional, settled, w
 use Rattle.clap.specs.declared.builder.value_parser.Reading.TheVariants.{AsWritten}
 use Rattle.clap.specs.declared.error.kind.ErrorKind.TheVariants as kind
 use Rattle.clap.specs.declared.parser.matches.ValueSource.TheVariants.{CommandLine}
-use Rattle.ti_words.specs.Uses.{Use, Word, dashed}
+use Rattle.ti_words.specs.Uses.{OptionUse, Word, with_dashes}
 use Rattle.ti_words.specs.Mirrors.Command.{file_rule, titan}
 use Rattle.ti_words.proofs.Views.{IsReport, IsSetting, against, front, fuel, mode, procs, races, seed, stats, trace, workers}
 
@@ -122,7 +122,7 @@ then_none [] = refl
 then_none (x ∷ k) = refl
 
 pub alone_turn : {name : Word} → IsSetting name → (waits : Option Word) (h : Held) (p : ℕ)
-    → no (turn_fault shape [] (at (waiting_for waits) h p) (dashed name)) ≡ settles h
+    → no (turn_fault shape [] (at (waiting_for waits) h p) (with_dashes name)) ≡ settles h
 alone_turn mode None h p = then_none (settle_fault rules false h)
 alone_turn mode (Some setting) h p = then_none (settle_fault rules false h)
 alone_turn procs None h p = then_none (settle_fault rules false h)
@@ -137,7 +137,7 @@ alone_turn against None h p = then_none (settle_fault rules false h)
 alone_turn against (Some setting) h p = then_none (settle_fault rules false h)
 
 pub alone_walk : {name : Word} → IsSetting name → (h : Held) (p : ℕ)
-    → walked rules [] (at idle h p) (dashed name) ≡ at (option name) (held_for name h) p
+    → walked rules [] (at idle h p) (with_dashes name) ≡ at (option name) (held_for name h) p
 unfolding walked
 alone_walk mode h p = refl
 alone_walk procs h p = refl
@@ -149,11 +149,11 @@ alone_walk against h p = refl
 -- ---- `--NAME=VALUE`, and `--NAME` of a report
 
 -- the row of one use
-abbrev pub row_of_use : Use → Row
+abbrev pub row_of_use : OptionUse → Row
 row_of_use u = record { id = u.name; values = u.value ∷ []; count = None; source = Some CommandLine; reading = AsWritten }
 
 -- the rows after one more use
-abbrev pub used_rows : Use → List Row → List Row
+abbrev pub used_rows : OptionUse → List Row → List Row
 used_rows u rows = with_values u.name AsWritten CommandLine (u.value ∷ []) (without u.name rows)
 
 abbrev set_kinds : Kinds → Bool → Kinds
@@ -199,7 +199,7 @@ joined_walk seed x xs h p = refl
 joined_walk against x xs h p = refl
 
 pub report_turn : {name : Word} → IsReport name → (waits : Option Word) (h : Held) (p : ℕ)
-    → no (turn_fault shape [] (at (waiting_for waits) h p) (dashed name)) ≡ (settles h && not (has_row name (settled rules h).rows))
+    → no (turn_fault shape [] (at (waiting_for waits) h p) (with_dashes name)) ≡ (settles h && not (has_row name (settled rules h).rows))
 report_turn trace None h p = no_set (settle_fault rules false h) (has_row (codes "trace") (settled rules h).rows)
 report_turn trace (Some setting) h p = no_set (settle_fault rules false h) (has_row (codes "trace") (settled rules h).rows)
 report_turn stats None h p = no_set (settle_fault rules false h) (has_row (codes "stats") (settled rules h).rows)
@@ -208,7 +208,7 @@ report_turn races None h p = no_set (settle_fault rules false h) (has_row (codes
 report_turn races (Some setting) h p = no_set (settle_fault rules false h) (has_row (codes "races") (settled rules h).rows)
 
 pub report_walk : {name : Word} → IsReport name → (h : Held) (p : ℕ)
-    → walked rules [] (at idle h p) (dashed name) ≡ at idle (whole name (codes "true") h) p
+    → walked rules [] (at idle h p) (with_dashes name) ≡ at idle (whole name (codes "true") h) p
 unfolding walked
 report_walk trace h p = refl
 report_walk stats h p = refl
@@ -364,7 +364,7 @@ at_row_none id change missing (r ∷ rows) e = go (bytes_eq r.id id) e (at_row_n
     go true f next = absurd (true≢false f)
     go false f next = ap (λ (all : List Row). r ∷ all) (next f)
 
-pub new_row : (u : Use) (rows : List Row) → has_row u.name rows ≡ false → used_rows u rows ≡ rows ++ row_of_use u ∷ []
+pub new_row : (u : OptionUse) (rows : List Row) → has_row u.name rows ≡ false → used_rows u rows ≡ rows ++ row_of_use u ∷ []
 new_row u rows e =
     ap (with_values u.name AsWritten CommandLine (u.value ∷ [])) (at_row_none u.name (λ _. []) [] rows e ∙ append-nil rows)
     ∙ at_row_none u.name (more_values CommandLine (u.value ∷ [])) (row_of_use u ∷ []) rows e

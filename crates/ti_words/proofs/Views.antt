@@ -3,7 +3,7 @@ use Rattle.std.proofs.Common.{◌≡◌, ◌∙◌, ◌==◌, ℕ, Bool, cond, t
 use Rattle.std.specs.Str.{bytes_eq}
 use Rattle.std.proofs.lemmas.Bool.Decides.{nat_tests}
 use Rattle.std.proofs.lemmas.Slice.Eq.{bytes_eq-Decides}
-use Rattle.ti_words.specs.Uses.{Piece, Word, as_report, as_setting, behind, dashed, dashed_piece, piece_of, with_value, wrong}
+use Rattle.ti_words.specs.Uses.{ArgKind, Word, as_report, as_setting, strip_front, with_dashes, dashed_piece, piece_of, option_with_value, wrong}
 use Rattle.ti_words.specs.Mirrors.Command.{can_stand}
 
 -- the names of the settings
@@ -23,47 +23,47 @@ pub data IsReport : Word → Type 0 where
 
 -- what stands before the value of a setting in one word
 abbrev pub front : Word → Word
-front name = dashed name ++ 61 ∷ []
+front name = with_dashes name ++ 61 ∷ []
 
 -- the forms of words
 pub data View : Word → Type 0 where
-  alone : {name : Word} → IsSetting name → View (dashed name)
+  alone : {name : Word} → IsSetting name → View (with_dashes name)
   joined : {name : Word} → IsSetting name → (x : ℕ) (xs : Word) → View (front name ++ x ∷ xs)
-  report : {name : Word} → IsReport name → View (dashed name)
+  report : {name : Word} → IsReport name → View (with_dashes name)
   other : (x : ℕ) (xs : Word) → (x == 45) ≡ false → View (x ∷ xs)
   none : (word : Word) → can_stand (piece_of word) ≡ false → View word
 
-pub behind_is : (p w r : Word) → behind p w ≡ Some r → w ≡ p ++ r
+pub behind_is : (p w r : Word) → strip_front p w ≡ Some r → w ≡ p ++ r
 behind_is [] w r e = cc
 behind_is (x ∷ p) [] r e = cc
 behind_is (x ∷ p) (y ∷ w) r e = go (x == y) refl e (behind_is p w r)
   where
-    go : (b : Bool) → (x == y) ≡ b → cond b (behind p w) None ≡ Some r → (behind p w ≡ Some r → w ≡ p ++ r) → y ∷ w ≡ x ∷ (p ++ r)
+    go : (b : Bool) → (x == y) ≡ b → cond b (strip_front p w) None ≡ Some r → (strip_front p w ≡ Some r → w ≡ p ++ r) → y ∷ w ≡ x ∷ (p ++ r)
     go false t f next = cc
     go true t f next =
         let same : y ≡ x = grind (arith, nat_tests) in
         ap₂ (λ (z : ℕ) (zs : Word). z ∷ zs) same (next f)
 
-setting_view : {name : Word} → IsSetting name → (word : Word) (piece : Piece)
+setting_view : {name : Word} → IsSetting name → (word : Word) (piece : ArgKind)
     → (can_stand (as_setting name word piece) ≡ can_stand piece → View word) → View word
-setting_view {name} is word piece rest = go (bytes_eq word (dashed name)) refl
+setting_view {name} is word piece rest = go (bytes_eq word (with_dashes name)) refl
   where
-    valued : (found : Option Word) → behind (front name) word ≡ found
-        → (can_stand (with_value name found piece) ≡ can_stand piece → View word) → View word
+    valued : (found : Option Word) → strip_front (front name) word ≡ found
+        → (can_stand (option_with_value name found piece) ≡ can_stand piece → View word) → View word
     valued None e next = next refl
     valued (Some []) e next = next refl
     valued (Some (x ∷ xs)) e next = subst View (sym (behind_is (front name) word (x ∷ xs) e)) (joined is x xs)
 
-    go : (b : Bool) → bytes_eq word (dashed name) ≡ b → View word
-    go true e = subst View (sym ((bytes_eq-Decides word (dashed name)).0 e)) (alone is)
-    go false e = valued (behind (front name) word) refl (λ same. rest (rw e same))
+    go : (b : Bool) → bytes_eq word (with_dashes name) ≡ b → View word
+    go true e = subst View (sym ((bytes_eq-Decides word (with_dashes name)).0 e)) (alone is)
+    go false e = valued (strip_front (front name) word) refl (λ same. rest (rw e same))
 
-report_view : {name : Word} → IsReport name → (word : Word) (piece : Piece)
+report_view : {name : Word} → IsReport name → (word : Word) (piece : ArgKind)
     → (can_stand (as_report name word piece) ≡ can_stand piece → View word) → View word
-report_view {name} is word piece rest = go (bytes_eq word (dashed name)) refl
+report_view {name} is word piece rest = go (bytes_eq word (with_dashes name)) refl
   where
-    go : (b : Bool) → bytes_eq word (dashed name) ≡ b → View word
-    go true e = subst View (sym ((bytes_eq-Decides word (dashed name)).0 e)) (report is)
+    go : (b : Bool) → bytes_eq word (with_dashes name) ≡ b → View word
+    go true e = subst View (sym ((bytes_eq-Decides word (with_dashes name)).0 e)) (report is)
     go false e = rest (rw e refl)
 
 dashed_view : (word : Word) → can_stand (piece_of word) ≡ can_stand (dashed_piece word) → View word

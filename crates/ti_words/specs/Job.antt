@@ -5,7 +5,7 @@ use Rattle.std.specs.Char.{is_ascii_digit}
 use Rattle.std.specs.List.{list_all}
 use Rattle.std.specs.Str.{bytes_eq}
 use Rattle.std.specs.Str.Parse.{digits_value}
-use Rattle.ti_words.specs.Uses.{Word, Use, is_each_once, is_used, piece_of, uses_of, value_of}
+use Rattle.ti_words.specs.Uses.{Word, OptionUse, is_each_once, is_used, piece_of, option_uses, value_of}
 use Rattle.ti_words.specs.declared.job.Job.{Job}
 use Rattle.ti_words.specs.declared.job.Mode.{Mode}
 use Rattle.ti_words.specs.declared.job.Mode.TheVariants.{Run, Check, Code, Gen, Verify, Infer}
@@ -24,8 +24,8 @@ pub record Values : Type 0 where
   pub file : Option Word
 
 -- the value of each option according to some uses of options
-abbrev pub values_of : List Use → Values
-values_of uses = record {
+abbrev pub values_of_uses : List OptionUse → Values
+values_of_uses uses = record {
   mode = value_of (codes "mode") uses;
   procs = value_of (codes "procs") uses;
   workers = value_of (codes "workers") uses;
@@ -39,12 +39,12 @@ values_of uses = record {
 }
 
 -- the value of each option, if none is used twice
-abbrev pub values_once : List Use → Option Values
-values_once uses = if is_each_once uses then Some (values_of uses) else None
+abbrev pub values_once : List OptionUse → Option Values
+values_once uses = if is_each_once uses then Some (values_of_uses uses) else None
 
 -- the value of each option, if the arguments are uses of options and none is used twice
-abbrev pub values_in : List Word → Option Values
-values_in words = option_and_then values_once (uses_of (map piece_of words))
+abbrev pub parse_values : List Word → Option Values
+parse_values words = option_and_then values_once (option_uses (map piece_of words))
 
 -- the mode with this name; without a name, `Run`
 abbrev pub mode_of : Option Word → Option Mode
@@ -63,13 +63,13 @@ abbrev pub is_number : Word → Bool
 is_number word = nat_lt 0 (length word) && nat_le (length word) 10 && list_all is_ascii_digit word
 
 -- the number that decimal digits represent
-abbrev pub number_of : Word → ℕ
-number_of word = digits_value 10 word
+abbrev pub decimal_value : Word → ℕ
+decimal_value word = digits_value 10 word
 
 -- the number that an argument represents, if it is one from `least` to `most`
 abbrev pub number_in : ℕ → ℕ → Word → Option ℕ
 number_in least most word =
-    if is_number word && nat_le least (number_of word) && nat_le (number_of word) most then Some (number_of word) else None
+    if is_number word && nat_le least (decimal_value word) && nat_le (decimal_value word) most then Some (decimal_value word) else None
 
 -- the number that an argument represents, if it is one from `least` to `most`; the default if there is no argument
 abbrev pub number_within : ℕ → ℕ → ℕ → Option Word → Option ℕ
@@ -86,8 +86,8 @@ abbrev pub most_procs : ℕ
 most_procs = 32
 
 -- the maximum fuel of all processes together
-abbrev pub most_fuel : ℕ
-most_fuel = 4000000
+abbrev pub most_total_fuel : ℕ
+most_total_fuel = 4000000
 
 -- the greatest seed
 abbrev pub most_seed : ℕ
@@ -103,8 +103,8 @@ workers_of procs values = number_within 1 procs procs values.workers
 
 -- the fuel of each of these processes
 abbrev pub fuel_of : ℕ → Values → Option ℕ
-fuel_of procs values = option_and_then (λ fuel. if nat_le (procs * fuel) most_fuel then Some fuel else None)
-    (number_within 1 most_fuel 100000 values.fuel)
+fuel_of procs values = option_and_then (λ fuel. if nat_le (procs * fuel) most_total_fuel then Some fuel else None)
+    (number_within 1 most_total_fuel 100000 values.fuel)
 
 -- the seed of a generated program, which may be given in mode gen only
 abbrev pub seed_of : Mode → Option Word → Option ℕ
@@ -154,4 +154,4 @@ job_by values =
 
 -- the job that the arguments request, if they are a valid command
 abbrev pub job_of : List Word → Option Job
-job_of words = option_and_then job_by (values_in words)
+job_of words = option_and_then job_by (parse_values words)

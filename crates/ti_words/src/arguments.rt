@@ -1,7 +1,7 @@
 // Finds the value of each option with `clap`.
 ghost use Rattle.std.specs.Prelude.{◌≡◌, false, None, Some, IfErr, IfOk, codes, map, option_and_then, option_map, string_bytes};
 ghost use Rattle.clap.specs.Words.{app_of, first_value, found_of, matched_of, rule_of};
-ghost use Rattle.ti_words.specs.Job.{values_in};
+ghost use Rattle.ti_words.specs.Job.{parse_values};
 ghost use Rattle.ti_words.specs.Mirrors.Command.{bare, file_rule, flag_rule, is_from_words, titan, with_flags};
 ghost use Rattle.ti_words.specs.Mirrors.Seen.{values_seen};
 ghost use Rattle.ti_words.specs.declared.error.WordsErr.TheVariants.{Usage};
@@ -15,7 +15,7 @@ use std::alloc::{AllocError, Global};
 
 /// The value of each option, if it was given; for `trace`, `stats` and `races`, whether it was given.
 #[derive(Clone, Copy)]
-pub struct Given<'a> {
+pub struct RawArgs<'a> {
     pub mode: Option<&'a str>,
     pub procs: Option<&'a str>,
     pub workers: Option<&'a str>,
@@ -66,7 +66,7 @@ fn file<'a>(alloc: Global) -> Arg<'a>
 }
 
 // The command without options: the program's name isn't among its arguments, and it has no option `--help`.
-fn bare<'a>(alloc: Global) -> Command<'a>
+fn bare_command<'a>(alloc: Global) -> Command<'a>
     ensures { app_of result ≡ bare }
 {
     Command::new(alloc, "titan")
@@ -79,7 +79,7 @@ fn command<'a>(alloc: Global) -> Result<Command<'a>, AllocError>
     ensures { IfOk result (λ c. app_of c ≡ titan) }
 {
     let settings = ["mode", "procs", "workers", "fuel", "seed", "against"];
-    let command = with_flags(alloc, bare(alloc), true, &settings)?;
+    let command = with_flags(alloc, bare_command(alloc), true, &settings)?;
     with_flags(alloc, command, false, &["trace", "stats", "races"])?.arg(file(alloc))
 }
 
@@ -95,7 +95,7 @@ fn is_from_words(matches: &ArgMatches<'_>, report: &str) -> bool
 }
 
 // The value of each option according to the matches.
-fn given_in<'a>(matches: &ArgMatches<'a>) -> Given<'a>
+fn raw_args<'a>(matches: &ArgMatches<'a>) -> RawArgs<'a>
     ensures mode { option_map (λ s. s.now) result.mode ≡ first_value (found_of matches.now) (codes "mode") }
     ensures procs { option_map (λ s. s.now) result.procs ≡ first_value (found_of matches.now) (codes "procs") }
     ensures workers { option_map (λ s. s.now) result.workers ≡ first_value (found_of matches.now) (codes "workers") }
@@ -107,7 +107,7 @@ fn given_in<'a>(matches: &ArgMatches<'a>) -> Given<'a>
     ensures races { result.races ≡ is_from_words (option_and_then (λ a. a.source) (matched_of (found_of matches.now) (codes "races"))) }
     ensures file { option_map (λ s. s.now) result.file ≡ first_value (found_of matches.now) (codes "FILE") }
 {
-    Given {
+    RawArgs {
         mode: matches.get_str("mode"),
         procs: matches.get_str("procs"),
         workers: matches.get_str("workers"),
@@ -123,15 +123,15 @@ fn given_in<'a>(matches: &ArgMatches<'a>) -> Given<'a>
 
 /// Finds the value of each option. The error is `Usage` if an argument is none of the options and no file name, a value is missing, or an
 /// option or the file is given twice, and `Memory` if it runs out of memory.
-pub fn find_arguments<'a>(alloc: Global, words: &'a [String]) -> Result<Given<'a>, WordsErr>
-    ensures given { IfOk result (λ g. values_in (map string_bytes words.now) ≡ Some (values_seen g)) }
-    ensures usage { IfErr result (λ e. e ≡ Usage → values_in (map string_bytes words.now) ≡ None) }
+pub fn find_arguments<'a>(alloc: Global, words: &'a [String]) -> Result<RawArgs<'a>, WordsErr>
+    ensures given { IfOk result (λ g. parse_values (map string_bytes words.now) ≡ Some (values_seen g)) }
+    ensures usage { IfErr result (λ e. e ≡ Usage → parse_values (map string_bytes words.now) ≡ None) }
 {
     if !all_stand(words) {
         return Err(WordsErr::Usage);
     }
     match command(alloc)?.try_get_matches_from(words) {
-        Ok(matches) => Ok(given_in(&matches)),
+        Ok(matches) => Ok(raw_args(&matches)),
         Err(error) => match error.kind() {
             ErrorKind::OutOfMemory => Err(WordsErr::Memory),
             _ => Err(WordsErr::Usage),

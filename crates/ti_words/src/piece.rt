@@ -1,11 +1,11 @@
 // Checks each argument by itself before `clap` matches them: it isn't empty, and if it begins with `-`, it is one of the options.
 ghost use Rattle.std.specs.Prelude.{◌≡◌, map, option_map, string_bytes};
-ghost use Rattle.ti_words.specs.Uses.{behind, dashed_piece, piece_of};
+ghost use Rattle.ti_words.specs.Uses.{strip_front, dashed_piece, piece_of};
 ghost use Rattle.ti_words.specs.Mirrors.Command.{all_stand, can_stand, is_setting};
 
 // What follows a prefix in an argument, if it has the prefix.
-fn behind<'a>(front: &str, word: &'a str) -> Option<&'a [u8]>
-    ensures { option_map (λ s. s.now) result ≡ behind front.now word.now }
+fn strip_front<'a>(front: &str, word: &'a str) -> Option<&'a [u8]>
+    ensures { option_map (λ s. s.now) result ≡ strip_front front.now word.now }
 {
     word.as_bytes().strip_prefix(front.as_bytes())
 }
@@ -17,7 +17,7 @@ fn is_setting(word: &str, flag: &str, front: &str) -> bool
     if word == flag {
         return true;
     }
-    match behind(front, word) {
+    match strip_front(front, word) {
         Some([_, ..]) => true,
         _ => false,
     }

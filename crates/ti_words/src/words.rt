@@ -4,7 +4,7 @@ ghost use Rattle.ti_words.specs.Job.{against_of, file_of, job_by, job_of, mode_o
 ghost use Rattle.ti_words.specs.Mirrors.Seen.{job_asked, values_seen};
 ghost use Rattle.ti_words.specs.declared.error.WordsErr.TheVariants.{Usage};
 
-use crate::arguments::{Given, find_arguments};
+use crate::arguments::{RawArgs, find_arguments};
 use crate::error::WordsErr;
 use crate::job::{FileName, Job, Mode};
 use crate::numbers::number_within;
@@ -24,7 +24,7 @@ const DEFAULT_SEED: u32 = 1;
 
 /// A job that borrows its file names.
 #[derive(Clone, Copy)]
-pub struct Asked<'a> {
+pub struct JobRef<'a> {
     mode: Mode,
     procs: u32,
     workers: u32,
@@ -88,7 +88,7 @@ fn against_of<'a>(mode: Mode, word: Option<&'a str>) -> Option<&'a str>
 }
 
 // The job of these values; `None` if one of them isn't valid, or the fuel of all processes together is too much.
-fn job_by<'a>(given: Given<'a>) -> Option<Asked<'a>>
+fn job_by<'a>(given: RawArgs<'a>) -> Option<JobRef<'a>>
     ensures { MatchOption result (job_by (values_seen given.entry) ≡ None) (λ a. job_by (values_seen given.entry) ≡ Some (job_asked a)) }
 {
     let mode = mode_of(given.mode)?;
@@ -101,7 +101,7 @@ fn job_by<'a>(given: Given<'a>) -> Option<Asked<'a>>
     if procs * fuel > MOST_FUEL {
         return None;
     }
-    Some(Asked {
+    Some(JobRef {
         mode,
         procs,
         workers,

@@ -19,7 +19,7 @@ pub(crate) enum Act {
 
 /// A source location.
 #[derive(Clone, Copy)]
-pub(crate) struct Place {
+pub(crate) struct SourcePlace {
     pub(crate) line: u32,
     pub(crate) column: u32,
 }
@@ -27,9 +27,9 @@ pub(crate) struct Place {
 /// An entry: its process, its source location, the kind of its operation (`act`), and the operation (`done`) and its result (`answer`) as
 /// the trace writes them.
 #[derive(Clone, Copy)]
-pub(crate) struct Entry<'a> {
+pub(crate) struct TraceEntry<'a> {
     pub(crate) process: usize,
-    pub(crate) place: Place,
+    pub(crate) place: SourcePlace,
     pub(crate) act: Act,
     pub(crate) done: &'a str,
     pub(crate) answer: &'a str,

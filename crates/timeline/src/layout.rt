@@ -3,7 +3,7 @@
 // Between two collectives, the entries of each process are stacked below each other, and those of all processes begin at the same height,
 // since their order isn't fixed. An arrival is directly above the line of its collective, and a departure on it.
 
-use crate::entry::{Act, Entry, PROCESSES};
+use crate::entry::{Act, PROCESSES, TraceEntry};
 use std::alloc::{AllocError, Global};
 
 /// The vertical position of an entry between two collectives.
@@ -19,63 +19,63 @@ pub(crate) enum Height {
 
 /// The position of an entry: the number of collectives that its process has left before it (`phase`), and the height after these.
 #[derive(Clone, Copy)]
-pub(crate) struct Spot {
+pub(crate) struct EntryPosition {
     pub(crate) phase: usize,
     pub(crate) height: Height,
 }
 
 /// How far the layout of a process has come: its phase, the rows used in it, and whether the process has arrived at the next collective.
 #[derive(Clone, Copy)]
-struct Lane {
+struct LaneState {
     phase: usize,
     rows: usize,
     has_arrived: bool,
 }
 
 // A process before the first entry of a phase.
-const START: Lane = Lane {
+const START: LaneState = LaneState {
     phase: 0,
     rows: 0,
     has_arrived: false,
 };
 
 /// The state of a process after one more entry, and the position of this entry.
-fn advanced(lane: Lane, act: Act) -> (Lane, Spot) {
+fn next_lane(lane: LaneState, act: Act) -> (LaneState, EntryPosition) {
     let phase = lane.phase;
     match act {
         Act::Depart => (
-            Lane {
+            LaneState {
                 phase: phase.saturating_add(1),
                 ..START
             },
-            Spot {
+            EntryPosition {
                 phase,
                 height: Height::Line,
             },
         ),
         Act::Arrive => (
-            Lane {
+            LaneState {
                 has_arrived: true,
                 ..lane
             },
-            Spot {
+            EntryPosition {
                 phase,
                 height: Height::Foot,
             },
         ),
         _ if lane.has_arrived => (
             lane,
-            Spot {
+            EntryPosition {
                 phase,
                 height: Height::Line,
             },
         ),
         _ => (
-            Lane {
+            LaneState {
                 rows: lane.rows.saturating_add(1),
                 ..lane
             },
-            Spot {
+            EntryPosition {
                 phase,
                 height: Height::Row(lane.rows),
             },
@@ -84,11 +84,11 @@ fn advanced(lane: Lane, act: Act) -> (Lane, Spot) {
 }
 
 /// The positions of these entries.
-fn spots(alloc: Global, entries: &[Entry]) -> Result<Vec<Spot>, AllocError> {
+fn positions_of(alloc: Global, entries: &[TraceEntry]) -> Result<Vec<EntryPosition>, AllocError> {
     let mut lanes = [START; PROCESSES];
     let mut spots = Vec::new(alloc);
     for entry in entries {
-        let (lane, spot) = advanced(lanes[entry.process], entry.act);
+        let (lane, spot) = next_lane(lanes[entry.process], entry.act);
         lanes[entry.process] = lane;
         spots.push(spot)?;
     }
@@ -96,7 +96,7 @@ fn spots(alloc: Global, entries: &[Entry]) -> Result<Vec<Spot>, AllocError> {
 }
 
 /// The number of rows that an entry at this position needs in this phase.
-fn rows_for(spot: &Spot, phase: usize) -> usize {
+fn rows_for(spot: &EntryPosition, phase: usize) -> usize {
     match spot.height {
         Height::Row(row) if spot.phase == phase => row.saturating_add(1),
         _ => 0,
@@ -104,7 +104,7 @@ fn rows_for(spot: &Spot, phase: usize) -> usize {
 }
 
 /// The number of rows of a phase above its line: those of entries, and one for arrivals.
-fn rows_of(spots: &[Spot], phase: usize) -> usize {
+fn rows_of(spots: &[EntryPosition], phase: usize) -> usize {
     let mut rows = 0;
     for spot in spots {
         rows = rows_for(spot, phase).max(rows);
@@ -113,7 +113,7 @@ fn rows_of(spots: &[Spot], phase: usize) -> usize {
 }
 
 /// The greatest phase of an entry: how many collectives its process has left before it.
-fn lines_of(spots: &[Spot]) -> usize {
+fn lines_of(spots: &[EntryPosition]) -> usize {
     let mut phases = 0;
     for spot in spots {
         phases = spot.phase.max(phases);
@@ -122,7 +122,7 @@ fn lines_of(spots: &[Spot]) -> usize {
 }
 
 /// The number of lanes: one more than the greatest process number.
-fn processes_of(entries: &[Entry]) -> usize {
+fn processes_of(entries: &[TraceEntry]) -> usize {
     let mut processes = 0;
     for entry in entries {
         processes = entry.process.saturating_add(1).max(processes);
@@ -131,7 +131,7 @@ fn processes_of(entries: &[Entry]) -> usize {
 }
 
 /// The row of the line of each phase, below the rows of the phase.
-fn line_rows(alloc: Global, spots: &[Spot]) -> Result<Vec<usize>, AllocError> {
+fn line_rows(alloc: Global, spots: &[EntryPosition]) -> Result<Vec<usize>, AllocError> {
     let mut rows = Vec::new(alloc);
     let mut next = 0usize;
     for phase in 0..=lines_of(spots) {
@@ -145,18 +145,18 @@ fn line_rows(alloc: Global, spots: &[Spot]) -> Result<Vec<usize>, AllocError> {
 /// The positions of all entries, in a picture of `processes` lanes and `lines` collectives. After the last collective there is one more
 /// phase, which ends at the bottom of the picture.
 #[derive(Drop)]
-pub(crate) struct Layout {
+pub(crate) struct PictureLayout {
     pub(crate) processes: usize,
     pub(crate) lines: usize,
-    spots: Vec<Spot>,
+    spots: Vec<EntryPosition>,
     rows: Vec<usize>,
 }
 
-impl Layout {
+impl PictureLayout {
     /// The layout of these entries. Errors only if it runs out of memory.
-    pub(crate) fn of(alloc: Global, entries: &[Entry]) -> Result<Layout, AllocError> {
-        let spots = spots(alloc, entries)?;
-        Ok(Layout {
+    pub(crate) fn of(alloc: Global, entries: &[TraceEntry]) -> Result<PictureLayout, AllocError> {
+        let spots = positions_of(alloc, entries)?;
+        Ok(PictureLayout {
             processes: processes_of(entries),
             lines: lines_of(&spots),
             rows: line_rows(alloc, &spots)?,
@@ -170,7 +170,7 @@ impl Layout {
     }
 
     /// The first row of a phase.
-    fn first(&self, phase: usize) -> usize {
+    fn first_row(&self, phase: usize) -> usize {
         if phase == 0 {
             0
         } else {
@@ -182,19 +182,19 @@ impl Layout {
     pub(crate) fn row(&self, number: usize) -> usize {
         match self.spots.get(number) {
             Some(
-                Spot {
+                EntryPosition {
                     phase,
                     height: Height::Row(row),
                 },
-            ) => self.first(*phase).saturating_add(*row),
+            ) => self.first_row(*phase).saturating_add(*row),
             Some(
-                Spot {
+                EntryPosition {
                     phase,
                     height: Height::Foot,
                 },
             ) => self.line(*phase).saturating_sub(1),
             Some(
-                Spot {
+                EntryPosition {
                     phase,
                     height: Height::Line,
                 },

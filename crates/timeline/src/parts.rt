@@ -1,8 +1,8 @@
 // Parses the parts of a line of a report. Only the notation of titan is accepted, so that each line can be restored from what was parsed.
 ghost use Rattle.std.specs.Prelude.{◌≡◌, ◌↔◌, IsTrue, All, decimal, IfSome};
-ghost use Rattle.timeline.specs.Lines.{place_text, IsShown};
+ghost use Rattle.timeline.specs.Lines.{source_place_text, IsShown};
 
-use crate::entry::Place;
+use crate::entry::SourcePlace;
 use itoa::Buffer;
 
 /// Parses a decimal number without leading zeros or sign.
@@ -19,11 +19,11 @@ pub(crate) fn number(text: &str) -> Option<u32>
 }
 
 /// Parses a source location, `LINE:COLUMN`.
-pub(crate) fn place(text: &str) -> Option<Place>
-    ensures { IfSome result (λ p. text.now ≡ place_text p) }
+pub(crate) fn place(text: &str) -> Option<SourcePlace>
+    ensures { IfSome result (λ p. text.now ≡ source_place_text p) }
 {
     let (line, column) = text.split_once(':')?;
-    Some(Place {
+    Some(SourcePlace {
         line: number(line)?,
         column: number(column)?,
     })

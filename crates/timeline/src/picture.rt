@@ -1,9 +1,9 @@
 // Writes the picture of a run as SVG. Coordinates are in pixels.
 
-use crate::entry::{Act, Entry, Place};
-use crate::layout::Layout;
+use crate::entry::{Act, SourcePlace, TraceEntry};
+use crate::layout::PictureLayout;
 use crate::report::Report;
-use crate::shapes::{escaped, label_of, look, title_of};
+use crate::shapes::{label_of, look, svg_text, title_of};
 use std::alloc::{AllocError, Global};
 use std::fmt::Write;
 
@@ -37,7 +37,7 @@ rect{stroke:#8c959f}\
 </style>\n";
 
 /// The x coordinate of the lane of a process.
-fn left(process: usize) -> usize {
+fn left_of(process: usize) -> usize {
     process.saturating_mul(LANE).saturating_add(LEFT)
 }
 
@@ -47,7 +47,7 @@ fn top(row: usize) -> usize {
 }
 
 /// The prefix of a label that fits in a box.
-fn cut(text: &str) -> &str {
+fn label_prefix(text: &str) -> &str {
     text.get(..LETTERS).unwrap_or(text)
 }
 
@@ -66,7 +66,7 @@ fn add_head(out: &mut String, width: usize, height: usize) -> Result<(), AllocEr
 
 /// Appends the lane of a process, with its name above.
 fn add_lane(out: &mut String, process: usize, height: usize) -> Result<(), AllocError> {
-    let middle = left(process).saturating_add(BOX / 2);
+    let middle = left_of(process).saturating_add(BOX / 2);
     writeln!(
         out,
         "<line class=\"lane\" x1=\"{middle}\" x2=\"{middle}\" y1=\"{TOP}\" y2=\"{height}\"/>\n<text class=\"name\" x=\"{middle}\" y=\"28\" text-anchor=\"middle\">process {process}</text>"
@@ -76,7 +76,7 @@ fn add_lane(out: &mut String, process: usize, height: usize) -> Result<(), Alloc
 /// Appends the line of a collective across all lanes.
 fn add_line(out: &mut String, row: usize, processes: usize) -> Result<(), AllocError> {
     let y = top(row).saturating_add(ROW / 2);
-    let right = left(processes);
+    let right = left_of(processes);
     writeln!(
         out,
         "<line class=\"line\" x1=\"{LEFT}\" x2=\"{right}\" y1=\"{y}\" y2=\"{y}\"/>"
@@ -90,14 +90,14 @@ fn add_box(
     x: usize,
     y: usize,
     label: &str,
-    place: Place,
+    place: SourcePlace,
 ) -> Result<(), AllocError> {
     let (text, end, base) = (
         x.saturating_add(6),
         x.saturating_add(BOX - 6),
         y.saturating_add(14),
     );
-    let Place { line, column } = place;
+    let SourcePlace { line, column } = place;
     writeln!(
         out,
         "<rect class=\"{look}\" x=\"{x}\" y=\"{y}\" width=\"{BOX}\" height=\"20\" rx=\"3\"/>"
@@ -123,14 +123,14 @@ fn add_entry(
     alloc: Global,
     out: &mut String,
     number: usize,
-    entry: &Entry,
+    entry: &TraceEntry,
     y: usize,
     is_racing: bool,
 ) -> Result<(), AllocError> {
     let title = title_of(alloc, number, entry)?;
     let label = label_of(alloc, entry)?;
-    let label = escaped(alloc, cut(label.as_str()))?;
-    let x = left(entry.process);
+    let label = svg_text(alloc, label_prefix(label.as_str()))?;
+    let x = left_of(entry.process);
     writeln!(out, "<g>{title}")?;
     match entry.act {
         Act::Depart => add_dot(out, x, y, label.as_str())?,
@@ -140,7 +140,7 @@ fn add_entry(
 }
 
 /// Appends the lanes and the lines of collectives.
-fn add_lanes(out: &mut String, layout: &Layout, height: usize) -> Result<(), AllocError> {
+fn add_lanes(out: &mut String, layout: &PictureLayout, height: usize) -> Result<(), AllocError> {
     for process in 0..layout.processes {
         add_lane(out, process, height)?;
     }
@@ -152,8 +152,8 @@ fn add_lanes(out: &mut String, layout: &Layout, height: usize) -> Result<(), All
 
 /// The picture of a report. Errors only if it runs out of memory.
 pub(crate) fn picture(alloc: Global, report: &Report) -> Result<String, AllocError> {
-    let layout = Layout::of(alloc, &report.entries)?;
-    let (width, height) = (left(layout.processes), top(layout.line(layout.lines)));
+    let layout = PictureLayout::of(alloc, &report.entries)?;
+    let (width, height) = (left_of(layout.processes), top(layout.line(layout.lines)));
     let mut out = String::new(alloc);
     add_head(&mut out, width, height.saturating_add(ROW))?;
     add_lanes(&mut out, &layout, height)?;

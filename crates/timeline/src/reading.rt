@@ -2,7 +2,7 @@
 ghost use Rattle.std.specs.Prelude.{◌≡◌, ◌<◌, ◌++◌, codes, decimal, IfSome};
 ghost use Rattle.timeline.specs.Lines.{rest_text, entry_text};
 
-use crate::entry::{Act, Entry, PROCESSES};
+use crate::entry::{Act, PROCESSES, TraceEntry};
 use crate::parts::{is_shown, number, place as place_of};
 
 /// The kind of the operation with this name.
@@ -41,14 +41,14 @@ fn first_word(text: &str) -> &str {
 }
 
 /// Parses what follows the number of an entry.
-fn read_rest<'a>(rest: &'a str) -> Option<Entry<'a>>
+fn read_rest<'a>(rest: &'a str) -> Option<TraceEntry<'a>>
     ensures { IfSome result (λ e. rest.now ≡ rest_text e) }
 {
     let (process, rest) = rest.split_once(' ')?;
     let process = process_of(process)?;
     let (place, rest) = rest.split_once(' ')?;
     let (done, answer) = rest.split_once(" -> ")?;
-    Some(Entry {
+    Some(TraceEntry {
         process,
         place: place_of(place)?,
         act: act_of(first_word(done))?,
@@ -58,7 +58,7 @@ fn read_rest<'a>(rest: &'a str) -> Option<Entry<'a>>
 }
 
 /// Parses the line of the entry with this number. `None` if it isn't the line of an entry, or is that of another one.
-pub(crate) fn read_entry<'a>(line: &'a str, expected: usize) -> Option<Entry<'a>>
+pub(crate) fn read_entry<'a>(line: &'a str, expected: usize) -> Option<TraceEntry<'a>>
     ensures { IfSome result (λ e. line.now ≡ entry_text expected e) }
 {
     let (found, rest) = line.split_once(' ')?;

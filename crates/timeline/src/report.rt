@@ -1,7 +1,7 @@
 // Parses the report of a run: its entries, and which of them race.
 ghost use Rattle.std.specs.Prelude.{◌≤◌, vec_len, IfOk};
 
-use crate::entry::Entry;
+use crate::entry::TraceEntry;
 use crate::parts::number;
 use crate::reading::read_entry;
 use std::alloc::{AllocError, AllocFailed, Global};
@@ -46,12 +46,12 @@ impl<T: Drop> From<AllocFailed<T>> for NoReport {
 /// The entries of a run in their order, and the numbers of those that race.
 #[derive(Drop)]
 pub(crate) struct Report<'a> {
-    pub(crate) entries: Vec<Entry<'a>>,
+    pub(crate) entries: Vec<TraceEntry<'a>>,
     pub(crate) racing: Vec<usize>,
 }
 
 /// Parses lines as entries up to the first line that isn't one. Errors if there are more than `MOST_ENTRIES`.
-fn read_entries<'a>(alloc: Global, lines: &'a [String]) -> Result<Vec<Entry<'a>>, NoReport>
+fn read_entries<'a>(alloc: Global, lines: &'a [String]) -> Result<Vec<TraceEntry<'a>>, NoReport>
     ensures { IfOk result (λ entries. vec_len entries ≤ MOST_ENTRIES) }
 {
     let mut entries = Vec::new(alloc);
@@ -92,7 +92,7 @@ fn read_races(alloc: Global, lines: &[String], from: usize) -> Result<Vec<usize>
 }
 
 /// The number of lines that the heading of the report of races announces.
-fn heading(line: &str) -> Option<usize> {
+fn read_heading(line: &str) -> Option<usize> {
     Some(number(line.strip_prefix("races ")?)? as usize)
 }
 
@@ -111,7 +111,7 @@ pub(crate) fn read_report<'a>(alloc: Global, lines: &'a [String]) -> Result<Repo
         };
     };
     let racing = read_races(alloc, lines, count.saturating_add(1))?;
-    if count == 0 || heading(line.as_str()) != Some(racing.len()) {
+    if count == 0 || read_heading(line.as_str()) != Some(racing.len()) {
         return Err(NoReport::Other(count.saturating_add(1)));
     }
     Ok(Report { entries, racing })

@@ -1,9 +1,9 @@
 // Parts of the picture's SVG source.
 ghost use Rattle.std.specs.Prelude.{◌≡◌, ◌++◌, string_bytes, IfOk, OnOk};
-ghost use Rattle.timeline.specs.Shapes.{escape_of, escaped, title_text};
+ghost use Rattle.timeline.specs.Shapes.{escape_of, svg_text, title_text};
 ghost use Rattle.timeline.specs.Lines.{entry_text};
 
-use crate::entry::{Act, Entry, Place};
+use crate::entry::{Act, SourcePlace, TraceEntry};
 use std::alloc::{AllocError, Global};
 
 /// Appends a byte, escaped if it has a meaning in SVG.
@@ -20,8 +20,8 @@ fn push_escaped(out: &mut String, byte: u8) -> Result<(), AllocError>
 }
 
 /// A string, escaped for SVG.
-pub(crate) fn escaped(alloc: Global, text: &str) -> Result<String, AllocError>
-    ensures { IfOk result (λ s. string_bytes s ≡ escaped text.now) }
+pub(crate) fn svg_text(alloc: Global, text: &str) -> Result<String, AllocError>
+    ensures { IfOk result (λ s. string_bytes s ≡ svg_text text.now) }
 {
     let mut out = String::new(alloc);
     for byte in text.as_bytes() {
@@ -31,12 +31,12 @@ pub(crate) fn escaped(alloc: Global, text: &str) -> Result<String, AllocError>
 }
 
 /// The line of an entry in the trace.
-fn line_of(alloc: Global, number: usize, entry: &Entry) -> Result<String, AllocError>
+fn line_of(alloc: Global, number: usize, entry: &TraceEntry) -> Result<String, AllocError>
     ensures { IfOk result (λ s. string_bytes s ≡ entry_text number entry.now) }
 {
-    let Entry {
+    let TraceEntry {
         process,
-        place: Place { line, column },
+        place: SourcePlace { line, column },
         done,
         answer,
         ..
@@ -45,11 +45,15 @@ fn line_of(alloc: Global, number: usize, entry: &Entry) -> Result<String, AllocE
 }
 
 /// The tooltip of an entry: its line in the trace.
-pub(crate) fn title_of(alloc: Global, number: usize, entry: &Entry) -> Result<String, AllocError>
+pub(crate) fn title_of(
+    alloc: Global,
+    number: usize,
+    entry: &TraceEntry,
+) -> Result<String, AllocError>
     ensures { IfOk result (λ s. string_bytes s ≡ title_text number entry.now) }
 {
     let line = line_of(alloc, number, entry)?;
-    let line = escaped(alloc, line.as_str())?;
+    let line = svg_text(alloc, line.as_str())?;
     format!(in alloc; "<title>{line}</title>")
 }
 
@@ -68,7 +72,7 @@ pub(crate) fn look(act: Act, is_racing: bool) -> &'static str {
 }
 
 /// The label of an entry: its operation and its result, without parts that say nothing (`-`, `done` and the word `arrive` or `depart`).
-pub(crate) fn label_of(alloc: Global, entry: &Entry) -> Result<String, AllocError> {
+pub(crate) fn label_of(alloc: Global, entry: &TraceEntry) -> Result<String, AllocError> {
     let done = match entry.done.strip_prefix("arrive ") {
         Some(arrival) => arrival,
         None => entry.done.strip_prefix("depart").unwrap_or(entry.done),

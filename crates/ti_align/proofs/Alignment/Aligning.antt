@@ -12,13 +12,13 @@ use Rattle.ti_base.specs.declared.entry.Answer.{Answer}
 use Rattle.ti_base.specs.declared.entry.Entry.{Entry}
 use Rattle.ti_base.specs.declared.entry.Next.{Next}
 use Rattle.ti_base.specs.declared.entry.Next.TheVariants as next
-use Rattle.ti_lang.specs.Meaning.Processes.{Setting, Process, begin}
+use Rattle.ti_lang.specs.Meaning.Processes.{RunConfig, Process, begin}
 use Rattle.ti_lang.specs.Meaning.Steps.{Step, To, At, Ends, Faults, step}
-use Rattle.ti_lang.specs.Meaning.NextStep.{Reaches, After, shown, Settles}
+use Rattle.ti_lang.specs.Meaning.NextStep.{Reaches, After, step_label, RunsTo}
 use Rattle.ti_lang.specs.Meaning.Histories.{arrivals, entries_of, history_of, is_end, has_end}
 use Rattle.ti_lang.specs.Meaning.HeapAnswers.{Outcome, Answers, Impossible, heap_answer}
 use Rattle.ti_lang.specs.Meaning.HeapAnswers as heap
-use Rattle.ti_lang.specs.Meaning.Runs.{World, CanTake, IsRun, entry_with, entry_of}
+use Rattle.ti_lang.specs.Meaning.Runs.{ProcAfter, CanTake, IsRun, entry_with, entry_of}
 use Rattle.ti_lang.specs.Meaning.Runs as run
 use Rattle.ti_lang.proofs.Lemmas.{after_same, settled_same, fronts, taker}
 use Rattle.ti_align.specs.SinglePart.{SingleFrame}
@@ -35,7 +35,7 @@ use Rattle.ti_align.proofs.Runs.Entries.{departures_both, own, other}
 use Rattle.ti_align.proofs.RunTypes.Operating.{or_either, or_one}
 
 -- what stands before an entry of a run is a run
-pub run_before : (s : Setting) (es before rest : List Entry) (e : Entry) → IsRun s es → es ≡ before ++ e ∷ rest → IsRun s before
+pub run_before : (s : RunConfig) (es before rest : List Entry) (e : Entry) → IsRun s es → es ≡ before ++ e ∷ rest → IsRun s before
 run_before s es before rest e w z = fronts s before (e ∷ rest) (subst (IsRun s) z w)
 
 none_some : (r : Answer) → ◌≡◌ {A = Option Answer} None (Some r) → ⊥
@@ -47,7 +47,7 @@ get_more (x ∷ xs) ys zero r e = e
 get_more (x ∷ xs) ys (suc k) r e = get_more xs ys k r e
 
 -- the way to an arrival
-way_to : (s : Setting) (es : List Entry) (i k : ℕ) (a : Arrival) → IsRun s es → (x : ArrivesAt s es i k a)
+way_to : (s : RunConfig) (es : List Entry) (i k : ℕ) (a : Arrival) → IsRun s es → (x : ArrivesAt s es i k a)
     → (ms : List Meeting) × Way (begin s i) ms x.settled × (comings ms ≡ k) × ((n : ℕ) (r : Answer) → slice_get (answers_left ms) n ≡ Some r → slice_get (answers_at_departures i es) n ≡ Some r)
 way_to s es i k a w x =
     let before = run_before s es x.before x.rest _ w x.split in
@@ -68,7 +68,7 @@ arrival_same a b x y z w =
     ap₂ (λ (p : Place) (k : CollKind). record { place = p; kind = k; arg = a.arg; single = a.single }) x y
     ∙ ap₂ (λ (g : Option ℕ) (l : List SingleFrame). record { place = b.place; kind = b.kind; arg = g; single = l }) z w
 
-pub arrivals_agree : (s : Setting) → FineMethods s.program s.program.methods → (es : List Entry) → IsRun s es → SameDepartures es → ArrivalsAgree s es
+pub arrivals_agree : (s : RunConfig) → FineMethods s.program s.program.methods → (es : List Entry) → IsRun s es → SameDepartures es → ArrivalsAgree s es
 arrivals_agree s fine es w left i j k a b x y =
     let l = way_to s es i k a w x in
     let r = way_to s es j k b w y in
@@ -79,7 +79,7 @@ arrivals_agree s fine es w left i j k a b x y =
     arrival_same a b z.0 z.1 z.2 (x.single ∙ z.3 ∙ sym y.single)
 
 -- those who make them stand at one state of the slice
-pub both_arrive : (s : Setting) → FineMethods s.program s.program.methods → (es : List Entry) → IsRun s es → SameDepartures es
+pub both_arrive : (s : RunConfig) → FineMethods s.program s.program.methods → (es : List Entry) → IsRun s es → SameDepartures es
     → (i j k : ℕ) (a b : Arrival) (x : ArrivesAt s es i k a) (y : ArrivesAt s es j k b)
     → BothArrive s x.settled y.settled
 both_arrive s fine es w left i j k a b x y =
@@ -92,9 +92,9 @@ both_arrive s fine es w left i j k a b x y =
 
 -- ---- ends
 
-pub record EndsAt (s : Setting) (es : List Entry) (i : ℕ) : Type 0 where
+pub record EndsAt (s : RunConfig) (es : List Entry) (i : ℕ) : Type 0 where
   pub process : Process
-  pub world : World s es i process
+  pub world : ProcAfter s es i process
   pub settled : Process
   pub reaches : Reaches process settled
   pub place : Place
@@ -103,7 +103,7 @@ pub record EndsAt (s : Setting) (es : List Entry) (i : ℕ) : Type 0 where
 end_at : (st : Step) (a b : Place) (c : Action) (w : Asked) (go : Answer → Process) → st ≡ Ends a → st ≡ At (asking b c w) go → ⊥
 end_at st a b c w go x y = cc
 
-end_shown : (st : Step) (at : Place) → shown st ≡ Some (next.End at) → st ≡ Ends at
+end_shown : (st : Step) (at : Place) → step_label st ≡ Some (next.End at) → st ≡ Ends at
 end_shown (To p) at h = absurd (no_next (next.End at) h)
   where
     no_next : (n : Next) → ◌≡◌ {A = Option Next} None (Some n) → ⊥
@@ -122,7 +122,7 @@ end_shown (Faults kind place) at h = absurd (not_end kind place at h)
     not_end k x y e = cc
 
 -- one that stands at its end makes no more entries
-pub still_ends : (s : Setting) (es all : List Entry) (i : ℕ) → EndsAt s es i → Grows s es all i → EndsAt s all i
+pub still_ends : (s : RunConfig) (es all : List Entry) (i : ℕ) → EndsAt s es i → Grows s es all i → EndsAt s all i
 still_ends s es all i o (still u) = record {
   process = o.process;
   world = subst (λ rs. After (begin s i) rs o.process) (sym u.0) o.world;
@@ -133,8 +133,8 @@ still_ends s es all i o (still u) = record {
 }
 still_ends s es all i o (acted p q at a w go r x y e k l m n u v) =
     let same : o.process ≡ p = after_same _ _ _ _ o.world x in
-    let z : Settles p o.settled (next.End o.place) = record { reaches = subst (λ u. Reaches u o.settled) same o.reaches; stands = ap shown o.stands } in
-    let t : Settles p q (next.Act at a) = record { reaches = y; stands = ap shown e } in
+    let z : RunsTo p o.settled (next.End o.place) = record { reaches = subst (λ u. Reaches u o.settled) same o.reaches; stands = ap step_label o.stands } in
+    let t : RunsTo p q (next.Act at a) = record { reaches = y; stands = ap step_label e } in
     absurd (end_at (step q) o.place at a w go (subst (λ u. step u ≡ Ends o.place) (settled_same p o.settled q _ _ z t) o.stands) e)
 
 end_of_last : (i : ℕ) (e : Entry) → has_end i (e ∷ []) ≡ true → ((e.proc == i) ≡ true) × (is_end e.act ≡ true)
@@ -157,7 +157,7 @@ act_of : (d e : Entry) → Some d ≡ Some e → d.act ≡ e.act
 act_of d e h = let k : d ≡ e = cc in ap (λ (x : Entry). x.act) k
 
 -- the process of an entry, with its way to what it has next
-pub way_next : (s : Setting) (es : List Entry) (i : ℕ) (p q : Process) → IsRun s es → World s es i p → Reaches p q → (ms : List Meeting)
+pub way_next : (s : RunConfig) (es : List Entry) (i : ℕ) (p q : Process) → IsRun s es → ProcAfter s es i p → Reaches p q → (ms : List Meeting)
     × Way (begin s i) ms q × (comings ms ≡ arrivals i es) × (answers_left ms ≡ answers_at_departures i es)
     × (last_from None ms ≡ last_kind i (history_of es))
 way_next s es i p q w x y =
@@ -167,13 +167,13 @@ way_next s es i p q w x y =
     let on : Way (begin s i) (o.meetings ++ []) q = way_then (begin s i) p q o.meetings [] goes (reach_way p q q [] y way.stop) in
     (o.meetings, subst (λ ms. Way (begin s i) ms q) (append-nil o.meetings) on, o.count, o.told, o.last)
 
-ends_next : (s : Setting) → FineMethods s.program s.program.methods → (es : List Entry) (i : ℕ) (e : Entry) (p q : Process) (n : Next)
-    → IsRun s es → World s es i p → Reaches p q → shown (step q) ≡ Some n → entry_of s es i n ≡ Some e → is_end e.act ≡ true → EndsAt s es i
+ends_next : (s : RunConfig) → FineMethods s.program s.program.methods → (es : List Entry) (i : ℕ) (e : Entry) (p q : Process) (n : Next)
+    → IsRun s es → ProcAfter s es i p → Reaches p q → step_label (step q) ≡ Some n → entry_of s es i n ≡ Some e → is_end e.act ≡ true → EndsAt s es i
 ends_next s fine es i e p q (next.End at) w x y z h k = record { process = p; world = x; settled = q; reaches = y; place = at; stands = end_shown (step q) at z }
 ends_next s fine es i e p q (next.Fault kind at) w x y z h k = absurd (true_false (sym (ap is_end (act_of _ e h) ∙ k)))
 ends_next s fine es i e p q (next.Act at a) w x y z h k = by (heap_answer s.program (history_of es) i a) h
   where
-    no : (a : Action) → shown (step q) ≡ Some (next.Act at a) → is_end a ≡ true → ⊥
+    no : (a : Action) → step_label (step q) ≡ Some (next.Act at a) → is_end a ≡ true → ⊥
     no act.End z k = let t = at_action (step q) at act.End z in let u = way_next s es i p q w x y in no_end s fine i q u.0 at t.0 t.1 u.1 t.2
     no _ z k = true_false (sym k)
 
@@ -183,7 +183,7 @@ ends_next s fine es i e p q (next.Act at a) w x y z h k = by (heap_answer s.prog
     by Impossible h = absurd (none_entry e h)
 
 -- a process that has its end stands at it
-pub ends_at : (s : Setting) → FineMethods s.program s.program.methods → (es : List Entry) (i : ℕ) → IsRun s es → has_end i es ≡ true → EndsAt s es i
+pub ends_at : (s : RunConfig) → FineMethods s.program s.program.methods → (es : List Entry) (i : ℕ) → IsRun s es → has_end i es ≡ true → EndsAt s es i
 ends_at s fine es i run.none h = absurd (true_false (sym h))
 ends_at s fine all i (run.more {es = es} {i = j} {e = e} w t z) h =
     go (end_cases i es e (subst (λ x. has_end i x ≡ true) z h)) (λ k. ends_at s fine es i w k)
@@ -195,7 +195,7 @@ ends_at s fine all i (run.more {es = es} {i = j} {e = e} w t z) h =
         still_ends s es all i (subst (λ x. EndsAt s es x) same (ends_next s fine es j e t.process t.is_next.0 t.next w t.world
         t.is_next.1.reaches t.is_next.1.stands t.entry k.1)) (grows s es all j i e t z)
 
-pub none_after_end : (s : Setting) → FineMethods s.program s.program.methods → (es : List Entry) → IsRun s es → SameDepartures es → NoneAfterEnd s es
+pub none_after_end : (s : RunConfig) → FineMethods s.program s.program.methods → (es : List Entry) → IsRun s es → SameDepartures es → NoneAfterEnd s es
 none_after_end s fine es w left i j x y h =
     let e = ends_at s fine es i w h in
     let a = way_next s es i e.process e.settled w e.world e.reaches in

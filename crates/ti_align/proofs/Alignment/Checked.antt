@@ -3,7 +3,7 @@ use Rattle.std.proofs.Common.{◌≡◌, ℕ, List, [], ◌∷◌, flat_map, ref
 use Rattle.std.proofs.Math.Bool.{Bool-set}
 use Rattle.std.proofs.Math.Logic.{∥∥₁_elim}
 use Rattle.ti_syntax.specs.Trees.Classes.{TextTree, ResultTree}
-use Rattle.ti_lang.specs.Program.Classes.{NumberedResult, NumberedMethod, NumberedProgram}
+use Rattle.ti_lang.specs.Program.Classes.{NumberedResult, NumberedMethod, ProgramView}
 use Rattle.ti_lang.specs.Program.Classes as c
 use Rattle.ti_lang.specs.Members.{OwnMethod}
 use Rattle.ti_lang.specs.Scopes.{Site}
@@ -38,10 +38,10 @@ methods_marked text n before owns ms number.none = tt
 methods_marked text n before owns ms (number.more {own = own} {method = m} {rest = rest} {methods = others} e x xs) =
     (method_marked _ own m x, methods_marked text _ _ rest others xs)
 
-all_fine : (p : NumberedProgram) (ms : List NumberedMethod) → flat_map (method_single_refusals p) ms ≡ [] → AllMarked ms → FineMethods p ms
+all_fine : (p : ProgramView) (ms : List NumberedMethod) → flat_map (method_single_refusals p) ms ≡ [] → AllMarked ms → FineMethods p ms
 all_fine p [] h k = tt
 all_fine p (m ∷ ms) h k = let both = none_both (method_single_refusals p m) _ h in ((both.0, k.0), all_fine p ms both.1 k.1)
 
-pub checked_fine : (p : NumberedProgram) → IsChecked p → FineMethods p p.methods
+pub checked_fine : (p : ProgramView) → IsChecked p → FineMethods p p.methods
 checked_fine p c =
     all_fine p p.methods c.unbroken.single (∥∥₁_elim c.numbered (all_prop p.methods) (λ n. methods_marked n.0 0 0 _ p.methods n.2.methods))

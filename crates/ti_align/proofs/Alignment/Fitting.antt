@@ -12,7 +12,7 @@ use Rattle.ti_lang.specs.Program.Expressions.{NumberedExp, NumberedExps}
 use Rattle.ti_lang.specs.Program.Expressions as e
 use Rattle.ti_lang.specs.Program.Statements.{NumberedInit, NumberedPrint, NumberedStm, MaybeNumbered, NoStm, SomeStm}
 use Rattle.ti_lang.specs.Program.Statements as s
-use Rattle.ti_lang.specs.Program.Classes.{NumberedResult, NumberedMethod, NumberedProgram}
+use Rattle.ti_lang.specs.Program.Classes.{NumberedResult, NumberedMethod, ProgramView}
 use Rattle.ti_lang.specs.Program.Classes as c
 use Rattle.ti_lang.specs.Program.Scope.{this_of}
 use Rattle.ti_lang.specs.Typing.BuiltIn.{BuiltIn, Copy, Exchange, Delete}
@@ -21,26 +21,26 @@ use Rattle.ti_lang.specs.Typing.Called.{method_behind, member_called}
 use Rattle.ti_lang.specs.Typing.Singleness.{declared_single, has_single_result, is_single, is_single_initial}
 use Rattle.ti_lang.specs.Typing.Effects.{acts, initial_acts, is_collective, is_single_target, doings, doings_of_maybe, together, kept_in_loop, return_acts, has_global_effects}
 use Rattle.ti_lang.specs.Meaning.Held.{Held, truth_of}
-use Rattle.ti_lang.specs.Meaning.Asking.{Reference, Asking, Got, Gives, Asks, Fails, followed, gives}
-use Rattle.ti_lang.specs.Meaning.Processes.{Variable, Receiver, Nowhere, Declared, Assigned, Updated, While, Foreach, Work, Do, End, Before, Behind, Receive, CopyAll, TakeAll, Frame, Process}
+use Rattle.ti_lang.specs.Meaning.Comp.{Reference, Comp, CompResult, Gives, Asks, Fails, bind_result, gives}
+use Rattle.ti_lang.specs.Meaning.Processes.{Variable, Receiver, Nowhere, Declared, Assigned, Updated, While, Foreach, ContItem, Do, End, Before, Behind, Receive, CopyAll, TakeAll, Frame, Process}
 use Rattle.ti_lang.specs.Meaning.Scoping.{Env, env_of, type_of, with_new, declared_type}
 use Rattle.ti_lang.specs.Meaning.Conversions.{converted}
-use Rattle.ti_lang.specs.Meaning.Operators.{operated}
+use Rattle.ti_lang.specs.Meaning.Operators.{apply_binary}
 use Rattle.ti_lang.specs.Meaning.Evaluation.{eval}
-use Rattle.ti_lang.specs.Meaning.Parts.{Field, Element}
+use Rattle.ti_lang.specs.Meaning.CellRefs.{Field, Element}
 use Rattle.ti_lang.specs.Meaning.Targets.{Target, InVariable, InPart, located, held_in, stored, into}
 use Rattle.ti_lang.specs.Meaning.Makers.{new_object, new_grid}
-use Rattle.ti_lang.specs.Meaning.Copies.{copies, copied, counted, taken}
+use Rattle.ti_lang.specs.Meaning.Copies.{copies, copied, count_up, taken}
 use Rattle.ti_lang.specs.Meaning.Collectives.{broadcasts, exchanges, deletes}
 use Rattle.ti_lang.specs.Meaning.Calls.{Call, call_of, called, calling}
 use Rattle.ti_lang.specs.Meaning.Moves.{Move, Goes, Turns, Breaks, Continues, Calls, Returns, Meets, Deletes, receives}
 use Rattle.ti_lang.specs.Meaning.Statements.{made_first, valued_or_called, initialized, member_alone, alone, printed, one_more, declared_as, maybe_do, returns, statement}
-use Rattle.ti_lang.specs.Meaning.Performing.{condition, declared_in, performed}
+use Rattle.ti_lang.specs.Meaning.Performing.{condition, declared_in, exec_item}
 use Rattle.ti_lang.proofs.Lemmas.{Giving, then_giving, guarded_giving}
 use Rattle.ti_rules.specs.declared.refusal.Refusal.{Refusal}
 use Rattle.ti_rules.specs.declared.rule.Rule.TheVariants.{S2, S4}
 use Rattle.ti_rules.specs.Refusals.{refused_if}
-use Rattle.ti_rules.specs.Standing.{Around, scope_of, singles_in, loop_acts, in_loop, in_foreach, inside, inside_all, inside_maybe, stands}
+use Rattle.ti_rules.specs.StmtInContext.{StmtContext, scope_of, singles_in, loop_acts, in_loop, in_foreach, inside, inside_all, inside_maybe, stands}
 use Rattle.ti_rules.specs.SingleRules.{has_effects, is_plain_condition, single_refusals_at, initial_refusals, whole_refusals, method_single_refusals}
 use Rattle.ti_rules.proofs.Lemmas.{not_refused}
 use Rattle.ti_align.specs.SinglePart.{is_single_declared, singles}
@@ -57,25 +57,25 @@ Marked c.Void = Unit {0}
 Marked (c.Typed t) = t.is_single ≡ has_single t.qualifiers
 
 -- a method that breaks no rule
-abbrev pub FineMethod : NumberedProgram → NumberedMethod → Type 0
+abbrev pub FineMethod : ProgramView → NumberedMethod → Type 0
 FineMethod p m = (method_single_refusals p m ≡ []) × Marked m.result
 
 -- the method, if there is one
-abbrev pub OneFine : NumberedProgram → Option NumberedMethod → Type 0
+abbrev pub OneFine : ProgramView → Option NumberedMethod → Type 0
 OneFine p None = Unit {0}
 OneFine p (Some m) = FineMethod p m
 
 -- all of these
-abbrev pub FineMethods : NumberedProgram → List NumberedMethod → Type 0
+abbrev pub FineMethods : ProgramView → List NumberedMethod → Type 0
 FineMethods p [] = Unit {0}
 FineMethods p (m ∷ ms) = FineMethod p m × FineMethods p ms
 
-pub at_fine : (p : NumberedProgram) (ms : List NumberedMethod) (k : ℕ) → FineMethods p ms → OneFine p (slice_get ms k)
+pub at_fine : (p : ProgramView) (ms : List NumberedMethod) (k : ℕ) → FineMethods p ms → OneFine p (slice_get ms k)
 at_fine p [] k f = tt
 at_fine p (m ∷ ms) zero f = f.0
 at_fine p (m ∷ ms) (suc k) f = at_fine p ms k f.1
 
-found_fine : (p : NumberedProgram) (test : NumberedMethod → Bool) (ms : List NumberedMethod) → FineMethods p ms → OneFine p (find test ms)
+found_fine : (p : ProgramView) (test : NumberedMethod → Bool) (ms : List NumberedMethod) → FineMethods p ms → OneFine p (find test ms)
 found_fine p test [] f = tt
 found_fine p test (m ∷ ms) f = by_test (test m) (found_fine p test ms f.1)
   where
@@ -83,7 +83,7 @@ found_fine p test (m ∷ ms) f = by_test (test m) (found_fine p test ms f.1)
     by_test true h = f.0
     by_test false h = h
 
-only_fine : (p : NumberedProgram) (test : NumberedMethod → Bool) (o : Option NumberedMethod) → OneFine p o → OneFine p (only_if test o)
+only_fine : (p : ProgramView) (test : NumberedMethod → Bool) (o : Option NumberedMethod) → OneFine p o → OneFine p (only_if test o)
 only_fine p test None h = tt
 only_fine p test (Some m) h = by_test (test m)
   where
@@ -91,25 +91,25 @@ only_fine p test (Some m) h = by_test (test m)
     by_test true = h
     by_test false = tt
 
-instance_fine : (p : NumberedProgram) (class name : ℕ) → FineMethods p p.methods → OneFine p (instance_method p class name)
+instance_fine : (p : ProgramView) (class name : ℕ) → FineMethods p p.methods → OneFine p (instance_method p class name)
 unfolding instance_method
 instance_fine p class name f = only_fine p _ (find (λ (m : NumberedMethod). (m.class == class) && (m.name == name)) p.methods) (found_fine p _ p.methods f)
 
-pub behind_fine : (p : NumberedProgram) (t : ValueType) (name : ℕ) → FineMethods p p.methods → OneFine p (method_behind p t name)
+pub behind_fine : (p : ProgramView) (t : ValueType) (name : ℕ) → FineMethods p p.methods → OneFine p (method_behind p t name)
 behind_fine p (Class c is_local) name f = instance_fine p c name f
 behind_fine p _ name f = tt
 
 -- ---- calls
 
 -- a called method breaks no rule and has a single result where that goes into a single variable; without effects it isn't single
-abbrev pub CallFits : NumberedProgram → Receiver → Bool → NumberedMethod → Type 0
+abbrev pub CallFits : ProgramView → Receiver → Bool → NumberedMethod → Type 0
 CallFits p r b m = FineMethod p m × (is_single_receiver r ≡ true → has_single_result m ≡ true) × (b ≡ false → (m.is_single ≡ false) × (is_single_receiver r ≡ false))
 
-abbrev OneCall : NumberedProgram → Receiver → Bool → Option Call → Type 0
+abbrev OneCall : ProgramView → Receiver → Bool → Option Call → Type 0
 OneCall p r b None = Unit {0}
 OneCall p r b (Some c) = CallFits p r b c.method
 
-by_method : (p : NumberedProgram) (r : Receiver) (b d : Bool) (at : Place) (object : Option NumberedExp) (args : NumberedExps) (o : Option NumberedMethod) → OneFine p o
+by_method : (p : ProgramView) (r : Receiver) (b d : Bool) (at : Place) (object : Option NumberedExp) (args : NumberedExps) (o : Option NumberedMethod) → OneFine p o
     → (is_single_receiver r ≡ true → option_map_or has_single_result o d ≡ true)
     → (b ≡ false → option_map_or (λ (m : NumberedMethod). m.is_single) o false ≡ false) → (b ≡ false → is_single_receiver r ≡ false)
     → OneCall p r b (option_map (call_of at object args) o)
@@ -129,7 +129,7 @@ called_fits env g r b _ fine i h k = tt
 
 -- ---- moves
 
-abbrev pub Fit : NumberedProgram → NumberedMethod → List Work → List Variable → Bool → Move → Type 0
+abbrev pub Fit : ProgramView → NumberedMethod → List ContItem → List Variable → Bool → Move → Type 0
 Fit p m left vs b (Goes variables works) = OkWorks p m (works ++ left) × (b ≡ false → (singles variables ≡ singles vs) × NoneActs p m works left)
 Fit p m left vs b (Turns at variables works) = OkWorks p m (works ++ left) × (b ≡ false → (singles variables ≡ singles vs) × NoneActs p m works left)
 Fit p m left vs b Breaks = b ≡ false → unwrap_or (jump_at p m left) false ≡ false
@@ -141,7 +141,7 @@ Fit p m left vs b (Deletes at region) = b ≡ false → ⊥
 
 -- ---- receivers
 
-pub giving_followed : {A B : Type 0} (P : A → Type 0) (Q : B → Type 0) (g : Got A) (go : A → Asking B) → Giving P g → ((a : A) (r : List Answer) → P a → Giving Q (go a r)) → Giving Q (followed g go)
+pub giving_followed : {A B : Type 0} (P : A → Type 0) (Q : B → Type 0) (g : CompResult A) (go : A → Comp B) → Giving P g → ((a : A) (r : List Answer) → P a → Giving Q (go a r)) → Giving Q (bind_result g go)
 giving_followed P Q (Gives a r) go k h = h a r k
 giving_followed P Q (Asks request) go k h = tt
 giving_followed P Q (Fails kind at) go k h = tt
@@ -166,7 +166,7 @@ abbrev KeptSingles : Env → List Variable → Type 0
 KeptSingles env vs = singles vs ≡ singles env.variables
 
 -- nothing goes into a single variable
-pub into_plain : (env : Env) (r : Receiver) (right : Asking Held) (rest : List Answer) → is_single_receiver r ≡ false → Giving (λ vs. singles vs ≡ singles env.variables) (into env r right rest)
+pub into_plain : (env : Env) (r : Receiver) (right : Comp Held) (rest : List Answer) → is_single_receiver r ≡ false → Giving (λ vs. singles vs ≡ singles env.variables) (into env r right rest)
 into_plain env Nowhere right rest h = search then_giving
 into_plain env (Declared at x) right rest h =
     then_giving (KeptSingles env) (right rest) _ (λ v r.
@@ -179,20 +179,20 @@ into_plain env (Updated at op target) right rest h =
     giving_followed PlainTarget (KeptSingles env) (located env target rest) _ (located_plain env target rest h) (λ place r k.
     then_giving (KeptSingles env) (held_in env (e.place_of_numbered target) (type_of env target) place r) _ (λ old u.
     then_giving (KeptSingles env) (right u) _ (λ v t.
-    then_giving (KeptSingles env) (operated at op old v t) _ (λ new i.
+    then_giving (KeptSingles env) (apply_binary at op old v t) _ (λ new i.
     then_giving (KeptSingles env) (converted at (type_of env target) new i) (λ w. stored env at place w) (λ w j. stored_plain env at place w j k)))))
 
-into_fits : (env : Env) (r : Receiver) (right : Asking Held) (b : Bool) (rest : List Answer) → (b ≡ false → is_single_receiver r ≡ false)
+into_fits : (env : Env) (r : Receiver) (right : Comp Held) (b : Bool) (rest : List Answer) → (b ≡ false → is_single_receiver r ≡ false)
     → Giving (λ vs. b ≡ false → singles vs ≡ singles env.variables) (into env r right rest)
 into_fits env r right true rest h = any (into env r right rest)
   where
-    any : (g : Got (List Variable)) → Giving (λ vs. true ≡ false → singles vs ≡ singles env.variables) g
+    any : (g : CompResult (List Variable)) → Giving (λ vs. true ≡ false → singles vs ≡ singles env.variables) g
     any (Gives a rest) = λ k. absurd (true_false k)
     any (Asks request) = tt
     any (Fails kind at) = tt
 into_fits env r right false rest h = weaken (into env r right rest) (into_plain env r right rest (h refl))
   where
-    weaken : (g : Got (List Variable)) → Giving (λ vs. singles vs ≡ singles env.variables) g → Giving (λ vs. false ≡ false → singles vs ≡ singles env.variables) g
+    weaken : (g : CompResult (List Variable)) → Giving (λ vs. singles vs ≡ singles env.variables) g → Giving (λ vs. false ≡ false → singles vs ≡ singles env.variables) g
     weaken (Gives a rest) k = λ z. k
     weaken (Asks request) k = tt
     weaken (Fails kind at) k = tt
@@ -202,8 +202,8 @@ into_fits env r right false rest h = weaken (into env r right rest) (into_plain 
 or_else : (a b : Bool) → (a || b) ≡ false → b ≡ true → ⊥
 or_else a b h k = true_false (sym k ∙ (or_false a b h).1)
 
-module _ (q : Process) (f : Frame) (left : List Work) (b : Bool) (ok : OkWorks q.setting.program f.method left) (fine : FineMethods q.setting.program q.setting.program.methods) where
-  pub receives_fits : (r : Receiver) (right : Asking Held) (rest : List Answer) → (b ≡ false → is_single_receiver r ≡ false)
+module _ (q : Process) (f : Frame) (left : List ContItem) (b : Bool) (ok : OkWorks q.setting.program f.method left) (fine : FineMethods q.setting.program q.setting.program.methods) where
+  pub receives_fits : (r : Receiver) (right : Comp Held) (rest : List Answer) → (b ≡ false → is_single_receiver r ≡ false)
       → Giving (Fit q.setting.program f.method left f.variables b) (receives (env_of q f left) r right rest)
   receives_fits r right rest h =
       giving_followed (λ vs. b ≡ false → singles vs ≡ singles f.variables) _ (into (env_of q f left) r right rest) _ (into_fits (env_of q f left) r right b rest h) (λ vs u k. (ok, λ z. (k z, tt)))
@@ -221,7 +221,7 @@ module _ (q : Process) (f : Frame) (left : List Work) (b : Bool) (ok : OkWorks q
   value_fits r x None rest h k = receives_fits r (eval (env_of q f left) x) rest h
   value_fits r x (Some c) rest h k = calling_fits r c rest k
 
-  pub made_fits : (r : Receiver) (new : Asking Held) (rest : List Answer) → (b ≡ false → is_single_receiver r ≡ false)
+  pub made_fits : (r : Receiver) (new : Comp Held) (rest : List Answer) → (b ≡ false → is_single_receiver r ≡ false)
       → Giving (Fit q.setting.program f.method left f.variables b) (made_first (env_of q f left) r new rest)
   made_fits r new rest h = then_giving _ (new rest) _ (λ v u. receives_fits r (gives v) u h)
 
@@ -249,7 +249,7 @@ module _ (q : Process) (f : Frame) (left : List Work) (b : Bool) (ok : OkWorks q
   pub exchanges_fits : (at : Place) (x : NumberedExp) (args : NumberedExps) (rest : List Answer) → (b ≡ false → ⊥)
       → Giving (Fit q.setting.program f.method left f.variables b) (exchanges (env_of q f left) at x args rest)
   exchanges_fits at x args rest h =
-      let k : ((grid : Reference) → OkWorks q.setting.program f.method (TakeAll at grid (counted 0 q.setting.procs) ∷ left)
+      let k : ((grid : Reference) → OkWorks q.setting.program f.method (TakeAll at grid (count_up 0 q.setting.procs) ∷ left)
       × (b ≡ false → ⊥)) = λ grid. ((tt, (λ z. absurd (true_false (sym z))), ok), h) in
       search (then_giving, guarded_giving, k) depth 12
 
@@ -275,7 +275,7 @@ module _ (q : Process) (f : Frame) (left : List Work) (b : Bool) (ok : OkWorks q
   pub deletes_fits : (at : Place) (x : NumberedExp) (rest : List Answer) → (b ≡ false → ⊥) → Giving (Fit q.setting.program f.method left f.variables b) (deletes (env_of q f left) at x rest)
   deletes_fits at x rest h = search (then_giving, h)
 
-  pub member_fits : (at : Place) (x : NumberedExp) (args : NumberedExps) (other : Asking Move) (o : Option BuiltIn) (rest : List Answer) → (b ≡ false → is_collective o ≡ false)
+  pub member_fits : (at : Place) (x : NumberedExp) (args : NumberedExps) (other : Comp Move) (o : Option BuiltIn) (rest : List Answer) → (b ≡ false → is_collective o ≡ false)
       → Giving (Fit q.setting.program f.method left f.variables b) (other rest) → Giving (Fit q.setting.program f.method left f.variables b) (member_alone (env_of q f left) at x args other o rest)
   member_fits at x args other (Some Copy) rest h k = copies_fits at x args rest
   member_fits at x args other (Some Exchange) rest h k = exchanges_fits at x args rest (λ z. true_false (h z))
@@ -305,7 +305,7 @@ module _ (q : Process) (f : Frame) (left : List Work) (b : Bool) (ok : OkWorks q
 -- ---- statements
 
 -- what is wrong with the statement itself
-pub rules_of : (p : NumberedProgram) (a : Around) (x : NumberedStm) (rest : List _) → refusals_in p (stands a x ∷ rest) ≡ [] → (single_refusals_at p a x ≡ []) × (refusals_in p rest ≡ [])
+pub rules_of : (p : ProgramView) (a : StmtContext) (x : NumberedStm) (rest : List _) → refusals_in p (stands a x ∷ rest) ≡ [] → (single_refusals_at p a x ≡ []) × (refusals_in p rest ≡ [])
 rules_of p a x rest h = fine_head p (stands a x) rest h
 
 -- the rule on values for single variables
@@ -321,30 +321,30 @@ target_same (e.Variable at v) h = by v.declared h
 target_same _ h = absurd (true_false (sym h))
 
 -- which foreach variables are single there
-abbrev pub singles_at : Around → ℕ → Bool
+abbrev pub singles_at : StmtContext → ℕ → Bool
 singles_at a = singles_in (scope_of a)
 
 or_none : (t : Bool) → ((t || false) || false) ≡ false → (t || false) ≡ false
 or_none true h = h
 or_none false h = h
 
-chosen_fine : (p : NumberedProgram) (a : Around) (t : Bool) (x y : NumberedStm) → Fine p a x → Fine p a y → Fine p a (if t then x else y)
+chosen_fine : (p : ProgramView) (a : StmtContext) (t : Bool) (x y : NumberedStm) → Fine p a x → Fine p a y → Fine p a (if t then x else y)
 chosen_fine p a true x y f g = f
 chosen_fine p a false x y f g = g
 
-chosen_effects : (p : NumberedProgram) (a : Around) (t : Bool) (x y : NumberedStm) → has_effects p a x ≡ false → has_effects p a y ≡ false → has_effects p a (if t then x else y) ≡ false
+chosen_effects : (p : ProgramView) (a : StmtContext) (t : Bool) (x y : NumberedStm) → has_effects p a x ≡ false → has_effects p a y ≡ false → has_effects p a (if t then x else y) ≡ false
 chosen_effects p a true x y f g = f
 chosen_effects p a false x y f g = g
 
 -- what stands before a loop or its next turn
-first_fits : (p : NumberedProgram) (m : NumberedMethod) (left : List Work) (first : MaybeNumbered) (ws : List Work) (vs : List Variable) (b : Bool) → FineMaybe p (around_at p m (ws ++ left)) first
+first_fits : (p : ProgramView) (m : NumberedMethod) (left : List ContItem) (first : MaybeNumbered) (ws : List ContItem) (vs : List Variable) (b : Bool) → FineMaybe p (around_at p m (ws ++ left)) first
     → Within (jump_at p m (ws ++ left)) (has_global_effects (return_acts p m) (unwrap_or (jump_at p m (ws ++ left)) false) (doings_of_maybe p (this_of m) first))
     → OkWorks p m (ws ++ left) → (b ≡ false → (has_global_effects (return_acts p m) (unwrap_or (jump_at p m (ws ++ left)) false) (doings_of_maybe p (this_of m) first) ≡ false) × NoneActs p m ws left)
     → Fit p m left vs b (Goes vs (maybe_do first ++ ws))
 first_fits p m left NoStm ws vs b f w o h = (o, λ z. (refl, (h z).1))
 first_fits p m left (SomeStm x) ws vs b f w o h = ((f, w, o), λ z. (refl, ((h z).0, (h z).1)))
 
-pub statement_fits : (q : Process) (f : Frame) (left : List Work) (x : NumberedStm) (rest : List Answer)
+pub statement_fits : (q : Process) (f : Frame) (left : List ContItem) (x : NumberedStm) (rest : List Answer)
     → OkWorks q.setting.program f.method left → FineMethods q.setting.program q.setting.program.methods
     → Fine q.setting.program (around_at q.setting.program f.method left) x
     → Within (jump_at q.setting.program f.method left) (has_effects q.setting.program (around_at q.setting.program f.method left) x)
@@ -410,7 +410,7 @@ statement_fits q f left (s.IfElse at c x y) rest o g i w =
       λ h. let z = together_plain r j (doings p (this_of f.method) x) (doings p (this_of f.method) y) h in (refl, (chosen_effects p a (truth_of v) x y z.0 z.1, tt)),
     ))
   where
-    chosen_within : (p : NumberedProgram) (a : Around) (t : Bool) (x y : NumberedStm) → Within a.jump_has (has_effects p a x)
+    chosen_within : (p : ProgramView) (a : StmtContext) (t : Bool) (x y : NumberedStm) → Within a.jump_has (has_effects p a x)
         → Within a.jump_has (has_effects p a y) → Within a.jump_has (has_effects p a (if t then x else y))
     chosen_within p a true x y h k = h
     chosen_within p a false x y h k = k
@@ -459,8 +459,8 @@ statement_fits q f left (s.Return at value) rest o g i w = returns_fits q f left
 
 -- ---- work
 
-pub work_fits : (q : Process) (f : Frame) (left : List Work) (w : Work) (rest : List Answer) → OkWorks q.setting.program f.method (w ∷ left) → FineMethods q.setting.program q.setting.program.methods
-    → Giving (Fit q.setting.program f.method left f.variables (work_acts q.setting.program f.method left w)) (performed (env_of q f left) w rest)
+pub work_fits : (q : Process) (f : Frame) (left : List ContItem) (w : ContItem) (rest : List Answer) → OkWorks q.setting.program f.method (w ∷ left) → FineMethods q.setting.program q.setting.program.methods
+    → Giving (Fit q.setting.program f.method left f.variables (work_acts q.setting.program f.method left w)) (exec_item (env_of q f left) w rest)
 work_fits q f left (Do x) rest o g = statement_fits q f left x rest o.2 g o.0 o.1
 work_fits q f left (End x) rest o g =
     (o.2, λ h. (without_singles (declared_in x) f.variables ∙ without_plain (declared_in x) f.variables (plain_in q.setting.program _ _ _ x h), tt))

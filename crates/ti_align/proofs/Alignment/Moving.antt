@@ -11,33 +11,33 @@ use Rattle.ti_lang.specs.Program.Expressions.{NumberedExp, NumberedExps}
 use Rattle.ti_lang.specs.Program.Expressions as e
 use Rattle.ti_lang.specs.Program.Statements.{NumberedInit, NumberedStm, NoStm}
 use Rattle.ti_lang.specs.Program.Statements as s
-use Rattle.ti_lang.specs.Program.Classes.{NumberedMethod, NumberedProgram}
+use Rattle.ti_lang.specs.Program.Classes.{NumberedMethod, ProgramView}
 use Rattle.ti_lang.specs.Program.Scope.{this_of}
 use Rattle.ti_lang.specs.Typing.BuiltIn.{BuiltIn, Exchange, Delete}
 use Rattle.ti_lang.specs.Typing.Declared.{result_type}
-use Rattle.ti_lang.specs.Typing.TextTypes.{type_in_text}
+use Rattle.ti_lang.specs.Typing.TextTypes.{syntactic_type}
 use Rattle.ti_lang.specs.Typing.Called.{called_method, member_called}
 use Rattle.ti_lang.specs.Typing.Singleness.{has_single_result, is_single, is_single_part, is_single_initial}
 use Rattle.ti_lang.specs.Typing.Effects.{acts, initial_acts, is_collective, is_collective_call, is_single_target}
 use Rattle.ti_lang.specs.Meaning.Held.{truth_of}
-use Rattle.ti_lang.specs.Meaning.Asking.{ValueOf, Reference, Asking, ◌>>=◌, Got, Gives, gives, guarded, needed}
+use Rattle.ti_lang.specs.Meaning.Comp.{ValueOf, Reference, Comp, ◌>>=◌, CompResult, Gives, gives, guard, needed}
 use Rattle.ti_lang.specs.Meaning.Conversions.{converted}
-use Rattle.ti_lang.specs.Meaning.Processes.{Receiver, Nowhere, Declared, Assigned, Updated, While, Foreach, Work, Do, End, Before, Behind, Receive, CopyAll, TakeAll, Frame, Wait, Process}
+use Rattle.ti_lang.specs.Meaning.Processes.{Receiver, Nowhere, Declared, Assigned, Updated, While, Foreach, ContItem, Do, End, Before, Behind, Receive, CopyAll, TakeAll, Frame, Wait, Process}
 use Rattle.ti_lang.specs.Meaning.Scoping.{Env, env_of, type_of, type_here}
 use Rattle.ti_lang.specs.Meaning.Evaluation.{eval, eval_all}
-use Rattle.ti_lang.specs.Meaning.Parts.{domain_asked}
-use Rattle.ti_lang.specs.Meaning.Copies.{counted}
+use Rattle.ti_lang.specs.Meaning.CellRefs.{domain_asked}
+use Rattle.ti_lang.specs.Meaning.Copies.{count_up}
 use Rattle.ti_lang.specs.Meaning.Collectives.{root_among, root_deposit, exchanges}
 use Rattle.ti_lang.specs.Meaning.Calls.{Call, call_of, called, calling}
 use Rattle.ti_lang.specs.Meaning.Moves.{Move, Goes, Turns, Returns, Meets, receives, goes_on}
 use Rattle.ti_lang.specs.Meaning.Statements.{valued_or_called, initialized, member_alone, alone, one_more, declared_as, returns, statement}
-use Rattle.ti_lang.specs.Meaning.Performing.{condition, declared_in, performed}
+use Rattle.ti_lang.specs.Meaning.Performing.{condition, declared_in, exec_item}
 use Rattle.ti_rules.specs.declared.rule.Rule.TheVariants.{S1, S3, S4, S7, S8}
-use Rattle.ti_rules.specs.Standing.{Around, in_foreach, inside}
+use Rattle.ti_rules.specs.StmtInContext.{StmtContext, in_foreach, inside}
 use Rattle.ti_rules.specs.SingleRules.{has_effects, is_plain_condition, call_refusals, whole_refusals, is_delete, initial_refusals, return_refusals}
 use Rattle.ti_rules.proofs.Lemmas.{not_refused}
 use Rattle.ti_align.specs.SinglePart.{singles}
-use Rattle.ti_align.proofs.Alignment.Slice.{is_single_receiver, jump_at, around_at, work_acts, exchanging, single_calling, single_value, single_initial, single_member, single_alone, single_return, single_statement, single_performed}
+use Rattle.ti_align.proofs.Alignment.Slice.{is_single_receiver, jump_at, around_at, work_acts, exchange_wait, single_calling, single_value, single_initial, single_member, single_alone, single_return, single_statement, single_performed}
 use Rattle.ti_align.proofs.Runs.Vars.{true_false, if_true, if_false, without_singles}
 use Rattle.ti_align.proofs.Alignment.Single.{env_part, Rel, Same, rel_then, guarded_same, converted_same, single_same}
 use Rattle.ti_align.proofs.Alignment.Fine.{none_both, kept_rule, Fine, OkWorks}
@@ -47,13 +47,13 @@ use Rattle.ti_align.proofs.Alignment.Liking.{rel_skip, Like, receives_single, re
 use Rattle.ti_align.proofs.RunTypes.Operating.{or_one}
 
 -- the method that is called is one of the program
-pub method_fine : (p : NumberedProgram) (t : Option ℕ) (x : NumberedExp) → FineMethods p p.methods → OneFine p (called_method p t x)
+pub method_fine : (p : ProgramView) (t : Option ℕ) (x : NumberedExp) → FineMethods p p.methods → OneFine p (called_method p t x)
 method_fine p t (e.Call at method args) f = at_fine p p.methods method f
 method_fine p t (e.OwnCall at method args) f = at_fine p p.methods method f
-method_fine p t (e.Member at a name args) f = behind_fine p (type_in_text p t a) name f
+method_fine p t (e.Member at a name args) f = behind_fine p (syntactic_type p t a) name f
 method_fine p t _ f = tt
 
-pub fine_some : (p : NumberedProgram) (o : Option NumberedMethod) (m : NumberedMethod) → o ≡ Some m → OneFine p o → FineMethod p m
+pub fine_some : (p : ProgramView) (o : Option NumberedMethod) (m : NumberedMethod) → o ≡ Some m → OneFine p o → FineMethod p m
 fine_some p o m h f = subst (OneFine p) h f
 
 pub or_true : (a b : Bool) → (a || b) ≡ true → b ≡ false → a ≡ true
@@ -64,7 +64,7 @@ pub either : (a b : Bool) → (a || b) ≡ true → (a ≡ true → ⊥) → b �
 either true b h k = absurd (k refl)
 either false b h k = h
 
-module _ (q : Process) (f : Frame) (left : List Work) (fine : FineMethods q.setting.program q.setting.program.methods) where
+module _ (q : Process) (f : Frame) (left : List ContItem) (fine : FineMethods q.setting.program q.setting.program.methods) where
   -- a call with effects is one of a single method
   call_single : (r : Receiver) (x : NumberedExp) (m : NumberedMethod) (rest : List Answer) → called_method q.setting.program (this_of f.method) x ≡ Some m → m.is_single ≡ true
       → whole_refusals q.setting.program (around_at q.setting.program f.method left) x ≡ [] → (k : Call) → called (env_of q f left) x
@@ -159,23 +159,23 @@ module _ (q : Process) (f : Frame) (left : List Work) (fine : FineMethods q.sett
       sent at x n r = record { place = at; kind = coll.Broadcast; arg = Some n; wanted = ValueOf (type_here (env_of q f left) x); receiver = r }
 
   guarded_meets : (test : Bool) (kind : FaultKind) (at : Place) (d : Deposit) (grid : Reference) (rest : List Answer)
-      → Rel (Like q.setting.program f.method left) (guarded test kind at
-      (Meets (exchanging at) d (TakeAll at grid (counted 0 q.setting.procs) ∷ [])))
-      (gives (Meets (exchanging at) deposit.Nothing [])) rest
+      → Rel (Like q.setting.program f.method left) (guard test kind at
+      (Meets (exchange_wait at) d (TakeAll at grid (count_up 0 q.setting.procs) ∷ [])))
+      (gives (Meets (exchange_wait at) deposit.Nothing [])) rest
   guarded_meets true kind at d grid rest = (_, refl, (deposit.Nothing, refl, (refl, tt), refl))
   guarded_meets false kind at d grid rest = tt
 
   exchanges_single : (at : Place) (x : NumberedExp) (args : NumberedExps) (rest : List Answer)
       → Rel (Like q.setting.program f.method left) (exchanges (env_of q f left) at x args)
-      (gives (Meets (exchanging at) deposit.Nothing [])) rest
+      (gives (Meets (exchange_wait at) deposit.Nothing [])) rest
   exchanges_single at x args rest =
-      let n = gives (Meets (exchanging at) deposit.Nothing []) in
+      let n = gives (Meets (exchange_wait at) deposit.Nothing []) in
       rel_skip (Like q.setting.program f.method left) (eval (env_of q f left) x) _ n rest (λ h r.
       rel_skip (Like q.setting.program f.method left) (eval_all (env_of q f left) args) _ n r (λ hs u.
       rel_skip (Like q.setting.program f.method left) (needed at (type_of (env_of q f left) x) h) _ n u (λ grid v.
       rel_skip (Like q.setting.program f.method left) (domain_asked at grid) _ n v (λ d w. guarded_meets _ _ at _ grid w))))
 
-  member_single : (at : Place) (x : NumberedExp) (args : NumberedExps) (other : Asking Move) (o : Option BuiltIn) (rest : List Answer) → is_collective o ≡ true
+  member_single : (at : Place) (x : NumberedExp) (args : NumberedExps) (other : Comp Move) (o : Option BuiltIn) (rest : List Answer) → is_collective o ≡ true
       → (is_delete o ≡ true → is_single_part q.setting.program (this_of f.method) (singles_at (around_at q.setting.program f.method left)) x ≡ true)
       → Rel (Like q.setting.program f.method left) (member_alone (env_of q f left) at x args other o) (single_member (env_part (env_of q f left)) at x o) rest
   member_single at x args other (Some Exchange) rest h k = exchanges_single at x args rest
@@ -230,15 +230,15 @@ jump_true (Some true) h = refl
 jump_true (Some false) h = absurd (true_false (sym h))
 jump_true None h = absurd (true_false (sym h))
 
-return_single : (q : Process) (f : Frame) (left : List Work) (at : Place) (value : Option NumberedExp) (rest : List Answer)
+return_single : (q : Process) (f : Frame) (left : List ContItem) (at : Place) (value : Option NumberedExp) (rest : List Answer)
     → return_refusals q.setting.program (around_at q.setting.program f.method left) at value ≡ []
     → Rel (Like q.setting.program f.method left) (returns (env_of q f left) at value) (single_return (env_part (env_of q f left)) at value) rest
 return_single q f left at value rest w = go (has_single_result f.method) refl value w
   where
     go : (b : Bool) → has_single_result f.method ≡ b → (value : Option NumberedExp) → return_refusals q.setting.program (around_at q.setting.program f.method left) at value ≡ []
         → Rel (Like q.setting.program f.method left) (returns (env_of q f left) at value) (single_return (env_part (env_of q f left)) at value) rest
-    go true z None w = (Returns None, ap (λ (m : Asking Move). m []) (if_true (has_single_result f.method) (returns (env_part (env_of q f left)) at None) (gives (Returns None)) z), inl refl)
-    go false z None w = (Returns None, ap (λ (m : Asking Move). m []) (if_false (has_single_result f.method) (returns (env_part (env_of q f left)) at None) (gives (Returns None)) z), inl refl)
+    go true z None w = (Returns None, ap (λ (m : Comp Move). m []) (if_true (has_single_result f.method) (returns (env_part (env_of q f left)) at None) (gives (Returns None)) z), inl refl)
+    go false z None w = (Returns None, ap (λ (m : Comp Move). m []) (if_false (has_single_result f.method) (returns (env_part (env_of q f left)) at None) (gives (Returns None)) z), inl refl)
     go true z (Some x) w =
         subst (λ y. Rel (Like q.setting.program f.method left) (returns (env_of q f left) at (Some x)) y rest)
         (sym (if_true (has_single_result f.method) (returns (env_part (env_of q f left)) at (Some x)) (gives (Returns None)) z))
@@ -254,7 +254,7 @@ return_single q f left at value rest w = go (has_single_result f.method) refl va
         (rel_skip (Like q.setting.program f.method left) (eval (env_of q f left) x) (λ v. converted at (result_type f.method) v >>= λ k. gives (Returns (Some k))) (gives (Returns None)) rest (λ v u.
         rel_skip (Like q.setting.program f.method left) (converted at (result_type f.method) v) (λ k. gives (Returns (Some k))) (gives (Returns None)) u (λ k y. (_, refl, inr (refl, z)))))
 
-statement_single : (q : Process) (f : Frame) (left : List Work) (x : NumberedStm) (rest : List Answer) → FineMethods q.setting.program q.setting.program.methods
+statement_single : (q : Process) (f : Frame) (left : List ContItem) (x : NumberedStm) (rest : List Answer) → FineMethods q.setting.program q.setting.program.methods
     → Fine q.setting.program (around_at q.setting.program f.method left) x → has_effects q.setting.program (around_at q.setting.program f.method left) x ≡ true
     → Rel (Like q.setting.program f.method left) (statement (env_of q f left) x) (single_statement (env_part (env_of q f left)) x) rest
 statement_single q f left s.Empty rest g i h = absurd (true_false (sym h))
@@ -318,14 +318,14 @@ pub not_not : (b : Bool) → not b ≡ false → b ≡ true
 not_not true h = refl
 not_not false h = absurd (true_false h)
 
-condition_same : (env : Env) (a : Around) (c : Option NumberedExp) (rest : List Answer) → a.method ≡ env.method
+condition_same : (env : Env) (a : StmtContext) (c : Option NumberedExp) (rest : List Answer) → a.method ≡ env.method
     → is_plain_condition env.program a c ≡ false → Same (condition env c) (condition (env_part env) c) rest
 condition_same env a None rest e h = refl
 condition_same env a (Some x) rest e h = single_same env (singles_at a) x rest (subst (λ m. is_single_part env.program (this_of m) (singles_at a) x ≡ true) e (not_not _ h))
 
 -- work with effects
-pub work_single : (q : Process) (f : Frame) (left : List Work) (w : Work) (rest : List Answer) → OkWorks q.setting.program f.method (w ∷ left) → FineMethods q.setting.program q.setting.program.methods
-    → work_acts q.setting.program f.method left w ≡ true → Rel (Like q.setting.program f.method left) (performed (env_of q f left) w) (single_performed (env_part (env_of q f left)) w) rest
+pub work_single : (q : Process) (f : Frame) (left : List ContItem) (w : ContItem) (rest : List Answer) → OkWorks q.setting.program f.method (w ∷ left) → FineMethods q.setting.program q.setting.program.methods
+    → work_acts q.setting.program f.method left w ≡ true → Rel (Like q.setting.program f.method left) (exec_item (env_of q f left) w) (single_performed (env_part (env_of q f left)) w) rest
 work_single q f left (Do x) rest o g h = statement_single q f left x rest g o.0 h
 work_single q f left (End x) rest o g h = (_, refl, ap (λ y. Goes y []) (sym (without_singles (declared_in x) f.variables)))
 work_single q f left (Before (While at c update body)) rest o g h =
@@ -333,7 +333,7 @@ work_single q f left (Before (While at c update body)) rest o g h =
     (condition_same (env_of q f left) (around_at q.setting.program f.method left) c rest refl (o.0.0 h)) (λ v u. by (truth_of v))
   where
     by : (t : Bool) → (n : Move)
-        × (◌≡◌ {A = Got Move} (Gives (if t then Turns at (singles f.variables) (Do body ∷ Behind (While at c update body) ∷ []) else Goes
+        × (◌≡◌ {A = CompResult Move} (Gives (if t then Turns at (singles f.variables) (Do body ∷ Behind (While at c update body) ∷ []) else Goes
         (singles f.variables) []) []) (Gives n []))
         × Like q.setting.program f.method left (if t then Turns at f.variables (Do body ∷ Behind (While at c update body) ∷ []) else Goes f.variables []) n
     by true = (_, refl, refl)

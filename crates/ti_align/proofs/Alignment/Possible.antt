@@ -15,18 +15,18 @@ use Rattle.ti_base.specs.declared.action.Deposit.{Deposit}
 use Rattle.ti_base.specs.declared.entry.Answer.TheVariants.{Done}
 use Rattle.ti_base.specs.declared.entry.Entry.{Entry}
 use Rattle.ti_base.specs.declared.entry.Next.TheVariants as next
-use Rattle.ti_lang.specs.Meaning.Processes.{Setting, Process}
+use Rattle.ti_lang.specs.Meaning.Processes.{RunConfig, Process}
 use Rattle.ti_lang.specs.Meaning.Steps.{At, step}
 use Rattle.ti_lang.specs.Meaning.NextStep.{IsNext}
 use Rattle.ti_lang.specs.Meaning.Histories.{History, history_of, is_arrival, is_departure, entries_of, arrivals, departures}
-use Rattle.ti_lang.specs.Meaning.RoundsOf.{Arrival, arrival_in, arrival_at, last_arrival, value_in, given, was_left}
+use Rattle.ti_lang.specs.Meaning.RoundsOf.{Arrival, arrival_in, arrival_at, last_arrival, value_in, deposit_from, was_left}
 use Rattle.ti_lang.specs.Meaning.RegionUse.{is_in_use}
 use Rattle.ti_lang.specs.Meaning.HeapAnswers.{Answers, Faults, Impossible, where_some, answers_value, leaves_delete, departs, heap_answer}
-use Rattle.ti_lang.specs.Meaning.Runs.{World, IsReady, CanTake, IsRun}
+use Rattle.ti_lang.specs.Meaning.Runs.{ProcAfter, IsReady, CanTake, IsRun}
 use Rattle.ti_lang.specs.Meaning.Runs as run
 use Rattle.ti_lang.proofs.Lemmas.{taker, history_grows}
 use Rattle.ti_align.specs.Alignment.{ArrivalsAgree}
-use Rattle.ti_align.specs.Stopping.{is_delete}
+use Rattle.ti_align.specs.Stopping.{is_delete_arrival}
 use Rattle.ti_align.specs.Heap.{is_of_heap}
 use Rattle.ti_align.proofs.Runs.Ways.{asking, answers_at_departures, waiting, last_from}
 use Rattle.ti_align.proofs.Runs.Vars.{true_false, and_left, and_right}
@@ -41,7 +41,7 @@ use Rattle.ti_align.proofs.RunTypes.Heaping.{answer_not}
 
 -- ---- what processes have given
 
-come_now : (s : Setting) (es : List Entry) (i : ℕ) (e : Entry) (a : Arrival) → IsRun s es → CanTake s es i e → is_arrival e.act ≡ true
+come_now : (s : RunConfig) (es : List Entry) (i : ℕ) (e : Entry) (a : Arrival) → IsRun s es → CanTake s es i e → is_arrival e.act ≡ true
     → arrival_in e.act ≡ Some a → ArrivalFine s.procs i a.kind a.arg a.deposit
 come_now s es i e a w t l y =
     let q = t.is_next.0 in
@@ -53,7 +53,7 @@ come_now s es i e a w t l y =
 none_arrival : (b : Arrival) → ◌≡◌ {A = Option Arrival} None (Some b) → ⊥
 none_arrival b h = cc
 
-pub come_fine : (s : Setting) (es : List Entry) → IsRun s es → (i n : ℕ) (a : Arrival) → arrival_at i n (history_of es) ≡ Some a → ArrivalFine s.procs i a.kind a.arg a.deposit
+pub come_fine : (s : RunConfig) (es : List Entry) → IsRun s es → (i n : ℕ) (a : Arrival) → arrival_at i n (history_of es) ≡ Some a → ArrivalFine s.procs i a.kind a.arg a.deposit
 come_fine s es run.none i n a z = absurd (none_arrival a z)
 come_fine s all (run.more {es = es} {i = p} {e = e} w t y) i n a z =
     by (comes i n e (history_of es) a (sym (ap (arrival_at i n) (ap history_of y ∙ history_grows es e)) ∙ z)) (λ g. come_fine s es w i n a g)
@@ -106,12 +106,12 @@ departs_is e k = by e.act k
     by act.Depart k = refl
     by _ k = absurd (true_false (sym k))
 
-was_ready : (s : Setting) (es : List Entry) (i j : ℕ) (e : Entry) → CanTake s es i e → is_departure e.act ≡ true → j < s.procs → departures i es < arrivals j es
+was_ready : (s : RunConfig) (es : List Entry) (i j : ℕ) (e : Entry) → CanTake s es i e → is_departure e.act ≡ true → j < s.procs → departures i es < arrivals j es
 was_ready s es i j e t k l =
     let n : t.next ≡ next.Act e.place act.Depart = acts_as s es i t.next e t.entry (depart_answered e k) ∙ ap (next.Act e.place) (departs_is e k) in
     subst (IsReady s es i) n t.ready j l
 
-pub all_came : (s : Setting) (es : List Entry) → IsRun s es → (i j : ℕ) → j < s.procs → departures i es ≤ arrivals j es
+pub all_came : (s : RunConfig) (es : List Entry) → IsRun s es → (i j : ℕ) → j < s.procs → departures i es ≤ arrivals j es
 all_came s es run.none i j l = zero_least
   where
     zero_least : 0 ≤ 0
@@ -138,7 +138,7 @@ faulted : (k : FaultKind) → Faults k ≡ Impossible → ⊥
 faulted k e = cc
 
 -- a value that was given
-was_given : (h : History) (i who n : ℕ) (b : Arrival) → arrivals i h ≡ n → arrival_at who n h ≡ Some b → HasValue b.deposit → answers_value (given i who h) ≡ Impossible → ⊥
+was_given : (h : History) (i who n : ℕ) (b : Arrival) → arrivals i h ≡ n → arrival_at who n h ≡ Some b → HasValue b.deposit → answers_value (deposit_from i who h) ≡ Impossible → ⊥
 was_given h i who n b c z v k =
     answer_not _ (sym (ap answers_value (ap (λ (o : Option Arrival). option_and_then (λ (a : Arrival). value_in a.deposit) o) (ap (λ m. arrival_at who m h) c ∙ z) ∙ v.1)) ∙ k)
 
@@ -152,11 +152,11 @@ exchange_value : (procs i : ℕ) (kind : CollKind) (arg : Option ℕ) (d : Depos
 exchange_value procs i kind arg d k f = subst (λ c. ArrivalFine procs i c arg d) k f
 
 -- what actions of the heap name is there, so that they are possible
-abbrev pub ThingsThere : Setting → List Entry → Type 0
-ThingsThere s es = (i : ℕ) (p : Process) (at : Place) (a : Action) → i < s.procs → World s es i p → IsNext p (next.Act at a) → is_of_heap a
+abbrev pub ThingsThere : RunConfig → List Entry → Type 0
+ThingsThere s es = (i : ℕ) (p : Process) (at : Place) (a : Action) → i < s.procs → ProcAfter s es i p → IsNext p (next.Act at a) → is_of_heap a
     ≡ true → heap_answer s.program (history_of es) i a ≡ Impossible → ⊥
 
-module _ (s : Setting) (es : List Entry) (w : IsRun s es) (agree : ArrivalsAgree s es) where
+module _ (s : RunConfig) (es : List Entry) (w : IsRun s es) (agree : ArrivalsAgree s es) where
   come_to : (i n : ℕ) → arrivals i es ≡ suc n → (a : Arrival) × (arrival_at i (suc n) (history_of es) ≡ Some a)
   come_to i n c = there i n (history_of es) (less _ n (back i es ∙ c))
     where
@@ -182,9 +182,9 @@ module _ (s : Setting) (es : List Entry) (w : IsRun s es) (agree : ArrivalsAgree
       let x = alike s es w agree i root d a b.0 z b.1 in
       was_given h i root (suc d) b.0 (back i es ∙ c) b.1
       (root_value s.procs root b.0.kind b.0.arg b.0.deposit (sym x.0 ∙ k) (sym x.1 ∙ l ∙ f.1) (come_fine s es w root (suc d) b.0 b.1))
-      (sym (ap (λ (o : Option ℕ). where_some o (λ n. answers_value (given i n h))) f.1) ∙ o)
+      (sym (ap (λ (o : Option ℕ). where_some o (λ n. answers_value (deposit_from i n h))) f.1) ∙ o)
 
-  depart_possible : (i : ℕ) (p : Process) → World s es i p → (at : Place) → IsNext p (next.Act at act.Depart)
+  depart_possible : (i : ℕ) (p : Process) → ProcAfter s es i p → (at : Place) → IsNext p (next.Act at act.Depart)
       → ((j : ℕ) → j < s.procs → departures i es < arrivals j es) → heap_answer s.program (history_of es) i act.Depart ≡ Impossible → ⊥
   depart_possible i p v at n r o =
       let x = at_action (step n.0) at act.Depart n.1.stands in
@@ -219,7 +219,7 @@ module _ (s : Setting) (es : List Entry) (w : IsRun s es) (agree : ArrivalsAgree
       by None y k = absurd (none_kind kind k)
       by (Some a) y k = numbered (arrivals i (history_of es)) a refl y (some_kind _ _ k)
 
-  take_possible : (i who : ℕ) (p : Process) → World s es i p → (at : Place) → IsNext p (next.Act at (act.Take who)) → heap_answer s.program (history_of es) i (act.Take who) ≡ Impossible → ⊥
+  take_possible : (i who : ℕ) (p : Process) → ProcAfter s es i p → (at : Place) → IsNext p (next.Act at (act.Take who)) → heap_answer s.program (history_of es) i (act.Take who) ≡ Impossible → ⊥
   take_possible i who p v at n o =
       let h = history_of es in
       let x = at_action (step n.0) at (act.Take who) n.1.stands in
@@ -237,8 +237,8 @@ module _ (s : Setting) (es : List Entry) (w : IsRun s es) (agree : ArrivalsAgree
       later : (aw ah ai bi d x n : ℕ) → aw ≡ ah → ai ≡ bi → bi ≡ d + x → x ≡ 0 → d ≤ ah → ai ≡ suc n → n < aw
       later aw ah ai bi d x n p q r t u v = omega arith
 
-  pub never : ThingsThere s es → (i : ℕ) → i < s.procs → (p : Process) → World s es i p → (at : Place) (a : Action)
-      → IsNext p (next.Act at a) → IsReady s es i (next.Act at a) → is_delete a ≡ false → heap_answer s.program (history_of es) i a
+  pub never : ThingsThere s es → (i : ℕ) → i < s.procs → (p : Process) → ProcAfter s es i p → (at : Place) (a : Action)
+      → IsNext p (next.Act at a) → IsReady s es i (next.Act at a) → is_delete_arrival a ≡ false → heap_answer s.program (history_of es) i a
       ≡ Impossible → ⊥
   never there i l p v at act.Depart n r k o = depart_possible i p v at n r o
   never there i l p v at (act.Take who) n r k o = take_possible i who p v at n o

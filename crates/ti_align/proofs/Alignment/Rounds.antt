@@ -15,16 +15,16 @@ use Rattle.ti_base.specs.declared.entry.Answer.TheVariants.{Done, Val}
 use Rattle.ti_base.specs.declared.entry.Entry.{Entry}
 use Rattle.ti_base.specs.declared.entry.Next.{Next}
 use Rattle.ti_base.specs.declared.entry.Next.TheVariants as next
-use Rattle.ti_lang.specs.Program.Classes.{NumberedProgram}
-use Rattle.ti_lang.specs.Meaning.Processes.{Setting, Process}
+use Rattle.ti_lang.specs.Program.Classes.{ProgramView}
+use Rattle.ti_lang.specs.Meaning.Processes.{RunConfig, Process}
 use Rattle.ti_lang.specs.Meaning.Steps.{At, step}
-use Rattle.ti_lang.specs.Meaning.NextStep.{Settles}
+use Rattle.ti_lang.specs.Meaning.NextStep.{RunsTo}
 use Rattle.ti_lang.specs.Meaning.Histories.{History, history_of, is_end, is_fault, is_arrival, is_departure, is_answered, arrivals}
-use Rattle.ti_lang.specs.Meaning.RoundsOf.{Arrival, arrival_in, arrival_at, last_arrival, value_in, given, was_left}
+use Rattle.ti_lang.specs.Meaning.RoundsOf.{Arrival, arrival_in, arrival_at, last_arrival, value_in, deposit_from, was_left}
 use Rattle.ti_lang.specs.Meaning.RegionUse.{is_in_use}
 use Rattle.ti_lang.specs.Meaning.HeapAnswers.{Outcome, Answers, Faults, Impossible, where_some, answers_value, leaves_delete, departs, heap_answer, IsAnswered}
 use Rattle.ti_lang.specs.Meaning.HeapAnswers as heap
-use Rattle.ti_lang.specs.Meaning.Runs.{World, entry_with, entry_of, CanTake, IsRun}
+use Rattle.ti_lang.specs.Meaning.Runs.{ProcAfter, entry_with, entry_of, CanTake, IsRun}
 use Rattle.ti_lang.specs.Meaning.Runs as run
 use Rattle.ti_lang.proofs.Lemmas.{taker, history_grows, run_answered, some_entry, answer_same}
 use Rattle.ti_align.specs.SinglePart.{single_part}
@@ -77,7 +77,7 @@ impossible r e = cc
 fault : (k : FaultKind) (r : Answer) → Faults k ≡ Answers r → ⊥
 fault k r e = cc
 
-leaves_done : (program : NumberedProgram) (h : History) (round : ℕ) (arg : Option ℕ) (r : Answer) → leaves_delete program h round arg ≡ Answers r → r ≡ Done
+leaves_done : (program : ProgramView) (h : History) (round : ℕ) (arg : Option ℕ) (r : Answer) → leaves_delete program h round arg ≡ Answers r → r ≡ Done
 leaves_done program h round None r z = absurd (impossible r z)
 leaves_done program h round (Some n) r z = go (not (was_left round h) && is_in_use program n round h) z
   where
@@ -96,7 +96,7 @@ sent h i n root arg r l (Some b) z k = by (value_in b.deposit) refl k
     by (Some value) y k = (root, b, value, l, z, y, sym (answer_same _ _ k))
 
 -- the departure from the round at which the process arrived last
-departs_told : (program : NumberedProgram) (h : History) (i : ℕ) (kind : CollKind) (arg : Option ℕ) (r : Answer) → departs program h i kind arg ≡ Answers r → RoundAnswer h i (arrivals i h) kind arg r
+departs_told : (program : ProgramView) (h : History) (i : ℕ) (kind : CollKind) (arg : Option ℕ) (r : Answer) → departs program h i kind arg ≡ Answers r → RoundAnswer h i (arrivals i h) kind arg r
 departs_told program h i coll.Barrier arg r z = sym (answer_same _ _ z)
 departs_told program h i coll.Exchange arg r z = sym (answer_same _ _ z)
 departs_told program h i coll.Broadcast None r z = absurd (impossible r z)
@@ -104,7 +104,7 @@ departs_told program h i coll.Broadcast (Some root) r z = sent h i (arrivals i h
 departs_told program h i coll.MakeRegion arg r z = sym (answer_same _ _ z) ∙ ap (λ k. Val (v.Region k)) (made_all i h)
 departs_told program h i coll.DeleteRegion arg r z = leaves_done program h (arrivals i h) arg r z
 
-pub told_now : (program : NumberedProgram) (h : History) (i : ℕ) (r : Answer) → heap_answer program h i act.Depart ≡ Answers r → Told h i (arrivals i h) r
+pub told_now : (program : ProgramView) (h : History) (i : ℕ) (r : Answer) → heap_answer program h i act.Depart ≡ Answers r → Told h i (arrivals i h) r
 told_now program h i r z = by (last_arrival i h) refl z
   where
     by : (o : Option Arrival) → last_arrival i h ≡ o → where_some o (λ (a : Arrival). departs program h i a.kind a.arg) ≡ Answers r → Told h i (arrivals i h) r
@@ -117,7 +117,7 @@ unanswered : (d e : Entry) → d ≡ e → is_answered d ≡ false → is_answer
 unanswered d e q x y = true_false (sym y ∙ sym (ap is_answered q) ∙ x)
 
 -- what the process had next is the action of the entry
-pub acts_as : (s : Setting) (es : List Entry) (i : ℕ) (n : Next) (e : Entry) → entry_of s es i n ≡ Some e → is_answered e ≡ true → n ≡ next.Act e.place e.act
+pub acts_as : (s : RunConfig) (es : List Entry) (i : ℕ) (n : Next) (e : Entry) → entry_of s es i n ≡ Some e → is_answered e ≡ true → n ≡ next.Act e.place e.act
 acts_as s es i (next.Act at a) e h k = by (heap_answer s.program (history_of es) i a) h
   where
     by : (o : Outcome) → entry_with i at a o ≡ Some e → next.Act at a ≡ next.Act e.place e.act
@@ -138,7 +138,7 @@ pub arrive_answered : (e : Entry) → is_arrival e.act ≡ true → is_answered 
 arrive_answered e k = by e.act k
   where
     by : (a : Action) → is_arrival a ≡ true → not (is_end a || is_fault a) ≡ true
-    by (act.Arrive kind arg given) k = refl
+    by (act.Arrive kind arg deposit_from) k = refl
     by _ k = absurd (true_false (sym k))
 
 pub depart_is : (a : Action) → is_departure a ≡ true → a ≡ act.Depart
@@ -147,7 +147,7 @@ depart_is _ k = absurd (true_false (sym k))
 
 -- ---- the answers to departures
 
-pub said : (program : NumberedProgram) (h : History) (e : Entry) → IsAnswered program (e ∷ h) → heap_answer program h e.proc e.act ≡ Answers e.answer
+pub said : (program : ProgramView) (h : History) (e : Entry) → IsAnswered program (e ∷ h) → heap_answer program h e.proc e.act ≡ Answers e.answer
 said program h e (heap.more w k) = k
 
 pub left_one : (i : ℕ) (p : Process) (wanted : Asked) (go : _) (c l : ℕ) (at : _) → step p ≡ At (asking at act.Depart wanted) go → c ≡ l + waiting p.wait → c ≡ suc l
@@ -157,7 +157,7 @@ left_one i p wanted go c l at z k = let w = step_waits p (At (asking at act.Depa
     waits_one n x y = omega arith
 
 -- a process that leaves has arrived once more often than it has left
-pub has_come : (s : Setting) (es : List Entry) (i : ℕ) (e : Entry) → IsRun s es → CanTake s es i e → is_departure e.act ≡ true → arrivals i es ≡ suc (length (answers_at_departures i es))
+pub has_come : (s : RunConfig) (es : List Entry) (i : ℕ) (e : Entry) → IsRun s es → CanTake s es i e → is_departure e.act ≡ true → arrivals i es ≡ suc (length (answers_at_departures i es))
 has_come s es i e w t k =
     let n : t.next ≡ next.Act e.place act.Depart = acts_as s es i t.next e t.entry (depart_answered e k) ∙ ap (next.Act e.place) (depart_is e.act k) in
     let a = at_action (step t.is_next.0) e.place act.Depart (t.is_next.1.stands ∙ ap Some n) in
@@ -166,7 +166,7 @@ has_come s es i e w t k =
     (sym y.2 ∙ balanced s i t.is_next.0 y.0 y.1 ∙ ap (λ xs. length xs + waiting t.is_next.0.wait) y.3)
 
 -- a new departure
-new_told : (s : Setting) (es : List Entry) (i : ℕ) (e : Entry) → IsRun s es → CanTake s es i e → is_departure e.act ≡ true → Told (history_of es) i (suc (length (answers_at_departures i es))) e.answer
+new_told : (s : RunConfig) (es : List Entry) (i : ℕ) (e : Entry) → IsRun s es → CanTake s es i e → is_departure e.act ≡ true → Told (history_of es) i (suc (length (answers_at_departures i es))) e.answer
 new_told s es i e w t k =
     let h = history_of es in
     let all : IsAnswered s.program (e ∷ h) = subst (IsAnswered s.program) (history_grows es e) (run_answered s (es ++ e ∷ []) (run.more w t refl)) in
@@ -217,7 +217,7 @@ none_left i e k = go (e.proc == i) refl
     go false h = ap (λ xs. map (λ (e : Entry). e.answer) (filter (λ (e : Entry). is_departure e.act) xs)) (other i e h)
 
 -- a departure of the run, old or new
-told_before : (s : Setting) (es : List Entry) (p : ℕ) (e : Entry) → IsRun s es → CanTake s es p e → (i k : ℕ) (r : Answer)
+told_before : (s : RunConfig) (es : List Entry) (p : ℕ) (e : Entry) → IsRun s es → CanTake s es p e → (i k : ℕ) (r : Answer)
     → (slice_get (answers_at_departures i es) k ≡ Some r → Told (history_of es) i (suc k) r)
     → slice_get (answers_at_departures i (es ++ e ∷ [])) k ≡ Some r → Told (history_of es) i (suc k) r
 told_before s es p e w t i k r old z = go (leaves i e) refl (subst (λ xs. slice_get xs k ≡ Some r) (departures_both i es (e ∷ [])) z)
@@ -236,7 +236,7 @@ told_before s es p e w t i k r old z = go (leaves i e) refl (subst (λ xs. slice
 no_get : (k : ℕ) (r : Answer) → slice_get {X = Answer} [] k ≡ Some r → ⊥
 no_get k r e = none_answer r e
 
-told : (s : Setting) (es : List Entry) → IsRun s es → (i k : ℕ) (r : Answer) → slice_get (answers_at_departures i es) k ≡ Some r → Told (history_of es) i (suc k) r
+told : (s : RunConfig) (es : List Entry) → IsRun s es → (i k : ℕ) (r : Answer) → slice_get (answers_at_departures i es) k ≡ Some r → Told (history_of es) i (suc k) r
 told s es run.none i k r z = absurd (no_get k r z)
 told s all (run.more {es = es} {i = p} {e = e} w t y) i k r z =
     let h = told_before s es p e w t i k r (λ g. told s es w i k r g) (subst (λ xs. slice_get (answers_at_departures i xs) k ≡ Some r) y z) in
@@ -245,7 +245,7 @@ told s all (run.more {es = es} {i = p} {e = e} w t y) i k r z =
 -- ---- arrivals of the history are those of the run
 
 pub arrival_is : (a : Action) (x : Arrival) → arrival_in a ≡ Some x → a ≡ act.Arrive x.kind x.arg x.deposit
-arrival_is (act.Arrive kind arg given) x h = ap (λ (y : Arrival). act.Arrive y.kind y.arg y.deposit) (some_arrival _ x h)
+arrival_is (act.Arrive kind arg deposit_from) x h = ap (λ (y : Arrival). act.Arrive y.kind y.arg y.deposit) (some_arrival _ x h)
   where
     some_arrival : (a b : Arrival) → Some a ≡ Some b → a ≡ b
     some_arrival a b h = cc
@@ -254,7 +254,7 @@ arrival_is _ x h = absurd (none_arrival x h)
     none_arrival : (b : Arrival) → ◌≡◌ {A = Option Arrival} None (Some b) → ⊥
     none_arrival b h = cc
 
-unfoldable pub extended : (s : Setting) (es all : List Entry) (e : Entry) (i k : ℕ) (a : aligned.Arrival) → all ≡ es ++ e ∷ [] → ArrivesAt s es i k a → ArrivesAt s all i k a
+unfoldable pub extended : (s : RunConfig) (es all : List Entry) (e : Entry) (i k : ℕ) (a : aligned.Arrival) → all ≡ es ++ e ∷ [] → ArrivesAt s es i k a → ArrivesAt s all i k a
 extended s es all e i k a z x = record {
   before = x.before;
   rest = x.rest ++ e ∷ [];
@@ -270,30 +270,30 @@ extended s es all e i k a z x = record {
 }
 
 -- a new arrival
-unfoldable pub arrives_now : (s : Setting) (es all : List Entry) (e : Entry) (i k : ℕ) (kind : CollKind) (arg : Option ℕ) (given : Deposit)
-    (t : CanTake s es i e) → all ≡ es ++ e ∷ [] → e.act ≡ act.Arrive kind arg given → arrivals i es ≡ k
+unfoldable pub arrives_now : (s : RunConfig) (es all : List Entry) (e : Entry) (i k : ℕ) (kind : CollKind) (arg : Option ℕ) (deposit_from : Deposit)
+    (t : CanTake s es i e) → all ≡ es ++ e ∷ [] → e.act ≡ act.Arrive kind arg deposit_from → arrivals i es ≡ k
     → ArrivesAt s all i k (record { place = e.place; kind = kind; arg = arg; single = single_part t.is_next.0 })
-arrives_now s es all e i k kind arg given t z is c =
-    let n : t.next ≡ next.Act e.place (act.Arrive kind arg given) = acts_as s es i t.next e t.entry (arrive_answered e (ap is_arrival is)) ∙ ap (next.Act e.place) is in
+arrives_now s es all e i k kind arg deposit_from t z is c =
+    let n : t.next ≡ next.Act e.place (act.Arrive kind arg deposit_from) = acts_as s es i t.next e t.entry (arrive_answered e (ap is_arrival is)) ∙ ap (next.Act e.place) is in
     record {
       before = es;
       rest = [];
-      deposit = given;
+      deposit = deposit_from;
       answer = e.answer;
       split = z ∙ ap (λ d. es ++ d ∷ []) (ap₂ (λ (p : ℕ) (b : Action). record { proc = p; place = e.place; act = b; answer = e.answer }) (taker s es i e t) is);
       count = c;
       process = t.process;
       world = t.world;
       settled = t.is_next.0;
-      settles = subst (Settles t.process t.is_next.0) n t.is_next.1;
+      settles = subst (RunsTo t.process t.is_next.0) n t.is_next.1;
       single = refl;
     }
 
 -- an arrival of the history, as one of the run
-abbrev pub Seen : Setting → List Entry → ℕ → ℕ → Arrival → Type 0
+abbrev pub Seen : RunConfig → List Entry → ℕ → ℕ → Arrival → Type 0
 Seen s es i k a = (x : aligned.Arrival) × ArrivesAt s es i k x × (x.kind ≡ a.kind) × (x.arg ≡ a.arg)
 
-seen_now : (s : Setting) (es all : List Entry) (e : Entry) (i k : ℕ) (a : Arrival) → CanTake s es i e → all ≡ es ++ e ∷ []
+seen_now : (s : RunConfig) (es all : List Entry) (e : Entry) (i k : ℕ) (a : Arrival) → CanTake s es i e → all ≡ es ++ e ∷ []
     → is_arrival e.act ≡ true → arrival_in e.act ≡ Some a → arrivals i es ≡ k → Seen s all i k a
 seen_now s es all e i k a t z l y c =
     (record { place = e.place; kind = a.kind; arg = a.arg; single = single_part t.is_next.0 }, arrives_now s es all e i k a.kind a.arg a.deposit t z (arrival_is e.act a y) c, refl, refl)
@@ -301,7 +301,7 @@ seen_now s es all e i k a t z l y c =
 one_less : (a b c : ℕ) → a ≡ suc b → a ≡ suc c → b ≡ c
 one_less a b c h k = omega arith
 
-pub seen : (s : Setting) (es : List Entry) → IsRun s es → (i k : ℕ) (a : Arrival) → arrival_at i (suc k) (history_of es) ≡ Some a → Seen s es i k a
+pub seen : (s : RunConfig) (es : List Entry) → IsRun s es → (i k : ℕ) (a : Arrival) → arrival_at i (suc k) (history_of es) ≡ Some a → Seen s es i k a
 seen s es run.none i k a z = absurd (none_arrival a z)
   where
     none_arrival : (b : Arrival) → ◌≡◌ {A = Option Arrival} None (Some b) → ⊥
@@ -343,7 +343,7 @@ round_same h i j n coll.Exchange arg r t m x y = x ∙ sym y
 round_same h i j n coll.DeleteRegion arg r t m x y = x ∙ sym y
 
 -- arrivals of one number are of one kind and argument
-pub alike : (s : Setting) (es : List Entry) → IsRun s es → ArrivalsAgree s es → (i j k : ℕ) (a b : Arrival)
+pub alike : (s : RunConfig) (es : List Entry) → IsRun s es → ArrivalsAgree s es → (i j k : ℕ) (a b : Arrival)
     → arrival_at i (suc k) (history_of es) ≡ Some a → arrival_at j (suc k) (history_of es) ≡ Some b
     → (a.kind ≡ b.kind) × (a.arg ≡ b.arg)
 alike s es w f i j k a b x y =
@@ -352,7 +352,7 @@ alike s es w f i j k a b x y =
     let z = f i j k l.0 r.0 l.1 r.1 in
     (sym l.2 ∙ ap (λ (q : aligned.Arrival). q.kind) z ∙ r.2, sym l.3 ∙ ap (λ (q : aligned.Arrival). q.arg) z ∙ r.3)
 
-told_same : (s : Setting) (es : List Entry) → IsRun s es → ArrivalsAgree s es → (i j k : ℕ) (r t : Answer) → Told (history_of es) i (suc k) r → Told (history_of es) j (suc k) t → r ≡ t
+told_same : (s : RunConfig) (es : List Entry) → IsRun s es → ArrivalsAgree s es → (i j k : ℕ) (r t : Answer) → Told (history_of es) i (suc k) r → Told (history_of es) j (suc k) t → r ≡ t
 told_same s es w f i j k r t x y =
     let h = history_of es in
     let z = alike s es w f i j k x.arrival y.arrival x.is y.is in
@@ -363,7 +363,7 @@ told_same s es w f i j k r t x y =
     moved c d a b p q g = subst (λ e. RoundAnswer (history_of es) i (suc k) d e r) q (subst (λ e. RoundAnswer (history_of es) i (suc k) e a r) p g)
 
 -- in every run departures of one number are answered the same
-pub same_departures : (s : Setting) → FineMethods s.program s.program.methods → (es : List Entry) → IsRun s es → SameDepartures es
+pub same_departures : (s : RunConfig) → FineMethods s.program s.program.methods → (es : List Entry) → IsRun s es → SameDepartures es
 same_departures s fine es run.none i j k r t x y = absurd (no_get k r x)
 same_departures s fine all (run.more {es = es} {i = p} {e = e} w c z) i j k r t x y =
     let f = arrivals_agree s fine es w (same_departures s fine es w) in

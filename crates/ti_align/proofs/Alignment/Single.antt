@@ -20,13 +20,13 @@ use Rattle.ti_lang.specs.Typing.Kinds.{is_local, is_point}
 use Rattle.ti_lang.specs.Typing.Called.{member_called}
 use Rattle.ti_lang.specs.Typing.Singleness.{declared_single, tells_of_domain, is_single_part, are_single, is_single_range, are_single_ranges}
 use Rattle.ti_lang.specs.Meaning.Held.{Held, Plain, Dm, point_of}
-use Rattle.ti_lang.specs.Meaning.Asking.{Asking, ◌>>=◌, gives, found_or, guarded, Got, Gives, Asks, Fails, followed}
+use Rattle.ti_lang.specs.Meaning.Comp.{Comp, ◌>>=◌, gives, found_or, guard, CompResult, Gives, Asks, Fails, bind_result}
 use Rattle.ti_lang.specs.Meaning.Literals as literal
 use Rattle.ti_lang.specs.Meaning.Operands.{Operands, Wholes, Points, Rects, Domains, operands}
 use Rattle.ti_lang.specs.Meaning.Conversions.{to_domain, converted, of_domains}
-use Rattle.ti_lang.specs.Meaning.Operators.{added, subtracted, multiplied, divided, equal, operated, settled}
-use Rattle.ti_lang.specs.Meaning.Parts.{indexed}
-use Rattle.ti_lang.specs.Meaning.MemberForms.{sized, member}
+use Rattle.ti_lang.specs.Meaning.Operators.{add_values, subtract_values, multiply_values, divide_values, equal, apply_binary, short_circuit}
+use Rattle.ti_lang.specs.Meaning.CellRefs.{indexed}
+use Rattle.ti_lang.specs.Meaning.MemberForms.{domain_size, member}
 use Rattle.ti_lang.specs.Meaning.Scoping.{Env, value_by, type_of}
 use Rattle.ti_lang.specs.Meaning.Evaluation.{kept_local, unless_settled, with_right, eval, eval_all, eval_numbers, eval_range, eval_ranges}
 use Rattle.ti_lang.proofs.Lemmas.{Giving}
@@ -38,42 +38,42 @@ abbrev pub env_part : Env → Env
 env_part env = record env { number = 0; this = None; variables = singles env.variables }
 
 -- what the first computation gives, the second gives without an answer, up to a relation
-abbrev pub Rel : {A B : Type 0} → (A → B → Type 0) → Asking A → Asking B → List Answer → Type 0
+abbrev pub Rel : {A B : Type 0} → (A → B → Type 0) → Comp A → Comp B → List Answer → Type 0
 Rel {B = B} R m m' rest = Giving (λ a. (b : B) × (m' [] ≡ Gives b []) × R a b) (m rest)
 
 -- Q of what a computation gives, which asks for nothing
-abbrev pub Sure : {A : Type 0} → (A → Type 0) → Got A → Type 0
+abbrev pub Sure : {A : Type 0} → (A → Type 0) → CompResult A → Type 0
 Sure Q (Gives a rest) = Q a
 Sure Q (Asks request) = ⊥
 Sure Q (Fails kind at) = Unit {0}
 
 -- the first computation asks for nothing, and what it gives, the second gives
-abbrev pub Same : {A : Type 0} → Asking A → Asking A → List Answer → Type 0
+abbrev pub Same : {A : Type 0} → Comp A → Comp A → List Answer → Type 0
 Same m m' rest = Sure (λ a. m' [] ≡ Gives a []) (m rest)
 
-same_followed : {A B : Type 0} (g : Got A) (m' : Asking A) (go go' : A → Asking B) → Sure (λ a. m' [] ≡ Gives a []) g → ((a : A) (r : List Answer) → Same (go a) (go' a) r)
-    → Sure (λ b. followed (m' []) go' ≡ Gives b []) (followed g go)
-same_followed (Gives a r) m' go go' k h = subst (λ z. Sure (λ b. followed z go' ≡ Gives b []) (go a r)) (sym k) (h a r)
+same_followed : {A B : Type 0} (g : CompResult A) (m' : Comp A) (go go' : A → Comp B) → Sure (λ a. m' [] ≡ Gives a []) g → ((a : A) (r : List Answer) → Same (go a) (go' a) r)
+    → Sure (λ b. bind_result (m' []) go' ≡ Gives b []) (bind_result g go)
+same_followed (Gives a r) m' go go' k h = subst (λ z. Sure (λ b. bind_result z go' ≡ Gives b []) (go a r)) (sym k) (h a r)
 same_followed (Asks request) m' go go' k h = k
 same_followed (Fails kind at) m' go go' k h = tt
 
-pub same_then : {A B : Type 0} (m m' : Asking A) (go go' : A → Asking B) (rest : List Answer) → Same m m' rest → ((a : A) (r : List Answer) → Same (go a) (go' a) r) → Same (m >>= go) (m' >>= go') rest
+pub same_then : {A B : Type 0} (m m' : Comp A) (go go' : A → Comp B) (rest : List Answer) → Same m m' rest → ((a : A) (r : List Answer) → Same (go a) (go' a) r) → Same (m >>= go) (m' >>= go') rest
 same_then m m' go go' rest k h = same_followed (m rest) m' go go' k h
 
-rel_followed : {A B C : Type 0} (S : B → C → Type 0) (g : Got A) (m' : Asking A) (go : A → Asking B) (go' : A → Asking C)
+rel_followed : {A B C : Type 0} (S : B → C → Type 0) (g : CompResult A) (m' : Comp A) (go : A → Comp B) (go' : A → Comp C)
     → Sure (λ a. m' [] ≡ Gives a []) g → ((a : A) (r : List Answer) → Rel S (go a) (go' a) r)
-    → Giving (λ b. (c : C) × (followed (m' []) go' ≡ Gives c []) × S b c) (followed g go)
-rel_followed {C = C} S (Gives a r) m' go go' k h = subst (λ z. Giving (λ b. (c : C) × (followed z go' ≡ Gives c []) × S b c) (go a r)) (sym k) (h a r)
+    → Giving (λ b. (c : C) × (bind_result (m' []) go' ≡ Gives c []) × S b c) (bind_result g go)
+rel_followed {C = C} S (Gives a r) m' go go' k h = subst (λ z. Giving (λ b. (c : C) × (bind_result z go' ≡ Gives c []) × S b c) (go a r)) (sym k) (h a r)
 rel_followed S (Asks request) m' go go' k h = tt
 rel_followed S (Fails kind at) m' go go' k h = tt
 
-pub rel_then : {A B C : Type 0} (S : B → C → Type 0) (m m' : Asking A) (go : A → Asking B) (go' : A → Asking C) (rest : List Answer)
+pub rel_then : {A B C : Type 0} (S : B → C → Type 0) (m m' : Comp A) (go : A → Comp B) (go' : A → Comp C) (rest : List Answer)
     → Same m m' rest → ((a : A) (r : List Answer) → Rel S (go a) (go' a) r) → Rel S (m >>= go) (m' >>= go') rest
 rel_then S m m' go go' rest k h = rel_followed S (m rest) m' go go' k h
 
 -- ---- computations that ask nothing
 
-pub guarded_same : {A : Type 0} (test : Bool) (kind : FaultKind) (at : Place) (a : A) (rest : List Answer) → Same (guarded test kind at a) (guarded test kind at a) rest
+pub guarded_same : {A : Type 0} (test : Bool) (kind : FaultKind) (at : Place) (a : A) (rest : List Answer) → Same (guard test kind at a) (guard test kind at a) rest
 guarded_same true kind at a rest = refl
 guarded_same false kind at a rest = tt
 
@@ -91,27 +91,27 @@ domains_same both at x y rest =
     same_then (to_domain at x) (to_domain at x) _ _ rest (domain_same at x rest) (λ d r.
     same_then (to_domain at y) (to_domain at y) _ _ r (domain_same at y r) (λ e s. guarded_same _ _ at _ s))
 
-added_same : (at : Place) (x y : Held) (o : Operands) (rest : List Answer) → Same (added at x y o) (added at x y o) rest
+added_same : (at : Place) (x y : Held) (o : Operands) (rest : List Answer) → Same (add_values at x y o) (add_values at x y o) rest
 added_same at x y (Wholes w a b) rest = refl
 added_same at x y (Points p q) rest = refl
 added_same at x y (Rects r s) rest = domains_same union at x y rest
 added_same at x y Domains rest = domains_same union at x y rest
 added_same at x y _ rest = refl
 
-subtracted_same : (at : Place) (x y : Held) (o : Operands) (rest : List Answer) → Same (subtracted at x y o) (subtracted at x y o) rest
+subtracted_same : (at : Place) (x y : Held) (o : Operands) (rest : List Answer) → Same (subtract_values at x y o) (subtract_values at x y o) rest
 subtracted_same at x y (Wholes w a b) rest = refl
 subtracted_same at x y (Points p q) rest = refl
 subtracted_same at x y (Rects r s) rest = domains_same minus at x y rest
 subtracted_same at x y Domains rest = domains_same minus at x y rest
 subtracted_same at x y _ rest = refl
 
-multiplied_same : (at : Place) (x y : Held) (o : Operands) (rest : List Answer) → Same (multiplied at x y o) (multiplied at x y o) rest
+multiplied_same : (at : Place) (x y : Held) (o : Operands) (rest : List Answer) → Same (multiply_values at x y o) (multiply_values at x y o) rest
 multiplied_same at x y (Wholes w a b) rest = refl
 multiplied_same at x y (Rects p q) rest = refl
 multiplied_same at x y Domains rest = domains_same meet at x y rest
 multiplied_same at x y _ rest = refl
 
-divided_same : (f : _) (at : Place) (o : Operands) (rest : List Answer) → Same (divided f at o) (divided f at o) rest
+divided_same : (f : _) (at : Place) (o : Operands) (rest : List Answer) → Same (divide_values f at o) (divide_values f at o) rest
 divided_same f at (Wholes w a b) rest = guarded_same _ _ at _ rest
 divided_same f at _ rest = refl
 
@@ -121,7 +121,7 @@ equal_same at x y Domains rest =
     same_then (to_domain at y) (to_domain at y) _ _ r (domain_same at y r) (λ e s. refl))
 equal_same at x y _ rest = refl
 
-pub operated_same : (at : Place) (o : BinaryOperator) (x y : Held) (rest : List Answer) → Same (operated at o x y) (operated at o x y) rest
+pub operated_same : (at : Place) (o : BinaryOperator) (x y : Held) (rest : List Answer) → Same (apply_binary at o x y) (apply_binary at o x y) rest
 operated_same at op.Equal x y rest = same_then (equal at x y (operands x y)) (equal at x y (operands x y)) _ _ rest (equal_same at x y (operands x y) rest) (λ b r. refl)
 operated_same at op.NotEqual x y rest = same_then (equal at x y (operands x y)) (equal at x y (operands x y)) _ _ rest (equal_same at x y (operands x y) rest) (λ b r. refl)
 operated_same at op.Add x y rest = added_same at x y (operands x y) rest
@@ -131,14 +131,14 @@ operated_same at op.Divide x y rest = divided_same _ at (operands x y) rest
 operated_same at op.Remainder x y rest = divided_same _ at (operands x y) rest
 operated_same at _ x y rest = refl
 
-right_same : (at : Place) (o : BinaryOperator) (h : Held) (m m' : Asking Held) (rest : List Answer) → Same m m' rest → Same (with_right at o h m) (with_right at o h m') rest
-right_same at o h m m' rest k = go (settled o h)
+right_same : (at : Place) (o : BinaryOperator) (h : Held) (m m' : Comp Held) (rest : List Answer) → Same m m' rest → Same (with_right at o h m) (with_right at o h m') rest
+right_same at o h m m' rest k = go (short_circuit o h)
   where
-    go : (s : Option Held) → Same (unless_settled s (m >>= λ y. operated at o h y)) (unless_settled s (m' >>= λ y. operated at o h y)) rest
+    go : (s : Option Held) → Same (unless_settled s (m >>= λ y. apply_binary at o h y)) (unless_settled s (m' >>= λ y. apply_binary at o h y)) rest
     go (Some r) = refl
     go None = same_then m m' _ _ rest k (λ y r. operated_same at o h y r)
 
-sized_same : (at : Place) (h : Held) (rest : List Answer) → Same (sized at h) (sized at h) rest
+sized_same : (at : Place) (h : Held) (rest : List Answer) → Same (domain_size at h) (domain_size at h) rest
 sized_same at (Plain (v.Rc r)) rest = guarded_same _ _ at _ rest
 sized_same at (Plain _) rest = refl
 sized_same at (Dm dim points) rest = refl

@@ -7,16 +7,16 @@ use Rattle.ti_base.specs.declared.action.Action.TheVariants as act
 use Rattle.ti_base.specs.declared.entry.Entry.{Entry}
 use Rattle.ti_base.specs.declared.entry.Next.{Next}
 use Rattle.ti_base.specs.declared.entry.Next.TheVariants as next
-use Rattle.ti_lang.specs.Meaning.Processes.{Setting, Process}
+use Rattle.ti_lang.specs.Meaning.Processes.{RunConfig, Process}
 use Rattle.ti_lang.specs.Meaning.NextStep.{IsNext}
 use Rattle.ti_base.specs.declared.entry.Answer.{Answer}
 use Rattle.ti_lang.specs.Meaning.Steps.{At, step}
 use Rattle.ti_lang.specs.Meaning.Histories.{history_of, is_departure, arrivals, departures, has_end, has_fault}
 use Rattle.ti_lang.specs.Meaning.HeapAnswers.{Outcome, Answers, Faults, Impossible, heap_answer}
-use Rattle.ti_lang.specs.Meaning.Runs.{AllEnded, World, IsReady, CanTake, IsRun, entry_with, entry_of}
+use Rattle.ti_lang.specs.Meaning.Runs.{AllEnded, ProcAfter, IsReady, CanTake, IsRun, entry_with, entry_of}
 use Rattle.ti_lang.proofs.Lemmas.{next_some}
 use Rattle.ti_align.specs.Alignment.{ArrivalsAgree, NoneAfterEnd}
-use Rattle.ti_align.specs.Stopping.{is_delete, RoundsBalance}
+use Rattle.ti_align.specs.Stopping.{is_delete_arrival, RoundsBalance}
 use Rattle.ti_align.proofs.Runs.Ways.{Asked, asking, waiting}
 use Rattle.ti_align.proofs.Runs.Entries.{left_count}
 use Rattle.ti_align.proofs.Runs.Balance.{step_waits, balanced}
@@ -28,26 +28,26 @@ use Rattle.ti_align.proofs.Alignment.Possible.{ThingsThere, never}
 -- ---- deletes
 
 -- process i has come to the delete of a region that isn't there: there is neither an answer nor a fault
-pub record DeletesNothing (s : Setting) (es : List Entry) (i : ℕ) : Type 0 where
+pub record DeletesNothing (s : RunConfig) (es : List Entry) (i : ℕ) : Type 0 where
   pub within : i < s.procs
   pub unended : has_end i es ≡ false
   pub process : Process
-  pub world : World s es i process
+  pub world : ProcAfter s es i process
   pub place : Place
   pub action : Action
   pub is_next : IsNext process (next.Act place action)
-  pub deletes : is_delete action ≡ true
+  pub deletes : is_delete_arrival action ≡ true
   pub impossible : heap_answer s.program (history_of es) i action ≡ Impossible
 
 -- a run stands still only by a fault: where there is none and no process can take an entry, all have their end, or some process has
 -- come to the delete of a region that isn't there
-abbrev pub NoneWaits : Setting → List Entry → Type 0
+abbrev pub NoneWaits : RunConfig → List Entry → Type 0
 NoneWaits s es = has_fault es ≡ false → ((i : ℕ) (e : Entry) → CanTake s es i e → ⊥) → AllEnded s es ⊎ ((i : ℕ) × DeletesNothing s es i)
 
 -- ---- fates
 
 -- some process has come no further than this many arrivals
-abbrev IsLate : Setting → List Entry → ℕ → Type 0
+abbrev IsLate : RunConfig → List Entry → ℕ → Type 0
 IsLate s es n = (j : ℕ) × (j < s.procs) × (arrivals j es ≤ n)
 
 below : (j n : ℕ) → j < suc n → (j < n) ⊎ (j ≡ n)
@@ -58,7 +58,7 @@ below j n h = go (nat_lt j n) refl
     go false z = let k = ltb-false j n z in inr (omega arith)
 
 -- all of the first processes have come further, or one has not
-all_or_late : (s : Setting) (es : List Entry) (d n : ℕ) → n ≤ s.procs → ((j : ℕ) → j < n → d < arrivals j es) ⊎ IsLate s es d
+all_or_late : (s : RunConfig) (es : List Entry) (d n : ℕ) → n ≤ s.procs → ((j : ℕ) → j < n → d < arrivals j es) ⊎ IsLate s es d
 all_or_late s es d zero l = inl (λ j h. absurd (none j h))
   where
     none : (j : ℕ) → j < 0 → ⊥
@@ -81,15 +81,15 @@ all_or_late s es d (suc n) l = by (all_or_late s es d n (less n _ l)) (nat_lt d 
         each j (inr k) = subst (λ m. d < arrivals m es) (sym k) (ltb-true d (arrivals n es) z)
 
 -- what becomes of a process
-pub data Fate (s : Setting) (es : List Entry) (i : ℕ) : Type 0 where
+pub data Fate (s : RunConfig) (es : List Entry) (i : ℕ) : Type 0 where
   ended : has_end i es ≡ true → Fate s es i
   goes : (e : Entry) → CanTake s es i e → Fate s es i
   stuck : DeletesNothing s es i → Fate s es i
   waits : (j : ℕ) → j < s.procs → arrivals j es < arrivals i es → Fate s es i
 
 -- an action that needs to wait for nobody
-ready_fate : (s : Setting) (es : List Entry) (i : ℕ) → IsRun s es → ArrivalsAgree s es → ThingsThere s es → i < s.procs → has_fault es
-    ≡ false → has_end i es ≡ false → (p : Process) → World s es i p → (at : Place) (a : Action) → IsNext p (next.Act at a)
+ready_fate : (s : RunConfig) (es : List Entry) (i : ℕ) → IsRun s es → ArrivalsAgree s es → ThingsThere s es → i < s.procs → has_fault es
+    ≡ false → has_end i es ≡ false → (p : Process) → ProcAfter s es i p → (at : Place) (a : Action) → IsNext p (next.Act at a)
     → IsReady s es i (next.Act at a) → Fate s es i
 ready_fate s es i run agree there l f u p w at a n r = by (heap_answer s.program (history_of es) i a) refl
   where
@@ -102,17 +102,17 @@ ready_fate s es i run agree there l f u p w at a n r = by (heap_answer s.program
     by : (o : Outcome) → heap_answer s.program (history_of es) i a ≡ o → Fate s es i
     by (Answers x) z = taken _ (entry _ z)
     by (Faults k) z = taken _ (entry _ z)
-    by Impossible z = named (is_delete a) refl
+    by Impossible z = named (is_delete_arrival a) refl
       where
-        named : (b : Bool) → is_delete a ≡ b → Fate s es i
+        named : (b : Bool) → is_delete_arrival a ≡ b → Fate s es i
         named true k = stuck (record { within = l; unended = u; process = p; world = w; place = at; action = a; is_next = n; deletes = k; impossible = z })
         named false k = absurd (never s es run agree there i l p w at a n r k z)
 
 earlier : (a d b : ℕ) → a ≡ suc d → b ≤ d → b < a
 earlier a d b h k = omega arith
 
-next_fate : (s : Setting) (es : List Entry) (i : ℕ) → IsRun s es → ArrivalsAgree s es → ThingsThere s es → i < s.procs → has_fault es
-    ≡ false → has_end i es ≡ false → (p : Process) → World s es i p → (n : Next) → IsNext p n → Fate s es i
+next_fate : (s : RunConfig) (es : List Entry) (i : ℕ) → IsRun s es → ArrivalsAgree s es → ThingsThere s es → i < s.procs → has_fault es
+    ≡ false → has_end i es ≡ false → (p : Process) → ProcAfter s es i p → (n : Next) → IsNext p n → Fate s es i
 next_fate s es i run agree there l f u p w (next.Act at act.Depart) n = by (all_or_late s es (departures i es) s.procs (same s.procs))
   where
     same : (k : ℕ) → k ≤ k
@@ -134,7 +134,7 @@ next_fate s es i run agree there l f u p w (next.End at) n =
 next_fate s es i run agree there l f u p w (next.Fault k at) n =
     goes _ (record { within = l; goes_on = f; unended = u; process = p; world = w; next = next.Fault k at; is_next = n; ready = tt; entry = refl })
 
-fate : (s : Setting) (es : List Entry) (i : ℕ) → IsRun s es → ArrivalsAgree s es → ThingsThere s es → i < s.procs → has_fault es ≡ false → Fate s es i
+fate : (s : RunConfig) (es : List Entry) (i : ℕ) → IsRun s es → ArrivalsAgree s es → ThingsThere s es → i < s.procs → has_fault es ≡ false → Fate s es i
 fate s es i run agree there l f = go (has_end i es) refl
   where
     go : (b : Bool) → has_end i es ≡ b → Fate s es i
@@ -143,7 +143,7 @@ fate s es i run agree there l f = go (has_end i es) refl
 
 -- ---- all processes
 
-module _ (s : Setting) (es : List Entry) (run : IsRun s es) (agree : ArrivalsAgree s es) (there : ThingsThere s es) (after : NoneAfterEnd s es) (f : has_fault es ≡ false) (none : (i : ℕ) (e : Entry) → CanTake s es i e → ⊥) where
+module _ (s : RunConfig) (es : List Entry) (run : IsRun s es) (agree : ArrivalsAgree s es) (there : ThingsThere s es) (after : NoneAfterEnd s es) (f : has_fault es ≡ false) (none : (i : ℕ) (e : Entry) → CanTake s es i e → ⊥) where
   -- one that has come less than n times has its end, or something is impossible
   reaches : (n i : ℕ) → i < s.procs → arrivals i es < n → (has_end i es ≡ true) ⊎ ((i : ℕ) × DeletesNothing s es i)
   reaches zero i l h = absurd (no _ h)
@@ -195,7 +195,7 @@ module _ (s : Setting) (es : List Entry) (run : IsRun s es) (agree : ArrivalsAgr
           each i (inl k) = g i k
           each i (inr k) = subst (λ m. has_end m es ≡ true) (sym k) z
 
-pub none_waits : (s : Setting) (es : List Entry) → IsRun s es → ArrivalsAgree s es → ThingsThere s es → NoneAfterEnd s es → NoneWaits s es
+pub none_waits : (s : RunConfig) (es : List Entry) → IsRun s es → ArrivalsAgree s es → ThingsThere s es → NoneAfterEnd s es → NoneWaits s es
 none_waits s es run agree there after f none = firsts s es run agree there after f none s.procs (same s.procs)
   where
     same : (k : ℕ) → k ≤ k
@@ -220,7 +220,7 @@ waits_as q at (act.Take who) v go e = ap waiting (step_waits q (At (asking at (a
 waits_as q at (act.Fault kind) v go e = ap waiting (step_waits q (At (asking at (act.Fault kind) v) go) e).0
 waits_as q at act.End v go e = ap waiting (step_waits q (At (asking at act.End v) go) e).0
 
-pub rounds_balance : (s : Setting) (es : List Entry) → IsRun s es → RoundsBalance s es
+pub rounds_balance : (s : RunConfig) (es : List Entry) → IsRun s es → RoundsBalance s es
 rounds_balance s es run i p at a v n =
     let x = at_action (step n.0) at a n.1.stands in
     let y = way_next s es i p n.0 run v n.1.reaches in

@@ -19,10 +19,10 @@ use Rattle.ti_base.specs.Rects.{IsRect, IsIn, is_in, points_of}
 use Rattle.ti_base.specs.Cells.{Cell, Field, Element, Grid, same_cell, zero_value, cell_of, whole_grid, view, view_fault, suits, seen_point}
 use Rattle.ti_rect.specs.Views.{IsView}
 use Rattle.ti_rect.proofs.Lemmas.{points_listed, in_tests, view_inside}
-use Rattle.ti_lang.specs.Program.Classes.{NumberedProgram}
+use Rattle.ti_lang.specs.Program.Classes.{ProgramView}
 use Rattle.ti_lang.specs.Meaning.Zeros.{zeros_of_class}
 use Rattle.ti_lang.specs.Meaning.Histories.{History, is_making}
-use Rattle.ti_lang.specs.Meaning.HeapOf.{view_id, is_object, is_grid, class_made, class_of, grid_made, grid_of, field_cells, cells_made, cells_of, written_by, written_to, or_else, last_written, cell_value}
+use Rattle.ti_lang.specs.Meaning.HeapOf.{view_id, is_object, is_grid, class_made, class_of_object, grid_made, grid_of_id, field_cells, cells_made, cells_of, written_by, written_to, or_else, last_written, cell_value}
 use Rattle.ti_lang.specs.Meaning.HeapAnswers.{Answers, possible_if, faults_if, makes, at_point, views, heap_answer, IsAnswered}
 use Rattle.ti_lang.proofs.Lemmas.{possible_then, some_then}
 use Rattle.ti_align.specs.Counted.{CellsCounted}
@@ -63,12 +63,12 @@ each_fails test cs c k z = not_true (test c) (λ t. true_false (sym (list_any_at
 -- ---- fields
 
 -- objects of a class that has this field
-abbrev HasField : NumberedProgram → ℕ → Option ℕ → Type 0
+abbrev HasField : ProgramView → ℕ → Option ℕ → Type 0
 HasField p field o = (c : ℕ) × (zeros : List Zero) × (z : Zero) × (o ≡ Some c) × (zeros_of_class p c ≡ Some zeros) × (slice_get zeros field ≡ Some z)
 
 -- where a field holds something, its object has such a class
-field_there : (p : NumberedProgram) (h : History) (obj : Id) (field : ℕ) (value : Value) → cell_value p (Field obj field) h ≡ Some value → HasField p field (class_of obj h)
-field_there p h obj field value k = by (class_of obj h) refl (λ o. option_map (λ (zero : Value). option_map_or (λ (x : Value). x) (last_written (Field obj field) h) zero) o) (λ z. none_some value z) k
+field_there : (p : ProgramView) (h : History) (obj : Id) (field : ℕ) (value : Value) → cell_value p (Field obj field) h ≡ Some value → HasField p field (class_of_object obj h)
+field_there p h obj field value k = by (class_of_object obj h) refl (λ o. option_map (λ (zero : Value). option_map_or (λ (x : Value). x) (last_written (Field obj field) h) zero) o) (λ z. none_some value z) k
   where
     get : (c : ℕ) (zeros : List Zero) → zeros_of_class p c ≡ Some zeros → (o : Option Zero) → slice_get zeros field ≡ o
         → (f : Option Value → Option Value) → (f None ≡ Some value → ⊥) → f (option_map zero_value o) ≡ Some value
@@ -81,12 +81,12 @@ field_there p h obj field value k = by (class_of obj h) refl (λ o. option_map (
     zeros_at c None y f n k = absurd (n k)
     zeros_at c (Some zeros) y f n k = get c zeros y (slice_get zeros field) refl f n k
 
-    by : (o : Option ℕ) → class_of obj h ≡ o → (f : Option Value → Option Value) → (f None ≡ Some value → ⊥)
+    by : (o : Option ℕ) → class_of_object obj h ≡ o → (f : Option Value → Option Value) → (f None ≡ Some value → ⊥)
         → f (option_and_then (λ zeros. option_map zero_value (slice_get zeros field)) (option_and_then (zeros_of_class p) o)) ≡ Some value → HasField p field o
     by None q f n k = absurd (n k)
     by (Some c) q f n k = zeros_at c (zeros_of_class p c) refl f n k
 
-object_cells : (p : NumberedProgram) (h : History) (obj : Id) (c : ℕ) (zeros : List Zero) (field : ℕ) (z : Zero) → class_of obj h ≡ Some c
+object_cells : (p : ProgramView) (h : History) (obj : Id) (c : ℕ) (zeros : List Zero) (field : ℕ) (z : Zero) → class_of_object obj h ≡ Some c
     → zeros_of_class p c ≡ Some zeros → slice_get zeros field ≡ Some z → Contains (cells_of p h) (Field obj field)
 object_cells p [] obj c zeros field z k y q = absurd (none_some c k)
 object_cells p (e ∷ h) obj c zeros field z k y q = by (is_making e.act && is_object obj e.answer) refl k (λ g. object_cells p h obj c zeros field z g y q)
@@ -101,14 +101,14 @@ object_cells p (e ∷ h) obj c zeros field z k y q = by (is_making e.act && is_o
         none n = omega arith
     made _ m = absurd (none_some c m)
 
-    by : (b : Bool) → (is_making e.act && is_object obj e.answer) ≡ b → (if b then class_made e.act else class_of obj h) ≡ Some c
-        → (class_of obj h ≡ Some c → Contains (cells_of p h) (Field obj field)) → Contains (cells_of p (e ∷ h)) (Field obj field)
+    by : (b : Bool) → (is_making e.act && is_object obj e.answer) ≡ b → (if b then class_made e.act else class_of_object obj h) ≡ Some c
+        → (class_of_object obj h ≡ Some c → Contains (cells_of p h) (Field obj field)) → Contains (cells_of p (e ∷ h)) (Field obj field)
     by true t m ih =
         Contains-append_left (cells_made p e.act e.answer) (cells_of p h) (Field obj field)
         (subst (λ r. Contains (cells_made p e.act r) (Field obj field)) (sym (object_is obj e.answer (and_right (is_making e.act) (is_object obj e.answer) t))) (made e.act m))
     by false t m ih = Contains-append_right (cells_made p e.act e.answer) (cells_of p h) (Field obj field) (ih m)
 
-pub field_counted : (p : NumberedProgram) (h : History) (obj : Id) (field : ℕ) (value : Value) → cell_value p (Field obj field) h ≡ Some value → Contains (cells_of p h) (Field obj field)
+pub field_counted : (p : ProgramView) (h : History) (obj : Id) (field : ℕ) (value : Value) → cell_value p (Field obj field) h ≡ Some value → Contains (cells_of p h) (Field obj field)
 field_counted p h obj field value k = let t = field_there p h obj field value k in object_cells p h obj t.0 t.1 field t.2 t.3 t.4 t.5
 
 -- ---- histories
@@ -120,12 +120,12 @@ MakesFormed (act.MakeView grid how) = IsView how
 MakesFormed a = Unit {0}
 
 -- each grid is over a rectangle of points whose cells are counted, and so is each cell that was written
-pub record Counted (p : NumberedProgram) (h : History) : Type 0 where
-  pub forms : (id : Id) (g : Grid) → grid_of id h ≡ Some g → IsRect g.domain
-  pub points : (id : Id) (g : Grid) (at : Point) → grid_of id h ≡ Some g → IsIn g.domain at → Contains (cells_of p h) (cell_of g at)
+pub record Counted (p : ProgramView) (h : History) : Type 0 where
+  pub forms : (id : Id) (g : Grid) → grid_of_id id h ≡ Some g → IsRect g.domain
+  pub points : (id : Id) (g : Grid) (at : Point) → grid_of_id id h ≡ Some g → IsIn g.domain at → Contains (cells_of p h) (cell_of g at)
   pub written : (c : Cell) (value : Value) → last_written c h ≡ Some value → Contains (cells_of p h) c
 
-pub none_counted : (p : NumberedProgram) → Counted p []
+pub none_counted : (p : ProgramView) → Counted p []
 none_counted p = record {
   forms = λ id g z. absurd (none_some g z);
   points = λ id g at z. absurd (none_some g z);
@@ -136,7 +136,7 @@ abbrev OverRect : Grid → (Cell → Type 0) → Type 0
 OverRect g Counts = IsRect g.domain × ((at : Point) → IsIn g.domain at → Counts (cell_of g at))
 
 -- behind an entry that got its answer and is in its form
-module _ (p : NumberedProgram) (h : History) (e : Entry) (answered : IsAnswered p (e ∷ h)) (formed : MakesFormed e.act) (old : Counted p h) where
+module _ (p : ProgramView) (h : History) (e : Entry) (answered : IsAnswered p (e ∷ h)) (formed : MakesFormed e.act) (old : Counted p h) where
   abbrev Counts : Cell → Type 0
   Counts c = Contains (cells_of p (e ∷ h)) c
 
@@ -150,7 +150,7 @@ module _ (p : NumberedProgram) (h : History) (e : Entry) (answered : IsAnswered 
   said_now = said p h e answered
 
   made_grid : (id : Id) (g : Grid) (a : Action) → e.act ≡ a → MakesFormed a → heap_answer p h e.proc a ≡ Answers e.answer
-      → is_grid id e.answer ≡ true → grid_made id a (λ viewed. grid_of viewed h) ≡ Some g → OverRect g Counts
+      → is_grid id e.answer ≡ true → grid_made id a (λ viewed. grid_of_id viewed h) ≡ Some g → OverRect g Counts
   made_grid id g (act.NewGrid first domain region) z f q i m =
       subst (λ x. OverRect x Counts) (some_same (whole_grid id first domain) g m) (
         f,
@@ -162,17 +162,17 @@ module _ (p : NumberedProgram) (h : History) (e : Entry) (answered : IsAnswered 
       )
   made_grid id g (act.MakeView viewed how) z f q i m =
       let made = makes p h e.proc (act.MakeView viewed how) (v.Grid (Some (view_id e.proc viewed h))) in
-      let s = some_then (grid_of viewed h) (λ k. possible_if (suits how k.domain) (views (view_fault how k.domain) made)) e.answer q in
+      let s = some_then (grid_of_id viewed h) (λ k. possible_if (suits how k.domain) (views (view_fault how k.domain) made)) e.answer q in
       let t = possible_then (suits how s.0.domain) (views (view_fault how s.0.domain) made) e.answer s.2 in
       let is : view how s.0 ≡ g = some_same (view how s.0) g (sym (ap (option_map (view how)) s.1) ∙ m) in
       let inside = view_inside how s.0.domain (old.forms viewed s.0 s.1) f t.0 (no_fault (view_fault how s.0.domain) made e.answer t.1) in
       subst (λ x. OverRect x Counts) is (inside.0, λ at k. stays (cell_of (view how s.0) at) (old.points viewed s.0 (seen_point how at) s.1 (inside.1 at k)))
   made_grid id g _ z f q i m = absurd (none_some g m)
 
-  grids : (id : Id) (g : Grid) → grid_of id (e ∷ h) ≡ Some g → OverRect g Counts
+  grids : (id : Id) (g : Grid) → grid_of_id id (e ∷ h) ≡ Some g → OverRect g Counts
   grids id g m = by (is_making e.act && is_grid id e.answer) refl m
     where
-      by : (b : Bool) → (is_making e.act && is_grid id e.answer) ≡ b → (if b then grid_made id e.act (λ viewed. grid_of viewed h) else grid_of id h) ≡ Some g → OverRect g Counts
+      by : (b : Bool) → (is_making e.act && is_grid id e.answer) ≡ b → (if b then grid_made id e.act (λ viewed. grid_of_id viewed h) else grid_of_id id h) ≡ Some g → OverRect g Counts
       by true k m = made_grid id g e.act refl formed said_now (and_right (is_making e.act) (is_grid id e.answer) k) m
       by false k m = (old.forms id g m, λ at x. stays (cell_of g at) (old.points id g at m x))
 
@@ -182,7 +182,7 @@ module _ (p : NumberedProgram) (h : History) (e : Entry) (answered : IsAnswered 
       let s = some_then (cell_value p (Field obj field) h) (λ old. Answers Done) e.answer q in
       subst (Contains (cells_of p h)) (pair_first (Field obj field) c value x w) (field_counted p h obj field s.0 s.1)
   writes (act.PutElem grid at value) q c x w =
-      let s = some_then (grid_of grid h) (λ g. at_point g at (Answers Done)) e.answer q in
+      let s = some_then (grid_of_id grid h) (λ g. at_point g at (Answers Done)) e.answer q in
       let t = possible_then (at.dim == s.0.domain.dim) (faults_if (not (is_in s.0.domain at)) fault.Bounds (Answers Done)) e.answer s.2 in
       let w = sym (ap (option_map (λ (g : Grid). (cell_of g at, value))) s.1) ∙ w in
       subst (Contains (cells_of p h)) (pair_first (cell_of s.0 at) c value x w)
@@ -208,7 +208,7 @@ module _ (p : NumberedProgram) (h : History) (e : Entry) (answered : IsAnswered 
     written = λ c x z. written_now c x (written_by e.act h) refl z;
   }
 
-pub cells_counted : (p : NumberedProgram) (h : History) → Counted p h → CellsCounted p h
+pub cells_counted : (p : ProgramView) (h : History) → Counted p h → CellsCounted p h
 cells_counted p h k = record {
   written = k.written;
   fields = field_counted p h;

@@ -5,8 +5,8 @@ use Rattle.ti_base.specs.declared.action.CollKind.{CollKind}
 use Rattle.ti_base.specs.declared.action.CollKind.TheVariants as coll
 use Rattle.ti_base.specs.declared.entry.Entry.{Entry}
 use Rattle.ti_base.specs.declared.entry.Next.TheVariants as next
-use Rattle.ti_lang.specs.Program.Classes.{NumberedProgram}
-use Rattle.ti_lang.specs.Meaning.Processes.{Setting}
+use Rattle.ti_lang.specs.Program.Classes.{ProgramView}
+use Rattle.ti_lang.specs.Meaning.Processes.{RunConfig}
 use Rattle.ti_lang.specs.Meaning.Histories.{history_of, is_departure, arrivals}
 use Rattle.ti_lang.specs.Meaning.RoundsOf.{Arrival, arrival_at, last_arrival, is_delete_of, deletes}
 use Rattle.ti_lang.specs.Meaning.RegionsOf.{is_gone}
@@ -38,7 +38,7 @@ use Rattle.ti_align.proofs.Runs.EveryRun as every
 
 -- ---- 0 is no region
 
-module _ (s : Setting) (stands : ProgramStands s.program) (such : MethodsAreSuch s.program s.program.methods) where
+module _ (s : RunConfig) (stands : ProgramStands s.program) (such : MethodsAreSuch s.program s.program.methods) where
   -- each region that is deleted has a number above 0
   some_deleted : (es : List Entry) → IsRun s es → (i : ℕ) (a : Arrival) → last_arrival i (history_of es) ≡ Some a → DeletesSome a.kind a.arg
   some_deleted es ran i a z = by (arrivals i (history_of es)) z
@@ -79,16 +79,16 @@ module _ (s : Setting) (stands : ProgramStands s.program) (such : MethodsAreSuch
 -- ---- checked programs
 
 -- what lives in a run
-lives : (p : NumberedProgram) → IsChecked p → LiteralsFit p → OfEveryRun RunLives p
+lives : (p : ProgramView) → IsChecked p → LiteralsFit p → OfEveryRun RunLives p
 lives p c l procs fuel es a b d e w =
     run_lives (record { program = p; procs = procs; fuel = fuel }) (checked_fits p c l) (checked_fine p c) b (λ ds r. every.arrivals_agree p c procs fuel ds a b d e r) es w
 
-pub nothing_dangles : (p : NumberedProgram) → IsChecked p → LiteralsFit p → OfEveryRun NothingDangles p
+pub nothing_dangles : (p : ProgramView) → IsChecked p → LiteralsFit p → OfEveryRun NothingDangles p
 nothing_dangles p c l procs fuel es a b d e w =
-    let s : Setting = record { program = p; procs = procs; fuel = fuel } in record {
+    let s : RunConfig = record { program = p; procs = procs; fuel = fuel } in record {
       actions = next_lives s (checked_fits p c l) (checked_fine p c) b es w (lives p c l procs fuel es a b d e w);
       nowhere = zero_there s (checked_stands p c l) (checked_such p c l) es w;
     }
 
-pub cells_are_counted : (p : NumberedProgram) → IsChecked p → LiteralsFit p → OfEveryRun (λ s es. CellsCounted s.program (history_of es)) p
+pub cells_are_counted : (p : ProgramView) → IsChecked p → LiteralsFit p → OfEveryRun (λ s es. CellsCounted s.program (history_of es)) p
 cells_are_counted p c l procs fuel es a b d e w = cells_counted p (history_of es) (lives p c l procs fuel es a b d e w).counted

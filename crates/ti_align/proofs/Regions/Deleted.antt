@@ -11,14 +11,14 @@ use Rattle.ti_base.specs.declared.entry.Answer.TheVariants.{Val}
 use Rattle.ti_base.specs.declared.entry.Entry.{Entry}
 use Rattle.ti_base.specs.declared.entry.Next.TheVariants as next
 use Rattle.ti_base.specs.declared.place.Place.{Place}
-use Rattle.ti_lang.specs.Meaning.Asking.{told}
-use Rattle.ti_lang.specs.Meaning.Processes.{Setting, Process, begin}
+use Rattle.ti_lang.specs.Meaning.Comp.{told}
+use Rattle.ti_lang.specs.Meaning.Processes.{RunConfig, Process, begin}
 use Rattle.ti_lang.specs.Meaning.Steps.{At, step}
 use Rattle.ti_lang.specs.Meaning.NextStep.{Reaches, here, IsNext, none}
 use Rattle.ti_lang.specs.Meaning.Histories.{History, history_of, is_arrival, arrivals}
 use Rattle.ti_lang.specs.Meaning.RoundsOf.{Arrival, arrival_in, arrival_at}
 use Rattle.ti_lang.specs.Meaning.HeapAnswers.{heap_answer}
-use Rattle.ti_lang.specs.Meaning.Runs.{World, CanTake, IsRun}
+use Rattle.ti_lang.specs.Meaning.Runs.{ProcAfter, CanTake, IsRun}
 use Rattle.ti_lang.specs.Meaning.Runs as run
 use Rattle.ti_lang.proofs.Lemmas.{after_same, taker, history_grows}
 use Rattle.ti_align.proofs.Runs.Vars.{true_false}
@@ -86,12 +86,12 @@ region_told h i r t l = (made i (arrivals i h) h, ap told (by t.arrival.kind kin
 -- ---- runs
 
 -- each process of a run hands regions on
-abbrev pub RunHands : Setting → List Entry → Type 0
-RunHands s es = (i : ℕ) (p : Process) → World s es i p → Hands s (last_kind i (history_of es)) p
+abbrev pub RunHands : RunConfig → List Entry → Type 0
+RunHands s es = (i : ℕ) (p : Process) → ProcAfter s es i p → Hands s (last_kind i (history_of es)) p
 
-module _ (s : Setting) (stands : ProgramStands s.program) (such : MethodsAreSuch s.program s.program.methods) where
+module _ (s : RunConfig) (stands : ProgramStands s.program) (such : MethodsAreSuch s.program s.program.methods) where
   -- what has come to be the next process
-  pub world_keeps : (es : List Entry) → IsRun s es → (i : ℕ) (p q : Process) → World s es i p → Reaches p q → Keeps s q
+  pub world_keeps : (es : List Entry) → IsRun s es → (i : ℕ) (p q : Process) → ProcAfter s es i p → Reaches p q → Keeps s q
   world_keeps es ran i p q x y = let k = way_next s es i p q ran x y in kept s i q k.0 stands k.1
 
   module _ (es : List Entry) (e : Entry) (ran : IsRun s es) (t : CanTake s es e.proc e) (hands : RunHands s es) where
@@ -136,7 +136,7 @@ module _ (s : Setting) (stands : ProgramStands s.program) (such : MethodsAreSuch
 
   -- each region that a process comes to delete has a number above 0
   pub deletes_some : (es : List Entry) → IsRun s es → (i : ℕ) (p : Process) (at : Place) (kind : CollKind) (arg : Option ℕ)
-      (given : Deposit) → World s es i p → IsNext p (next.Act at (act.Arrive kind arg given)) → DeletesSome kind arg
+      (given : Deposit) → ProcAfter s es i p → IsNext p (next.Act at (act.Arrive kind arg given)) → DeletesSome kind arg
   deletes_some es ran i p at kind arg given x n =
       let q = n.0 in
       let last = last_kind i (history_of es) in

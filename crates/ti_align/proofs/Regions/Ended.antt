@@ -12,17 +12,17 @@ use Rattle.ti_lang.specs.Program.Types as t
 use Rattle.ti_lang.specs.Meaning.Held.{Held, Plain}
 use Rattle.ti_lang.specs.Meaning.Processes.{Variable, Frame}
 use Rattle.ti_lang.specs.Meaning.Histories.{History}
-use Rattle.ti_align.specs.Things.{Things, IsPlaced, IsOf, VariablesFit}
-use Rattle.ti_align.specs.Heap.{Elements, things_of}
+use Rattle.ti_align.specs.HeapTyping.{HeapTyping, IsPlaced, IsOf, VariablesFit}
+use Rattle.ti_align.specs.Heap.{Elements, heap_typing_of}
 use Rattle.ti_align.specs.Mirrors.Processes.{FramesFit}
-use Rattle.ti_align.specs.Stopping.{HoldMade, AllHoldMade, RegionsMade, is_delete, NoneImpossible}
+use Rattle.ti_align.specs.Stopping.{HoldMade, AllHoldMade, RegionsMade, is_delete_arrival, NoneImpossible}
 use Rattle.ti_align.proofs.Regions.Regional.{AllGood}
 use Rattle.ti_rules.specs.InitialTypes.{is_region}
 use Rattle.ti_align.proofs.Regions.Deleting.{AllSuch}
 use Rattle.ti_align.proofs.Regions.Deleted.{run_hands}
 use Rattle.ti_base.specs.declared.entry.Entry.{Entry}
-use Rattle.ti_lang.specs.Program.Classes.{NumberedProgram}
-use Rattle.ti_lang.specs.Meaning.Processes.{Setting}
+use Rattle.ti_lang.specs.Program.Classes.{ProgramView}
+use Rattle.ti_lang.specs.Meaning.Processes.{RunConfig}
 use Rattle.ti_lang.specs.Meaning.Histories.{history_of}
 use Rattle.ti_lang.specs.Meaning.Runs.{AllEnded}
 use Rattle.ti_rules.specs.ProgramRefusals.{IsChecked}
@@ -41,7 +41,7 @@ use Rattle.ti_align.proofs.Runs.EveryRun as every
 -- ---- regions
 
 -- a region that is none or was made, and isn't none
-made_held : (w : Things) (h : Held) → (r : ℕ) × (h ≡ Plain (v.Region r)) × (r ≡ 0 → ⊥) → IsOf w t.Region h → (r : ℕ) × (h ≡ Plain (v.Region r)) × (w.is_made r ≡ true)
+made_held : (w : HeapTyping) (h : Held) → (r : ℕ) × (h ≡ Plain (v.Region r)) × (r ≡ 0 → ⊥) → IsOf w t.Region h → (r : ℕ) × (h ≡ Plain (v.Region r)) × (w.is_made r ≡ true)
 made_held w h (r, z, f) (n, y, k) = (r, z, by (subst (IsPlaced w) (same n r (sym y ∙ z)) k))
   where
     same : (n r : ℕ) → Plain (v.Region n) ≡ Plain (v.Region r) → n ≡ r
@@ -51,21 +51,21 @@ made_held w h (r, z, f) (n, y, k) = (r, z, by (subst (IsPlaced w) (same n r (sym
     by (inl e) = absurd (f e)
     by (inr e) = e
 
-variables_made : (i : ℕ) (elements : Elements) (h : History) (xs : List Variable) → AllGood xs → VariablesFit (things_of i elements h) xs → HoldMade h xs
+variables_made : (i : ℕ) (elements : Elements) (h : History) (xs : List Variable) → AllGood xs → VariablesFit (heap_typing_of i elements h) xs → HoldMade h xs
 variables_made i elements h [] g k = tt
 variables_made i elements h (x ∷ xs) g k = (
-  λ z. made_held (things_of i elements h) x.held (g.0 (ap is_region z))
-      (subst (λ a. IsOf (things_of i elements h) a x.held) z (held_of (things_of i elements h) x.named.declared x.held k.0)),
+  λ z. made_held (heap_typing_of i elements h) x.held (g.0 (ap is_region z))
+      (subst (λ a. IsOf (heap_typing_of i elements h) a x.held) z (held_of (heap_typing_of i elements h) x.named.declared x.held k.0)),
   variables_made i elements h xs g.1 k.1,
 )
 
-frames_made : (p q : NumberedProgram) (i : ℕ) (elements : Elements) (h : History) (fs : List Frame) → AllSuch p fs → FramesFit q (things_of i elements h) fs → AllHoldMade h fs
+frames_made : (p q : ProgramView) (i : ℕ) (elements : Elements) (h : History) (fs : List Frame) → AllSuch p fs → FramesFit q (heap_typing_of i elements h) fs → AllHoldMade h fs
 frames_made p q i elements h [] g k = tt
 frames_made p q i elements h (f ∷ fs) g k = (variables_made i elements h f.variables g.0.0 k.0.0, frames_made p q i elements h fs g.1 k.2)
 
-pub regions_made : (p : NumberedProgram) → IsChecked p → LiteralsFit p → OfEveryRun RegionsMade p
+pub regions_made : (p : ProgramView) → IsChecked p → LiteralsFit p → OfEveryRun RegionsMade p
 regions_made p c l procs fuel es a b d e w =
-    let s : Setting = record { program = p; procs = procs; fuel = fuel } in
+    let s : RunConfig = record { program = p; procs = procs; fuel = fuel } in
     let fit = (every.run_typed p c l procs fuel es a b d e w).fits in record {
       held = λ i q within x. frames_made p q.setting.program i fit.elements (history_of es) q.frames
           (run_hands s (checked_stands p c l) (checked_such p c l) es w i q x).1 (fit.processes i q within x).0;
@@ -74,39 +74,39 @@ regions_made p c l procs fuel es a b d e w =
 
 -- ---- what is asked
 
-pub none_impossible : (p : NumberedProgram) → IsChecked p → LiteralsFit p → OfEveryRun NoneImpossible p
-none_impossible p c l procs fuel es a b d e w i q at x within v n r o = by (is_delete x) refl
+pub none_impossible : (p : ProgramView) → IsChecked p → LiteralsFit p → OfEveryRun NoneImpossible p
+none_impossible p c l procs fuel es a b d e w i q at x within v n r o = by (is_delete_arrival x) refl
   where
-    deleting : (x : Action) → is_delete x ≡ true → IsNext q (next.Act at x) → heap_answer p (history_of es) i x ≡ Impossible → ⊥
+    deleting : (x : Action) → is_delete_arrival x ≡ true → IsNext q (next.Act at x) → heap_answer p (history_of es) i x ≡ Impossible → ⊥
     deleting (act.Arrive coll.DeleteRegion arg given) k n o =
         presence.delete_possible (record { program = p; procs = procs; fuel = fuel })
         (known_of (record { program = p; procs = procs; fuel = fuel }) (checked_fits p c l) (checked_fine p c) b) (checked_stands p c l)
         (checked_such p c l) es w (every.run_typed p c l procs fuel es a b d e w).fits i q at arg given within v n o
     deleting _ k n o = absurd (true_false (sym k))
 
-    by : (b : Bool) → is_delete x ≡ b → ⊥
+    by : (b : Bool) → is_delete_arrival x ≡ b → ⊥
     by true k = deleting x k n o
     by false k = every.none_impossible p c l procs fuel es a b d e w i q at x within v n r k o
 
 -- ---- alignment
 
 -- so no process comes to the delete of a region that isn't there
-never_stuck : (p : NumberedProgram) → IsChecked p → LiteralsFit p → OfEveryRun (λ s es. (i : ℕ) → DeletesNothing s es i → ⊥) p
+never_stuck : (p : ProgramView) → IsChecked p → LiteralsFit p → OfEveryRun (λ s es. (i : ℕ) → DeletesNothing s es i → ⊥) p
 never_stuck p c l procs fuel es a b d e w =
     presence.none_stuck (record { program = p; procs = procs; fuel = fuel })
     (known_of (record { program = p; procs = procs; fuel = fuel }) (checked_fits p c l) (checked_fine p c) b) (checked_stands p c l)
     (checked_such p c l) es w (every.run_typed p c l procs fuel es a b d e w).fits
 
-end_or_stuck : (s : Setting) (es : List Entry) → ((i : ℕ) → DeletesNothing s es i → ⊥) → AllEnded s es ⊎ ((i : ℕ) × DeletesNothing s es i) → AllEnded s es
+end_or_stuck : (s : RunConfig) (es : List Entry) → ((i : ℕ) → DeletesNothing s es i → ⊥) → AllEnded s es ⊎ ((i : ℕ) × DeletesNothing s es i) → AllEnded s es
 end_or_stuck s es f (inl x) = x
 end_or_stuck s es f (inr x) = absurd (f x.0 x.1)
 
-pub none_stuck : (p : NumberedProgram) → IsChecked p → LiteralsFit p → OfEveryRun NoneStuck p
+pub none_stuck : (p : ProgramView) → IsChecked p → LiteralsFit p → OfEveryRun NoneStuck p
 none_stuck p c l procs fuel es a b d e w f n =
     end_or_stuck (record { program = p; procs = procs; fuel = fuel }) es (never_stuck p c l procs fuel es a b d e w) (every.none_waits p c l procs fuel es a b d e w f n)
 
 -- a checked program is aligned
-pub aligned : (p : NumberedProgram) → IsChecked p → LiteralsFit p → IsAligned p
+pub aligned : (p : ProgramView) → IsChecked p → LiteralsFit p → IsAligned p
 aligned p c l procs fuel es a b d e w = record {
   arrivals_agree = every.arrivals_agree p c procs fuel es a b d e w;
   none_after_end = every.none_after_end p c procs fuel es a b d e w;

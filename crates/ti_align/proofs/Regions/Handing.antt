@@ -13,33 +13,33 @@ use Rattle.ti_lang.specs.Program.Expressions.{NumberedExp, NumberedExps, place_o
 use Rattle.ti_lang.specs.Program.Expressions as e
 use Rattle.ti_lang.specs.Program.Statements.{NumberedInit, NumberedPrint, NumberedStm, MaybeNumbered, NoStm, SomeStm, NumberedStms, numbered_stms}
 use Rattle.ti_lang.specs.Program.Statements as s
-use Rattle.ti_lang.specs.Program.Classes.{NumberedMethod, NumberedProgram}
+use Rattle.ti_lang.specs.Program.Classes.{NumberedMethod, ProgramView}
 use Rattle.ti_lang.specs.Program.Scope.{this_of}
 use Rattle.ti_lang.specs.Typing.BuiltIn.{BuiltIn, Copy, Exchange, Delete}
-use Rattle.ti_lang.specs.Typing.TextTypes.{used_type, type_in_text}
+use Rattle.ti_lang.specs.Typing.TextTypes.{used_type, syntactic_type}
 use Rattle.ti_lang.specs.Typing.Declared.{result_type, instance_method}
 use Rattle.ti_lang.specs.Typing.Called.{called_method, method_behind, member_called}
 use Rattle.ti_lang.specs.Meaning.Held.{Held, truth_of}
-use Rattle.ti_lang.specs.Meaning.Asking.{Reference, Asking, ◌>>=◌, Got, Gives, Asks, Fails, gives, asked, needed}
+use Rattle.ti_lang.specs.Meaning.Comp.{Reference, Comp, ◌>>=◌, CompResult, Gives, Asks, Fails, gives, asked, needed}
 use Rattle.ti_lang.specs.Meaning.Conversions.{converted}
-use Rattle.ti_lang.specs.Meaning.Operators.{operated}
-use Rattle.ti_lang.specs.Meaning.Processes.{Variable, Receiver, Nowhere, Declared, Assigned, Updated, Loop, While, Foreach, Work, Do, End, Before, Behind, Receive, CopyAll, TakeAll}
+use Rattle.ti_lang.specs.Meaning.Operators.{apply_binary}
+use Rattle.ti_lang.specs.Meaning.Processes.{Variable, Receiver, Nowhere, Declared, Assigned, Updated, Loop, While, Foreach, ContItem, Do, End, Before, Behind, Receive, CopyAll, TakeAll}
 use Rattle.ti_lang.specs.Meaning.Scoping.{Env, value_by, type_of, declared_type, with_new}
 use Rattle.ti_lang.specs.Meaning.Evaluation.{kept_local, eval, eval_all, eval_numbers}
 use Rattle.ti_lang.specs.Meaning.Targets.{Target, InVariable, InPart, located, held_in, stored, into}
-use Rattle.ti_lang.specs.Meaning.Parts.{Field, Element, domain_asked}
+use Rattle.ti_lang.specs.Meaning.CellRefs.{Field, Element, domain_asked}
 use Rattle.ti_lang.specs.Meaning.Makers.{new_object, new_grid}
 use Rattle.ti_lang.specs.Meaning.Copies.{copies, copied, taken}
 use Rattle.ti_lang.specs.Meaning.Collectives.{root_among, root_deposit, broadcasts, exchanges}
-use Rattle.ti_lang.specs.Meaning.Calls.{Call, call_of, called, parameters_of, bound, maybe_eval, maybe_needed, calling}
+use Rattle.ti_lang.specs.Meaning.Calls.{Call, call_of, called, parameters_of, bind_params, maybe_eval, maybe_needed, calling}
 use Rattle.ti_lang.specs.Meaning.Moves.{Move, Goes, Turns, Breaks, Continues, Calls, Returns, Meets, Deletes, receives}
 use Rattle.ti_lang.specs.Meaning.Statements.{made_first, valued_or_called, initialized, member_alone, alone, printed, one_more, declared_as, maybe_do, statement}
-use Rattle.ti_lang.specs.Meaning.Performing.{condition, declared_in, performed}
+use Rattle.ti_lang.specs.Meaning.Performing.{condition, declared_in, exec_item}
 use Rattle.ti_lang.proofs.Lemmas.{Giving, then_giving, guarded_giving}
 use Rattle.ti_rules.specs.InitialTypes.{is_region}
 use Rattle.ti_align.proofs.Alignment.Fitting.{giving_followed}
 use Rattle.ti_align.proofs.Runs.Vars.{true_false, and_left, and_right}
-use Rattle.ti_align.specs.Scoped.{Names, KnownAs, ExpScoped, ExpsScoped, InitScoped, found, StmUses, WorkUses}
+use Rattle.ti_align.specs.Scoped.{Names, KnownAs, ExpScoped, ExpsScoped, InitScoped, is_among, StmUses, WorkUses}
 use Rattle.ti_align.proofs.Scope.Suited.{args_of}
 use Rattle.ti_align.proofs.Scope.Leading.{giving_with}
 use Rattle.ti_align.proofs.Regions.Regional.{Good, GoodAs, good_region, AllGood, find_good, changed_good, without_good, is_region_exp}
@@ -49,7 +49,7 @@ use Rattle.ti_align.proofs.Regions.Regional.{such_before, MethodsAreSuch}
 
 -- ---- what is given
 
-giving_any : {A : Type 0} (Q : A → Type 0) (g : Got A) → ((a : A) → Q a) → Giving Q g
+giving_any : {A : Type 0} (Q : A → Type 0) (g : CompResult A) → ((a : A) → Q a) → Giving Q g
 giving_any Q (Gives a rest) f = f a
 giving_any Q (Asks q) f = tt
 giving_any Q (Fails kind at) f = tt
@@ -81,7 +81,7 @@ module _ (env : Env) (good : AllGood env.variables) where
   -- ---- expressions
 
   abbrev pub Finding : Names
-  Finding = λ x. found x env.variables
+  Finding = λ x. is_among x env.variables
 
   variable_good : (d : Declaration) (x : VariableUse) → x.declared ≡ d → KnownAs Finding x d → is_region (declared_type d) ≡ true → Good (value_by d env x)
   variable_good (t.Typed is_single type) x z k r = find_good x env.variables k good (ap (λ d. is_region (declared_type d)) z ∙ r)
@@ -129,7 +129,7 @@ module _ (env : Env) (good : AllGood env.variables) where
   target_good at (e.Variable place x) h rest g = used_good at x.number x.declared h rest g
   target_good at target h rest g = giving_any _ (converted at (type_of env target) h rest) (λ x. no_region t.Void x refl)
 
-  into_good : (r : Receiver) (right : Asking Held) (rest : List Answer) → ReceiverSuits r → ((u : List Answer) → Giving (GoodAs (received_type r)) (right u)) → Giving AllGood (into env r right rest)
+  into_good : (r : Receiver) (right : Comp Held) (rest : List Answer) → ReceiverSuits r → ((u : List Answer) → Giving (GoodAs (received_type r)) (right u)) → Giving AllGood (into env r right rest)
   into_good Nowhere right rest k f = then_giving AllGood (right rest) _ (λ h u. good)
   into_good (Declared at x) right rest k f =
       giving_followed (GoodAs (declared_type x.declared)) AllGood (right rest) _ (f rest) (λ h u g.
@@ -142,12 +142,12 @@ module _ (env : Env) (good : AllGood env.variables) where
       giving_followed (PlaceOf (target_type target)) AllGood (located env target rest) _ (located_good target rest) (λ place u i.
       then_giving AllGood (held_in env (place_of_numbered target) (type_of env target) place u) _ (λ old w.
       then_giving AllGood (right w) _ (λ h z.
-      then_giving AllGood (operated at op old h z) _ (λ new y.
+      then_giving AllGood (apply_binary at op old h z) _ (λ new y.
       then_giving AllGood (converted at (type_of env target) new y) _ (λ x q. stored_good at place x q (i x (no_region (target_type target) x k)))))))
 
   -- ---- parameters
 
-  bound_good : (ps : List VariableUse) (xs : NumberedExps) (vs : List Variable) (rest : List Answer) → ArgsAreSuch ps xs → ExpsScoped Finding xs → AllGood vs → Giving AllGood (bound env ps xs vs rest)
+  bound_good : (ps : List VariableUse) (xs : NumberedExps) (vs : List Variable) (rest : List Answer) → ArgsAreSuch ps xs → ExpsScoped Finding xs → AllGood vs → Giving AllGood (bind_params env ps xs vs rest)
   bound_good [] xs vs rest f k g = g
   bound_good (p ∷ ps) e.NoExp vs rest f k g = g
   bound_good (p ∷ ps) (e.MoreExp x xs) vs rest f k g =
@@ -181,7 +181,7 @@ called_cases env (e.OwnCall at method args) = by (slice_get env.program.methods 
         × (k.method ≡ c) × (k.args ≡ args))
     by None = inl (refl, refl)
     by (Some c) = inr (c, call_of at (Some (e.This at)) args c, refl, refl, refl, refl)
-called_cases env (e.Member at x name args) = by (method_behind env.program (type_in_text env.program (this_of env.method) x) name)
+called_cases env (e.Member at x name args) = by (method_behind env.program (syntactic_type env.program (this_of env.method) x) name)
   where
     by : (o : Option NumberedMethod)
         → ((o ≡ None) × (option_map (call_of at (Some x) args) o ≡ None))
@@ -200,7 +200,7 @@ args_scoped names _ k = tt
 -- ---- moves
 
 -- the regions in a move
-abbrev pub MoveIsSuch : NumberedProgram → NumberedMethod → Move → Type 0
+abbrev pub MoveIsSuch : ProgramView → NumberedMethod → Move → Type 0
 MoveIsSuch p m (Goes vs works) = AllGood vs × WorksAreSuch p m works
 MoveIsSuch p m (Turns at vs works) = AllGood vs × WorksAreSuch p m works
 MoveIsSuch p m Breaks = Unit {0}
@@ -214,16 +214,16 @@ MoveIsSuch p m (Meets wait given works) =
 MoveIsSuch p m (Deletes at region) = region ≡ 0 → ⊥
 
 -- the method that is called is one of the program
-abbrev pub OneIsSuch : NumberedProgram → Option NumberedMethod → Type 0
+abbrev pub OneIsSuch : ProgramView → Option NumberedMethod → Type 0
 OneIsSuch p None = Unit {0}
 OneIsSuch p (Some m) = StmsAreSuch p m (numbered_stms m.body)
 
-pub such_at : (p : NumberedProgram) (ms : List NumberedMethod) (k : ℕ) → MethodsAreSuch p ms → OneIsSuch p (slice_get ms k)
+pub such_at : (p : ProgramView) (ms : List NumberedMethod) (k : ℕ) → MethodsAreSuch p ms → OneIsSuch p (slice_get ms k)
 such_at p [] k f = tt
 such_at p (m ∷ ms) zero f = f.0
 such_at p (m ∷ ms) (suc k) f = such_at p ms k f.1
 
-such_found : (p : NumberedProgram) (test : NumberedMethod → Bool) (ms : List NumberedMethod) → MethodsAreSuch p ms → OneIsSuch p (find test ms)
+such_found : (p : ProgramView) (test : NumberedMethod → Bool) (ms : List NumberedMethod) → MethodsAreSuch p ms → OneIsSuch p (find test ms)
 such_found p test [] f = tt
 such_found p test (m ∷ ms) f = by_test (test m) (such_found p test ms f.1)
   where
@@ -231,7 +231,7 @@ such_found p test (m ∷ ms) f = by_test (test m) (such_found p test ms f.1)
     by_test true h = f.0
     by_test false h = h
 
-such_only : (p : NumberedProgram) (test : NumberedMethod → Bool) (o : Option NumberedMethod) → OneIsSuch p o → OneIsSuch p (only_if test o)
+such_only : (p : ProgramView) (test : NumberedMethod → Bool) (o : Option NumberedMethod) → OneIsSuch p o → OneIsSuch p (only_if test o)
 such_only p test None h = tt
 such_only p test (Some m) h = by_test (test m)
   where
@@ -239,25 +239,25 @@ such_only p test (Some m) h = by_test (test m)
     by_test true = h
     by_test false = tt
 
-such_instance : (p : NumberedProgram) (class name : ℕ) → MethodsAreSuch p p.methods → OneIsSuch p (instance_method p class name)
+such_instance : (p : ProgramView) (class name : ℕ) → MethodsAreSuch p p.methods → OneIsSuch p (instance_method p class name)
 unfolding instance_method
 such_instance p class name f = such_only p _ (find (λ (m : NumberedMethod). (m.class == class) && (m.name == name)) p.methods) (such_found p _ p.methods f)
 
-such_behind : (p : NumberedProgram) (type : ValueType) (name : ℕ) → MethodsAreSuch p p.methods → OneIsSuch p (method_behind p type name)
+such_behind : (p : ProgramView) (type : ValueType) (name : ℕ) → MethodsAreSuch p p.methods → OneIsSuch p (method_behind p type name)
 such_behind p (t.Class c is_local) name f = such_instance p c name f
 such_behind p _ name f = tt
 
-such_called : (p : NumberedProgram) (this : Option ℕ) (x : NumberedExp) → MethodsAreSuch p p.methods → OneIsSuch p (called_method p this x)
+such_called : (p : ProgramView) (this : Option ℕ) (x : NumberedExp) → MethodsAreSuch p p.methods → OneIsSuch p (called_method p this x)
 such_called p this (e.Call at method args) f = such_at p p.methods method f
 such_called p this (e.OwnCall at method args) f = such_at p p.methods method f
-such_called p this (e.Member at x name args) f = such_behind p (type_in_text p this x) name f
+such_called p this (e.Member at x name args) f = such_behind p (syntactic_type p this x) name f
 such_called p this _ f = tt
 
 module _ (env : Env) (all : MethodsAreSuch env.program env.program.methods) (good : AllGood env.variables) where
   abbrev Moving : Move → Type 0
   Moving = MoveIsSuch env.program env.method
 
-  receives_good : (r : Receiver) (right : Asking Held) (rest : List Answer) → ReceiverSuits r
+  receives_good : (r : Receiver) (right : Comp Held) (rest : List Answer) → ReceiverSuits r
       → ((u : List Answer) → Giving (GoodAs (received_type r)) (right u)) → Giving Moving (receives env r right rest)
   receives_good r right rest k f = giving_followed AllGood Moving (into env r right rest) _ (into_good env good r right rest k f) (λ vs u g. (g, tt))
 
@@ -265,7 +265,7 @@ module _ (env : Env) (all : MethodsAreSuch env.program env.program.methods) (goo
       → (is_region (received_type r) ≡ true → is_region (result_type c.method) ≡ true) → StmsAreSuch env.program c.method (numbered_stms c.method.body) → Giving Moving (calling env r c rest)
   calling_good r c rest k f x h b =
       then_giving Moving (maybe_eval env c.object rest) _ (λ object u.
-      giving_followed AllGood Moving (bound env (parameters_of c.method.params) c.args [] u) _ (bound_good env good (parameters_of c.method.params) c.args [] u f x tt) (λ vs w g.
+      giving_followed AllGood Moving (bind_params env (parameters_of c.method.params) c.args [] u) _ (bound_good env good (parameters_of c.method.params) c.args [] u f x tt) (λ vs w g.
       then_giving Moving (maybe_needed c.place object w) _ (λ this z. (g, h, k, b))))
 
   -- a call or another value
@@ -284,7 +284,7 @@ module _ (env : Env) (all : MethodsAreSuch env.program env.program.methods) (goo
           (λ z. ap (λ (c : NumberedMethod). is_region (result_type c)) q.4 ∙ such.1 z)
           (subst (λ (c : NumberedMethod). StmsAreSuch env.program c (numbered_stms c.body)) (sym q.4) (subst (OneIsSuch env.program) q.2 (such_called env.program (this_of env.method) x all))))
 
-  made_good : (r : Receiver) (new : Asking Held) (rest : List Answer) → ReceiverSuits r → is_region (received_type r) ≡ false → Giving Moving (made_first env r new rest)
+  made_good : (r : Receiver) (new : Comp Held) (rest : List Answer) → ReceiverSuits r → is_region (received_type r) ≡ false → Giving Moving (made_first env r new rest)
   made_good r new rest k f = then_giving Moving (new rest) _ (λ h u. receives_good r (gives h) u k (λ w. no_region (received_type r) h f))
 
   no_delete : (k : CollKind) → k ≡ coll.Broadcast → k ≡ coll.DeleteRegion → ⊥
@@ -324,7 +324,7 @@ module _ (env : Env) (all : MethodsAreSuch env.program env.program.methods) (goo
       let k : (to from : Reference) (points : List Point) → Moving (Goes env.variables (CopyAll at to from points ∷ [])) = λ to from points. (good, (tt, tt)) in
       search (then_giving, k) depth 14
 
-  member_good : (at : Place) (x : NumberedExp) (args : NumberedExps) (other : Asking Move) (o : Option BuiltIn) (rest : List Answer)
+  member_good : (at : Place) (x : NumberedExp) (args : NumberedExps) (other : Comp Move) (o : Option BuiltIn) (rest : List Answer)
       → ExpScoped (Finding env good) x → (o ≡ Some Delete → is_region_exp x ≡ true)
       → Giving Moving (other rest) → Giving Moving (member_alone env at x args other o rest)
   member_good at x args other (Some Copy) rest sc f k = copies_good at x args rest
@@ -373,7 +373,7 @@ module _ (env : Env) (all : MethodsAreSuch env.program env.program.methods) (goo
   either true x y k l = (good, (k, tt))
   either false x y k l = (good, (l, tt))
 
-  maybe_good : (x : MaybeNumbered) (ws : List Work) → MaybeIsSuch env.program env.method x → WorksAreSuch env.program env.method ws → WorksAreSuch env.program env.method (maybe_do x ++ ws)
+  maybe_good : (x : MaybeNumbered) (ws : List ContItem) → MaybeIsSuch env.program env.method x → WorksAreSuch env.program env.method ws → WorksAreSuch env.program env.method (maybe_do x ++ ws)
   maybe_good NoStm ws k l = l
   maybe_good (SomeStm x) ws k l = (k, l)
 
@@ -423,7 +423,7 @@ module _ (env : Env) (all : MethodsAreSuch env.program env.program.methods) (goo
       let k : Moving (Goes env.variables (TakeAll at grid is ∷ [])) = (good, (tt, tt)) in
       search (then_giving, k)
 
-  pub performed_good : (w : Work) (rest : List Answer) → WorkUses (Finding env good) w → WorkIsSuch env.program env.method w → Giving Moving (performed env w rest)
+  pub performed_good : (w : ContItem) (rest : List Answer) → WorkUses (Finding env good) w → WorkIsSuch env.program env.method w → Giving Moving (exec_item env w rest)
   performed_good (Do x) rest sc k = statement_good x rest sc k
   performed_good (End x) rest sc k = (without_good (declared_in x) env.variables good, tt)
   performed_good (Before (While at c update body)) rest sc k = then_giving Moving (condition env c rest) _ (λ h u. tested (truth_of h) at (While at c update body) body k k.1)

@@ -17,29 +17,29 @@ use Rattle.ti_base.specs.declared.entry.Entry.{Entry}
 use Rattle.ti_base.specs.Cells.{Cell, Field, Element, Grid, thing_of, zero_value, named_by, cell_of, whole_grid, view, view_fault, suits}
 use Rattle.ti_lang.specs.Program.Types.{ValueType}
 use Rattle.ti_lang.specs.Program.Types as t
-use Rattle.ti_lang.specs.Program.Classes.{NumberedProgram}
+use Rattle.ti_lang.specs.Program.Classes.{ProgramView}
 use Rattle.ti_lang.specs.Typing.Kinds.{is_local}
 use Rattle.ti_lang.specs.Meaning.Held as held
 use Rattle.ti_base.specs.Forms.{is_dim}
 use Rattle.ti_lang.specs.Meaning.Held.{Plain}
-use Rattle.ti_lang.specs.Meaning.Asking.{Wanted, told}
-use Rattle.ti_lang.specs.Meaning.Processes.{Setting, Process}
+use Rattle.ti_lang.specs.Meaning.Comp.{Wanted, told}
+use Rattle.ti_lang.specs.Meaning.Processes.{RunConfig, Process}
 use Rattle.ti_lang.specs.Meaning.Zeros.{zeros_of_class}
 use Rattle.ti_lang.specs.Meaning.Histories.{History, history_of, is_making, is_departure, arrivals}
 use Rattle.ti_lang.specs.Meaning.RoundsOf as rounds
 use Rattle.ti_lang.specs.Meaning.RoundsOf.{arrival_at, last_arrival, value_in, is_delete_of, deletes}
 use Rattle.ti_lang.specs.Meaning.RegionsOf.{is_gone, is_place}
 use Rattle.ti_lang.specs.Meaning.RegionUse.{names}
-use Rattle.ti_lang.specs.Meaning.HeapOf.{new_id, view_id, is_grid, grid_made, grid_of, last_written, zeros_of, zero_of, cell_value}
+use Rattle.ti_lang.specs.Meaning.HeapOf.{new_id, view_id, is_grid, grid_made, grid_of_id, last_written, zeros_of, zero_of, cell_value}
 use Rattle.ti_lang.specs.Meaning.HeapAnswers.{Answers, possible_if, faults_if, makes, places, at_point, views, answers_value, heap_answer, IsAnswered, more}
 use Rattle.ti_lang.specs.Meaning.HeapAnswers as heap
-use Rattle.ti_lang.specs.Meaning.Runs.{World, CanTake, IsRun}
+use Rattle.ti_lang.specs.Meaning.Runs.{ProcAfter, CanTake, IsRun}
 use Rattle.ti_lang.proofs.Lemmas.{possible_then, some_then, fault_then, answer_same, views_then, placed, same_name}
 use Rattle.ti_align.specs.Alignment.{ArrivalsAgree}
 use Rattle.ti_align.specs.Owners.{MadeWith}
-use Rattle.ti_align.specs.Things.{Things, seen_by, IsGridOf, IsOf}
-use Rattle.ti_align.specs.There.{dims_viewed, IsFieldOf, IsAtHand, FitsAsked}
-use Rattle.ti_align.specs.Heap.{Elements, things_of, FieldsStorable, HeapFits, is_of_heap}
+use Rattle.ti_align.specs.HeapTyping.{HeapTyping, with_owner, IsGridOf, IsOf}
+use Rattle.ti_align.specs.Existing.{dims_viewed, IsFieldOf, OperandsExist, FitsAsked}
+use Rattle.ti_align.specs.Heap.{Elements, heap_typing_of, FieldsStorable, HeapFits, is_of_heap}
 use Rattle.ti_align.specs.Mirrors.Processes.{ProcessFits}
 use Rattle.ti_align.specs.Typed.{GivesAt, GivesLast, hands_in}
 use Rattle.ti_align.specs.Dangling.{Lives, IfNamedLives}
@@ -63,25 +63,25 @@ abbrev pub CellsLive : History → History → Type 0
 CellsLive h later = (c : Cell) (value : Value) → Lives later (thing_of c) → last_written c h ≡ Some value → IfNamedLives later (named_by value)
 
 -- and so does what was given in a round past which not all processes have come
-abbrev pub RoundsLive : Setting → History → History → Type 0
+abbrev pub RoundsLive : RunConfig → History → History → Type 0
 RoundsLive s h later = (j who n : ℕ) (a : rounds.Arrival) (value : Value) → j < s.procs → arrivals j h ≤ n → arrival_at who n h ≡ Some a
     → value_in a.deposit ≡ Some value → IfNamedLives later (named_by value)
 
 -- All that is there in a run is as the types say, and what lives names only what lives.
-pub record RunLives (s : Setting) (es : List Entry) : Type 0 where
+pub record RunLives (s : RunConfig) (es : List Entry) : Type 0 where
   pub elements : Elements
   pub made : (grid : Id) (element : ValueType) → MadeWith s es grid element → elements grid ≡ Some element
   pub heap : HeapFits s.program elements (history_of es)
-  pub processes : (i : ℕ) (pr : Process) → i < s.procs → World s es i pr → ProcessFits (living (history_of es) (things_of i elements (history_of es))) (GivesLast s es i) pr
+  pub processes : (i : ℕ) (pr : Process) → i < s.procs → ProcAfter s es i pr → ProcessFits (living (history_of es) (heap_typing_of i elements (history_of es))) (GivesLast s es i) pr
   pub deposits : (i k : ℕ) (a : rounds.Arrival) (value : Value) → arrival_at i (suc k) (history_of es) ≡ Some a → hands_in a.kind ≡ true → value_in a.deposit ≡ Some value
-      → (type : ValueType) × GivesAt s es i k type × IsOf (things_of i elements (history_of es)) type (Plain value) × (is_local type ≡ false)
+      → (type : ValueType) × GivesAt s es i k type × IsOf (heap_typing_of i elements (history_of es)) type (Plain value) × (is_local type ≡ false)
   pub counted : Counted s.program (history_of es)
   pub cells : CellsLive (history_of es) (history_of es)
   pub rounds_live : RoundsLive s (history_of es) (history_of es)
 
 -- what lives after the history names only what lives later
-pub record Lasts (s : Setting) (es : List Entry) (elements : Elements) (later : History) : Type 0 where
-  pub processes : (i : ℕ) (pr : Process) → i < s.procs → World s es i pr → ProcessFits (living later (things_of i elements (history_of es))) (GivesLast s es i) pr
+pub record Lasts (s : RunConfig) (es : List Entry) (elements : Elements) (later : History) : Type 0 where
+  pub processes : (i : ℕ) (pr : Process) → i < s.procs → ProcAfter s es i pr → ProcessFits (living later (heap_typing_of i elements (history_of es))) (GivesLast s es i) pr
   pub cells : CellsLive (history_of es) later
   pub rounds_live : RoundsLive s (history_of es) later
 
@@ -96,7 +96,7 @@ zero_lives h (z.Rc n) = tt
 zero_lives h z.Obj = tt
 zero_lives h z.Grid = tt
 
-zero_is : (p : NumberedProgram) (c : Cell) (h : History) (x : Value) → zero_of p c h ≡ Some x → (first : Zero) × (zero_value first ≡ x)
+zero_is : (p : ProgramView) (c : Cell) (h : History) (x : Value) → zero_of p c h ≡ Some x → (first : Zero) × (zero_value first ≡ x)
 zero_is p (Field obj field) h x k = by (zeros_of p obj h) k
   where
     get : (o : Option Zero) → option_map zero_value o ≡ Some x → (first : Zero) × (zero_value first ≡ x)
@@ -106,7 +106,7 @@ zero_is p (Field obj field) h x k = by (zeros_of p obj h) k
     by : (o : Option (List Zero)) → option_and_then (λ zeros. option_map zero_value (slice_get zeros field)) o ≡ Some x → (first : Zero) × (zero_value first ≡ x)
     by None k = absurd (none_some x k)
     by (Some zeros) k = get (slice_get zeros field) k
-zero_is p (Element block at) h x k = by (grid_of block h) k
+zero_is p (Element block at) h x k = by (grid_of_id block h) k
   where
     by : (o : Option Grid) → option_map (λ (g : Grid). zero_value g.zero) o ≡ Some x → (first : Zero) × (zero_value first ≡ x)
     by None k = absurd (none_some x k)
@@ -117,7 +117,7 @@ written_held : (o l : Option Value) (x value : Value) → option_map (held_in l)
 written_held None l x value k q = absurd (none_some x k)
 written_held (Some y) l x value k q = ap (λ l. Some (held_in l y)) q
 
-pub written_value : (p : NumberedProgram) (elements : Elements) (h : History) → HeapFits p elements h → FieldsStorable p
+pub written_value : (p : ProgramView) (elements : Elements) (h : History) → HeapFits p elements h → FieldsStorable p
     → (c : Cell) (value : Value) → last_written c h ≡ Some value → cell_value p c h ≡ Some value
 written_value p elements h fits store (Field obj field) value k =
     let m = fits.cells (Field obj field) value k in
@@ -129,7 +129,7 @@ written_value p elements h fits store (Element block at) value k =
     written_held (zero_of p (Element block at) h) (last_written (Element block at) h) _ value
     (ap (λ (o : Option Grid). option_map (held_in (last_written (Element block at) h)) (option_map (λ (g : Grid). zero_value g.zero) o)) b.1) k
 
-cell_lives : (p : NumberedProgram) (h later : History) → CellsLive h later → (c : Cell) (x : Value) → Lives later (thing_of c) → cell_value p c h ≡ Some x → IfNamedLives later (named_by x)
+cell_lives : (p : ProgramView) (h later : History) → CellsLive h later → (c : Cell) (x : Value) → Lives later (thing_of c) → cell_value p c h ≡ Some x → IfNamedLives later (named_by x)
 cell_lives p h later f c x l k = by (last_written c h) refl k
   where
     by : (o : Option Value) → last_written c h ≡ o → option_map (held_in o) (zero_of p c h) ≡ Some x → IfNamedLives later (named_by x)
@@ -145,16 +145,16 @@ cell_lives p h later f c x l k = by (last_written c h) refl k
         same (Some y) k = some_same value x k
 
 -- the block of a grid lies in the region of the grid
-pub block_region : (p : NumberedProgram) (h : History) → IsAnswered p h → (id : Id) (g : Grid) → grid_of id h ≡ Some g → g.block.region ≡ id.region
+pub block_region : (p : ProgramView) (h : History) → IsAnswered p h → (id : Id) (g : Grid) → grid_of_id id h ≡ Some g → g.block.region ≡ id.region
 block_region p [] answered id g k = absurd (none_some g k)
 block_region p (e ∷ h) (more answered said) id g k = by (is_making e.act && is_grid id e.answer) refl k (λ viewed f m. block_region p h answered viewed f m)
   where
     made : (a : Action) → heap_answer p h e.proc a ≡ Answers e.answer → is_grid id e.answer ≡ true
-        → grid_made id a (λ viewed. grid_of viewed h) ≡ Some g → ((viewed : Id) (f : Grid) → grid_of viewed h ≡ Some f → f.block.region
+        → grid_made id a (λ viewed. grid_of_id viewed h) ≡ Some g → ((viewed : Id) (f : Grid) → grid_of_id viewed h ≡ Some f → f.block.region
         ≡ viewed.region) → g.block.region ≡ id.region
     made (act.NewGrid first domain region) q i m f = sym (ap (λ (x : Grid). x.block.region) (some_same (whole_grid id first domain) g m))
     made (act.MakeView viewed how) q i m f =
-        let s = some_then (grid_of viewed h) (λ k. possible_if (suits how k.domain)
+        let s = some_then (grid_of_id viewed h) (λ k. possible_if (suits how k.domain)
         (views (view_fault how k.domain) (makes p h e.proc (act.MakeView viewed how) (v.Grid (Some (view_id e.proc viewed h))))))
         e.answer q in
         let r : e.answer ≡ Val (v.Grid (Some (view_id e.proc viewed h))) =
@@ -176,8 +176,8 @@ block_region p (e ∷ h) (more answered said) id g k = by (is_making e.act && is
     made (act.Fault kind) q i m f = absurd (none_some g m)
 
     by : (b : Bool) → (is_making e.act && is_grid id e.answer) ≡ b
-        → (if b then grid_made id e.act (λ viewed. grid_of viewed h) else grid_of id h) ≡ Some g
-        → ((viewed : Id) (f : Grid) → grid_of viewed h ≡ Some f → f.block.region ≡ viewed.region) → g.block.region ≡ id.region
+        → (if b then grid_made id e.act (λ viewed. grid_of_id viewed h) else grid_of_id id h) ≡ Some g
+        → ((viewed : Id) (f : Grid) → grid_of_id viewed h ≡ Some f → f.block.region ≡ viewed.region) → g.block.region ≡ id.region
     by true t m f = made e.act said (and_right (is_making e.act) (is_grid id e.answer) t) m f
     by false t m f = f id g m
 
@@ -192,15 +192,15 @@ placed_lives region h o r k = by (is_gone region h) (possible_then (is_place reg
     by false k = refl
 
 -- behind an entry of process i, which names only what lives then
-module _ (p : NumberedProgram) (h later : History) (i : ℕ) (r : Answer) (w u : Things) (answered : IsAnswered p h) (cells : CellsLive h later) (grids : (id : Id) (g : Grid) → w.grid_at id ≡ Some g → grid_of id h ≡ Some g) where
-  value_answered : (c : Cell) → Lives later (thing_of c) → answers_value (cell_value p c h) ≡ Answers r → IfNamedLives later (held.thing_of (told r))
+module _ (p : ProgramView) (h later : History) (i : ℕ) (r : Answer) (w u : HeapTyping) (answered : IsAnswered p h) (cells : CellsLive h later) (grids : (id : Id) (g : Grid) → w.grid_at id ≡ Some g → grid_of_id id h ≡ Some g) where
+  value_answered : (c : Cell) → Lives later (thing_of c) → answers_value (cell_value p c h) ≡ Answers r → IfNamedLives later (held.referent_of (told r))
   value_answered c l q =
       let x = some_then (cell_value p c h) (λ x. Answers (Val x)) r q in
-      subst (λ r. IfNamedLives later (held.thing_of (told r))) (answer_same (Val x.0) r x.2) (cell_lives p h later cells c x.0 l x.1)
+      subst (λ r. IfNamedLives later (held.referent_of (told r))) (answer_same (Val x.0) r x.2) (cell_lives p h later cells c x.0 l x.1)
 
-  new_lives : (a : Action) (new : Id) (made : Value) → named_by made ≡ Some new → Lives later new → makes p h i a made ≡ Answers r → IfNamedLives later (held.thing_of (told r))
+  new_lives : (a : Action) (new : Id) (made : Value) → named_by made ≡ Some new → Lives later new → makes p h i a made ≡ Answers r → IfNamedLives later (held.referent_of (told r))
   new_lives a new made n l q =
-      subst (λ r. IfNamedLives later (held.thing_of (told r))) (sym (makes_answer p h i a made r q)) (subst (IfNamedLives later) (sym n) l)
+      subst (λ r. IfNamedLives later (held.referent_of (told r))) (sym (makes_answer p h i a made r q)) (subst (IfNamedLives later) (sym n) l)
 
   field_of : (obj : Id) (field : ℕ) (type : ValueType) → IsFieldOf p (living later u) obj field type → IsFieldOf p u obj field type
   field_of obj field type k = (k.0, (living_there later u).classes obj k.0 k.1, k.2)
@@ -210,17 +210,17 @@ module _ (p : NumberedProgram) (h later : History) (i : ℕ) (r : Answer) (w u :
 
   -- so its answer names only what lives
   pub fits_living : (gone : (n : ℕ) → is_gone n h ≡ false → is_gone n later ≡ false) → (a : Action) (wanted : Wanted) → is_of_heap a ≡ true
-      → IsAtHand p (living later w) a wanted → heap_answer p h i a ≡ Answers r → FitsAsked p u a wanted r
+      → OperandsExist p (living later w) a wanted → heap_answer p h i a ≡ Answers r → FitsAsked p u a wanted r
       → FitsAsked p (living later u) a wanted r
   fits_living gone (act.GetField obj field) wanted is there q k =
-      λ type f. of_living later (seen_by obj.owner u) type (told r) (k type (field_of obj field type f))
+      λ type f. of_living later (with_owner obj.owner u) type (told r) (k type (field_of obj field type f))
       (λ v. value_answered (Field obj field) (used_lives later w p (act.GetField obj field) wanted there) q)
   fits_living gone (act.GetElem grid at) wanted is there q k =
       λ element n f.
       let g = grids grid there.2.0 ((living_there later w).grids grid there.2.0 there.2.1) in
-      let s = some_answer (grid_of grid h) there.2.0 (λ g. at_point g at (answers_value (cell_value p (cell_of g at) h))) r g q in
+      let s = some_answer (grid_of_id grid h) there.2.0 (λ g. at_point g at (answers_value (cell_value p (cell_of g at) h))) r g q in
       let block : Lives later there.2.0.block = subst (λ n. is_gone n later ≡ false) (sym (block_region p h answered grid there.2.0 g)) (used_lives later w p (act.GetElem grid at) wanted there) in
-      of_living later (seen_by grid.owner u) element (told r) (k element n (grid_in element n grid f))
+      of_living later (with_owner grid.owner u) element (told r) (k element n (grid_in element n grid f))
       (λ v. value_answered (cell_of there.2.0 at) block (fault_then _ fault.Bounds _ r (possible_answer (at.dim == there.2.0.domain.dim) _ r s)))
   fits_living gone (act.NewObj class region) wanted is there q k =
       let s = some_then (zeros_of_class p class) (λ zeros. places region h (makes p h i (act.NewObj class region) (v.Obj (Some (new_id i region h))))) r q in
@@ -232,9 +232,9 @@ module _ (p : NumberedProgram) (h later : History) (i : ℕ) (r : Answer) (w u :
       of_living later u (t.Grid element n true) (told r) (k element n m)
       (λ v. new_lives (act.NewGrid first domain region) (new_id i region h) _ refl (gone region (placed_lives region h _ r s)) (placed region h _ r s))
   fits_living gone (act.MakeView grid how) wanted is there q k =
-      let s = some_then (grid_of grid h) (λ k. possible_if (suits how k.domain) (views (view_fault how k.domain) (makes p h i (act.MakeView grid how) (v.Grid (Some (view_id i grid h)))))) r q in
+      let s = some_then (grid_of_id grid h) (λ k. possible_if (suits how k.domain) (views (view_fault how k.domain) (makes p h i (act.MakeView grid how) (v.Grid (Some (view_id i grid h)))))) r q in
       λ element n f.
-      of_living later (seen_by grid.owner u) (t.Grid element (dims_viewed how n) true) (told r) (k element n (grid_in element n grid f))
+      of_living later (with_owner grid.owner u) (t.Grid element (dims_viewed how n) true) (told r) (k element n (grid_in element n grid f))
       (λ v. new_lives (act.MakeView grid how) (view_id i grid h) _ refl (used_lives later w p (act.MakeView grid how) wanted there)
       (views_then (view_fault how s.0.domain) _ r (possible_answer (suits how s.0.domain) _ r s.2)))
   fits_living gone (act.DomainOf grid) wanted is there q k = λ element n f. k element n (grid_in element n grid f)
@@ -244,15 +244,15 @@ module _ (p : NumberedProgram) (h later : History) (i : ℕ) (r : Answer) (w u :
 
 -- ---- over an entry
 
-module _ (s : Setting) (es : List Entry) (e : Entry) (ran : IsRun s es) (agree : ArrivalsAgree s es) (t : CanTake s es e.proc e) (store : FieldsStorable s.program) (fit : RunLives s es) where
+module _ (s : RunConfig) (es : List Entry) (e : Entry) (ran : IsRun s es) (agree : ArrivalsAgree s es) (t : CanTake s es e.proc e) (store : FieldsStorable s.program) (fit : RunLives s es) where
   abbrev h : History
   h = history_of es
 
   abbrev i : ℕ
   i = e.proc
 
-  abbrev w : ℕ → Things
-  w j = things_of j fit.elements h
+  abbrev w : ℕ → HeapTyping
+  w j = heap_typing_of j fit.elements h
 
   -- where no region goes
   none_goes : ((n : ℕ) → is_gone n (e ∷ h) ≡ is_gone n h) → Lasts s es fit.elements (e ∷ h)

@@ -11,8 +11,8 @@ use Rattle.ti_base.specs.declared.entry.Answer.TheVariants.{Done}
 use Rattle.ti_base.specs.declared.entry.Entry.{Entry}
 use Rattle.ti_base.specs.declared.entry.Next.TheVariants as next
 use Rattle.ti_base.specs.Cells.{Cell}
-use Rattle.ti_lang.specs.Program.Classes.{NumberedProgram}
-use Rattle.ti_lang.specs.Meaning.Processes.{Setting, Wait, Process}
+use Rattle.ti_lang.specs.Program.Classes.{ProgramView}
+use Rattle.ti_lang.specs.Meaning.Processes.{RunConfig, Wait, Process}
 use Rattle.ti_lang.specs.Meaning.Steps.{named_in}
 use Rattle.ti_lang.specs.Meaning.NextStep.{here}
 use Rattle.ti_lang.specs.Meaning.Histories.{History, history_of, is_departure, arrivals, departures}
@@ -21,7 +21,7 @@ use Rattle.ti_lang.specs.Meaning.RegionsOf.{is_gone}
 use Rattle.ti_lang.specs.Meaning.RegionUse.{names, is_outside, is_in_use}
 use Rattle.ti_lang.specs.Meaning.HeapOf.{cells_of, cell_value}
 use Rattle.ti_lang.specs.Meaning.HeapAnswers.{Answers, where_some, faults_if, departs, heap_answer, IsAnswered, more}
-use Rattle.ti_lang.specs.Meaning.Runs.{World, IsReady, CanTake, IsRun}
+use Rattle.ti_lang.specs.Meaning.Runs.{ProcAfter, IsReady, CanTake, IsRun}
 use Rattle.ti_lang.specs.Meaning.Runs as run
 use Rattle.ti_lang.proofs.Lemmas.{taker, history_grows, run_answered}
 use Rattle.ti_align.specs.Alignment.{ArrivalsAgree}
@@ -47,7 +47,7 @@ one_longer [] x = refl
 one_longer (y ∷ ys) x = ap suc (one_longer ys x)
 
 -- a process has left its rounds in their order
-rounds_left : (s : Setting) (es : List Entry) → IsRun s es → (j n : ℕ) → 0 < n → n ≤ length (answers_at_departures j es) → was_left n (history_of es) ≡ true
+rounds_left : (s : RunConfig) (es : List Entry) → IsRun s es → (j n : ℕ) → 0 < n → n ≤ length (answers_at_departures j es) → was_left n (history_of es) ≡ true
 rounds_left s es run.none j n k l = absurd (none n k l)
   where
     none : (n : ℕ) → 0 < n → n ≤ 0 → ⊥
@@ -82,7 +82,7 @@ rounds_left s all (run.more {es = es} {i = p} {e = e} w t z) j n k l =
         (subst (λ m. n ≤ m) (ap length (departures_both j es (e ∷ []) ∙ ap (λ xs. answers_at_departures j es ++ xs) (left_now j e q)) ∙ one_longer (answers_at_departures j es) e.answer) l))
 
 -- where all that arrive at a round delete the region, it is gone once the round was left
-left_gone : (p : NumberedProgram) (h : History) (r n : ℕ) → IsAnswered p h
+left_gone : (p : ProgramView) (h : History) (r n : ℕ) → IsAnswered p h
     → ((j : ℕ) (a : Arrival) → arrival_at j n h ≡ Some a → is_delete_of r (Some a) ≡ true) → was_left n h ≡ true → is_gone r h ≡ true
 left_gone p [] r n answered f z = absurd (true_false (sym z))
 left_gone p (e ∷ h) r n (more answered said) f z = by (is_departure e.act && (round_of e.proc h == n)) refl z (λ y. left_gone p h r n answered (λ j a q. f j a (stays j n e h a q)) y)
@@ -120,7 +120,7 @@ no_count : (n : ℕ) → is_positive_count (deposit.Count n) ≡ false → n ≡
 no_count n z = let l = ltb-false 0 n z in omega (arith, l)
 
 -- only processes of the run arrive
-pub arrived_within : (s : Setting) (es : List Entry) → IsRun s es → (who n : ℕ) (a : Arrival) → arrival_at who n (history_of es) ≡ Some a → who < s.procs
+pub arrived_within : (s : RunConfig) (es : List Entry) → IsRun s es → (who n : ℕ) (a : Arrival) → arrival_at who n (history_of es) ≡ Some a → who < s.procs
 arrived_within s es run.none who n a z = absurd (none_some a z)
 arrived_within s all (run.more {es = es} {i = p} {e = e} w t y) who n a z =
     by (comes who n e (history_of es) a (sym (ap (arrival_at who n) (ap history_of y ∙ history_grows es e)) ∙ z)) (λ g. arrived_within s es w who n a g)
@@ -131,7 +131,7 @@ arrived_within s all (run.more {es = es} {i = p} {e = e} w t y) who n a z =
 
 -- ---- the first departure
 
-module _ (s : Setting) (es : List Entry) (e : Entry) (ran : IsRun s es) (agree : ArrivalsAgree s es) (t : CanTake s es e.proc e) (leaving : e.act ≡ act.Depart) where
+module _ (s : RunConfig) (es : List Entry) (e : Entry) (ran : IsRun s es) (agree : ArrivalsAgree s es) (t : CanTake s es e.proc e) (leaving : e.act ≡ act.Depart) where
   abbrev h : History
   h = history_of es
 
@@ -158,7 +158,7 @@ module _ (s : Setting) (es : List Entry) (e : Entry) (ran : IsRun s es) (agree :
   here_too n a d b k c x y z l m q = omega (arith, x, y, z, l, m, q)
 
   -- until it was left all processes wait at it
-  all_wait : was_left round h ≡ false → (j : ℕ) (p : Process) → j < s.procs → World s es j p → (w : Wait) × (p.wait ≡ Some w) × (arrivals j h ≡ round)
+  all_wait : was_left round h ≡ false → (j : ℕ) (p : Process) → j < s.procs → ProcAfter s es j p → (w : Wait) × (p.wait ≡ Some w) × (arrivals j h ≡ round)
   all_wait first j p l x = by p.wait refl
     where
       both : arrivals j es ≡ length (answers_at_departures j es) + waiting p.wait
@@ -210,7 +210,7 @@ module _ (s : Setting) (es : List Entry) (e : Entry) (ran : IsRun s es) (agree :
         no_fault false z = refl
 
     -- what a process has said at it
-    said_there : (j : ℕ) (p : Process) → j < s.procs → World s es j p
+    said_there : (j : ℕ) (p : Process) → j < s.procs → ProcAfter s es j p
         → (w : Wait) × (b : Arrival) × (p.wait ≡ Some w) × (w.kind ≡ coll.DeleteRegion) × (arrival_at j round h ≡ Some b) × (b.deposit ≡ deposit.Count (named_in r p.frames))
     said_there j p l x =
         let w = all_wait first j p l x in
@@ -221,7 +221,7 @@ module _ (s : Setting) (es : List Entry) (e : Entry) (ran : IsRun s es) (agree :
         (w.0, k.0, w.1, sym k.2 ∙ d.0, at, c.2 ∙ ap (λ n. deposit.Count (named_in n p.frames)) (some_same c.0 r (sym c.1 ∙ d.1)))
 
     -- no frame names a thing in the region, and no work holds a value
-    pub emptied : (j : ℕ) (p : Process) → j < s.procs → World s es j p → (w : Wait) × (p.wait ≡ Some w) × (named_in r p.frames ≡ 0) × AllFree p.frames
+    pub emptied : (j : ℕ) (p : Process) → j < s.procs → ProcAfter s es j p → (w : Wait) × (p.wait ≡ Some w) × (named_in r p.frames ≡ 0) × AllFree p.frames
     emptied j p l x =
         let k = said_there j p l x in
         (k.0, k.2, no_count (named_in r p.frames) (sym (ap is_positive_count k.5) ∙ uncounted h j round k.1 k.4 (or_false _ _ unused).1), free k.0 k.2 k.3)

@@ -9,18 +9,18 @@ use Rattle.ti_base.specs.declared.action.Deposit.TheVariants as deposit
 use Rattle.ti_base.specs.Cells.{Grid}
 use Rattle.ti_lang.specs.Program.Types.{ValueType, Declaration, Typed, Foreach}
 use Rattle.ti_lang.specs.Program.Types as t
-use Rattle.ti_lang.specs.Program.Classes.{NumberedMethod, NumberedProgram}
+use Rattle.ti_lang.specs.Program.Classes.{NumberedMethod, ProgramView}
 use Rattle.ti_lang.specs.Program.Scope.{ScopeContents, method_scope}
 use Rattle.ti_lang.specs.Typing.Kinds.{is_void}
-use Rattle.ti_lang.specs.Meaning.Held.{Held, Plain, thing_of}
-use Rattle.ti_lang.specs.Meaning.Asking.{Wanted}
-use Rattle.ti_lang.specs.Meaning.Processes.{Variable, Work, Do, End, Before, Behind, Receive, CopyAll, TakeAll, Frame, Wait, Process}
+use Rattle.ti_lang.specs.Meaning.Held.{Held, Plain, referent_of}
+use Rattle.ti_lang.specs.Meaning.Comp.{Wanted}
+use Rattle.ti_lang.specs.Meaning.Processes.{Variable, ContItem, Do, End, Before, Behind, Receive, CopyAll, TakeAll, Frame, Wait, Process}
 use Rattle.ti_lang.specs.Meaning.Steps.{lies_in, named_in}
 use Rattle.ti_lang.specs.Meaning.Histories.{History}
 use Rattle.ti_lang.specs.Meaning.RegionsOf.{is_gone}
-use Rattle.ti_align.specs.Things.{Things, seen_by, Grows, IsGridOf, IsOf, HoldsOf, VariablesFit, ThisFits, DepositFits}
-use Rattle.ti_align.specs.There.{IsAtHand}
-use Rattle.ti_align.specs.Mirrors.Work.{WorksFit}
+use Rattle.ti_align.specs.HeapTyping.{HeapTyping, with_owner, Grows, IsGridOf, IsOf, HoldsOf, VariablesFit, ThisFits, DepositFits}
+use Rattle.ti_align.specs.Existing.{OperandsExist}
+use Rattle.ti_align.specs.Mirrors.ContItem.{WorksFit}
 use Rattle.ti_align.specs.Mirrors.Processes.{FramesFit, NextFits, ProcessFits}
 use Rattle.ti_align.specs.Heap.{FieldsStorable}
 use Rattle.ti_align.specs.Dangling.{used_by, deposited_by, Lives, IfNamedLives}
@@ -33,7 +33,7 @@ use Rattle.ti_align.proofs.Runs.Given.{HoldsNothing, AllFree}
 -- ---- things
 
 -- of what is there, what lives after this history
-abbrev pub living : History → Things → Things
+abbrev pub living : History → HeapTyping → HeapTyping
 living h w = record {
   owner = w.owner;
   class_at = λ id. if is_gone id.region h then None else w.class_at id;
@@ -47,7 +47,7 @@ unless_gone true o a z = absurd (none_some a z)
 unless_gone false o a z = (refl, z)
 
 -- what lives is there
-pub living_there : (h : History) (w : Things) → Grows (living h w) w
+pub living_there : (h : History) (w : HeapTyping) → Grows (living h w) w
 living_there h w = record {
   owner = refl;
   classes = λ id c z. (unless_gone (is_gone id.region h) (w.class_at id) c z).1;
@@ -57,7 +57,7 @@ living_there h w = record {
 }
 
 -- what lives goes on to live where no region goes
-pub living_grows : (h k : History) (u w : Things) → ((r : ℕ) → is_gone r h ≡ false → is_gone r k ≡ false) → Grows u w → Grows (living h u) (living k w)
+pub living_grows : (h k : History) (u w : HeapTyping) → ((r : ℕ) → is_gone r h ≡ false → is_gone r k ≡ false) → Grows u w → Grows (living h u) (living k w)
 living_grows h k u w f g = record {
   owner = g.owner;
   classes = λ id c z. let y = unless_gone (is_gone id.region h) (u.class_at id) c z in if_false (is_gone id.region k) None (w.class_at id) (f id.region y.0) ∙ g.classes id c y.1;
@@ -68,7 +68,7 @@ living_grows h k u w f g = record {
 
 -- ---- values
 
-module _ (h : History) (w : Things) where
+module _ (h : History) (w : HeapTyping) where
   class_lives : (id : Id) (c : ℕ) → (living h w).class_at id ≡ Some c → Lives h id
   class_lives id c z = (unless_gone (is_gone id.region h) (w.class_at id) c z).0
 
@@ -76,35 +76,35 @@ module _ (h : History) (w : Things) where
   grid_lives id g z = (unless_gone (is_gone id.region h) (w.grid_at id) g z).0
 
   -- what a value names lives
-  pub value_lives : (type : ValueType) (x : Held) → is_void type ≡ false → IsOf (living h w) type x → IfNamedLives h (thing_of x)
-  value_lives (t.Class c l) x v k = subst (λ y. IfNamedLives h (thing_of y)) (sym k.1) (by k.0 k.2)
+  pub value_lives : (type : ValueType) (x : Held) → is_void type ≡ false → IsOf (living h w) type x → IfNamedLives h (referent_of x)
+  value_lives (t.Class c l) x v k = subst (λ y. IfNamedLives h (referent_of y)) (sym k.1) (by k.0 k.2)
     where
       by : (o : Option Id) → ((id : Id) → o ≡ Some id → (living h w).class_at id ≡ Some c) → IfNamedLives h o
       by None f = tt
       by (Some id) f = class_lives id c (f id refl)
-  value_lives (t.Grid e n l) x v k = subst (λ y. IfNamedLives h (thing_of y)) (sym k.1) (by k.0 k.2)
+  value_lives (t.Grid e n l) x v k = subst (λ y. IfNamedLives h (referent_of y)) (sym k.1) (by k.0 k.2)
     where
       by : (o : Option Id) → ((id : Id) → o ≡ Some id → IsGridOf (living h w) e n id) → IfNamedLives h o
       by None f = tt
       by (Some id) f = let g = f id refl in grid_lives id g.0 g.1
-  value_lives t.Null x v k = subst (λ y. IfNamedLives h (thing_of y)) (sym k) tt
+  value_lives t.Null x v k = subst (λ y. IfNamedLives h (referent_of y)) (sym k) tt
   value_lives t.Void x v k = absurd (true_false v)
-  value_lives _ x v k = subst (λ y. IfNamedLives h (thing_of y)) (sym k.1) tt
+  value_lives _ x v k = subst (λ y. IfNamedLives h (referent_of y)) (sym k.1) tt
 
   pub grid_living : (e : ValueType) (n : ℕ) (id : Id) → Lives h id → IsGridOf w e n id → IsGridOf (living h w) e n id
   grid_living e n id l k = (k.0, if_false (is_gone id.region h) None (w.grid_at id) l ∙ k.1, k.2, k.3, k.4, k.5)
 
   -- a value that names only what lives
-  pub of_living : (type : ValueType) (x : Held) → IsOf w type x → (is_void type ≡ false → IfNamedLives h (thing_of x)) → IsOf (living h w) type x
-  of_living (t.Class c l) x k f = (k.0, k.1, (λ id z. if_false (is_gone id.region h) None (w.class_at id) (subst (IfNamedLives h) (ap thing_of k.1 ∙ z) (f refl)) ∙ k.2 id z), k.3)
-  of_living (t.Grid e n l) x k f = (k.0, k.1, (λ id z. grid_living e n id (subst (IfNamedLives h) (ap thing_of k.1 ∙ z) (f refl)) (k.2 id z)), k.3)
+  pub of_living : (type : ValueType) (x : Held) → IsOf w type x → (is_void type ≡ false → IfNamedLives h (referent_of x)) → IsOf (living h w) type x
+  of_living (t.Class c l) x k f = (k.0, k.1, (λ id z. if_false (is_gone id.region h) None (w.class_at id) (subst (IfNamedLives h) (ap referent_of k.1 ∙ z) (f refl)) ∙ k.2 id z), k.3)
+  of_living (t.Grid e n l) x k f = (k.0, k.1, (λ id z. grid_living e n id (subst (IfNamedLives h) (ap referent_of k.1 ∙ z) (f refl)) (k.2 id z)), k.3)
   of_living _ x k f = k
 
 -- ---- actions
 
-module _ (h : History) (w : Things) where
+module _ (h : History) (w : HeapTyping) where
   -- where what an action names is among what lives, all of it lives
-  pub used_lives : (p : NumberedProgram) (a : Action) (wanted : Wanted) → IsAtHand p (living h w) a wanted → IfNamedLives h (used_by a)
+  pub used_lives : (p : ProgramView) (a : Action) (wanted : Wanted) → OperandsExist p (living h w) a wanted → IfNamedLives h (used_by a)
   used_lives p (act.GetField obj field) wanted k = class_lives h w obj k.1.0 k.1.1
   used_lives p (act.PutField obj field value) wanted k = class_lives h w obj k.1.0 k.1.1
   used_lives p (act.GetElem grid at) wanted k = grid_lives h w grid k.2.0 k.2.1
@@ -113,12 +113,12 @@ module _ (h : History) (w : Things) where
   used_lives p (act.DomainOf grid) wanted k = grid_lives h w grid k.2.0 k.2.1
   used_lives p _ wanted k = tt
 
-  pub field_lives : (p : NumberedProgram) (obj : Id) (field : ℕ) (value : _) (wanted : Wanted) → FieldsStorable p
-      → IsAtHand p (living h w) (act.PutField obj field value) wanted → IfNamedLives h (thing_of (Plain value))
-  field_lives p obj field value wanted f k = value_lives h (seen_by obj.owner w) k.0 (Plain value) (stored_value k.0 (f k.1.0 field k.0 k.1.2)) k.2
+  pub field_lives : (p : ProgramView) (obj : Id) (field : ℕ) (value : _) (wanted : Wanted) → FieldsStorable p
+      → OperandsExist p (living h w) (act.PutField obj field value) wanted → IfNamedLives h (referent_of (Plain value))
+  field_lives p obj field value wanted f k = value_lives h (with_owner obj.owner w) k.0 (Plain value) (stored_value k.0 (f k.1.0 field k.0 k.1.2)) k.2
 
-  pub element_lives : (p : NumberedProgram) (grid : Id) (at : _) (value : _) (wanted : Wanted) → IsAtHand p (living h w) (act.PutElem grid at value) wanted → IfNamedLives h (thing_of (Plain value))
-  element_lives p grid at value wanted k = value_lives h (seen_by grid.owner w) k.0 (Plain value) (stored_value k.0 k.2.4) k.4
+  pub element_lives : (p : ProgramView) (grid : Id) (at : _) (value : _) (wanted : Wanted) → OperandsExist p (living h w) (act.PutElem grid at value) wanted → IfNamedLives h (referent_of (Plain value))
+  element_lives p grid at value wanted k = value_lives h (with_owner grid.owner w) k.0 (Plain value) (stored_value k.0 k.2.4) k.4
 
   pub deposit_lives : (type : ValueType) (given : Deposit) → DepositFits (living h w) type given → IfNamedLives h (deposited_by given)
   deposit_lives type (deposit.One value) k = value_lives h w type (Plain value) k.1 k.0
@@ -135,31 +135,31 @@ count_zero true h = cc
 count_zero false h = refl
 
 -- what names nothing in the region that goes
-module _ (h k : History) (w : Things) (r : ℕ) (left : (n : ℕ) → is_gone n h ≡ false → (n == r) ≡ false → is_gone n k ≡ false) where
+module _ (h k : History) (w : HeapTyping) (r : ℕ) (left : (n : ℕ) → is_gone n h ≡ false → (n == r) ≡ false → is_gone n k ≡ false) where
   named_left : (o : Option Id) → lies_in r o ≡ false → IfNamedLives h o → IfNamedLives k o
   named_left None n f = tt
   named_left (Some id) n f = left id.region f n
 
-  value_left : (type : ValueType) (x : Held) → lies_in r (thing_of x) ≡ false → IsOf (living h w) type x → IsOf (living k w) type x
-  value_left type x n f = of_living k w type x (of_stays (living h w) w type x (living_there h w) f) (λ v. named_left (thing_of x) n (value_lives h w type x v f))
+  value_left : (type : ValueType) (x : Held) → lies_in r (referent_of x) ≡ false → IsOf (living h w) type x → IsOf (living k w) type x
+  value_left type x n f = of_living k w type x (of_stays (living h w) w type x (living_there h w) f) (λ v. named_left (referent_of x) n (value_lives h w type x v f))
 
-  held_left : (d : Declaration) (x : Held) → lies_in r (thing_of x) ≡ false → HoldsOf (living h w) d x → HoldsOf (living k w) d x
+  held_left : (d : Declaration) (x : Held) → lies_in r (referent_of x) ≡ false → HoldsOf (living h w) d x → HoldsOf (living k w) d x
   held_left (Typed l type) x n f = value_left type x n f
   held_left Foreach x n f = absurd f
 
-  variables_left : (xs : List Variable) → count_by (λ (x : Variable). lies_in r (thing_of x.held)) xs ≡ 0 → VariablesFit (living h w) xs → VariablesFit (living k w) xs
+  variables_left : (xs : List Variable) → count_by (λ (x : Variable). lies_in r (referent_of x.held)) xs ≡ 0 → VariablesFit (living h w) xs → VariablesFit (living k w) xs
   variables_left [] z f = tt
   variables_left (x ∷ xs) z f =
-      let y = sum_zero (cond (lies_in r (thing_of x.held)) 1 0) (count_by (λ (x : Variable). lies_in r (thing_of x.held)) xs)
-      (sym (sum_by-cons (λ (x : Variable). cond (lies_in r (thing_of x.held)) 1 0) x xs) ∙ z) in
-      (held_left x.named.declared x.held (count_zero (lies_in r (thing_of x.held)) y.0) f.0, variables_left xs y.1 f.1)
+      let y = sum_zero (cond (lies_in r (referent_of x.held)) 1 0) (count_by (λ (x : Variable). lies_in r (referent_of x.held)) xs)
+      (sym (sum_by-cons (λ (x : Variable). cond (lies_in r (referent_of x.held)) 1 0) x xs) ∙ z) in
+      (held_left x.named.declared x.held (count_zero (lies_in r (referent_of x.held)) y.0) f.0, variables_left xs y.1 f.1)
 
   this_left : (m : NumberedMethod) (this : Option Id) → lies_in r this ≡ false → ThisFits (living h w) m this → ThisFits (living k w) m this
   this_left m this n f = λ c o id z.
       let y = unless_gone (is_gone id.region h) (w.class_at id) c (f c o id z) in
       if_false (is_gone id.region k) None (w.class_at id) (left id.region y.0 (subst (λ x. lies_in r x ≡ false) z n)) ∙ y.1
 
-  works_left : (p : NumberedProgram) (m : NumberedMethod) (s : ScopeContents) (xs : List Work) → HoldsNothing xs → WorksFit p m s (living h w) xs → WorksFit p m s (living k w) xs
+  works_left : (p : ProgramView) (m : NumberedMethod) (s : ScopeContents) (xs : List ContItem) → HoldsNothing xs → WorksFit p m s (living h w) xs → WorksFit p m s (living k w) xs
   works_left p m s [] n f = tt
   works_left p m s (Do x ∷ xs) n f = (f.0, works_left p m s xs n f.1)
   works_left p m s (End x ∷ xs) n f = (f.0, works_left p m s xs n f.1)
@@ -169,10 +169,10 @@ module _ (h k : History) (w : Things) (r : ℕ) (left : (n : ℕ) → is_gone n 
   works_left p m s (CopyAll at to from points ∷ xs) n f = absurd n
   works_left p m s (TakeAll at grid procs ∷ xs) n f = absurd n
 
-  frames_left : (p : NumberedProgram) (fs : List Frame) → named_in r fs ≡ 0 → AllFree fs → FramesFit p (living h w) fs → FramesFit p (living k w) fs
+  frames_left : (p : ProgramView) (fs : List Frame) → named_in r fs ≡ 0 → AllFree fs → FramesFit p (living h w) fs → FramesFit p (living k w) fs
   frames_left p [] z a f = tt
   frames_left p (g ∷ fs) z a f =
-      let counted : ℕ = count_by (λ (x : Variable). lies_in r (thing_of x.held)) g.variables in
+      let counted : ℕ = count_by (λ (x : Variable). lies_in r (referent_of x.held)) g.variables in
       let y = sum_zero (counted + (if lies_in r g.this then 1 else 0)) (named_in r fs) z in
       let v = sum_zero counted (if lies_in r g.this then 1 else 0) y.0 in (
         (

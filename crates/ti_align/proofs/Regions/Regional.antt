@@ -8,20 +8,20 @@ use Rattle.ti_lang.specs.Program.Expressions.{NumberedExp, NumberedExps}
 use Rattle.ti_lang.specs.Program.Expressions as e
 use Rattle.ti_lang.specs.Program.Statements.{NumberedInit, NumberedStm, MaybeNumbered, NoStm, SomeStm, NumberedStms, Nil, Cons, numbered_stms}
 use Rattle.ti_lang.specs.Program.Statements as s
-use Rattle.ti_lang.specs.Program.Classes.{NumberedMethod, NumberedProgram}
+use Rattle.ti_lang.specs.Program.Classes.{NumberedMethod, ProgramView}
 use Rattle.ti_lang.specs.Program.Scope.{this_of}
 use Rattle.ti_lang.specs.Typing.BuiltIn.{Delete}
 use Rattle.ti_lang.specs.Typing.Declared.{result_type}
 use Rattle.ti_lang.specs.Typing.Called.{called_method, member_called}
 use Rattle.ti_lang.specs.Meaning.Held.{Held, Plain, region_of}
-use Rattle.ti_lang.specs.Meaning.Processes.{Variable, Receiver, Declared, Assigned, Updated, Loop, While, Foreach, Work, Do, End, Before, Behind, Receive, CopyAll, TakeAll, all_before}
-use Rattle.ti_lang.specs.Meaning.Scoping.{same_variable, declared_type, find_variable, with_changed, without}
+use Rattle.ti_lang.specs.Meaning.Processes.{Variable, Receiver, Declared, Assigned, Updated, Loop, While, Foreach, ContItem, Do, End, Before, Behind, Receive, CopyAll, TakeAll, all_before}
+use Rattle.ti_lang.specs.Meaning.Scoping.{same_variable, declared_type, find_variable, with_changed, without_variables}
 use Rattle.ti_lang.specs.Meaning.Calls.{parameters_of}
 use Rattle.ti_lang.specs.Meaning.Performing.{declared_in}
 use Rattle.ti_lang.specs.Meaning.Jumps.{from_mark, past_mark, variables_at_mark}
 use Rattle.ti_rules.specs.InitialTypes.{is_region}
 use Rattle.ti_align.proofs.Runs.Vars.{true_false}
-use Rattle.ti_align.specs.Scoped.{found}
+use Rattle.ti_align.specs.Scoped.{is_among}
 use Rattle.ti_align.proofs.Scope.Found.{variable_is}
 use Rattle.ti_align.proofs.Scope.Suited.{args_of}
 
@@ -43,11 +43,11 @@ abbrev pub AllGood : List Variable → Type 0
 AllGood [] = Unit {0}
 AllGood (w ∷ ws) = GoodAs (declared_type w.named.declared) w.held × AllGood ws
 
-pub find_good : (x : VariableUse) (vs : List Variable) → found x vs ≡ true → AllGood vs → GoodAs (declared_type x.declared) (find_variable x vs)
+pub find_good : (x : VariableUse) (vs : List Variable) → is_among x vs ≡ true → AllGood vs → GoodAs (declared_type x.declared) (find_variable x vs)
 find_good x [] f g = absurd (true_false (sym f))
 find_good x (w ∷ ws) f g = by (same_variable x w.named) refl f (λ k. find_good x ws k g.1)
   where
-    by : (b : Bool) → same_variable x w.named ≡ b → (b || found x ws) ≡ true → (found x ws ≡ true → GoodAs (declared_type x.declared) (find_variable x ws))
+    by : (b : Bool) → same_variable x w.named ≡ b → (b || is_among x ws) ≡ true → (is_among x ws ≡ true → GoodAs (declared_type x.declared) (find_variable x ws))
         → GoodAs (declared_type x.declared) (if b then w.held else find_variable x ws)
     by true z k ih = subst (λ (y : VariableUse). GoodAs (declared_type y.declared) w.held) (sym (variable_is x w.named z)) g.0
     by false z k ih = ih k
@@ -60,18 +60,18 @@ changed_good x h (w ∷ ws) k g = by (same_variable x w.named) refl (changed_goo
     by true z ih = (subst (λ (y : VariableUse). GoodAs (declared_type y.declared) h) (variable_is x w.named z) k, g.1)
     by false z ih = (g.0, ih)
 
-pub without_good : (ds : List VariableUse) (vs : List Variable) → AllGood vs → AllGood (without ds vs)
+pub without_good : (ds : List VariableUse) (vs : List Variable) → AllGood vs → AllGood (without_variables ds vs)
 without_good ds [] g = tt
 without_good ds (w ∷ ws) g = by (not (list_any (λ d. same_variable d w.named) ds)) (without_good ds ws g.1)
   where
-    by : (b : Bool) → AllGood (without ds ws) → AllGood (if b then w ∷ without ds ws else without ds ws)
+    by : (b : Bool) → AllGood (without_variables ds ws) → AllGood (if b then w ∷ without_variables ds ws else without_variables ds ws)
     by true ih = (g.0, ih)
     by false ih = ih
 
-pub mark_good : (ws : List Work) (vs : List Variable) → AllGood vs → AllGood (variables_at_mark ws vs)
+pub mark_good : (ws : List ContItem) (vs : List Variable) → AllGood vs → AllGood (variables_at_mark ws vs)
 mark_good [] vs g = g
 mark_good (Behind loop ∷ left) vs g = g
-mark_good (End x ∷ left) vs g = mark_good left (without (declared_in x) vs) (without_good (declared_in x) vs g)
+mark_good (End x ∷ left) vs g = mark_good left (without_variables (declared_in x) vs) (without_good (declared_in x) vs g)
 mark_good (Do x ∷ left) vs g = mark_good left vs g
 mark_good (Before loop ∷ left) vs g = mark_good left vs g
 mark_good (Receive r x ∷ left) vs g = mark_good left vs g
@@ -111,7 +111,7 @@ abbrev pub ReceiverSuits : Receiver → Type 0
 ReceiverSuits (Updated at op target) = is_region (target_type target) ≡ false
 ReceiverSuits receiver = Unit {0}
 
-module _ (p : NumberedProgram) (m : NumberedMethod) where
+module _ (p : ProgramView) (m : NumberedMethod) where
   -- a call whose value goes to a variable of a type
   abbrev pub CallIsSuch : ValueType → NumberedExp → Type 0
   CallIsSuch type x =
@@ -157,26 +157,26 @@ module _ (p : NumberedProgram) (m : NumberedMethod) where
   LoopIsSuch (Foreach at variable domain points body) = StmIsSuch body
 
   -- a piece of work: a value on its way to a variable of this type is a region
-  abbrev pub WorkIsSuch : Work → Type 0
+  abbrev pub WorkIsSuch : ContItem → Type 0
   WorkIsSuch (Do x) = StmIsSuch x
   WorkIsSuch (Before loop) = LoopIsSuch loop
   WorkIsSuch (Behind loop) = LoopIsSuch loop
   WorkIsSuch (Receive receiver h) = GoodAs (received_type receiver) h × ReceiverSuits receiver
   WorkIsSuch w = Unit {0}
 
-  abbrev pub WorksAreSuch : List Work → Type 0
+  abbrev pub WorksAreSuch : List ContItem → Type 0
   WorksAreSuch [] = Unit {0}
   WorksAreSuch (w ∷ ws) = WorkIsSuch w × WorksAreSuch ws
 
-  pub such_both : (xs ys : List Work) → WorksAreSuch xs → WorksAreSuch ys → WorksAreSuch (xs ++ ys)
+  pub such_both : (xs ys : List ContItem) → WorksAreSuch xs → WorksAreSuch ys → WorksAreSuch (xs ++ ys)
   such_both [] ys f g = g
   such_both (x ∷ xs) ys f g = (f.0, such_both xs ys f.1 g)
 
-  pub such_before : (xs : NumberedStms) (ws : List Work) → StmsAreSuch xs → WorksAreSuch ws → WorksAreSuch (all_before xs ws)
+  pub such_before : (xs : NumberedStms) (ws : List ContItem) → StmsAreSuch xs → WorksAreSuch ws → WorksAreSuch (all_before xs ws)
   such_before Nil ws f g = g
   such_before (Cons x xs) ws f g = (f.0, such_before xs ws f.1 g)
 
-  pub such_from : (ws : List Work) → WorksAreSuch ws → WorksAreSuch (from_mark ws)
+  pub such_from : (ws : List ContItem) → WorksAreSuch ws → WorksAreSuch (from_mark ws)
   such_from [] f = tt
   such_from (Behind loop ∷ ws) f = f
   such_from (Do x ∷ ws) f = such_from ws f.1
@@ -186,7 +186,7 @@ module _ (p : NumberedProgram) (m : NumberedMethod) where
   such_from (CopyAll at to from points ∷ ws) f = such_from ws f.1
   such_from (TakeAll at grid procs ∷ ws) f = such_from ws f.1
 
-  pub such_past : (ws : List Work) → WorksAreSuch ws → WorksAreSuch (past_mark ws)
+  pub such_past : (ws : List ContItem) → WorksAreSuch ws → WorksAreSuch (past_mark ws)
   such_past [] f = tt
   such_past (Behind loop ∷ ws) f = f.1
   such_past (Do x ∷ ws) f = such_past ws f.1
@@ -197,6 +197,6 @@ module _ (p : NumberedProgram) (m : NumberedMethod) where
   such_past (TakeAll at grid procs ∷ ws) f = such_past ws f.1
 
 -- the statements of all of these methods
-abbrev pub MethodsAreSuch : NumberedProgram → List NumberedMethod → Type 0
+abbrev pub MethodsAreSuch : ProgramView → List NumberedMethod → Type 0
 MethodsAreSuch p [] = Unit {0}
 MethodsAreSuch p (m ∷ ms) = StmsAreSuch p m (numbered_stms m.body) × MethodsAreSuch p ms

@@ -10,26 +10,26 @@ use Rattle.ti_lang.specs.Program.Expressions.{NumberedExp, NumberedExps}
 use Rattle.ti_lang.specs.Program.Expressions as e
 use Rattle.ti_lang.specs.Program.Statements.{NumberedInit, NumberedStm, MaybeNumbered, NoStm, SomeStm, NumberedStms, Nil, Cons, numbered_stms}
 use Rattle.ti_lang.specs.Program.Statements as st
-use Rattle.ti_lang.specs.Program.Classes.{NumberedParam, NumberedParams, Words, Params, NumberedMethod, NumberedProgram}
+use Rattle.ti_lang.specs.Program.Classes.{NumberedParam, NumberedParams, MainArgs, Params, NumberedMethod, ProgramView}
 use Rattle.ti_lang.specs.Program.Scope.{ScopeVariable, ScopeContents, this_of, method_scope}
 use Rattle.ti_lang.specs.Typing.Kinds.{where_true, is_void, is_object, as_global, read_through, domain_dim}
 use Rattle.ti_lang.specs.Typing.Fits.{fits, casts}
 use Rattle.ti_lang.specs.Typing.Operators.{row_of, binary_type, unary_type}
 use Rattle.ti_lang.specs.Typing.BuiltIn.{BuiltIn, Size, Min, Max, Contains, Domain, Restrict, Translate, Slice, Copy, Exchange, Delete, built_in, member_type}
 use Rattle.ti_lang.specs.Typing.Declared.{declared_type, field_type, named_field_type, result_type, types_of}
-use Rattle.ti_lang.specs.Typing.Expressions.{plain, operand, one, both, all_ints, point_literal, rect_literal, range_count, index_type, select_type, all_fit, takes, called, member, operands, bounds, operand_type}
+use Rattle.ti_lang.specs.Typing.Expressions.{plain, operand, one, and_then_both, all_ints, point_literal, rect_literal, range_count, index_type, select_type, all_fit, takes, called, member, operands, bounds, operand_type}
 use Rattle.ti_lang.specs.Typing.Called.{called_method, method_behind, member_called}
-use Rattle.ti_lang.specs.Typing.TextTypes.{type_in_text}
+use Rattle.ti_lang.specs.Typing.TextTypes.{syntactic_type}
 use Rattle.ti_lang.specs.Meaning.Calls.{parameters_from, parameters_of}
 use Rattle.ti_lang.specs.Meaning.Processes.{Updated}
 use Rattle.ti_lang.specs.Meaning.Scoping as meant
 use Rattle.ti_lang.specs.Meaning.Statements.{one_more}
 use Rattle.ti_rules.specs.InitialTypes.{can_broadcast, is_region}
 use Rattle.ti_rules.specs.Broken.Statements.{narrows}
-use Rattle.ti_rules.specs.Standing.{variables_inside}
+use Rattle.ti_rules.specs.StmtInContext.{variables_inside}
 use Rattle.ti_rules.specs.ProgramRefusals.{IsChecked}
 use Rattle.ti_rules.specs.Mirrors.Literals.{LiteralsFit}
-use Rattle.ti_align.specs.Mirrors.Work.{ReceiverFits, WholeFits, InitFits, StmFits, MaybeFits, StmsFit, MethodsFit}
+use Rattle.ti_align.specs.Mirrors.ContItem.{ReceiverFits, WholeFits, InitFits, StmFits, MaybeFits, StmsFit, MethodsFit}
 use Rattle.ti_align.proofs.Runs.Vars.{true_false, and_left, and_right}
 use Rattle.ti_align.proofs.RunTypes.Operating.{none_some, some_same, where_some, or_either}
 use Rattle.ti_align.proofs.RunTypes.Evaluating.{and_then, mapped, both_there, no_call, named_field, member_there, joined_there, one_there}
@@ -112,7 +112,7 @@ deleted_is _ u ts z = absurd (none_some u z)
 
 -- ---- expressions
 
-module _ (p : NumberedProgram) (fields : FieldsMeant p) (m : NumberedMethod) (s : ScopeContents) (turns : List ℕ) (around : Surrounds m s turns) where
+module _ (p : ProgramView) (fields : FieldsMeant p) (m : NumberedMethod) (s : ScopeContents) (turns : List ℕ) (around : Surrounds m s turns) where
   literal : {A : Type 0} (a : ValueType) → is_region a ≡ false → operand (plain (Some a)) ≡ Some t.Region → A
   literal a h z = other a h (some_same a t.Region (no_call (plain (Some a)) t.Region z).1)
 
@@ -178,7 +178,7 @@ module _ (p : NumberedProgram) (fields : FieldsMeant p) (m : NumberedMethod) (s 
       let q = and_then (unary_type op) (operand_type p s x) t.Region (no_call (plain (option_and_then (unary_type op) (operand_type p s x))) t.Region z).1 in
       other t.Region (unary_plain is_region no_regions op q.0 t.Region q.2) refl
   region_exp (e.Binary at op x y) k z =
-      let q = both_there (binary_type op) (operand_type p s x) (operand_type p s y) t.Region (no_call (plain (both (operand_type p s x) (operand_type p s y) (binary_type op))) t.Region z).1 in
+      let q = both_there (binary_type op) (operand_type p s x) (operand_type p s y) t.Region (no_call (plain (and_then_both (operand_type p s x) (operand_type p s y) (binary_type op))) t.Region z).1 in
       other t.Region (row_plain is_region no_regions (row_of op) q.0 q.1 t.Region q.4) refl
   region_exp (e.Cast at to x) k z =
       let cast = λ (u : ValueType). where_true (casts to.type u) to.type in
@@ -194,7 +194,7 @@ module _ (p : NumberedProgram) (fields : FieldsMeant p) (m : NumberedMethod) (s 
       let q = member_there p (operand_type p s x) (operands p s args) name t.Region z in
       other t.Region (member_other q.4 q.0 t.Region q.1 q.6) refl
   region_exp (e.Index at x parts) k z =
-      let q = both_there index_type (operand_type p s x) (operands p s parts) t.Region (no_call (plain (both (operand_type p s x) (operands p s parts) index_type)) t.Region z).1 in
+      let q = both_there index_type (operand_type p s x) (operands p s parts) t.Region (no_call (plain (and_then_both (operand_type p s x) (operands p s parts) index_type)) t.Region z).1 in
       absurd (indexed_other q.0 q.1 (exp_formed p fields m s turns around x k.0 q.0 q.2) q.4)
 
   -- one that goes where a type is wanted
@@ -215,7 +215,7 @@ module _ (p : NumberedProgram) (fields : FieldsMeant p) (m : NumberedMethod) (s 
       (such a i.0 q.ty.type k.0 i.1 (and_left (fits i.0 q.ty.type) _ f), args_such (n + 1) params rest j.1 k.1 j.3 (and_right (fits i.0 q.ty.type) _ f))
 
   params_such : (n : NumberedParams) (args : NumberedExps) (ts : List ValueType) → ExpsMeant p m turns args → operands p s args ≡ Some ts → takes n ts ≡ true → ArgsAreSuch (parameters_of n) args
-  params_such Words args ts k z h = tt
+  params_such MainArgs args ts k z h = tt
   params_such (Params params) args ts k z h = args_such 0 params args ts k z h
 
   args_meant : (x : NumberedExp) → ExpMeant p m turns x → ExpsMeant p m turns (args_of x)
@@ -247,7 +247,7 @@ module _ (p : NumberedProgram) (fields : FieldsMeant p) (m : NumberedMethod) (s 
         nothing (Some ts) z = none_some u z
     whole_operand (e.Member at a name args) u f v c = by (operand_type p s a) refl f.0
       where
-        of : (y : ValueType) (q : Option (List ValueType)) → Alike y (type_in_text p (this_of m) a) → (member p (Some y) name q).type ≡ Some u → operand (member p (Some y) name q) ≡ Some u
+        of : (y : ValueType) (q : Option (List ValueType)) → Alike y (syntactic_type p (this_of m) a) → (member p (Some y) name q).type ≡ Some u → operand (member p (Some y) name q) ≡ Some u
         of y None g z = absurd (none_some u z)
         of (t.Class d l) (Some ts) g z = absurd (none_some u (sym (ap (λ o. (called o (Some ts)).type) (ap (λ x. method_behind p x name) (sym (g.0 refl)) ∙ c)) ∙ z))
         of t.Int (Some ts) g z = some_there _ u z v
@@ -315,10 +315,10 @@ module _ (p : NumberedProgram) (fields : FieldsMeant p) (m : NumberedMethod) (s 
         built true z = absurd (none_some Delete z)
         built false z = (refl, z)
 
-        is_it : (is_object (type_in_text p (this_of m) a) ≡ false) × (built_in p name ≡ Some Delete)
-        is_it = built (is_object (type_in_text p (this_of m) a)) c
+        is_it : (is_object (syntactic_type p (this_of m) a) ≡ false) × (built_in p name ≡ Some Delete)
+        is_it = built (is_object (syntactic_type p (this_of m) a)) c
 
-        of : (y : ValueType) (q : Option (List ValueType)) → Alike y (type_in_text p (this_of m) a) → (member p (Some y) name q).type ≡ Some u → y ≡ t.Region
+        of : (y : ValueType) (q : Option (List ValueType)) → Alike y (syntactic_type p (this_of m) a) → (member p (Some y) name q).type ≡ Some u → y ≡ t.Region
         of y None g z = absurd (none_some u z)
         of (t.Class d l) (Some ts) g z = absurd (true_false (sym (ap is_object (g.0 refl)) ∙ is_it.0))
         of t.Int (Some ts) g z = given t.Int ts is_it.1 z
@@ -342,7 +342,7 @@ module _ (p : NumberedProgram) (fields : FieldsMeant p) (m : NumberedMethod) (s 
 
 -- ---- statements
 
-module _ (p : NumberedProgram) (fields : FieldsMeant p) (m : NumberedMethod) where
+module _ (p : ProgramView) (fields : FieldsMeant p) (m : NumberedMethod) where
   mutual
     stm_such : (s : ScopeContents) (turns : List ℕ) → Surrounds m s turns → Points m s → (x : NumberedStm) → StmMeant p m turns x → StmFits p m s x → StmIsSuch p m x
     stm_such s turns a g (st.Declare at type variable value) k f =
@@ -377,9 +377,9 @@ module _ (p : NumberedProgram) (fields : FieldsMeant p) (m : NumberedMethod) whe
 
 -- ---- programs
 
-methods_such : (p : NumberedProgram) → FieldsMeant p → (ms : List NumberedMethod) → MethodsMeant p ms → MethodsFit p ms → MethodsAreSuch p ms
+methods_such : (p : ProgramView) → FieldsMeant p → (ms : List NumberedMethod) → MethodsMeant p ms → MethodsFit p ms → MethodsAreSuch p ms
 methods_such p g [] k f = tt
 methods_such p g (m ∷ ms) k f = (stms_such p g m (method_scope m) [] (surrounds_method m) (method_points m) (numbered_stms m.body) k.0 f.0, methods_such p g ms k.1 f.1)
 
-pub checked_such : (p : NumberedProgram) → IsChecked p → LiteralsFit p → MethodsAreSuch p p.methods
+pub checked_such : (p : ProgramView) → IsChecked p → LiteralsFit p → MethodsAreSuch p p.methods
 checked_such p c l = methods_such p (fields_mean p c) p.methods (∥∥₁_elim c.numbered (methods_prop p p.methods) (numbered_methods p l)) (checked_fits p c l).methods

@@ -7,23 +7,23 @@ use Rattle.ti_base.specs.declared.entry.Answer.{Answer}
 use Rattle.ti_base.specs.declared.entry.Entry.{Entry}
 use Rattle.ti_base.specs.declared.entry.Next.TheVariants as next
 use Rattle.ti_lang.specs.Program.Types.{ValueType}
-use Rattle.ti_lang.specs.Meaning.Asking.{Wanted, ValueOf, told}
+use Rattle.ti_lang.specs.Meaning.Comp.{Wanted, ValueOf, told}
 use Rattle.ti_lang.specs.Meaning.Answers.{FitsWanted, FitsAction}
-use Rattle.ti_lang.specs.Meaning.Processes.{Setting, Process}
+use Rattle.ti_lang.specs.Meaning.Processes.{RunConfig, Process}
 use Rattle.ti_lang.specs.Meaning.Steps.{At, step}
 use Rattle.ti_lang.specs.Meaning.NextStep.{IsNext}
 use Rattle.ti_lang.specs.Meaning.Histories.{History, history_of, is_answered, arrivals}
-use Rattle.ti_lang.specs.Meaning.RoundsOf.{arrival_at, given}
+use Rattle.ti_lang.specs.Meaning.RoundsOf.{arrival_at, deposit_from}
 use Rattle.ti_lang.specs.Meaning.HeapAnswers.{Answers, heap_answer}
-use Rattle.ti_lang.specs.Meaning.Runs.{World, CanTake, IsRun}
+use Rattle.ti_lang.specs.Meaning.Runs.{ProcAfter, CanTake, IsRun}
 use Rattle.ti_lang.specs.Meaning.Runs as run
 use Rattle.ti_lang.proofs.Lemmas.{taker, history_grows, run_answered, world_same}
 use Rattle.ti_align.specs.Alignment.{most_procs, ArrivalsAgree}
 use Rattle.ti_align.specs.Answering.{AnswersFit}
 use Rattle.ti_align.specs.Names.{NamesFit}
-use Rattle.ti_align.specs.Things.{Things, IsStorable, IsOf}
-use Rattle.ti_align.specs.There.{IsAtHand, SuitsWanted}
-use Rattle.ti_align.specs.Heap.{things_of, is_of_heap}
+use Rattle.ti_align.specs.HeapTyping.{HeapTyping, IsStorable, IsOf}
+use Rattle.ti_align.specs.Existing.{OperandsExist, SuitsWanted}
+use Rattle.ti_align.specs.Heap.{heap_typing_of, is_of_heap}
 use Rattle.ti_align.specs.Mirrors.Processes.{ProgramFits}
 use Rattle.ti_align.specs.Typed.{GivesLast, hands_in, RunTyped}
 use Rattle.ti_align.proofs.RunTypes.Steps.{ActionFits, StepFits}
@@ -44,7 +44,7 @@ use Rattle.ti_align.proofs.RunTypes.Departed.{handed_of, departure_fits}
 use Rattle.ti_align.proofs.RunTypes.Departed as departed
 use Rattle.ti_align.proofs.RunTypes.Told.{done_fits, value_fits, done, arrival_done, heap_told}
 
-module _ (s : Setting) (fits : ProgramFits s.program) (fine : FineMethods s.program s.program.methods) (few : s.procs ≤ most_procs) (fed : s.fuel ≤ 4000000) (agree : (es : List Entry) → IsRun s es → ArrivalsAgree s es) where
+module _ (s : RunConfig) (fits : ProgramFits s.program) (fine : FineMethods s.program s.program.methods) (few : s.procs ≤ most_procs) (fed : s.fuel ≤ 4000000) (agree : (es : List Entry) → IsRun s es → ArrivalsAgree s es) where
   -- an entry that a process can take after a run
   module _ (es : List Entry) (ran : IsRun s es) (e : Entry) (t : CanTake s es e.proc e) (is : is_answered e ≡ true) where
     abbrev h : History
@@ -59,8 +59,8 @@ module _ (s : Setting) (fits : ProgramFits s.program) (fine : FineMethods s.prog
     abbrev typed : RunTyped s es
     typed = departed.typed s fits fine few fed agree es ran
 
-    abbrev w : Things
-    w = things_of i typed.fits.elements h
+    abbrev w : HeapTyping
+    w = heap_typing_of i typed.fits.elements h
 
     names : NamesFit (e ∷ h)
     names = subst NamesFit (history_grows es e) (names_fit s (es ++ e ∷ []) (run.more ran t refl) few fed (run_typed s fits fine few agree))
@@ -75,16 +75,16 @@ module _ (s : Setting) (fits : ProgramFits s.program) (fine : FineMethods s.prog
         × StepFits w (GivesLast s es i) (GivesLast s es i) q (At (asking e.place e.act asked) go)
         × (step q ≡ At (asking e.place e.act asked) go)
     unfolding next_is
-    asked = next_fits s fits fine few es ran (λ j. things_of j typed.fits.elements h) (λ j. refl) typed.fits.processes i t.process e.place e.act t.within t.world next_is
+    asked = next_fits s fits fine few es ran (λ j. heap_typing_of j typed.fits.elements h) (λ j. refl) typed.fits.processes i t.process e.place e.act t.within t.world next_is
 
     abbrev wanted : Wanted
     wanted = asked.0.1
 
-    there : IsAtHand s.program w e.act wanted
-    there = subst (λ (x : Setting). IsAtHand x.program w e.act wanted) asked.2 asked.3.0
+    there : OperandsExist s.program w e.act wanted
+    there = subst (λ (x : RunConfig). OperandsExist x.program w e.act wanted) asked.2 asked.3.0
 
     suits : SuitsWanted s.program w e.act wanted
-    suits = subst (λ (x : Setting). SuitsWanted x.program w e.act wanted) asked.2 asked.3.3
+    suits = subst (λ (x : RunConfig). SuitsWanted x.program w e.act wanted) asked.2 asked.3.3
 
     abbrev Fits : Type 0
     Fits = FitsWanted wanted e.answer
@@ -95,14 +95,14 @@ module _ (s : Setting) (fits : ProgramFits s.program) (fine : FineMethods s.prog
         let stand : Stands s i (last_kind i h) q = (let k = way_next s es i t.process q ran t.world t.is_next.1.reaches in subst (λ l. Stands s i l q) k.4 (given_facts.stands s i q k.0 k.1)) in
         let acts = step_fine s i (last_kind i h) q (At (asking e.place (act.Take who) asked.0) asked.1) stand (subst (λ a. step q ≡ At (asking e.place a asked.0) asked.1) z asked.4) in
         let a = by_kind s es ran (agree es ran) i coll.Exchange acts.0.1 in
-        let x = valued (given i who h) e.answer (sym (ap (heap_answer s.program h i) z) ∙ said) in
+        let x = valued (deposit_from i who h) e.answer (sym (ap (heap_answer s.program h i) z) ∙ said) in
         let b = given_value (arrival_at who (arrivals i h) h) x.0 x.1 in
         let mine : arrival_at i (arrivals i h) h ≡ Some a.1 = subst (λ n. arrival_at i n h ≡ Some a.1) (sym a.2) a.3 in
         let value = handed_of s fits fine few fed agree es ran i who a.1 b.0 type x.0 g mine b.1 (ap hands_in a.4) b.2 in
         let st = subst (λ a. SuitsWanted s.program w a wanted) z suits in
         let is_stored : IsStorable type = subst IsStorable (one_value st.0 type (sym st.1 ∙ wants)) st.2 in
         value_fits h typed.fits.elements who (departed.names s fits fine few fed agree es ran) wanted type type e.answer x.0 wants refl is_stored x.2
-        (subst (λ r. IsOf (things_of who typed.fits.elements h) type (told r)) (sym x.2) value)
+        (subst (λ r. IsOf (heap_typing_of who typed.fits.elements h) type (told r)) (sym x.2) value)
       where
         one_value : (a b : ValueType) → ValueOf a ≡ ValueOf b → a ≡ b
         one_value a b z = cc

@@ -13,24 +13,24 @@ use Rattle.ti_lang.specs.Program.Types.{ValueType}
 use Rattle.ti_lang.specs.Program.Types as t
 use Rattle.ti_lang.specs.Typing.Kinds.{as_global}
 use Rattle.ti_lang.specs.Meaning.Held.{Plain}
-use Rattle.ti_lang.specs.Meaning.Asking.{Wanted}
+use Rattle.ti_lang.specs.Meaning.Comp.{Wanted}
 use Rattle.ti_lang.specs.Meaning.Answers.{IsCount, IsName, HasForm, FitsWanted}
-use Rattle.ti_lang.specs.Meaning.Processes.{Setting, Process}
+use Rattle.ti_lang.specs.Meaning.Processes.{RunConfig, Process}
 use Rattle.ti_lang.specs.Meaning.Steps.{At, step}
 use Rattle.ti_lang.specs.Meaning.NextStep.{Reaches, here}
 use Rattle.ti_lang.specs.Meaning.Histories.{History, history_of, arrivals}
 use Rattle.ti_lang.specs.Meaning.RoundsOf as rounds
 use Rattle.ti_lang.specs.Meaning.RoundsOf.{arrival_at, value_in, last_arrival, makes_region}
-use Rattle.ti_lang.specs.Meaning.HeapOf.{class_of}
+use Rattle.ti_lang.specs.Meaning.HeapOf.{class_of_object}
 use Rattle.ti_lang.specs.Meaning.HeapAnswers.{Answers, heap_answer}
-use Rattle.ti_lang.specs.Meaning.Runs.{World, IsRun}
+use Rattle.ti_lang.specs.Meaning.Runs.{ProcAfter, IsRun}
 use Rattle.ti_rules.specs.InitialTypes.{can_broadcast}
 use Rattle.ti_align.specs.Alignment.{most_procs, ArrivalsAgree}
 use Rattle.ti_align.specs.Names.{NamesFit}
-use Rattle.ti_align.specs.Things.{Things, IsGridOf, IsOf}
+use Rattle.ti_align.specs.HeapTyping.{HeapTyping, IsGridOf, IsOf}
 use Rattle.ti_align.specs.Given.{IsOfRound}
-use Rattle.ti_align.specs.Mirrors.Work.{WantsOf}
-use Rattle.ti_align.specs.Heap.{Elements, things_of}
+use Rattle.ti_align.specs.Mirrors.ContItem.{WantsOf}
+use Rattle.ti_align.specs.Heap.{Elements, heap_typing_of}
 use Rattle.ti_align.specs.Mirrors.Processes.{ProgramFits}
 use Rattle.ti_align.specs.Typed.{GivesLast, hands_in, RunTyped}
 use Rattle.ti_align.proofs.RunTypes.Steps.{StepFits}
@@ -56,7 +56,7 @@ pub plain_same : (x y : Value) → Plain x ≡ Plain y → x ≡ y
 plain_same x y e = cc
 
 -- a value that is there has the form of its type
-pub form_of : (h : History) (elements : Elements) (i : ℕ) → NamesFit h → (u : ValueType) → can_broadcast u ≡ true → (x : Value) → IsOf (things_of i elements h) (as_global u) (Plain x) → HasForm u x
+pub form_of : (h : History) (elements : Elements) (i : ℕ) → NamesFit h → (u : ValueType) → can_broadcast u ≡ true → (x : Value) → IsOf (heap_typing_of i elements h) (as_global u) (Plain x) → HasForm u x
 form_of h elements i n t.Int c x k = subst (HasForm t.Int) (sym (plain_same x _ k.1)) k.2
 form_of h elements i n t.Long c x k = subst (HasForm t.Long) (sym (plain_same x _ k.1)) k.2
 form_of h elements i n t.Boolean c x k = subst (HasForm t.Boolean) (sym (plain_same x (v.Bool k.0) k.1)) tt
@@ -64,12 +64,12 @@ form_of h elements i n (t.Pt m) c x k = subst (HasForm (t.Pt m)) (sym (plain_sam
 form_of h elements i n (t.Rc m) c x k = subst (HasForm (t.Rc m)) (sym (plain_same x _ k.1)) k.2
 form_of h elements i n (t.Class class l) c x k = subst (HasForm (t.Class class l)) (sym (plain_same x _ k.1)) (by k.0 k.2)
   where
-    by : (o : Option Id) → ((id : Id) → o ≡ Some id → class_of id h ≡ Some class) → IsName o
+    by : (o : Option Id) → ((id : Id) → o ≡ Some id → class_of_object id h ≡ Some class) → IsName o
     by None f = tt
     by (Some id) f = n.objects id class (f id refl)
 form_of h elements i n (t.Grid element m l) c x k = subst (HasForm (t.Grid element m l)) (sym (plain_same x _ k.1)) (by k.0 k.2)
   where
-    by : (o : Option Id) → ((id : Id) → o ≡ Some id → IsGridOf (things_of i elements h) element m id) → IsName o
+    by : (o : Option Id) → ((id : Id) → o ≡ Some id → IsGridOf (heap_typing_of i elements h) element m id) → IsName o
     by None f = tt
     by (Some id) f = n.grids id (f id refl).0 (f id refl).1
 form_of h elements i n (t.Dm m) c x k = absurd (true_false (sym c))
@@ -79,7 +79,7 @@ form_of h elements i n t.Void c x k = absurd (true_false (sym c))
 
 -- ---- runs
 
-module _ (s : Setting) (fits : ProgramFits s.program) (fine : FineMethods s.program s.program.methods) (few : s.procs ≤ most_procs) (fed : s.fuel ≤ 4000000) (agree : (es : List Entry) → IsRun s es → ArrivalsAgree s es) (es : List Entry) (ran : IsRun s es) where
+module _ (s : RunConfig) (fits : ProgramFits s.program) (fine : FineMethods s.program s.program.methods) (few : s.procs ≤ most_procs) (fed : s.fuel ≤ 4000000) (agree : (es : List Entry) → IsRun s es → ArrivalsAgree s es) (es : List Entry) (ran : IsRun s es) where
   abbrev h : History
   h = history_of es
 
@@ -95,14 +95,14 @@ module _ (s : Setting) (fits : ProgramFits s.program) (fine : FineMethods s.prog
   -- what another process handed in in the round in which this one arrived last
   pub handed_of : (i who : ℕ) (a b : rounds.Arrival) (type : ValueType) (x : Value) → GivesLast s es i type → arrival_at i (arrivals i h) h
       ≡ Some a → arrival_at who (arrivals i h) h ≡ Some b → hands_in a.kind ≡ true → value_in b.deposit ≡ Some x
-      → IsOf (things_of who typed.fits.elements h) type (Plain x)
+      → IsOf (heap_typing_of who typed.fits.elements h) type (Plain x)
   handed_of i who a b type x g mine other k z =
       let n : arrivals i h ≡ suc g.0 = back i es ∙ g.1 in
       let one : arrival_at i (suc g.0) h ≡ Some a = subst (λ n. arrival_at i n h ≡ Some a) n mine in
       let two : arrival_at who (suc g.0) h ≡ Some b = subst (λ n. arrival_at who n h ≡ Some b) n other in
       let like = alike s es ran (agree es ran) i who g.0 a b one two in
       let d = typed.fits.deposits who g.0 b x two (ap hands_in (sym like.0) ∙ k) z in
-      subst (λ y. IsOf (things_of who typed.fits.elements h) y (Plain x)) (given_same s fine es ran who i g.0 d.0 type d.1 g.2) d.2
+      subst (λ y. IsOf (heap_typing_of who typed.fits.elements h) y (Plain x)) (given_same s fine es ran who i g.0 d.0 type d.1 g.2) d.2
 
   -- what is wanted where the process waits is what the round gives
   round_fits : (i : ℕ) (wanted : Wanted) (type : ValueType) (r : Answer) (a : rounds.Arrival) → last_arrival i h ≡ Some a
@@ -115,17 +115,17 @@ module _ (s : Setting) (fits : ProgramFits s.program) (fine : FineMethods s.prog
   round_fits i wanted type r a l coll.MakeRegion ka g k x = subst (λ y. FitsWanted y r) (sym k) (v.Region (made i (arrivals i h) h), x, region_count i)
   round_fits i wanted type r a l coll.Broadcast ka g k x =
       let given = handed_of i x.0 a x.1 type x.2 g l x.4 (ap hands_in ka) x.5 in
-      subst (λ y. FitsWanted y r) (sym k.1) (x.2, x.6, form_of h typed.fits.elements x.0 names k.0 k.3 x.2 (subst (λ z. IsOf (things_of x.0 typed.fits.elements h) z (Plain x.2)) k.2 given))
+      subst (λ y. FitsWanted y r) (sym k.1) (x.2, x.6, form_of h typed.fits.elements x.0 names k.0 k.3 x.2 (subst (λ z. IsOf (heap_typing_of x.0 typed.fits.elements h) z (Plain x.2)) k.2 given))
 
   -- there is one last arrival, and it is of one kind
   same_kind : (i : ℕ) (a b : rounds.Arrival) (kind : CollKind) → last_arrival i h ≡ Some a → a.kind ≡ kind → last_arrival i h ≡ Some b → kind ≡ b.kind
   same_kind i a b kind x k y = sym k ∙ ap (λ (a : rounds.Arrival). a.kind) (some_same a b (sym x ∙ y))
 
   pub departure_fits : (i : ℕ) → i < s.procs → (p q : Process) (at : Place) (asked : Asked) (go : Answer → Process) (r : Answer)
-      → World s es i p → Reaches p q → step q ≡ At (asking at act.Depart asked) go → heap_answer s.program h i act.Depart ≡ Answers r
+      → ProcAfter s es i p → Reaches p q → step q ≡ At (asking at act.Depart asked) go → heap_answer s.program h i act.Depart ≡ Answers r
       → FitsWanted asked.1 r
   departure_fits i b p q at asked go r x y e c =
-      let w : Things = things_of i typed.fits.elements h in
+      let w : HeapTyping = heap_typing_of i typed.fits.elements h in
       let k = way_next s es i p p ran x here in
       let reached = reaches_fits performs w (GivesLast s es i) s i _ p q refl (known_of s fits fine few i b) (given_facts.stands s i p k.0 k.1) y (typed.fits.processes i p b x) in
       let fit = (subst (StepFits w (GivesLast s es i) (GivesLast s es i) q) e

@@ -4,26 +4,26 @@ use Rattle.ti_lang.specs.Program.Types.{ValueType, Declaration, Typed}
 use Rattle.ti_lang.specs.Program.Types as t
 use Rattle.ti_lang.specs.Program.Expressions.{NumberedExp, NumberedRange, NumberedRanges}
 use Rattle.ti_lang.specs.Program.Expressions as e
-use Rattle.ti_lang.specs.Program.Classes.{NumberedMethod, NumberedProgram}
+use Rattle.ti_lang.specs.Program.Classes.{NumberedMethod, ProgramView}
 use Rattle.ti_lang.specs.Program.Scope.{ScopeVariable, ScopeContents, this_of, method_scope}
 use Rattle.ti_lang.specs.Typing.Kinds.{domain_dim, dim_of_type}
 use Rattle.ti_lang.specs.Typing.Declared.{in_scope}
-use Rattle.ti_lang.specs.Typing.Expressions.{known, operand_type}
+use Rattle.ti_lang.specs.Typing.Expressions.{type_result, operand_type}
 use Rattle.ti_lang.specs.Typing.Singleness.{is_single_part}
 use Rattle.ti_lang.specs.Typing.TextTypes.{type_at, IsDimOf, AreDims, IsRangeDims, AreRangesDims}
-use Rattle.ti_lang.specs.Meaning.Processes.{While, Foreach, Work, Do, End, Before, Behind, Receive, CopyAll, TakeAll}
+use Rattle.ti_lang.specs.Meaning.Processes.{While, Foreach, ContItem, Do, End, Before, Behind, Receive, CopyAll, TakeAll}
 use Rattle.ti_lang.specs.Meaning.Turns.{dims_at}
 use Rattle.ti_lang.proofs.Lemmas.{agrees}
-use Rattle.ti_rules.specs.Standing.{singles_in, with_point}
-use Rattle.ti_align.specs.Things.{Things}
+use Rattle.ti_rules.specs.StmtInContext.{singles_in, with_point}
+use Rattle.ti_align.specs.HeapTyping.{HeapTyping}
 use Rattle.ti_align.specs.Mirrors.Fitting.{IsWritten, IsRangeWritten, AreRangesWritten}
-use Rattle.ti_align.specs.Mirrors.Work.{may_use, uses_of, WorksFit}
+use Rattle.ti_align.specs.Mirrors.ContItem.{may_use, uses_of, WorksFit}
 use Rattle.ti_align.specs.Given.{scope_over}
 use Rattle.ti_align.proofs.Runs.Vars.{true_false}
 use Rattle.ti_align.proofs.RunTypes.Operating.{none_some, some_same}
 use Rattle.ti_align.proofs.RunTypes.Evaluating.{no_call}
 
-pub this_over : (p : NumberedProgram) (s : ScopeContents) (left : List Work) → (scope_over p s left).this_class ≡ s.this_class
+pub this_over : (p : ProgramView) (s : ScopeContents) (left : List ContItem) → (scope_over p s left).this_class ≡ s.this_class
 this_over p s [] = refl
 this_over p s (Behind (While at c u b) ∷ left) = this_over p s left
 this_over p s (Behind (Foreach at n d ps b) ∷ left) = this_over p s left
@@ -104,8 +104,8 @@ module _ (m : NumberedMethod) (s : ScopeContents) (dims : ℕ → ℕ) (dimmed :
     are_ranges (e.MoreRange r rs) k = (is_range r k.0, are_ranges rs k.1)
 
   -- an expression that fits has its type in the text
-  typed_there : (p : NumberedProgram) → s.this_class ≡ this_of m → (x : NumberedExp) (type : ValueType) → IsWritten (uses_of m) x → operand_type p s x ≡ Some type → type_at p (this_of m) dims x ≡ type
-  typed_there p c x type k z = subst (λ c. type_at p c dims x ≡ type) c (agrees p s dims x (are_dims x k) type (no_call (known p s x) type z).1)
+  typed_there : (p : ProgramView) → s.this_class ≡ this_of m → (x : NumberedExp) (type : ValueType) → IsWritten (uses_of m) x → operand_type p s x ≡ Some type → type_at p (this_of m) dims x ≡ type
+  typed_there p c x type k z = subst (λ c. type_at p c dims x ≡ type) c (agrees p s dims x (are_dims x k) type (no_call (type_result p s x) type z).1)
 
 -- ---- work
 
@@ -114,11 +114,11 @@ dim_there (t.Rc m) n h = some_same m n h
 dim_there (t.Dm m) n h = some_same m n h
 dim_there _ n h = absurd (none_some n h)
 
-module _ (p : NumberedProgram) (m : NumberedMethod) (w : Things) where
-  abbrev scope : List Work → ScopeContents
+module _ (p : ProgramView) (m : NumberedMethod) (w : HeapTyping) where
+  abbrev scope : List ContItem → ScopeContents
   scope left = scope_over p (method_scope m) left
 
-  turned : (left : List Work) (own n : ℕ) (domain : NumberedExp) (type : ValueType) (at : _) (points : _) (body : _)
+  turned : (left : List ContItem) (own n : ℕ) (domain : NumberedExp) (type : ValueType) (at : _) (points : _) (body : _)
       → Dimmed m (scope left) (dims_at p (this_of m) left) → IsWritten (uses_of m) domain → operand_type p (scope left) domain ≡ Some type
       → domain_dim type ≡ Some n → is_none (in_scope (scope left) own) ≡ true
       → Dimmed m (scope (Behind (Foreach at own domain points body) ∷ left))
@@ -131,7 +131,7 @@ module _ (p : NumberedProgram) (m : NumberedMethod) (w : Things) where
       (ap dim_of_type (typed_there m (scope left) (dims_at p (this_of m) left) old p
       (this_over p (method_scope m) left) domain type k z) ∙ dim_there type n d)))
 
-  dimmed : (left : List Work) → WorksFit p m (method_scope m) w left → Dimmed m (scope left) (dims_at p (this_of m) left)
+  dimmed : (left : List ContItem) → WorksFit p m (method_scope m) w left → Dimmed m (scope left) (dims_at p (this_of m) left)
   dimmed [] k = λ number free type z. absurd (none_some type (sym (ap (option_map (λ (v : ScopeVariable). v.type)) (none_when (in_scope (method_scope m) number) free)) ∙ z))
   dimmed (Do x ∷ left) k = dimmed left k.1
   dimmed (End x ∷ left) k = dimmed left k.1
@@ -145,7 +145,7 @@ module _ (p : NumberedProgram) (m : NumberedMethod) (w : Things) where
       turned left own f.0 domain f.1.0.0 at points body (dimmed left k.1) f.1.0.1.0 f.1.0.1.1 f.1.0.2 f.1.1
 
   -- before such work an expression that fits has its type in the text
-  pub text_type : (left : List Work) → WorksFit p m (method_scope m) w left → (x : NumberedExp) (type : ValueType) → IsWritten (uses_of m) x
+  pub text_type : (left : List ContItem) → WorksFit p m (method_scope m) w left → (x : NumberedExp) (type : ValueType) → IsWritten (uses_of m) x
       → operand_type p (scope_over p (method_scope m) left) x ≡ Some type
       → type_at p (this_of m) (dims_at p (this_of m) left) x ≡ type
   text_type left k x type l z = typed_there m (scope left) (dims_at p (this_of m) left) (dimmed left k) p (this_over p (method_scope m) left) x type l z

@@ -31,29 +31,29 @@ use Rattle.ti_lang.specs.Program.Types.{ValueType, Declaration, VariableUse}
 use Rattle.ti_lang.specs.Program.Types as t
 use Rattle.ti_lang.specs.Program.Expressions.{NumberedExp, NumberedExps, NumberedRange, NumberedRanges}
 use Rattle.ti_lang.specs.Program.Expressions as e
-use Rattle.ti_lang.specs.Program.Classes.{NumberedField, NumberedProgram}
+use Rattle.ti_lang.specs.Program.Classes.{NumberedField, ProgramView}
 use Rattle.ti_lang.specs.Program.Scope.{ScopeContents, this_of}
 use Rattle.ti_lang.specs.Typing.Kinds.{domain_dim, same_type, is_whole, is_void, is_point, is_object, is_local, as_global, read_through, dim_of_type, class_of_type, where_true}
 use Rattle.ti_lang.specs.Typing.Fits.{casts}
 use Rattle.ti_lang.specs.Typing.Operators.{wider, whole_type, truth_type, point_type, rect_type, same_dim, domain_type, unary_type, binary_type}
 use Rattle.ti_lang.specs.Typing.BuiltIn.{BuiltIn, Size, Min, Max, Contains, Domain, Restrict, Translate, Slice, Copy, Exchange, Delete, built_in, member_type}
 use Rattle.ti_lang.specs.Typing.Declared.{variable_type, fields_of_class, field_type, named_field_type, field_numbered, instance_method}
-use Rattle.ti_lang.specs.Typing.Expressions.{Typed, plain, operand, both, joined, one, is_int, all_ints, point_literal, all_points, range_of_points, rect_literal, index_type, select_type, called, member_given, range_count, known, operands, bound, bounds, operand_type}
+use Rattle.ti_lang.specs.Typing.Expressions.{ExprTyping, plain, operand, and_then_both, append_both, one, is_int, all_ints, point_literal, all_points, range_of_points, rect_literal, index_type, select_type, called, member_given, range_count, type_result, operands, bound_types, bounds, operand_type}
 use Rattle.ti_lang.specs.Typing.Expressions as typing
-use Rattle.ti_lang.specs.Typing.TextTypes.{operator_type, used_type, how_many, field_seen, element_seen, sliced, built_in_type, member_seen}
+use Rattle.ti_lang.specs.Typing.TextTypes.{operator_type, used_type, how_many, static_field_type, static_element_type, slice_type, built_in_type, static_member_type}
 use Rattle.ti_lang.specs.Typing.Called.{member_called}
-use Rattle.ti_lang.specs.Meaning.Held.{Held, Plain, zero_of, nothing, thing_of, point_of, rect_of, int_of, where_dim}
-use Rattle.ti_lang.specs.Meaning.Asking.{ValueOf, NewThing, Reference, request_through, found_or, needed}
+use Rattle.ti_lang.specs.Meaning.Held.{Held, Plain, zero_of, no_value, referent_of, point_of, rect_of, int_of, where_dim}
+use Rattle.ti_lang.specs.Meaning.Comp.{ValueOf, NewThing, Reference, request_through, found_or, needed}
 use Rattle.ti_lang.specs.Meaning.Literals.{coordinates_of, numbers_in, point_of_numbers}
 use Rattle.ti_lang.specs.Meaning.Conversions.{most_points, converted}
-use Rattle.ti_lang.specs.Meaning.Parts.{Field, Element, fetched, domain_asked, domain_of, viewed, indexed}
-use Rattle.ti_lang.specs.Meaning.MemberForms.{greatest_size, sized, extreme, member}
+use Rattle.ti_lang.specs.Meaning.CellRefs.{Field, Element, fetched, domain_asked, domain_of, viewed, indexed}
+use Rattle.ti_lang.specs.Meaning.MemberForms.{greatest_size, domain_size, extreme, member}
 use Rattle.ti_lang.specs.Meaning.Answers.{IsPointOf, IsRectOf}
 use Rattle.ti_lang.specs.Meaning.Scoping.{Env, type_of, field_selected}
 use Rattle.ti_lang.specs.Meaning.Evaluation.{is_own, eval, eval_all, eval_numbers, eval_range, eval_ranges}
 use Rattle.ti_lang.proofs.Lemmas.{dim_is, how_many_is}
-use Rattle.ti_align.specs.Things.{Things, seen_by, Grows, IsGridOf, IsOwn, IsOf, DimsFine}
-use Rattle.ti_align.specs.There.{SameForm, SuitsView, dims_viewed}
+use Rattle.ti_align.specs.HeapTyping.{HeapTyping, with_owner, Grows, IsGridOf, IsOwn, IsOf, DimsFine}
+use Rattle.ti_align.specs.Existing.{SameForm, SuitsView, dims_viewed}
 use Rattle.ti_align.specs.Mirrors.Sound.{ReferenceFits, Sound}
 use Rattle.ti_align.specs.Mirrors.Fitting.{EnvFits, IsWritten, AreWritten, IsRangeWritten, AreRangesWritten}
 use Rattle.ti_align.specs.Heap.{FieldsFit}
@@ -72,12 +72,12 @@ pub mapped : {A B : Type 0} (f : A → B) (o : Option A) (b : B) → option_map 
 mapped f None b h = absurd (none_some b h)
 mapped f (Some a) b h = (a, refl, some_same (f a) b h)
 
-pub both_there : {A B C : Type 0} (f : A → B → Option C) (o : Option A) (q : Option B) (c : C) → both o q f ≡ Some c → (a : A) × (b : B) × (o ≡ Some a) × (q ≡ Some b) × (f a b ≡ Some c)
+pub both_there : {A B C : Type 0} (f : A → B → Option C) (o : Option A) (q : Option B) (c : C) → and_then_both o q f ≡ Some c → (a : A) × (b : B) × (o ≡ Some a) × (q ≡ Some b) × (f a b ≡ Some c)
 both_there f None q c h = absurd (none_some c h)
 both_there f (Some a) None c h = absurd (none_some c h)
 both_there f (Some a) (Some b) c h = (a, b, refl, refl, h)
 
-pub joined_there : {A : Type 0} (o q : Option (List A)) (zs : List A) → joined o q ≡ Some zs → (xs : List A) × (ys : List A) × (o ≡ Some xs) × (q ≡ Some ys) × (xs ++ ys ≡ zs)
+pub joined_there : {A : Type 0} (o q : Option (List A)) (zs : List A) → append_both o q ≡ Some zs → (xs : List A) × (ys : List A) × (o ≡ Some xs) × (q ≡ Some ys) × (xs ++ ys ≡ zs)
 joined_there None q zs h = absurd (none_some zs h)
 joined_there (Some xs) None zs h = absurd (none_some zs h)
 joined_there (Some xs) (Some ys) zs h = (xs, ys, refl, refl, some_same (xs ++ ys) zs h)
@@ -95,7 +95,7 @@ not_void (Some x) u h = by (is_void x) refl h
     by true z h = absurd (none_some u h)
     by false z h = (h, subst (λ y. is_void y ≡ false) (some_same x u h) z)
 
-pub no_call : (k : Typed) (u : ValueType) → operand k ≡ Some u → (k.is_call ≡ false) × (k.type ≡ Some u) × (is_void u ≡ false)
+pub no_call : (k : ExprTyping) (u : ValueType) → operand k ≡ Some u → (k.is_call ≡ false) × (k.type ≡ Some u) × (is_void u ≡ false)
 no_call k u h = by k.is_call refl h
   where
     by : (b : Bool) → k.is_call ≡ b → (if b then None else only_if (λ x. not (is_void x)) k.type) ≡ Some u → (k.is_call ≡ false) × (k.type ≡ Some u) × (is_void u ≡ false)
@@ -109,7 +109,7 @@ found_at test xs f h =
     let at : slice_get xs (position_or_len test xs) ≡ Some f = sym (find_at test xs) ∙ h in
     (position_or_len test xs, ap (λ b. cond b (Some (position_or_len test xs)) None) (lt-ltb _ _ (slice_get_within xs (position_or_len test xs) f at)), at)
 
-pub named_field : (p : NumberedProgram) (class name : ℕ) (type : ValueType) → named_field_type p class name ≡ Some type → (k : ℕ)
+pub named_field : (p : ProgramView) (class name : ℕ) (type : ValueType) → named_field_type p class name ≡ Some type → (k : ℕ)
     × (field_numbered p name class ≡ Some k) × (field_type p class k ≡ Some type)
 unfolding named_field_type
 named_field p class name type h =
@@ -120,12 +120,12 @@ named_field p class name type h =
 -- ---- reads
 
 -- what is read from the memory of a process, which is the own one where it's read through a local reference
-pub read_of : (w : Things) (i : ℕ) (l : Bool) (type : ValueType) (h : Held) → (l ≡ true → i ≡ w.owner) → IsOf (seen_by i w) type h → IsOf w (read_through l type) h
-read_of w i true type h e k = seen_from (seen_by i w) w.owner type h (λ z. e refl) k
-read_of w i false type h e k = seen_from (seen_by i w) w.owner (as_global type) h (λ z. absurd (true_false (sym z ∙ global_type type))) (to_global (seen_by i w) type h k)
+pub read_of : (w : HeapTyping) (i : ℕ) (l : Bool) (type : ValueType) (h : Held) → (l ≡ true → i ≡ w.owner) → IsOf (with_owner i w) type h → IsOf w (read_through l type) h
+read_of w i true type h e k = seen_from (with_owner i w) w.owner type h (λ z. e refl) k
+read_of w i false type h e k = seen_from (with_owner i w) w.owner (as_global type) h (λ z. absurd (true_false (sym z ∙ global_type type))) (to_global (with_owner i w) type h k)
 
 -- a view lies in the memory in which the grid does that is viewed
-view_of : (w : Things) (i : ℕ) (l : Bool) (element : ValueType) (n : ℕ) (h : Held) → (l ≡ true → i ≡ w.owner) → IsOf (seen_by i w) (t.Grid element n true) h → IsOf w (t.Grid element n l) h
+view_of : (w : HeapTyping) (i : ℕ) (l : Bool) (element : ValueType) (n : ℕ) (h : Held) → (l ≡ true → i ≡ w.owner) → IsOf (with_owner i w) (t.Grid element n true) h → IsOf w (t.Grid element n l) h
 view_of w i true element n h e k = read_of w i true (t.Grid element n true) h e k
 view_of w i false element n h e k = read_of w i false (t.Grid element n true) h e k
 
@@ -166,10 +166,10 @@ seen_form u type l z = ap as_global z ∙ read_form l type
 abbrev pub IsGridType : ValueType → Type 0
 IsGridType type = (element : ValueType) × (n : ℕ) × (l : Bool) × (type ≡ t.Grid element n l)
 
-module _ (p : NumberedProgram) where
+module _ (p : ProgramView) where
   -- a field of an object of this class
-  pub field_fine : (w : Things) (at : Place) (type through : ValueType) (h : Held) (field class : ℕ) (l : Bool) (of : ValueType) → through
-      ≡ t.Class class l → ((id : Id) → thing_of h ≡ Some id → w.class_at id ≡ Some class) → IsOwn w (is_local through) (thing_of h)
+  pub field_fine : (w : HeapTyping) (at : Place) (type through : ValueType) (h : Held) (field class : ℕ) (l : Bool) (of : ValueType) → through
+      ≡ t.Class class l → ((id : Id) → referent_of h ≡ Some id → w.class_at id ≡ Some class) → IsOwn w (is_local through) (referent_of h)
       → field_type p class field ≡ Some of → SameForm type of → Sound p (λ u k. IsOf u (read_through (is_local through) of) k) w (fetched at type (Field h through field))
   field_fine w at type through h field class l of through_is k own f same =
       sound_then p (λ u r. Names (λ u id. u.class_at id ≡ Some class) through u r) _ w (needed at through h) _
@@ -182,9 +182,9 @@ module _ (p : NumberedProgram) where
       (λ x i answer q. read_of x r.thing.owner (is_local through) of _ (names_own _ through u x r i z) (q of (class, i.classes r.thing class z.thing, f))))
 
   -- an element of a grid of such elements
-  pub element_fine : (w : Things) (at : Place) (type through : ValueType) (h : Held) (index : Point) (element : ValueType) (n : ℕ)
-      (l : Bool) → through ≡ t.Grid element n l → ((id : Id) → thing_of h ≡ Some id → IsGridOf w element n id)
-      → IsOwn w (is_local through) (thing_of h)
+  pub element_fine : (w : HeapTyping) (at : Place) (type through : ValueType) (h : Held) (index : Point) (element : ValueType) (n : ℕ)
+      (l : Bool) → through ≡ t.Grid element n l → ((id : Id) → referent_of h ≡ Some id → IsGridOf w element n id)
+      → IsOwn w (is_local through) (referent_of h)
       → IsPointOf n index → SameForm type element → Sound p (λ u k. IsOf u (read_through (is_local through) element) k) w (fetched at type (Element h through index))
   element_fine w at type through h index element n l through_is k own d same =
       sound_then p (λ u r. Names (λ u id. IsGridOf u element n id) through u r) _ w (needed at through h) _
@@ -196,7 +196,7 @@ module _ (p : NumberedProgram) where
       )
       (λ x i answer q. read_of x r.thing.owner (is_local through) element _ (names_own _ through u x r i z) (q element n (grid_stays u x element n r.thing i z.thing))))
 
-  pub domain_fine : (w : Things) (at : Place) (r : Reference) (element : ValueType) (n : ℕ) → IsGridOf w element n r.thing
+  pub domain_fine : (w : HeapTyping) (at : Place) (r : Reference) (element : ValueType) (n : ℕ) → IsGridOf w element n r.thing
       → ReferenceFits w r → dim_of_type r.type ≡ n → Sound p (λ u k. IsOf u (t.Rc n) k) w (domain_asked at r)
   domain_fine w at r element n z named d =
       sound_asked p _ w (request_through r at (act.DomainOf r.thing) (ValueOf (t.Rc (dim_of_type r.type)))) (
@@ -206,9 +206,9 @@ module _ (p : NumberedProgram) where
       )
       (λ x i answer q. q element n (grid_stays w x element n r.thing i z))
 
-  pub viewed_fine : (w : Things) (at : Place) (type : ValueType) (view : ViewHow) (through : ValueType) (h : Held) (element : ValueType)
-      (n : ℕ) (l : Bool) → through ≡ t.Grid element n l → ((id : Id) → thing_of h ≡ Some id → IsGridOf w element n id)
-      → IsOwn w (is_local through) (thing_of h)
+  pub viewed_fine : (w : HeapTyping) (at : Place) (type : ValueType) (view : ViewHow) (through : ValueType) (h : Held) (element : ValueType)
+      (n : ℕ) (l : Bool) → through ≡ t.Grid element n l → ((id : Id) → referent_of h ≡ Some id → IsGridOf w element n id)
+      → IsOwn w (is_local through) (referent_of h)
       → SuitsView view n → IsGridType type → Sound p (λ u k. IsOf u (t.Grid element (dims_viewed view n) (is_local through)) k) w (viewed at type view through h)
   viewed_fine w at type view through h element n l through_is k own s g =
       sound_then p (λ u r. Names (λ u id. IsGridOf u element n id) through u r) _ w (needed at through h) _
@@ -221,11 +221,11 @@ module _ (p : NumberedProgram) where
       (λ x i answer q. view_of x r.thing.owner (is_local through) element (dims_viewed view n) _ (names_own _ through u x r i z) (q element n (grid_stays u x element n r.thing i z.thing))))
 
 -- what a reference names
-pub object_of : (w : Things) (c : ℕ) (l : Bool) (h : Held) → IsOf w (t.Class c l) h → (id : Id) → thing_of h ≡ Some id → w.class_at id ≡ Some c
-object_of w c l h k id z = k.2 id (sym (ap thing_of k.1) ∙ z)
+pub object_of : (w : HeapTyping) (c : ℕ) (l : Bool) (h : Held) → IsOf w (t.Class c l) h → (id : Id) → referent_of h ≡ Some id → w.class_at id ≡ Some c
+object_of w c l h k id z = k.2 id (sym (ap referent_of k.1) ∙ z)
 
-pub grid_in : (w : Things) (element : ValueType) (n : ℕ) (l : Bool) (h : Held) → IsOf w (t.Grid element n l) h → (id : Id) → thing_of h ≡ Some id → IsGridOf w element n id
-grid_in w element n l h k id z = k.2 id (sym (ap thing_of k.1) ∙ z)
+pub grid_in : (w : HeapTyping) (element : ValueType) (n : ℕ) (l : Bool) (h : Held) → IsOf w (t.Grid element n l) h → (id : Id) → referent_of h ≡ Some id → IsGridOf w element n id
+grid_in w element n l h k id z = k.2 id (sym (ap referent_of k.1) ∙ z)
 
 -- ---- numbers
 
@@ -245,14 +245,14 @@ counts (x ∷ xs) = count_of x + counts xs
 three : (p : Point) → p.dim ≤ 3 → length (coordinates_of p) ≡ p.dim
 three p h = length-take-le p.dim (p.x1 ∷ p.x2 ∷ p.x3 ∷ []) h
 
-numbers_count : (w : Things) (type : ValueType) (h : Held) → is_void type ≡ false → DimsFine type → IsOf w type h → length (numbers_in h) ≡ count_of type
+numbers_count : (w : HeapTyping) (type : ValueType) (h : Held) → is_void type ≡ false → DimsFine type → IsOf w type h → length (numbers_in h) ≡ count_of type
 numbers_count w (t.Pt n) h z d k = ap (λ x. length (numbers_in x)) k.1 ∙ three k.0 (subst (λ m. m ≤ 3) (sym k.2.dim_is) d.1) ∙ k.2.dim_is
 numbers_count w t.Null h z d k = ap (λ x. length (numbers_in x)) k
 numbers_count w t.Void h z d k = absurd (true_false z)
 numbers_count w _ h z d k = ap (λ x. length (numbers_in x)) k.1
 
 -- they are of 32 bits
-numbers_fit : (w : Things) (type : ValueType) (h : Held) → is_void type ≡ false → IsOf w type h → AllFit (numbers_in h)
+numbers_fit : (w : HeapTyping) (type : ValueType) (h : Held) → is_void type ≡ false → IsOf w type h → AllFit (numbers_in h)
 numbers_fit w t.Int h z k = subst (λ x. AllFit (numbers_in x)) (sym k.1) (k.2, tt)
 numbers_fit w (t.Pt n) h z k = subst (λ x. AllFit (numbers_in x)) (sym k.1) (coordinates_fit k.0 k.2.coordinates)
 numbers_fit w t.Null h z k = subst (λ x. AllFit (numbers_in x)) (sym k) (zero_fits, tt)
@@ -311,7 +311,7 @@ all_both test (x ∷ xs) ys h = by (test x) refl h (λ k. all_both test xs ys k)
 
 -- ---- ranges, by their types
 
-module _ (p : NumberedProgram) (s : ScopeContents) where
+module _ (p : ProgramView) (s : ScopeContents) where
   abbrev maybe_count : Option ValueType → ℕ
   maybe_count None = 0
   maybe_count (Some type) = count_of type
@@ -326,15 +326,15 @@ module _ (p : NumberedProgram) (s : ScopeContents) where
   abbrev First : NumberedExp → List ValueType → Type 0
   First low ts = (type : ValueType) × (rest : List ValueType) × (operand_type p s low ≡ Some type) × (ts ≡ type ∷ rest)
 
-  first_of_range : (low : NumberedExp) (o : Option (List ValueType)) (ts : List ValueType) → joined (one (operand_type p s low)) o ≡ Some ts → First low ts
+  first_of_range : (low : NumberedExp) (o : Option (List ValueType)) (ts : List ValueType) → append_both (one (operand_type p s low)) o ≡ Some ts → First low ts
   first_of_range low o ts h =
       let j = joined_there (one (operand_type p s low)) o ts h in
       let k = one_there (operand_type p s low) j.0 j.2 in
       (k.0, j.1, k.1, sym j.4 ∙ ap (λ xs. xs ++ j.1) k.2)
 
-  first_stepped : (low high step : NumberedExp) (ts : List ValueType) → bound p s (e.Stepped low high step) ≡ Some ts → First low ts
+  first_stepped : (low high step : NumberedExp) (ts : List ValueType) → bound_types p s (e.Stepped low high step) ≡ Some ts → First low ts
   first_stepped low high step ts h =
-      let j = joined_there (joined (one (operand_type p s low)) (one (operand_type p s high))) (one (operand_type p s step)) ts h in
+      let j = joined_there (append_both (one (operand_type p s low)) (one (operand_type p s high))) (one (operand_type p s step)) ts h in
       let k = first_of_range low (one (operand_type p s high)) j.0 j.2 in
       (k.0, k.1 ++ j.1, k.2, sym j.4 ∙ ap (λ xs. xs ++ j.1) k.3)
 
@@ -344,7 +344,7 @@ module _ (p : NumberedProgram) (s : ScopeContents) where
   first_low (e.MoreRange (e.Plain low high) rest) = operand_type p s low
   first_low (e.MoreRange (e.Stepped low high step) rest) = operand_type p s low
 
-  first : (r : NumberedRange) (ts : List ValueType) → bound p s r ≡ Some ts
+  first : (r : NumberedRange) (ts : List ValueType) → bound_types p s r ≡ Some ts
       → (low : NumberedExp) × First low ts × ((rest : NumberedRanges) → lows (e.MoreRange r rest)
       ≡ maybe_count (operand_type p s low) + lows rest) × ((rest : NumberedRanges) → first_low (e.MoreRange r rest)
       ≡ operand_type p s low)
@@ -359,7 +359,7 @@ module _ (p : NumberedProgram) (s : ScopeContents) where
   ints_lows : (rs : NumberedRanges) (ts : List ValueType) → bounds p s rs ≡ Some ts → all_ints ts ≡ true → lows rs ≡ range_count rs
   ints_lows e.NoRange ts h k = refl
   ints_lows (e.MoreRange r rest) ts h k =
-      let j = joined_there (bound p s r) (bounds p s rest) ts h in
+      let j = joined_there (bound_types p s r) (bounds p s rest) ts h in
       let f = first r j.0 j.2 in
       let a = all_both is_int j.0 j.1 (subst (λ xs. all_ints xs ≡ true) (sym j.4) k) in
       let i : count_of f.1.0 ≡ 1 = int_count f.1.0 (and_left (is_int f.1.0) (list_all is_int f.1.1) (subst (λ xs. list_all is_int xs ≡ true) f.1.3 a.0)) in
@@ -382,7 +382,7 @@ module _ (p : NumberedProgram) (s : ScopeContents) where
           → (r ≡ t.Rc (lows rs)) × ((n : ℕ) × (first_low rs ≡ Some (t.Pt n)) × (lows rs ≡ n))
       one_range e.NoRange h c k = absurd (none_some r (ap range_of_points (some_same [] ts h) ∙ k))
       one_range (e.MoreRange q e.NoRange) h c k =
-          let j = joined_there (bound p s q) (bounds p s e.NoRange) ts h in
+          let j = joined_there (bound_types p s q) (bounds p s e.NoRange) ts h in
           let f = first q j.0 j.2 in
           let z = point_range ts r k in
           let type : f.1.0 ≡ t.Pt z.0 = same_first _ _ _ _ (sym (ap (λ xs. xs ++ j.1) f.1.3) ∙ j.4 ∙ z.2) in
@@ -408,27 +408,27 @@ module _ (p : NumberedProgram) (s : ScopeContents) where
 
 -- ---- members
 
-abbrev pub AllOfTypes : Things → List ValueType → List Held → Type 0
+abbrev pub AllOfTypes : HeapTyping → List ValueType → List Held → Type 0
 AllOfTypes w [] [] = Unit {0}
 AllOfTypes w (x ∷ xs) (h ∷ hs) = IsOf w x h × AllOfTypes w xs hs
 AllOfTypes w xs hs = ⊥
 
-module _ (p : NumberedProgram) (w : Things) where
+module _ (p : ProgramView) (w : HeapTyping) where
   few : (n : ℕ) → n ≤ greatest_size → n < 2 ^ 31
   few n h = omega (arith, h)
 
   fewer : (n : ℕ) → n ≤ most_points → n < 2 ^ 31
   fewer n h = few n (omega (arith, h))
 
-  sized_fine : (at : Place) (h : Held) (n : ℕ) → (IsOf w (t.Rc n) h) ⊎ (IsOf w (t.Dm n) h) → Sound p (λ u k. IsOf u t.Int k) w (sized at h)
-  sized_fine at h n (inl k) = subst (λ z. Sound p (λ u k. IsOf u t.Int k) w (sized at z)) (sym k.1)
+  sized_fine : (at : Place) (h : Held) (n : ℕ) → (IsOf w (t.Rc n) h) ⊎ (IsOf w (t.Dm n) h) → Sound p (λ u k. IsOf u t.Int k) w (domain_size at h)
+  sized_fine at h n (inl k) = subst (λ z. Sound p (λ u k. IsOf u t.Int k) w (domain_size at z)) (sym k.1)
       (sound_tested p _ w _ _ at _ (λ q. (
         _,
         refl,
         natural_fits (size_of k.0)
             (few (size_of k.0) (leb-true (size_of k.0) greatest_size q)),
       )))
-  sized_fine at h n (inr k) = subst (λ z. Sound p (λ u k. IsOf u t.Int k) w (sized at z)) (sym k.1) (sound_value p _ w _ (_, refl, natural_fits (length k.0) (fewer (length k.0) k.2.few)))
+  sized_fine at h n (inr k) = subst (λ z. Sound p (λ u k. IsOf u t.Int k) w (domain_size at z)) (sym k.1) (sound_value p _ w _ (_, refl, natural_fits (length k.0) (fewer (length k.0) k.2.few)))
 
   rect_is : (n : ℕ) (h : Held) → IsOf w (t.Rc n) h → IsRectOf n (rect_of h)
   rect_is n h k = subst (IsRectOf n) (sym (ap rect_of k.1)) k.2
@@ -440,7 +440,7 @@ module _ (p : NumberedProgram) (w : Things) where
   int_is h k = subst (λ z. Fits w32 (int_of z)) (sym k.1) k.2
 
   -- two numbers
-  int_args : (hs : List Held) → AllOfTypes w (t.Int ∷ t.Int ∷ []) hs → Fits w32 (int_of (slice_index_or hs 0 nothing)) × Fits w32 (int_of (slice_index_or hs 1 nothing))
+  int_args : (hs : List Held) → AllOfTypes w (t.Int ∷ t.Int ∷ []) hs → Fits w32 (int_of (slice_index_or hs 0 no_value)) × Fits w32 (int_of (slice_index_or hs 1 no_value))
   int_args [] a = absurd a
   int_args (x ∷ []) a = absurd a.1
   int_args (x ∷ y ∷ []) a = (int_is x a.0, int_is y a.1.0)
@@ -457,8 +457,8 @@ module _ (p : NumberedProgram) (w : Things) where
   pub member_fine : (at : Place) (wanted through : ValueType) (b : BuiltIn) (type r : ValueType) (ts : List ValueType) (h : Held)
       (hs : List Held) → member_type b type ts ≡ Some r → is_void r ≡ false → Seen type through → IsOf w type h → AllOfTypes w ts hs
       → wanted ≡ built_in_type (Some b) through → Sound p (λ u k. IsOf u r k) w (member at wanted (Some b) through h hs)
-  member_fine at wanted through Size (t.Rc n) r [] h hs e z y k a same = subst (λ q. Sound p (λ u k. IsOf u q k) w (sized at h)) (some_same t.Int r e) (sized_fine at h n (inl k))
-  member_fine at wanted through Size (t.Dm n) r [] h hs e z y k a same = subst (λ q. Sound p (λ u k. IsOf u q k) w (sized at h)) (some_same t.Int r e) (sized_fine at h n (inr k))
+  member_fine at wanted through Size (t.Rc n) r [] h hs e z y k a same = subst (λ q. Sound p (λ u k. IsOf u q k) w (domain_size at h)) (some_same t.Int r e) (sized_fine at h n (inl k))
+  member_fine at wanted through Size (t.Dm n) r [] h hs e z y k a same = subst (λ q. Sound p (λ u k. IsOf u q k) w (domain_size at h)) (some_same t.Int r e) (sized_fine at h n (inr k))
   member_fine at wanted through Min (t.Rc n) r [] h hs e z y k a same =
       subst (λ q. Sound p (λ u k. IsOf u q k) w (extreme at h (rect_of h).lo)) (some_same (t.Pt n) r e) (sound_guarded p _ w _ _ at _ ((rect_of h).lo, refl, (rect_is n h k).low))
   member_fine at wanted through Max (t.Rc n) r [] h hs e z y k a same =
@@ -484,8 +484,8 @@ module _ (p : NumberedProgram) (w : Things) where
   member_fine at wanted through Slice (t.Grid x n l) r (t.Int ∷ t.Int ∷ []) h hs e z y k a same =
       let q = where_some (nat_lt 1 n) (t.Grid x (n - 1) l) r e in
       subst (λ o. Sound p (λ u k. IsOf u o k) w (member at wanted (Some Slice) through h hs)) q.1
-      (view_seen at wanted (how.Slice (int_of (slice_index_or hs 0 nothing)) (int_of (slice_index_or hs 1 nothing))) through h x n l y k
-      (let two = int_args hs a in (ltb-true 1 n q.0, two.0, two.1)) (x, n - 1, l, same ∙ ap sliced y))
+      (view_seen at wanted (how.Slice (int_of (slice_index_or hs 0 no_value)) (int_of (slice_index_or hs 1 no_value))) through h x n l y k
+      (let two = int_args hs a in (ltb-true 1 n q.0, two.0, two.1)) (x, n - 1, l, same ∙ ap slice_type y))
   member_fine at wanted through Restrict (t.Grid x n l) r (t.Rc m ∷ []) h [] e z y k a same = absurd a
   member_fine at wanted through Restrict (t.Grid x n l) r (t.Rc m ∷ []) h (c ∷ d ∷ hs) e z y k a same = absurd a.1
   member_fine at wanted through Translate (t.Grid x n l) r (t.Pt m ∷ []) h [] e z y k a same = absurd a
@@ -498,12 +498,12 @@ module _ (p : NumberedProgram) (w : Things) where
 -- ---- expressions
 
 -- a value of its type, with the dimensions that types have, and the type that the text tells
-pub record Evaluates (w : Things) (env : Env) (x : NumberedExp) (type : ValueType) : Type 0 where
+pub record Evaluates (w : HeapTyping) (env : Env) (x : NumberedExp) (type : ValueType) : Type 0 where
   pub sound : Sound env.program (λ u h. IsOf u type h) w (eval env x)
   pub dims : DimsFine type
   pub seen : Seen type (type_of env x)
 
-pub env_stays : (uses : VariableUse → Bool) (s : ScopeContents) (u w : Things) (env : Env) → Grows u w → EnvFits uses s u env → EnvFits uses s w env
+pub env_stays : (uses : VariableUse → Bool) (s : ScopeContents) (u w : HeapTyping) (env : Env) → Grows u w → EnvFits uses s u env → EnvFits uses s w env
 env_stays uses s u w env g f = record {
   owner = sym g.owner ∙ f.owner;
   number = f.number;
@@ -516,11 +516,11 @@ env_stays uses s u w env g f = record {
 }
 
 -- an index: a coordinate, or an element of a grid
-indexed_fine : (p : NumberedProgram) (w : Things) (at : Place) (wanted u type r : ValueType) (ts : List ValueType) (h : Held) (zs : List ℤ)
-    → index_type type ts ≡ Some r → Seen type u → DimsFine type → IsOf w type h → Numbers (counts ts) zs → wanted ≡ element_seen u
-    → Sound p (λ x k. IsOf x r k) w (indexed (is_point u) at wanted u h zs) × DimsFine r × Seen r (element_seen u)
+indexed_fine : (p : ProgramView) (w : HeapTyping) (at : Place) (wanted u type r : ValueType) (ts : List ValueType) (h : Held) (zs : List ℤ)
+    → index_type type ts ≡ Some r → Seen type u → DimsFine type → IsOf w type h → Numbers (counts ts) zs → wanted ≡ static_element_type u
+    → Sound p (λ x k. IsOf x r k) w (indexed (is_point u) at wanted u h zs) × DimsFine r × Seen r (static_element_type u)
 indexed_fine p w at wanted u (t.Pt n) r (t.Int ∷ []) h zs e i d k l same =
-    subst (λ q. Sound p (λ x k. IsOf x q k) w (indexed (is_point u) at wanted u h zs) × DimsFine q × Seen q (element_seen u)) (some_same t.Int r e) (
+    subst (λ q. Sound p (λ x k. IsOf x q k) w (indexed (is_point u) at wanted u h zs) × DimsFine q × Seen q (static_element_type u)) (some_same t.Int r e) (
       subst (λ b. Sound p (λ x k. IsOf x t.Int k) w (indexed b at wanted u h zs)) (sym (ap is_point i.1))
           (sound_then p (λ x (y : ℤ). Fits w32 y) _ w (found_or fault.Bounds at
           (if int_le (pos 1) (slice_index_or zs 0 (pos 0)) then slice_get (coordinates_of (point_of h))
@@ -528,7 +528,7 @@ indexed_fine p w at wanted u (t.Pt n) r (t.Int ∷ []) h zs e i d k l same =
           (sound_found p _ w fault.Bounds at _ (λ y z. coordinate_fits (int_le (pos 1) (slice_index_or zs 0 (pos 0)))
           (pred (natural (slice_index_or zs 0 (pos 0)))) y z)) (λ x g y z. sound_value p _ x _ (y, refl, z))),
       tt,
-      ap element_seen i.1,
+      ap static_element_type i.1,
     )
   where
     coordinate_fits : (b : Bool) (c : ℕ) (y : ℤ) → (if b then slice_get (coordinates_of (point_of h)) c else None) ≡ Some y → Fits w32 y
@@ -547,16 +547,16 @@ indexed_fine p w at wanted u (t.Grid element n l) r ts h zs e i d k c same = by 
       q.1,
     )
 
-    by : (counts ts ≡ n) × (read_through l element ≡ r) → Sound p (λ x k. IsOf x r k) w (indexed (is_point u) at wanted u h zs) × DimsFine r × Seen r (element_seen u)
+    by : (counts ts ≡ n) × (read_through l element ≡ r) → Sound p (λ x k. IsOf x r k) w (indexed (is_point u) at wanted u h zs) × DimsFine r × Seen r (static_element_type u)
     by q =
-        subst (λ z. Sound p (λ x k. IsOf x z k) w (indexed (is_point u) at wanted u h zs) × DimsFine z × Seen z (element_seen u)) q.1 (
+        subst (λ z. Sound p (λ x k. IsOf x z k) w (indexed (is_point u) at wanted u h zs) × DimsFine z × Seen z (static_element_type u)) q.1 (
           subst (λ b. Sound p (λ x k. IsOf x (read_through l element) k) w (indexed b at wanted u h zs)) (sym (ap is_point i))
               (subst (λ o. Sound p (λ x k. IsOf x (read_through l element) k) w (indexed false at wanted o h zs)) (sym i)
               (element_fine p w at wanted (t.Grid element n l) h (point_of_numbers zs) element n l refl (grid_in w element n l h k)
               (own_of w (t.Grid element n l) h k) (numbers_point zs n (c.0 ∙ q.0) d.0 c.1)
-              (seen_form wanted element l (same ∙ ap element_seen i)))),
+              (seen_form wanted element l (same ∙ ap static_element_type i)))),
           read_dims l element d.1,
-          subst (λ z. Seen (read_through l element) (element_seen z)) (sym i) (seen_same (read_through l element)),
+          subst (λ z. Seen (read_through l element) (static_element_type z)) (sym i) (seen_same (read_through l element)),
         )
 indexed_fine p w at wanted u _ r ts h zs e i d k c same = absurd (none_some r e)
 
@@ -566,10 +566,10 @@ this_global None = refl
 this_global (Some class) = refl
 
 -- what the test of a cast tells
-cast_own : (w : Things) (i : ℕ) (type : ValueType) (h : Held) → w.owner ≡ i → (not (is_local type) || is_own i (thing_of h)) ≡ true → IsOwn w (is_local type) (thing_of h)
-cast_own w i type h e k l = same_owner i w.owner (thing_of h) (sym e) (sym (ap (λ b. not b || is_own i (thing_of h)) l) ∙ k)
+cast_own : (w : HeapTyping) (i : ℕ) (type : ValueType) (h : Held) → w.owner ≡ i → (not (is_local type) || is_own i (referent_of h)) ≡ true → IsOwn w (is_local type) (referent_of h)
+cast_own w i type h e k l = same_owner i w.owner (referent_of h) (sym e) (sym (ap (λ b. not b || is_own i (referent_of h)) l) ∙ k)
 
-to_type : (w : Things) (env : Env) (x : NumberedExp) (a b : ValueType) → a ≡ b → Evaluates w env x a → Evaluates w env x b
+to_type : (w : HeapTyping) (env : Env) (x : NumberedExp) (a b : ValueType) → a ≡ b → Evaluates w env x a → Evaluates w env x b
 to_type w env x a b z k = subst (λ (c : ValueType). Evaluates w env x c) z k
 
 -- the type of a node of which no operand is judged
@@ -587,10 +587,10 @@ never_called None (Some ts) type h = none_some type h
 never_called (Some m) (Some ts) type h = none_some type h
 
 zero_there : (n : ℕ) (h : Held) → IsDim n → where_dim n h ≡ h
-zero_there n h d = ap (λ b. if b then h else nothing) (dim_is n d)
+zero_there n h d = ap (λ b. if b then h else no_value) (dim_is n d)
 
 -- a zero of each type
-pub zero_fine : (w : Things) (type : ValueType) → DimsFine type → IsOf w type (zero_of type)
+pub zero_fine : (w : HeapTyping) (type : ValueType) → DimsFine type → IsOf w type (zero_of type)
 zero_fine w t.Int d = (_, refl, zero_fits)
 zero_fine w t.Long d = (_, refl, long_zero)
 zero_fine w t.Boolean d = (_, refl)
@@ -603,11 +603,11 @@ zero_fine w (t.Grid x n l) d = (None, refl, (λ id z. absurd (none_some id z)), 
 zero_fine w t.Null d = refl
 zero_fine w t.Void d = tt
 
-binary_seen : (p : NumberedProgram) (w : Things) (o : BinaryOperator) (a u r t' u' : ValueType) → binary_type o a u ≡ Some r → DimsFine a
+binary_seen : (p : ProgramView) (w : HeapTyping) (o : BinaryOperator) (a u r t' u' : ValueType) → binary_type o a u ≡ Some r → DimsFine a
     → DimsFine u → Seen a t' → Seen u u' → Seen r (operator_type o t' u')
 binary_seen p w o a u r t' u' e d f i j = (operated_fine p w (record { line = 0; col = 0 }) a u r t' u' (zero_of a) (zero_of u) i j (zero_fine w a d) (zero_fine w u f) o e).1
 
-unary_seen : (p : NumberedProgram) (w : Things) (o : UnaryOperator) (a r t' : ValueType) → unary_type o a ≡ Some r → DimsFine a → Seen a t' → Seen r t'
+unary_seen : (p : ProgramView) (w : HeapTyping) (o : UnaryOperator) (a r t' : ValueType) → unary_type o a ≡ Some r → DimsFine a → Seen a t' → Seen r t'
 unary_seen p w o a r t' e d i = (alone_fine p w o a r t' (zero_of a) e i (zero_fine w a d)).1
 
 pub from_or : (a b : Option ValueType) (r : ValueType) → option_or a b ≡ Some r → (a ≡ Some r) ⊎ (b ≡ Some r)
@@ -708,26 +708,26 @@ unary_dims un.Plus a r e d = subst DimsFine (where_some (is_whole a) a r e).1 d
 unary_dims un.Minus a r e d = subst DimsFine (where_some (is_whole a) a r e).1 d
 unary_dims un.Complement a r e d = subst DimsFine (where_some (is_whole a) a r e).1 d
 
-index_static : (type u r : ValueType) (ts : List ValueType) → index_type type ts ≡ Some r → Seen type u → DimsFine type → DimsFine r × Seen r (element_seen u)
-index_static (t.Pt n) u r (t.Int ∷ []) e i d = subst (λ q. DimsFine q × Seen q (element_seen u)) (some_same t.Int r e) (tt, ap element_seen i.1)
+index_static : (type u r : ValueType) (ts : List ValueType) → index_type type ts ≡ Some r → Seen type u → DimsFine type → DimsFine r × Seen r (static_element_type u)
+index_static (t.Pt n) u r (t.Int ∷ []) e i d = subst (λ q. DimsFine q × Seen q (static_element_type u)) (some_same t.Int r e) (tt, ap static_element_type i.1)
 index_static (t.Grid x n l) u r ts e i d = by ts e
   where
-    done : read_through l x ≡ r → DimsFine r × Seen r (element_seen u)
-    done q = subst (λ z. DimsFine z × Seen z (element_seen u)) q (read_dims l x d.1, subst (λ z. Seen (read_through l x) (element_seen z)) (sym i) (seen_same (read_through l x)))
+    done : read_through l x ≡ r → DimsFine r × Seen r (static_element_type u)
+    done q = subst (λ z. DimsFine z × Seen z (static_element_type u)) q (read_dims l x d.1, subst (λ z. Seen (read_through l x) (static_element_type z)) (sym i) (seen_same (read_through l x)))
 
-    by : (ts : List ValueType) → index_type (t.Grid x n l) ts ≡ Some r → DimsFine r × Seen r (element_seen u)
+    by : (ts : List ValueType) → index_type (t.Grid x n l) ts ≡ Some r → DimsFine r × Seen r (static_element_type u)
     by (t.Pt m ∷ []) e = done (where_some (n == m) (read_through l x) r e).1
     by ts e = done (where_some (all_ints ts && (length ts == n)) (read_through l x) r e).1
 index_static _ u r ts e i d = absurd (none_some r e)
 
 -- ---- members of the language
 
-abbrev pub MemberThere : NumberedProgram → Option ValueType → Option (List ValueType) → ℕ → ValueType → Type 0
+abbrev pub MemberThere : ProgramView → Option ValueType → Option (List ValueType) → ℕ → ValueType → Type 0
 MemberThere p o q name r =
     (type : ValueType) × (ts : List ValueType) × (o ≡ Some type) × (q ≡ Some ts) × (b : BuiltIn) × (built_in p name ≡ Some b)
     × (member_type b type ts ≡ Some r) × (is_object type ≡ false) × (is_void r ≡ false)
 
-pub member_there : (p : NumberedProgram) (o : Option ValueType) (q : Option (List ValueType)) (name : ℕ) (r : ValueType) → operand (typing.member p o name q) ≡ Some r → MemberThere p o q name r
+pub member_there : (p : ProgramView) (o : Option ValueType) (q : Option (List ValueType)) (name : ℕ) (r : ValueType) → operand (typing.member p o name q) ≡ Some r → MemberThere p o q name r
 member_there p None q name r h = absurd (none_some r h)
 member_there p (Some type) None name r h = absurd (none_some r h)
 member_there p (Some type) (Some ts) name r h = by type h
@@ -760,7 +760,7 @@ not_object (t.Dm n) u z i = ap is_object i.1
 not_object (t.Class c l) u z i = absurd (true_false z)
 not_object _ u z i = ap is_object i
 
-built_in_seen : (p : NumberedProgram) (name : ℕ) (u : ValueType) → is_object u ≡ false → member_seen p name u ≡ built_in_type (built_in p name) u
+built_in_seen : (p : ProgramView) (name : ℕ) (u : ValueType) → is_object u ≡ false → static_member_type p name u ≡ built_in_type (built_in p name) u
 built_in_seen p name (t.Class c l) z = absurd (true_false z)
 built_in_seen p name _ z = refl
 
@@ -777,7 +777,7 @@ member_static Restrict (t.Grid x n l) u r (t.Rc m ∷ []) e z d i = subst (λ q.
 member_static Translate (t.Grid x n l) u r (t.Pt m ∷ []) e z d i = subst (λ q. DimsFine q × Seen q u) (where_some (n == m) (t.Grid x n l) r e).1 (d, i)
 member_static Slice (t.Grid x n l) u r (t.Int ∷ t.Int ∷ []) e z d i =
     let q = where_some (nat_lt 1 n) (t.Grid x (n - 1) l) r e in
-    subst (λ q. DimsFine q × Seen q (sliced u)) q.1 ((fewer n (ltb-true 1 n q.0) d.0, d.1), ap sliced i)
+    subst (λ q. DimsFine q × Seen q (slice_type u)) q.1 ((fewer n (ltb-true 1 n q.0) d.0, d.1), ap slice_type i)
   where
     fewer : (n : ℕ) → 1 < n → IsDim n → IsDim (n - 1)
     fewer n a b = (omega (arith, b.0), omega (arith, b.1))
@@ -789,9 +789,9 @@ member_static _ type u r ts e z d i = absurd (none_some r e)
 -- ---- selections
 
 -- the type of a field in the text
-pub select_seen : (p : NumberedProgram) (env : Env) (a : NumberedExp) (name c : ℕ) (l : Bool) (of : ValueType) → type_of env a ≡ t.Class c l
-    → named_field_type p c name ≡ Some of → field_seen p name (type_of env a) ≡ read_through l of
-select_seen p env a name c l of z k = ap (field_seen p name) z ∙ ap (λ o. option_map_or (read_through l) o t.Void) k
+pub select_seen : (p : ProgramView) (env : Env) (a : NumberedExp) (name c : ℕ) (l : Bool) (of : ValueType) → type_of env a ≡ t.Class c l
+    → named_field_type p c name ≡ Some of → static_field_type p name (type_of env a) ≡ read_through l of
+select_seen p env a name c l of z k = ap (static_field_type p name) z ∙ ap (λ o. option_map_or (read_through l) o t.Void) k
 
 pub own_seen : (env : Env) (at : Place) (field c : ℕ) (of : ValueType) → this_of env.method ≡ Some c → field_type env.program c field
     ≡ Some of → type_of env (e.OwnField at field) ≡ read_through false of
@@ -799,7 +799,7 @@ own_seen env at field c of z k =
     ap (λ o. unwrap_or (option_map as_global (option_and_then (λ class. field_type env.program class field) o)) t.Void) z
     ∙ ap (λ o. unwrap_or (option_map as_global o) t.Void) k
 
-selected : (w : Things) (env : Env) → FieldsFit env.program → (at : Place) (a : NumberedExp) (name : ℕ) (type r : ValueType)
+selected : (w : HeapTyping) (env : Env) → FieldsFit env.program → (at : Place) (a : NumberedExp) (name : ℕ) (type r : ValueType)
     → select_type env.program type name ≡ Some r → Evaluates w env a type → Evaluates w env (e.Select at a name) r
 selected w env g at a name (t.Class c l) r h k =
     let p = env.program in
@@ -817,25 +817,25 @@ selected w env g at a name (t.Class c l) r h k =
     })
 selected w env g at a name _ r h k = absurd (none_some r h)
 
-counted : (p : NumberedProgram) (s : ScopeContents) (type : ValueType) (low high : NumberedExp) → operand_type p s low ≡ Some type → count_of type ≡ lows p s (e.MoreRange (e.Plain low high) e.NoRange)
+counted : (p : ProgramView) (s : ScopeContents) (type : ValueType) (low high : NumberedExp) → operand_type p s low ≡ Some type → count_of type ≡ lows p s (e.MoreRange (e.Plain low high) e.NoRange)
 counted p s type low high h = sym (ap (λ o. maybe_count p s o + 0) h ∙ plus_zero (count_of type))
   where
     plus_zero : (n : ℕ) → n + 0 ≡ n
     plus_zero n = omega arith
 
-lows_more : (p : NumberedProgram) (s : ScopeContents) (r : NumberedRange) (rest : NumberedRanges) → lows p s (e.MoreRange r e.NoRange) + lows p s rest ≡ lows p s (e.MoreRange r rest)
+lows_more : (p : ProgramView) (s : ScopeContents) (r : NumberedRange) (rest : NumberedRanges) → lows p s (e.MoreRange r e.NoRange) + lows p s rest ≡ lows p s (e.MoreRange r rest)
 lows_more p s (e.Plain low high) rest = omega arith
 lows_more p s (e.Stepped low high step) rest = omega arith
 
 -- how many numbers an operand has
-number_fine : (w : Things) (env : Env) (s : ScopeContents) (x : NumberedExp) (type : ValueType) → operand_type env.program s x ≡ Some type
+number_fine : (w : HeapTyping) (env : Env) (s : ScopeContents) (x : NumberedExp) (type : ValueType) → operand_type env.program s x ≡ Some type
     → (n : ℕ) → count_of type ≡ n → Evaluates w env x type → Sound env.program (λ u h. Numbers n (numbers_in h)) w (eval env x)
-number_fine w env s x type z n c r = weaker env.program _ _ w _ r.sound (λ u i h y. let v = (no_call (known env.program s x) type z).2 in
+number_fine w env s x type z n c r = weaker env.program _ _ w _ r.sound (λ u i h y. let v = (no_call (type_result env.program s x) type z).2 in
     (numbers_count u type h v r.dims y ∙ c, numbers_fit u type h v y))
 
 module _ (uses : VariableUse → Bool) (s : ScopeContents) where
   mutual
-    pub eval_fine : (w : Things) (env : Env) → EnvFits uses s w env → FieldsFit env.program → (x : NumberedExp) → IsWritten uses x
+    pub eval_fine : (w : HeapTyping) (env : Env) → EnvFits uses s w env → FieldsFit env.program → (x : NumberedExp) → IsWritten uses x
         → (type : ValueType) → operand_type env.program s x ≡ Some type → Evaluates w env x type
     eval_fine w env f g (e.Int at n) k type z = to_type w env (e.Int at n) t.Int type (of_plain t.Int type z) (record { sound = sound_value env.program _ w _ (n, refl, k); dims = tt; seen = refl })
     eval_fine w env f g (e.Long at n) k type z = to_type w env (e.Long at n) t.Long type (of_plain t.Long type z)
@@ -913,7 +913,7 @@ module _ (uses : VariableUse → Bool) (s : ScopeContents) where
         }
     eval_fine w env f g (e.Binary at op a b) k type z =
         let p = env.program in
-        let q = both_there (binary_type op) (operand_type p s a) (operand_type p s b) type (no_call (plain (both (operand_type p s a) (operand_type p s b) (binary_type op))) type z).1 in
+        let q = both_there (binary_type op) (operand_type p s a) (operand_type p s b) type (no_call (plain (and_then_both (operand_type p s a) (operand_type p s b) (binary_type op))) type z).1 in
         let l = eval_fine w env f g a k.0 q.0 q.2 in
         let r = eval_fine w env f g b k.1 q.1 q.3 in
         record {
@@ -958,7 +958,7 @@ module _ (uses : VariableUse → Bool) (s : ScopeContents) where
         }
     eval_fine w env f g (e.Index at a parts) k type z =
         let p = env.program in
-        let q = both_there index_type (operand_type p s a) (operands p s parts) type (no_call (plain (both (operand_type p s a) (operands p s parts) index_type)) type z).1 in
+        let q = both_there index_type (operand_type p s a) (operands p s parts) type (no_call (plain (and_then_both (operand_type p s a) (operands p s parts) index_type)) type z).1 in
         let r = eval_fine w env f g a k.0 q.0 q.2 in
         let i = index_static q.0 (type_of env a) type q.1 q.4 r.seen r.dims in
         record {
@@ -969,7 +969,7 @@ module _ (uses : VariableUse → Bool) (s : ScopeContents) where
           seen = i.1;
         }
 
-    pub all_fine : (w : Things) (env : Env) → EnvFits uses s w env → FieldsFit env.program → (xs : NumberedExps) → AreWritten uses xs
+    pub all_fine : (w : HeapTyping) (env : Env) → EnvFits uses s w env → FieldsFit env.program → (xs : NumberedExps) → AreWritten uses xs
         → (ts : List ValueType) → operands env.program s xs ≡ Some ts → Sound env.program (λ u hs. AllOfTypes u ts hs) w (eval_all env xs)
     all_fine w env f g e.NoExp k ts z = subst (λ q. Sound env.program (λ u hs. AllOfTypes u q hs) w (eval_all env e.NoExp)) (some_same [] ts z) (sound_value env.program _ w [] tt)
     all_fine w env f g (e.MoreExp x xs) k ts z =
@@ -981,7 +981,7 @@ module _ (uses : VariableUse → Bool) (s : ScopeContents) where
         sound_then p (λ u hs. AllOfTypes u j.1 hs) _ u (eval_all env xs) _ (all_fine u env (env_stays uses s w u env i f) g xs k.1 j.1 j.3) (λ v l hs m.
         sound_value p _ v _ (of_stays u v o.0 h l y, m))))
 
-    pub numbers_fine : (w : Things) (env : Env) → EnvFits uses s w env → FieldsFit env.program → (xs : NumberedExps) → AreWritten uses xs
+    pub numbers_fine : (w : HeapTyping) (env : Env) → EnvFits uses s w env → FieldsFit env.program → (xs : NumberedExps) → AreWritten uses xs
         → (ts : List ValueType) → operands env.program s xs ≡ Some ts
         → Sound env.program (λ u zs. Numbers (counts ts) zs) w (eval_numbers env xs)
     numbers_fine w env f g e.NoExp k ts z = sound_value env.program _ w [] (ap counts (some_same [] ts z), tt)
@@ -992,7 +992,7 @@ module _ (uses : VariableUse → Bool) (s : ScopeContents) where
         let r = eval_fine w env f g x k.0 o.0 o.1 in
         sound_then p (λ u h. IsOf u o.0 h) _ w (eval env x) _ r.sound (λ u i h y.
         sound_then p (λ u zs. Numbers (counts j.1) zs) _ u (eval_numbers env xs) _ (numbers_fine u env (env_stays uses s w u env i f) g xs k.1 j.1 j.3) (λ l m zs n.
-        let v = (no_call (known p s x) o.0 o.1).2 in
+        let v = (no_call (type_result p s x) o.0 o.1).2 in
         sound_value p _ l _ (
           length-append (numbers_in h) zs ∙ ap₂ (λ a b. a + b) (numbers_count u o.0 h v r.dims y) n.0
               ∙ ap counts (sym (ap (λ q. q ++ j.1) o.2) ∙ j.4),
@@ -1000,8 +1000,8 @@ module _ (uses : VariableUse → Bool) (s : ScopeContents) where
         )))
 
     -- the bounds and steps of a range, each of so many numbers
-    range_fine : (w : Things) (env : Env) → EnvFits uses s w env → FieldsFit env.program → (r : NumberedRange) → IsRangeWritten uses r
-        → (ts : List ValueType) → bound env.program s r ≡ Some ts → (c : ℕ) → AllCount c ts
+    range_fine : (w : HeapTyping) (env : Env) → EnvFits uses s w env → FieldsFit env.program → (r : NumberedRange) → IsRangeWritten uses r
+        → (ts : List ValueType) → bound_types env.program s r ≡ Some ts → (c : ℕ) → AllCount c ts
         → Sound env.program (λ u b. AreOf (lows env.program s (e.MoreRange r e.NoRange)) b) w (eval_range env r)
     range_fine w env f g (e.Plain low high) k ts z c each =
         let p = env.program in
@@ -1018,7 +1018,7 @@ module _ (uses : VariableUse → Bool) (s : ScopeContents) where
         sound_value p _ l _ (record { low = y.0; high = q.0; step = length-map (numbers_in a) _ ∙ y.0; lows = y.1; highs = q.1 })))
     range_fine w env f g (e.Stepped low high step) k ts z c each =
         let p = env.program in
-        let j = joined_there (joined (one (operand_type p s low)) (one (operand_type p s high))) (one (operand_type p s step)) ts z in
+        let j = joined_there (append_both (one (operand_type p s low)) (one (operand_type p s high))) (one (operand_type p s step)) ts z in
         let l = joined_there (one (operand_type p s low)) (one (operand_type p s high)) j.0 j.2 in
         let o = one_there (operand_type p s low) l.0 l.2 in
         let h = one_there (operand_type p s high) l.1 l.3 in
@@ -1035,13 +1035,13 @@ module _ (uses : VariableUse → Bool) (s : ScopeContents) where
         (env_stays uses s u x env m (env_stays uses s w u env i f)) g step k.2 d.0 d.1)) (λ v r e t.
         sound_value p _ v _ (record { low = y.0; high = q.0; step = t.0; lows = y.1; highs = q.1 }))))
 
-    ranges_fine : (w : Things) (env : Env) → EnvFits uses s w env → FieldsFit env.program → (rs : NumberedRanges) → AreRangesWritten uses rs
+    ranges_fine : (w : HeapTyping) (env : Env) → EnvFits uses s w env → FieldsFit env.program → (rs : NumberedRanges) → AreRangesWritten uses rs
         → (ts : List ValueType) → bounds env.program s rs ≡ Some ts → (c : ℕ) → AllCount c ts
         → Sound env.program (λ u b. AreOf (lows env.program s rs) b) w (eval_ranges env rs)
     ranges_fine w env f g e.NoRange k ts z c each = sound_value env.program _ w _ (record { low = refl; high = refl; step = refl; lows = tt; highs = tt })
     ranges_fine w env f g (e.MoreRange r rest) k ts z c each =
         let p = env.program in
-        let j = joined_there (bound p s r) (bounds p s rest) ts z in
+        let j = joined_there (bound_types p s r) (bounds p s rest) ts z in
         let all = counts_both c j.0 j.1 (subst (AllCount c) (sym j.4) each) in
         sound_then p (λ u b. AreOf (lows p s (e.MoreRange r e.NoRange)) b) _ w (eval_range env r) _ (range_fine w env f g r k.0 j.0 j.2 c all.0) (λ u i a y.
         sound_then p (λ u b. AreOf (lows p s rest) b) _ u (eval_ranges env rest) _ (ranges_fine u env (env_stays uses s w u env i f) g rest k.1 j.1 j.3 c all.1) (λ l m b n.
@@ -1054,7 +1054,7 @@ module _ (uses : VariableUse → Bool) (s : ScopeContents) where
         })))
 
     -- the dimensions of a literal
-    rect_dims : (w : Things) (env : Env) → EnvFits uses s w env → FieldsFit env.program → (rs : NumberedRanges)
+    rect_dims : (w : HeapTyping) (env : Env) → EnvFits uses s w env → FieldsFit env.program → (rs : NumberedRanges)
         → (lows env.program s rs ≡ range_count rs) ⊎ ((n : ℕ) × (first_low env.program s rs ≡ Some (t.Pt n)) × (lows env.program s rs ≡ n))
         → IsDim (range_count rs) → AreRangesWritten uses rs → IsDim (lows env.program s rs)
     rect_dims w env f g rs (inl c) d k = subst IsDim (sym c) d

@@ -14,10 +14,10 @@ use Rattle.ti_lang.specs.Program.Types as t
 use Rattle.ti_lang.specs.Typing.Kinds.{is_void}
 use Rattle.ti_lang.specs.Meaning.Held.{Plain, plain_of}
 use Rattle.ti_lang.specs.Meaning.Held as held
-use Rattle.ti_lang.specs.Meaning.Processes.{Setting}
+use Rattle.ti_lang.specs.Meaning.Processes.{RunConfig}
 use Rattle.ti_lang.specs.Meaning.NextStep.{IsNext}
-use Rattle.ti_align.specs.Things.{Things, IsOf, DepositFits}
-use Rattle.ti_align.specs.There.{SuitsView}
+use Rattle.ti_align.specs.HeapTyping.{HeapTyping, IsOf, DepositFits}
+use Rattle.ti_align.specs.Existing.{SuitsView}
 use Rattle.ti_align.specs.Heap.{FieldsStorable}
 use Rattle.ti_align.specs.Typed.{RunTyped}
 use Rattle.ti_align.specs.Formed.{IsFormed, IsFormedDeposit, IsFormedView, IsFormedAction, ActionsFormed}
@@ -25,7 +25,7 @@ use Rattle.ti_align.proofs.RunTypes.Stated.{stored_value}
 use Rattle.ti_align.proofs.RunTypes.Acting.{next_there, next_handed}
 
 -- a value of a type
-value_formed : (w : Things) (type : ValueType) (x : Value) → is_void type ≡ false → IsOf w type (Plain x) → IsFormed x
+value_formed : (w : HeapTyping) (type : ValueType) (x : Value) → is_void type ≡ false → IsOf w type (Plain x) → IsFormed x
 value_formed w (t.Pt n) x z k = subst IsFormed (sym (ap plain_of k.1)) k.2.form
 value_formed w (t.Rc n) x z k = subst IsFormed (sym (ap plain_of k.1)) k.2.form
 value_formed w t.Null x z k = subst IsFormed (sym (ap plain_of k)) tt
@@ -39,7 +39,7 @@ value_formed w t.Void x z k = absurd (never z)
     never z = cc
 value_formed w _ x z k = subst IsFormed (sym (ap plain_of k.1)) tt
 
-deposit_formed : (w : Things) (type : ValueType) (given : Deposit) → DepositFits w type given → IsFormedDeposit given
+deposit_formed : (w : HeapTyping) (type : ValueType) (given : Deposit) → DepositFits w type given → IsFormedDeposit given
 deposit_formed w type (deposit.One value) k = value_formed w type value k.1 k.0
 deposit_formed w type deposit.Nothing k = tt
 deposit_formed w type (deposit.Count n) k = tt
@@ -49,7 +49,7 @@ view_formed (Restrict r) n k = k.form
 view_formed (Translate by) n k = k.form
 view_formed (Slice k j) n z = tt
 
-pub actions_formed : (s : Setting) (es : List Entry) → FieldsStorable s.program → RunTyped s es → ActionsFormed s es
+pub actions_formed : (s : RunConfig) (es : List Entry) → FieldsStorable s.program → RunTyped s es → ActionsFormed s es
 actions_formed s es storable typed i p at a l x n = by a n
   where
     by : (a : Action) → IsNext p (next.Act at a) → IsFormedAction a

@@ -15,10 +15,10 @@ use Rattle.ti_base.specs.declared.fault.FaultKind.TheVariants as fault
 use Rattle.ti_base.specs.declared.action.ViewHow.{ViewHow}
 use Rattle.ti_base.specs.declared.action.ViewHow.TheVariants.{Restrict, Translate, Slice}
 use Rattle.ti_base.specs.WholeNumbers.{Fits, wrap, sum, difference, remainder, rounded_down}
-use Rattle.ti_base.specs.Points.{IsDim, IsPoint, HasCoordinates, pt_sum, pt_difference, moved}
+use Rattle.ti_base.specs.Points.{IsDim, IsPoint, HasCoordinates, pt_sum, pt_difference, translate_point}
 use Rattle.ti_base.specs.PointSets.{AllOf, IsAmong, Rises, meet, minus, union}
-use Rattle.ti_base.specs.Ranges.{Range, IsOn, is_on, IsTidy, natural, numbers_from, numbers_on, last_of, range_of, tidy, unused, both, shifted, is_empty_range}
-use Rattle.ti_base.specs.Rects.{IsRect, HasPoints, IsIn, first_range, second_range, third_range, points_of, empty_rect, is_empty, of_ranges, used, made, translated, without}
+use Rattle.ti_base.specs.Ranges.{Range, IsOn, is_on, IsTidy, natural, numbers_from, numbers_on, last_of, range_of, tidy, unused_range, meet_ranges, shift_range, is_empty_range}
+use Rattle.ti_base.specs.Rects.{IsRect, HasPoints, IsIn, first_range, second_range, third_range, points_of, empty_rect, is_empty, of_ranges, used_range, spanned_rect, translate_rect, without}
 use Rattle.ti_base.specs.Rects as rects
 use Rattle.ti_base.specs.Cells.{is_coordinate, are_coordinates, leaves, suits, view_fault, view_domain}
 use Rattle.ti_base.proofs.Lemmas.{wraps_some, meet_lists, minus_lists, union_lists}
@@ -29,8 +29,8 @@ use Rattle.ti_lang.specs.Meaning.Held.{zero_point}
 use Rattle.ti_lang.specs.Meaning.Literals.{coordinates_of, point_of_numbers, Bounds, is_even, rect_of_bounds}
 use Rattle.ti_lang.specs.Meaning.Answers.{IsPointOf, IsRectOf}
 use Rattle.ti_lang.proofs.Lemmas.{dim_is}
-use Rattle.ti_align.specs.Things.{ArePoints}
-use Rattle.ti_align.specs.There.{SuitsView, dims_viewed}
+use Rattle.ti_align.specs.HeapTyping.{ArePoints}
+use Rattle.ti_align.specs.Existing.{SuitsView, dims_viewed}
 use Rattle.ti_align.proofs.Runs.Vars.{true_false, and_left, and_right}
 
 -- ---- numbers
@@ -252,13 +252,13 @@ range_fits [] f = (one_fits, zero_fits)
 range_fits (x ∷ []) f = (f.0, f.0)
 range_fits (x ∷ y ∷ rest) f = (f.0, last_fits y rest f.1.0 f.1.1)
 
-both_ends : (r s : Range) → 0 < r.step → EndsFit r → EndsFit (both r s)
+both_ends : (r s : Range) → 0 < r.step → EndsFit r → EndsFit (meet_ranges r s)
 both_ends r s k f = range_fits (filter (is_on s) (numbers_on r)) (filter_fit (is_on s) (numbers_on r) (numbers_fit r k f))
 
 tidy_ends : (r : Range) → 0 < r.step → EndsFit r → EndsFit (tidy r)
 tidy_ends r k f = range_fits (numbers_on r) (numbers_fit r k f)
 
-unused_ends : EndsFit unused
+unused_ends : EndsFit unused_range
 unused_ends = (zero_fits, zero_fits)
 
 last_numbers : (x : ℤ) (step n : ℕ) → last_of x (numbers_from (x +ℤ pos step) step n) ≡ x +ℤ pos (n * step)
@@ -374,13 +374,13 @@ points_placed n r k = let l = points_listed r k.form in (are_from n (points_of r
 -- meets
 meet_dims : (n : ℕ) (r s : Rect) → HasDims n r → HasDims n (rects.meet r s)
 meet_dims n r s h = subst (λ k. HasDims k (rects.meet r s)) h.0
-    (ranges_dims r.dim (both (first_range r) (first_range s)) (both (second_range r) (second_range s))
-    (both (third_range r) (third_range s)))
+    (ranges_dims r.dim (meet_ranges (first_range r) (first_range s)) (meet_ranges (second_range r) (second_range s))
+    (meet_ranges (third_range r) (third_range s)))
 
 pub meet_form : (n : ℕ) (r s : Rect) → IsRectOf n r → IsRectOf n s → IsRectOf n (rects.meet r s)
 meet_form n r s a b =
     rect_from n (rects.meet r s) (meet_points r s a.form b.form (b.dim_is ∙ sym a.dim_is)).0 (meet_dims n r s (rect_dims n r a))
-    (ranges_ends r.dim (both (first_range r) (first_range s)) (both (second_range r) (second_range s)) (both (third_range r) (third_range s))
+    (ranges_ends r.dim (meet_ranges (first_range r) (first_range s)) (meet_ranges (second_range r) (second_range s)) (meet_ranges (third_range r) (third_range s))
     (both_ends (first_range r) (first_range s) (first_step r a.form) (first_ends n r a)) (both_ends (second_range r) (second_range s) (second_step r a.form) (second_ends n r a))
     (both_ends (third_range r) (third_range s) (third_step r a.form) (third_ends n r a)))
 
@@ -399,26 +399,26 @@ record Steps (n : ℕ) (step : Point) : Type 0 where
 -- the range of a coordinate that may not be used
 record IsUsed (n k : ℕ) (r : Range) : Type 0 where
   form : IsTidy r
-  none : n < k → r ≡ unused
+  none : n < k → r ≡ unused_range
   ends : EndsFit r
 
-used_form : (n k : ℕ) (r : Range) → (k ≤ n → 0 < r.step) → EndsFit r → IsUsed n k (used n k r)
+used_form : (n k : ℕ) (r : Range) → (k ≤ n → 0 < r.step) → EndsFit r → IsUsed n k (used_range n k r)
 used_form n k r s f = by (nat_le k n) refl
   where
-    by : (b : Bool) → nat_le k n ≡ b → IsUsed n k (if b then tidy r else unused)
+    by : (b : Bool) → nat_le k n ≡ b → IsUsed n k (if b then tidy r else unused_range)
     by true z = let h = leb-true k n z in record { form = tidy_tidy r (s h); none = λ l. absurd (omega (arith, h, l)); ends = tidy_ends r (s h) f }
     by false z = record { form = inr (record { steps = 0; reached = refl; forward = omega arith; single = λ z. refl }); none = λ l. refl; ends = unused_ends }
 
-made_form : (n : ℕ) (lo hi step : Point) → IsPointOf n lo → IsPointOf n hi → Steps n step → IsRectOf n (made lo hi step)
+made_form : (n : ℕ) (lo hi step : Point) → IsPointOf n lo → IsPointOf n hi → Steps n step → IsRectOf n (spanned_rect lo hi step)
 made_form n lo hi step a b s =
     let x : Range = record { low = lo.x1; high = hi.x1; step = natural step.x1 } in
     let y : Range = record { low = lo.x2; high = hi.x2; step = natural step.x2 } in
     let z : Range = record { low = lo.x3; high = hi.x3; step = natural step.x3 } in
     let second = used_form lo.dim 2 y (λ l. s.second (subst (λ d. 2 ≤ d) a.dim_is l)) (a.coordinates.1, b.coordinates.1) in
     let third = used_form lo.dim 3 z (λ l. s.third (subst (λ d. 3 ≤ d) a.dim_is l)) (a.coordinates.2, b.coordinates.2) in
-    let ends = ranges_ends lo.dim (tidy x) (used lo.dim 2 y) (used lo.dim 3 z) (tidy_ends x s.first (a.coordinates.0, b.coordinates.0)) second.ends third.ends in
-    rect_from n (made lo hi step) (of_points lo.dim (tidy x) (used lo.dim 2 y) (used lo.dim 3 z) a.form.dim (tidy_tidy x s.first) second.form third.form second.none third.none).0
-    (subst (λ d. HasDims d (made lo hi step)) a.dim_is (ranges_dims lo.dim (tidy x) (used lo.dim 2 y) (used lo.dim 3 z))) ends
+    let ends = ranges_ends lo.dim (tidy x) (used_range lo.dim 2 y) (used_range lo.dim 3 z) (tidy_ends x s.first (a.coordinates.0, b.coordinates.0)) second.ends third.ends in
+    rect_from n (spanned_rect lo hi step) (of_points lo.dim (tidy x) (used_range lo.dim 2 y) (used_range lo.dim 3 z) a.form.dim (tidy_tidy x s.first) second.form third.form second.none third.none).0
+    (subst (λ d. HasDims d (spanned_rect lo hi step)) a.dim_is (ranges_dims lo.dim (tidy x) (used_range lo.dim 2 y) (used_range lo.dim 3 z))) ends
 
 from_one : (x : ℤ) → int_le (pos 1) x ≡ true → pos 1 ≤ℤ x
 from_one x h = grind (arith, ints)
@@ -453,7 +453,7 @@ pub bounds_form : (n : ℕ) (b : Bounds) → AreOf n b → IsDim n → list_all 
 bounds_form n b h d p =
     let even : is_even b ≡ true = ap₂ (λ x y. x && y) (ap₂ (λ x y. x && y) (dim_is (length b.low) (subst IsDim (sym h.low) d))
     (eq-eqb (length b.high) (length b.low) (h.high ∙ sym h.low))) (eq-eqb (length b.step) (length b.low) (h.step ∙ sym h.low)) in
-    subst (λ z. IsRectOf n (if z then made (point_of_numbers b.low) (point_of_numbers b.high) (point_of_numbers b.step) else empty_rect 1)) (sym even)
+    subst (λ z. IsRectOf n (if z then spanned_rect (point_of_numbers b.low) (point_of_numbers b.high) (point_of_numbers b.step) else empty_rect 1)) (sym even)
     (made_form n (point_of_numbers b.low) (point_of_numbers b.high) (point_of_numbers b.step) (numbers_point b.low n h.low d h.lows)
     (numbers_point b.high n h.high d h.highs) (steps_of n b.step h.step d p))
 
@@ -473,19 +473,19 @@ view_dims : (how : ViewHow) (n : ℕ) (r : Rect) → HasDims n r → HasDims (di
 view_dims (Restrict s) n r d = meet_dims n r s d
 view_dims (Translate by) n r d = moved_dims (is_empty r)
   where
-    moved_dims : (b : Bool) → HasDims n (if b then r else of_ranges r.dim (shifted by.x1 (first_range r)) (shifted by.x2 (second_range r)) (shifted by.x3 (third_range r)))
+    moved_dims : (b : Bool) → HasDims n (if b then r else of_ranges r.dim (shift_range by.x1 (first_range r)) (shift_range by.x2 (second_range r)) (shift_range by.x3 (third_range r)))
     moved_dims true = d
-    moved_dims false = subst (λ k. HasDims k (of_ranges r.dim (shifted by.x1 (first_range r)) (shifted by.x2 (second_range r))
-        (shifted by.x3 (third_range r)))) d.0 (ranges_dims r.dim (shifted by.x1 (first_range r)) (shifted by.x2 (second_range r))
-        (shifted by.x3 (third_range r)))
+    moved_dims false = subst (λ k. HasDims k (of_ranges r.dim (shift_range by.x1 (first_range r)) (shift_range by.x2 (second_range r))
+        (shift_range by.x3 (third_range r)))) d.0 (ranges_dims r.dim (shift_range by.x1 (first_range r)) (shift_range by.x2 (second_range r))
+        (shift_range by.x3 (third_range r)))
 view_dims (Slice c j) n r d = subst (λ k. HasDims (k - 1) (without (natural c) r)) d.0 (by (natural c == 1) (natural c == 2))
   where
     by : (a b : Bool) → HasDims (r.dim - 1)
-        (if a then of_ranges (r.dim - 1) (second_range r) (third_range r) unused else if b then of_ranges (r.dim - 1) (first_range r)
-        (third_range r) unused else of_ranges (r.dim - 1) (first_range r) (second_range r) unused)
-    by true b = ranges_dims (r.dim - 1) (second_range r) (third_range r) unused
-    by false true = ranges_dims (r.dim - 1) (first_range r) (third_range r) unused
-    by false false = ranges_dims (r.dim - 1) (first_range r) (second_range r) unused
+        (if a then of_ranges (r.dim - 1) (second_range r) (third_range r) unused_range else if b then of_ranges (r.dim - 1) (first_range r)
+        (third_range r) unused_range else of_ranges (r.dim - 1) (first_range r) (second_range r) unused_range)
+    by true b = ranges_dims (r.dim - 1) (second_range r) (third_range r) unused_range
+    by false true = ranges_dims (r.dim - 1) (first_range r) (third_range r) unused_range
+    by false false = ranges_dims (r.dim - 1) (first_range r) (second_range r) unused_range
 
 coordinate_from : (x : ℤ) → is_coordinate x ≡ true → Fits w32 x
 coordinate_from x e =
@@ -500,7 +500,7 @@ have_coordinates p e =
     let b = both_true (is_coordinate p.x1) (is_coordinate p.x2) a.0 in
     (coordinate_from p.x1 b.0, coordinate_from p.x2 b.1, coordinate_from p.x3 a.1)
 
-moved_ends : (r : Rect) (by : Point) → EndsHave r → view_fault (Translate by) r ≡ None → EndsHave (translated r by)
+moved_ends : (r : Rect) (by : Point) → EndsHave r → view_fault (Translate by) r ≡ None → EndsHave (translate_rect r by)
 moved_ends r by k z = go (is_empty r) refl
   where
     stays : (b : Bool) → (if b then Some fault.Range else None) ≡ None → b ≡ false
@@ -511,24 +511,24 @@ moved_ends r by k z = go (is_empty r) refl
     not_true true h = refl
     not_true false h = absurd (true_false h)
 
-    go : (e : Bool) → is_empty r ≡ e → EndsHave (if e then r else of_ranges r.dim (shifted by.x1 (first_range r)) (shifted by.x2 (second_range r)) (shifted by.x3 (third_range r)))
+    go : (e : Bool) → is_empty r ≡ e → EndsHave (if e then r else of_ranges r.dim (shift_range by.x1 (first_range r)) (shift_range by.x2 (second_range r)) (shift_range by.x3 (third_range r)))
     go true h = k
     go false h =
         let l : leaves r by ≡ false = stays (leaves r by) z in
-        let both : (are_coordinates (moved r.lo by) && are_coordinates (moved r.hi by)) ≡ true =
-        not_true _ (sym (ap (λ b. not b && not (are_coordinates (moved r.lo by) && are_coordinates (moved r.hi by))) h) ∙ l) in
-        let low = have_coordinates (moved r.lo by) (and_left (are_coordinates (moved r.lo by)) (are_coordinates (moved r.hi by)) both) in
-        let high = have_coordinates (moved r.hi by) (and_right (are_coordinates (moved r.lo by)) (are_coordinates (moved r.hi by)) both) in
-        ranges_ends r.dim (shifted by.x1 (first_range r)) (shifted by.x2 (second_range r)) (shifted by.x3 (third_range r)) (low.0, high.0) (low.1, high.1) (low.2, high.2)
+        let meet_ranges : (are_coordinates (translate_point r.lo by) && are_coordinates (translate_point r.hi by)) ≡ true =
+        not_true _ (sym (ap (λ b. not b && not (are_coordinates (translate_point r.lo by) && are_coordinates (translate_point r.hi by))) h) ∙ l) in
+        let low = have_coordinates (translate_point r.lo by) (and_left (are_coordinates (translate_point r.lo by)) (are_coordinates (translate_point r.hi by)) meet_ranges) in
+        let high = have_coordinates (translate_point r.hi by) (and_right (are_coordinates (translate_point r.lo by)) (are_coordinates (translate_point r.hi by)) meet_ranges) in
+        ranges_ends r.dim (shift_range by.x1 (first_range r)) (shift_range by.x2 (second_range r)) (shift_range by.x3 (third_range r)) (low.0, high.0) (low.1, high.1) (low.2, high.2)
 
 sliced_ends : (n : ℕ) (r : Rect) (k : ℕ) → IsRectOf n r → EndsHave (without k r)
 sliced_ends n r k f = by (k == 1) (k == 2)
   where
-    by : (a b : Bool) → EndsHave (if a then of_ranges (r.dim - 1) (second_range r) (third_range r) unused else if b then of_ranges
-        (r.dim - 1) (first_range r) (third_range r) unused else of_ranges (r.dim - 1) (first_range r) (second_range r) unused)
-    by true b = ranges_ends (r.dim - 1) (second_range r) (third_range r) unused (second_ends n r f) (third_ends n r f) unused_ends
-    by false true = ranges_ends (r.dim - 1) (first_range r) (third_range r) unused (first_ends n r f) (third_ends n r f) unused_ends
-    by false false = ranges_ends (r.dim - 1) (first_range r) (second_range r) unused (first_ends n r f) (second_ends n r f) unused_ends
+    by : (a b : Bool) → EndsHave (if a then of_ranges (r.dim - 1) (second_range r) (third_range r) unused_range else if b then of_ranges
+        (r.dim - 1) (first_range r) (third_range r) unused_range else of_ranges (r.dim - 1) (first_range r) (second_range r) unused_range)
+    by true b = ranges_ends (r.dim - 1) (second_range r) (third_range r) unused_range (second_ends n r f) (third_ends n r f) unused_ends
+    by false true = ranges_ends (r.dim - 1) (first_range r) (third_range r) unused_range (first_ends n r f) (third_ends n r f) unused_ends
+    by false false = ranges_ends (r.dim - 1) (first_range r) (second_range r) unused_range (first_ends n r f) (second_ends n r f) unused_ends
 
 view_ends : (how : ViewHow) (n : ℕ) (r : Rect) → IsRectOf n r → SuitsView how n → view_fault how r ≡ None → EndsHave (view_domain how r)
 view_ends (Restrict s) n r f k z = let m = meet_form n r s f k in (m.low.coordinates, m.high.coordinates)

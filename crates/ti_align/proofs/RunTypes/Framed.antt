@@ -3,7 +3,7 @@ use Rattle.std.proofs.Common.{◌≡◌, ◌⊎◌, ℕ, ◌==◌, find, is_none
 use Rattle.ti_base.specs.Points.{IsDim}
 use Rattle.ti_lang.specs.Program.Types.{ValueType, Declaration, VariableUse}
 use Rattle.ti_lang.specs.Program.Types as t
-use Rattle.ti_lang.specs.Program.Classes.{NumberedMethod, NumberedProgram}
+use Rattle.ti_lang.specs.Program.Classes.{NumberedMethod, ProgramView}
 use Rattle.ti_lang.specs.Program.Scope.{ScopeVariable, ScopeContents, method_scope}
 use Rattle.ti_lang.specs.Typing.Declared.{in_scope, variable_type, declared_type}
 use Rattle.ti_lang.specs.Typing.Kinds.{domain_dim}
@@ -12,20 +12,20 @@ use Rattle.ti_base.specs.declared.value.Value.TheVariants as val
 use Rattle.ti_base.specs.Forms.{is_dim}
 use Rattle.ti_lang.specs.Meaning.Held.{Plain}
 use Rattle.ti_lang.specs.Meaning.Turns.{turns_at, point_at}
-use Rattle.ti_lang.specs.Meaning.Processes.{Process, Frame, While, Foreach, Work, Do, End, Before, Behind, Receive, CopyAll, TakeAll}
+use Rattle.ti_lang.specs.Meaning.Processes.{Process, Frame, While, Foreach, ContItem, Do, End, Before, Behind, Receive, CopyAll, TakeAll}
 use Rattle.ti_lang.specs.Meaning.Scoping.{env_of, find_variable, value_by}
-use Rattle.ti_rules.specs.Standing.{singles_in, with_point, variables_inside}
-use Rattle.ti_align.specs.Things.{Things, IsOf, DimsFine, VariablesFit, ThisFits}
+use Rattle.ti_rules.specs.StmtInContext.{singles_in, with_point, variables_inside}
+use Rattle.ti_align.specs.HeapTyping.{HeapTyping, IsOf, DimsFine, VariablesFit, ThisFits}
 use Rattle.ti_align.specs.Mirrors.Fitting.{EnvFits}
 use Rattle.ti_align.specs.Heap.{FieldsFit, FieldsStorable}
 use Rattle.ti_align.specs.Mirrors.Sound.{Sound}
-use Rattle.ti_lang.specs.Meaning.Performing.{performed}
+use Rattle.ti_lang.specs.Meaning.Performing.{exec_item}
 use Rattle.ti_lang.specs.Meaning.Scoping as scoping
 use Rattle.ti_lang.proofs.Lemmas.{dims_are}
 use Rattle.ti_align.proofs.RunTypes.Dimmed.{this_over, text_type}
 use Rattle.ti_align.proofs.RunTypes.Stated.{work_fine}
-use Rattle.ti_align.specs.Mirrors.Work.{has_dims, may_use, uses_of, MethodsFit, HasNumber, taken_type, WorksFit, MoveFits}
-use Rattle.ti_align.specs.Given.{scope_over, given_type}
+use Rattle.ti_align.specs.Mirrors.ContItem.{has_dims, may_use, uses_of, MethodsFit, HasNumber, taken_type, WorksFit, MoveFits}
+use Rattle.ti_align.specs.Given.{scope_over, contribution_type}
 use Rattle.ti_align.proofs.Runs.Vars.{true_false, and_left, and_right}
 use Rattle.ti_align.proofs.RunTypes.Operating.{none_some, some_same}
 use Rattle.ti_align.proofs.RunTypes.Evaluating.{mapped}
@@ -61,12 +61,12 @@ found_last (x ∷ xs) y number r h = by (x.number == number) h (λ k. found_last
 none_is : {A : Type 0} (o : Option A) (a : A) → is_none o ≡ true → o ≡ Some a → ⊥
 none_is o a h z = true_false (sym h ∙ ap is_none z)
 
-module _ (p : NumberedProgram) (m : NumberedMethod) (base : ScopeContents) (w : Things) where
+module _ (p : ProgramView) (m : NumberedMethod) (base : ScopeContents) (w : HeapTyping) where
   -- a foreach variable in scope stands at a point of its dimensions
-  abbrev Stands : ScopeVariable → List Work → ℕ → Type 0
+  abbrev Stands : ScopeVariable → List ContItem → ℕ → Type 0
   Stands v left number = (n : ℕ) × (v.type ≡ t.Pt n) × IsDim n × IsOf w (t.Pt n) (point_at number (turns_at left))
 
-  turn_fits : (left : List Work) (number : ℕ) (v : ScopeVariable) → WorksFit p m base w left → is_none (in_scope base number) ≡ true
+  turn_fits : (left : List ContItem) (number : ℕ) (v : ScopeVariable) → WorksFit p m base w left → is_none (in_scope base number) ≡ true
       → in_scope (scope_over p base left) number ≡ Some v → Stands v left number
   turn_fits [] number v f h z = absurd (none_is (in_scope base number) v h z)
   turn_fits (Do x ∷ left) number v f h z = turn_fits left number v f.1 h z
@@ -112,7 +112,7 @@ module _ (p : NumberedProgram) (m : NumberedMethod) (base : ScopeContents) (w : 
       )
 
 -- where the first piece of work of a frame is performed
-frame_env : (pr : Process) (f : Frame) (left : List Work) (w : Things) → w.owner ≡ pr.number → HasNumber pr → VariablesFit w f.variables
+frame_env : (pr : Process) (f : Frame) (left : List ContItem) (w : HeapTyping) → w.owner ≡ pr.number → HasNumber pr → VariablesFit w f.variables
     → ThisFits w f.method f.this → WorksFit pr.setting.program f.method (method_scope f.method) w left
     → EnvFits (uses_of f.method) (scope_over pr.setting.program (method_scope f.method) left) w (env_of pr f left)
 frame_env pr f left w own n vs this k = record {
@@ -126,7 +126,7 @@ frame_env pr f left w own n vs this k = record {
   points = λ x type u d z. point_fits x.declared x.number type u d z;
 }
   where
-    p : NumberedProgram
+    p : ProgramView
     p = pr.setting.program
 
     m : NumberedMethod
@@ -160,13 +160,13 @@ frame_env pr f left w own n vs this k = record {
     point_fits t.Foreach number type u d z = let k = stands number type u z in (k.0, k.1)
 
 -- the first piece of work of a frame comes to a move that fits
-pub frame_fine : (pr : Process) (f : Frame) (left : List Work) (w : Things) (x : Work) → w.owner ≡ pr.number → HasNumber pr
+pub frame_fine : (pr : Process) (f : Frame) (left : List ContItem) (w : HeapTyping) (x : ContItem) → w.owner ≡ pr.number → HasNumber pr
     → VariablesFit w f.variables → ThisFits w f.method f.this → FieldsFit pr.setting.program → FieldsStorable pr.setting.program
     → MethodsFit pr.setting.program pr.setting.program.methods
     → WorksFit pr.setting.program f.method (method_scope f.method) w (x ∷ left)
     → Sound pr.setting.program (λ u move. MoveFits pr.setting.program f.method
-    (given_type pr.setting.program (scope_over pr.setting.program (method_scope f.method) left) x) (taken_type x)
-    (scope_over pr.setting.program (method_scope f.method) left) u move) w (performed (env_of pr f left) x)
+    (contribution_type pr.setting.program (scope_over pr.setting.program (method_scope f.method) left) x) (taken_type x)
+    (scope_over pr.setting.program (method_scope f.method) left) u move) w (exec_item (env_of pr f left) x)
 frame_fine pr f left w x own n vs this g d ms k =
     work_fine (scope_over pr.setting.program (method_scope f.method) left) (env_of pr f left) w
     (record {

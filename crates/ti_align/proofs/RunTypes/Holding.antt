@@ -17,29 +17,29 @@ use Rattle.ti_base.specs.declared.entry.Next.TheVariants as next
 use Rattle.ti_base.specs.Cells.{Cell, Grid, same_cell, cell_of, named_by}
 use Rattle.ti_lang.specs.Program.Types.{ValueType}
 use Rattle.ti_lang.specs.Program.Types as types
-use Rattle.ti_lang.specs.Program.Classes.{NumberedProgram}
+use Rattle.ti_lang.specs.Program.Classes.{ProgramView}
 use Rattle.ti_lang.specs.Typing.Kinds.{is_local}
 use Rattle.ti_lang.specs.Meaning.Held.{Plain}
-use Rattle.ti_lang.specs.Meaning.Asking.{Wanted, ToBeDone, Request, told}
-use Rattle.ti_lang.specs.Meaning.Processes.{Setting, Frame, Wait, Process, begin}
+use Rattle.ti_lang.specs.Meaning.Comp.{Wanted, ToBeDone, Request, told}
+use Rattle.ti_lang.specs.Meaning.Processes.{RunConfig, Frame, Wait, Process, begin}
 use Rattle.ti_lang.specs.Meaning.Steps.{At, step}
 use Rattle.ti_lang.specs.Meaning.NextStep.{Reaches, here, IsNext, After, none}
 use Rattle.ti_lang.specs.Meaning.Histories.{History, history_of, is_end, is_fault, is_arrival, is_departure, is_answered, answers_of, arrivals}
 use Rattle.ti_lang.specs.Meaning.RegionsOf.{is_made, is_gone, is_region}
-use Rattle.ti_lang.specs.Meaning.HeapOf.{grid_of, or_else, written_by, written_to, last_written}
+use Rattle.ti_lang.specs.Meaning.HeapOf.{grid_of_id, or_else, written_by, written_to, last_written}
 use Rattle.ti_lang.specs.Meaning.RoundsOf as rounds
-use Rattle.ti_lang.specs.Meaning.RoundsOf.{arrival_in, arrival_at, last_arrival, value_in, given, is_delete_of}
+use Rattle.ti_lang.specs.Meaning.RoundsOf.{arrival_in, arrival_at, last_arrival, value_in, deposit_from, is_delete_of}
 use Rattle.ti_lang.specs.Meaning.HeapAnswers.{Answers, answers_value, heap_answer, IsAnswered}
-use Rattle.ti_lang.specs.Meaning.Runs.{World, CanTake, IsRun}
+use Rattle.ti_lang.specs.Meaning.Runs.{ProcAfter, CanTake, IsRun}
 use Rattle.ti_lang.specs.Meaning.Runs as run
 use Rattle.ti_lang.proofs.Lemmas.{after_same, taker, history_grows, run_answered, answer_same}
 use Rattle.ti_align.specs.Alignment.{most_procs, ArrivalsAgree}
 use Rattle.ti_align.specs.Owners.{MadeWith}
-use Rattle.ti_align.specs.Things.{Things, Grows, IsOf, DepositFits, FramesHold}
-use Rattle.ti_align.specs.There.{IsAtHand, GoesThrough, SuitsWanted, FitsAsked}
-use Rattle.ti_align.specs.Given.{IsOfRound, given_by}
-use Rattle.ti_align.specs.Mirrors.Work.{WantsOf}
-use Rattle.ti_align.specs.Heap.{Elements, things_of, HeapFits, elements_behind, is_of_heap, KeepsTypes}
+use Rattle.ti_align.specs.HeapTyping.{HeapTyping, Grows, IsOf, DepositFits, FramesHold}
+use Rattle.ti_align.specs.Existing.{OperandsExist, GoesThrough, SuitsWanted, FitsAsked}
+use Rattle.ti_align.specs.Given.{IsOfRound, contribution_by}
+use Rattle.ti_align.specs.Mirrors.ContItem.{WantsOf}
+use Rattle.ti_align.specs.Heap.{Elements, heap_typing_of, HeapFits, elements_behind, is_of_heap, KeepsTypes}
 use Rattle.ti_align.specs.Dangling.{handed_by, deposited_by, IfNamedLives, NamesLiving}
 use Rattle.ti_align.specs.Mirrors.Processes.{ProgramFits, FramesFit, ProcessFits}
 use Rattle.ti_align.specs.Typed.{GivesAt, GivesLast, hands_in, RunFits, RunTyped}
@@ -81,12 +81,12 @@ arrivals_now : (es : List Entry) (e : Entry) (i : ℕ) → arrivals i (es ++ e �
 arrivals_now es e i = sym (back i (es ++ e ∷ [])) ∙ ap (arrivals i) (history_grows es e)
 
 -- by another entry than an arrival of the process nothing changes
-last_more : (s : Setting) (es : List Entry) (e : Entry) (i : ℕ) → is_own i e ≡ false → (a : ValueType) → GivesLast s es i a → GivesLast s (es ++ e ∷ []) i a
+last_more : (s : RunConfig) (es : List Entry) (e : Entry) (i : ℕ) → is_own i e ≡ false → (a : ValueType) → GivesLast s es i a → GivesLast s (es ++ e ∷ []) i a
 last_more s es e i k a g = (g.0, arrivals_now es e i ∙ more_other i e (history_of es) k ∙ back i es ∙ g.1, gives_more s es (es ++ e ∷ []) e i g.0 a refl g.2)
 
 -- an arrival now
-last_now : (s : Setting) (es : List Entry) (e : Entry) (t : CanTake s es e.proc e) (kind : CollKind) (arg : Option ℕ) (d : Deposit)
-    (a : ValueType) → e.act ≡ act.Arrive kind arg d → given_by t.is_next.0 ≡ Some a
+last_now : (s : RunConfig) (es : List Entry) (e : Entry) (t : CanTake s es e.proc e) (kind : CollKind) (arg : Option ℕ) (d : Deposit)
+    (a : ValueType) → e.act ≡ act.Arrive kind arg d → contribution_by t.is_next.0 ≡ Some a
     → GivesLast s (es ++ e ∷ []) e.proc a
 last_now s es e t kind arg d a z g = (
   arrivals e.proc es,
@@ -110,7 +110,7 @@ round_in G coll.MakeRegion a k g = absurd (true_false (sym k))
 round_in G coll.Barrier a k g = absurd (true_false (sym k))
 round_in G coll.DeleteRegion a k g = absurd (true_false (sym k))
 
-value_fits : (w : Things) (a : ValueType) (d : Deposit) (value : Value) → DepositFits w a d → value_in d ≡ Some value → IsOf w a (Plain value) × (is_local a ≡ false)
+value_fits : (w : HeapTyping) (a : ValueType) (d : Deposit) (value : Value) → DepositFits w a d → value_in d ≡ Some value → IsOf w a (Plain value) × (is_local a ≡ false)
 value_fits w a (deposit.One x) value k z = (subst (λ y. IsOf w a (Plain y)) (some_value x value z) k.0, k.2)
   where
     some_value : (x y : Value) → Some x ≡ Some y → x ≡ y
@@ -147,7 +147,7 @@ given_lives h deposit.Nothing value z k = absurd (none_some value z)
 given_lives h (deposit.Count n) value z k = absurd (none_some value z)
 
 -- what is made is in its form
-makes_formed : (p : NumberedProgram) (w : Things) (a : Action) (wanted : Wanted) → IsAtHand p w a wanted → MakesFormed a
+makes_formed : (p : ProgramView) (w : HeapTyping) (a : Action) (wanted : Wanted) → OperandsExist p w a wanted → MakesFormed a
 makes_formed p w (act.NewGrid first domain region) wanted k = k.4.form
 makes_formed p w (act.MakeView grid how) wanted k = is_view how k.1 k.3
 makes_formed p w _ wanted k = tt
@@ -157,11 +157,11 @@ no_departure act.Depart z = absurd (true_false (sym z))
 no_departure _ z = refl
 
 -- what calls in progress hold
-frames_hold : (p : NumberedProgram) (w : Things) (fs : List Frame) → FramesFit p w fs → FramesHold w fs
+frames_hold : (p : ProgramView) (w : HeapTyping) (fs : List Frame) → FramesFit p w fs → FramesHold w fs
 frames_hold p w [] k = tt
 frames_hold p w (f ∷ fs) k = (k.0.0, k.0.1, frames_hold p w fs k.2)
 
-module _ (s : Setting)
+module _ (s : RunConfig)
     (fits : ProgramFits s.program) (fine : FineMethods s.program s.program.methods) (few : s.procs ≤ most_procs) where
   -- what is known of a process of the run
   pub known_of : (j : ℕ) → j < s.procs → Known (begin s j)
@@ -190,10 +190,10 @@ module _ (s : Setting)
     q = t.is_next.0
 
     -- what is there, and what of it lives behind the entry
-    abbrev there_now : Things
-    there_now = things_of i fit.elements h
+    abbrev there_now : HeapTyping
+    there_now = heap_typing_of i fit.elements h
 
-    abbrev w : Things
+    abbrev w : HeapTyping
     w = living later there_now
 
     answered_all : IsAnswered s.program later
@@ -215,18 +215,18 @@ module _ (s : Setting)
         (given_facts.stands s i t.process k.0 k.1) t.is_next.1.reaches (last.processes i t.process t.within t.world)).0
 
     -- where what the action names is there
-    module _ (wanted : Wanted) (there : IsAtHand s.program w e.act wanted) where
+    module _ (wanted : Wanted) (there : OperandsExist s.program w e.act wanted) where
       abbrev elements : Elements
       elements = elements_behind fit.elements e.act wanted e.answer
 
       -- for each process
-      abbrev later_for : ℕ → Things
-      later_for j = things_of j elements later
+      abbrev later_for : ℕ → HeapTyping
+      later_for j = heap_typing_of j elements later
 
-      abbrev there_later : Things
+      abbrev there_later : HeapTyping
       there_later = later_for i
 
-      abbrev u : Things
+      abbrev u : HeapTyping
       u = living later there_later
 
       keeps : KeepsTypes s.program fit.elements h i e.act wanted
@@ -242,14 +242,14 @@ module _ (s : Setting)
       asked_fits a z k =
           fits_living s.program h later i e.answer there_now there_later (run_answered s es ran) last.cells (λ id g x. x)
           (λ n x. ap (λ b. b && is_delete_of n (last_arrival i h) || is_gone n h) (ap is_departure z ∙ no_departure a k) ∙ x) a wanted k
-          (subst (λ b. IsAtHand s.program w b wanted) z there) (sym (ap (heap_answer s.program h i) z) ∙ said_now)
+          (subst (λ b. OperandsExist s.program w b wanted) z there) (sym (ap (heap_answer s.program h i) z) ∙ said_now)
           (subst (λ b. FitsAsked s.program there_later b wanted e.answer) z (keeps.answered e.place e.answer (ap is_of_heap z ∙ k) said_now))
 
       -- what is written lives
-      writes_live : (a : Action) → IsAtHand s.program w a wanted → (c : Cell) (x : Value) → written_by a h ≡ Some (c, x) → IfNamedLives later (named_by x)
+      writes_live : (a : Action) → OperandsExist s.program w a wanted → (c : Cell) (x : Value) → written_by a h ≡ Some (c, x) → IfNamedLives later (named_by x)
       writes_live (act.PutField obj field value) k c x z = subst (λ y. IfNamedLives later (named_by y)) (pair_second _ c value x z)
           (field_lives later there_now s.program obj field value wanted fits.storable k)
-      writes_live (act.PutElem grid at value) k c x z = by (grid_of grid h) z
+      writes_live (act.PutElem grid at value) k c x z = by (grid_of_id grid h) z
         where
           by : (o : Option Grid) → option_map {U = Cell × Value} (λ (g : Grid). (cell_of g at, value)) o ≡ Some (c, x) → IfNamedLives later (named_by x)
           by None z = absurd (none_some (c, x) z)
@@ -282,7 +282,7 @@ module _ (s : Setting)
           by (now o c z) = f a value z k
 
       -- all of it
-      holds : (is_answered e ≡ true → (p : Process) → World s all i p → ProcessFits u (GivesLast s all i) p)
+      holds : (is_answered e ≡ true → (p : Process) → ProcAfter s all i p → ProcessFits u (GivesLast s all i) p)
           → ((k : ℕ) (a : rounds.Arrival) (value : Value) → is_own i e ≡ true → arrivals i es ≡ k → arrival_in e.act ≡ Some a
           → hands_in a.kind ≡ true → value_in a.deposit ≡ Some value → (type : ValueType) × GivesAt s all i k type
           × IsOf there_later type (Plain value) × (is_local type ≡ false))
@@ -292,9 +292,9 @@ module _ (s : Setting)
         elements = elements;
         made = λ grid element m. made_at grid element (made_cases s es e t grid element m);
         heap = subst (HeapFits s.program elements) (sym (history_grows es e)) (keeps.kept e.place e.answer said_now);
-        processes = λ j p b x. subst (λ h. ProcessFits (living h (things_of j elements h)) (GivesLast s all j) p) (sym (history_grows es e)) (process_at j p b x (acted_by s es e t j p x));
+        processes = λ j p b x. subst (λ h. ProcessFits (living h (heap_typing_of j elements h)) (GivesLast s all j) p) (sym (history_grows es e)) (process_at j p b x (acted_by s es e t j p x));
         deposits = λ j k a value z l m. subst (λ h. (type : ValueType) × GivesAt s all j k type
-            × IsOf (things_of j elements h) type (Plain value) × (is_local type ≡ false)) (sym (history_grows es e))
+            × IsOf (heap_typing_of j elements h) type (Plain value) × (is_local type ≡ false)) (sym (history_grows es e))
             (deposit_at j k a value l m (comes j (suc k) e h a (sym (ap (arrival_at j (suc k)) (history_grows es e)) ∙ z)));
         counted = subst (Counted s.program) (sym (history_grows es e)) (counted_more s.program h e answered_all (makes_formed s.program w e.act wanted there) fit.counted);
         cells = subst (λ h. CellsLive h h) (sym (history_grows es e)) cells_live;
@@ -305,17 +305,17 @@ module _ (s : Setting)
           made_at grid element (inl m) = grown.elements grid element (fit.made grid element m)
           made_at grid element (inr m) = made_now grid element m
 
-          process_at : (j : ℕ) (p : Process) → j < s.procs → World s all j p → Acted s es e t j p → ProcessFits (living later (later_for j)) (GivesLast s all j) p
+          process_at : (j : ℕ) (p : Process) → j < s.procs → ProcAfter s all j p → Acted s es e t j p → ProcessFits (living later (later_for j)) (GivesLast s all j) p
           process_at j p l x (still z k) = other_round (living later (later_for j)) (GivesLast s es j) (GivesLast s all j) p (last_more s es e j k)
-              (stays (living later (things_of j fit.elements h)) (living later (later_for j)) (GivesLast s es j) p (grows_for j w u grown) (last.processes j p l z))
-          process_at j p l x (acted same asked go z k is) = subst (λ n. ProcessFits (living later (later_for n)) (GivesLast s all n) p) same (own_now k p (subst (λ n. World s all n p) (sym same) x))
+              (stays (living later (heap_typing_of j fit.elements h)) (living later (later_for j)) (GivesLast s es j) p (grows_for j w u grown) (last.processes j p l z))
+          process_at j p l x (acted same asked go z k is) = subst (λ n. ProcessFits (living later (later_for n)) (GivesLast s all n) p) same (own_now k p (subst (λ n. ProcAfter s all n p) (sym same) x))
 
           deposit_at : (j k : ℕ) (a : rounds.Arrival) (value : Value) → hands_in a.kind ≡ true → value_in a.deposit ≡ Some value
               → Comes j (suc k) e h a → (type : ValueType) × GivesAt s all j k type × IsOf (later_for j) type (Plain value)
               × (is_local type ≡ false)
           deposit_at j k a value l m (before z) =
               let old = fit.deposits j k a value z l m in
-              (old.0, gives_more s es all e j k old.0 refl old.1, of_stays (things_of j fit.elements h) (later_for j) old.0 (Plain value) (grows_for j there_now there_later all_grown) old.2, old.3)
+              (old.0, gives_more s es all e j k old.0 refl old.1, of_stays (heap_typing_of j fit.elements h) (later_for j) old.0 (Plain value) (grows_for j there_now there_later all_grown) old.2, old.3)
           deposit_at j k a value l m (now o c z) =
               let same : e.proc ≡ j = eqb-true e.proc j (and_left (e.proc == j) _ o) in
               let count : arrivals i es ≡ k = ap (λ m. arrivals m es) same ∙ one_less (arrivals j es) k (ap suc (sym (back j es)) ∙ sym (more_own j e h o) ∙ c) in
@@ -326,7 +326,7 @@ module _ (s : Setting)
               one_less m n x = omega arith
 
     -- an end or a fault
-    closing : (a : Action) → not (is_end a || is_fault a) ≡ false → IsAtHand s.program w a ToBeDone × (is_arrival a ≡ false)
+    closing : (a : Action) → not (is_end a || is_fault a) ≡ false → OperandsExist s.program w a ToBeDone × (is_arrival a ≡ false)
     closing act.End z = (tt, refl)
     closing (act.Fault kind) z = (tt, refl)
     closing _ z = absurd (true_false z)
@@ -340,7 +340,7 @@ module _ (s : Setting)
         (λ grid element m. absurd (true_false (ap (λ a. not (is_end a || is_fault a)) (sym m.acts) ∙ k)))
       where
         none_arrives : (a : Action) (x : rounds.Arrival) → is_arrival a ≡ false → arrival_in a ≡ Some x → ⊥
-        none_arrives (act.Arrive kind arg given) x k z = true_false k
+        none_arrives (act.Arrive kind arg deposit_from) x k z = true_false k
         none_arrives _ x k z = none_some x z
 
     -- an answer
@@ -350,23 +350,23 @@ module _ (s : Setting)
           (step_fits performs w (GivesLast s es i) (GivesLast s all i) s i (last_kind i h) q refl
           (known_here performs s i (last_kind i h) q (known_of i t.within) q_stands) q_stands q_fits)
 
-      there : IsAtHand s.program w e.act asked.1
-      there = subst (λ (x : Setting). IsAtHand x.program w e.act asked.1) q_stands.0 step_here.0
+      there : OperandsExist s.program w e.act asked.1
+      there = subst (λ (x : RunConfig). OperandsExist x.program w e.act asked.1) q_stands.0 step_here.0
 
-      abbrev after : Things
+      abbrev after : HeapTyping
       after = u asked.1 there
 
       abbrev grown_here : Grows w after
       grown_here = grown asked.1 there
 
       -- all that is there behind the answer
-      abbrev after_all : Things
+      abbrev after_all : HeapTyping
       after_all = there_later asked.1 there
 
       abbrev all_grown_here : Grows there_now after_all
       all_grown_here = all_grown asked.1 there
 
-      went : World s all i (go e.answer)
+      went : ProcAfter s all i (go e.answer)
       went = subst (λ (rs : List Answer). After (begin s i) rs (go e.answer)) (sym (answers_now es e is))
           (after_more (begin s i) t.process q (answers_of i es) e.place e.act asked go e.answer t.world t.is_next.1.reaches stands)
 
@@ -374,7 +374,7 @@ module _ (s : Setting)
       same_round k z = other_round after (GivesLast s es i) (GivesLast s all i) (go e.answer) (last_more s es e i (ap₂ (λ x y. x && y) (eq-eqb i i refl) z)) k
 
       fits_asked : (a : Action) → e.act ≡ a → is_of_heap a ≡ true → FitsAsked q.setting.program after a asked.1 e.answer
-      fits_asked a z k = subst (λ (x : Setting). FitsAsked x.program after a asked.1 e.answer) (sym q_stands.0) (asked_fits asked.1 there a z k)
+      fits_asked a z k = subst (λ (x : RunConfig). FitsAsked x.program after a asked.1 e.answer) (sym q_stands.0) (asked_fits asked.1 there a z k)
 
       -- what was given in the round in which the process arrived last
       given_fits : (a b : rounds.Arrival) (who : ℕ) (x : Value) (type : ValueType) → last_arrival i h ≡ Some a → hands_in a.kind ≡ true
@@ -388,7 +388,7 @@ module _ (s : Setting)
           let d = fit.deposits who g.0 b x other_here (ap hands_in (sym like.0) ∙ k) lx in
           of_living later after_all type (Plain x) (of_stays there_now after_all type (Plain x) all_grown_here
           (subst (λ z. IsOf there_now z (Plain x)) (given_same s fine es ran who i g.0 d.0 type d.1 g.2)
-          (seen_from (things_of who fit.elements h) i d.0 (Plain x) (λ z. absurd (true_false (sym z ∙ d.3))) d.2)))
+          (seen_from (heap_typing_of who fit.elements h) i d.0 (Plain x) (λ z. absurd (true_false (sym z ∙ d.3))) d.2)))
           (λ v. last.rounds_live i who (arrivals i h) b x t.within (same (arrivals i h)) lb lx)
         where
           same : (n : ℕ) → n ≤ n
@@ -420,7 +420,7 @@ module _ (s : Setting)
 
       takes_fit : (who : ℕ) → e.act ≡ act.Take who → (type : ValueType) → GivesLast s es i type → IsOf after type (told e.answer)
       takes_fit who z type g =
-          let x = valued (given i who h) e.answer (sym (ap (heap_answer s.program h i) z) ∙ said_now) in
+          let x = valued (deposit_from i who h) e.answer (sym (ap (heap_answer s.program h i) z) ∙ said_now) in
           let b = given_value (arrival_at who (arrivals i h) h) x.0 x.1 in
           let acts = step_fine s i (last_kind i h) q (At (asking e.place (act.Take who) asked) go) q_stands (subst (λ a. step q ≡ At (asking e.place a asked) go) z stands) in
           let a = by_kind s es ran agree i coll.Exchange acts.0.1 in
@@ -494,8 +494,8 @@ module _ (s : Setting)
     elements = λ id. None;
     made = λ grid element m. absurd (none_made m.before m.rest _ m.split);
     heap = record { cells = λ cell value z. absurd (none_some value z); blocks = λ block type z. absurd (none_some type z) };
-    processes = λ i p b x. subst (ProcessFits (living [] (things_of i (λ id. None) [])) (GivesLast s [] i))
-        (after_same (begin s i) (begin s i) p [] none x) (begin_fits performs (living [] (things_of i (λ id. None) []))
+    processes = λ i p b x. subst (ProcessFits (living [] (heap_typing_of i (λ id. None) [])) (GivesLast s [] i))
+        (after_same (begin s i) (begin s i) p [] none x) (begin_fits performs (living [] (heap_typing_of i (λ id. None) []))
         (GivesLast s [] i) s i refl (known_of i b));
     deposits = λ i k a value z. absurd (none_some a z);
     counted = none_counted s.program;
@@ -516,7 +516,7 @@ module _ (s : Setting)
   run_holds : (agree : (es : List Entry) → IsRun s es → ArrivalsAgree s es) → (es : List Entry) → IsRun s es → RunFits s es
   run_holds agree es r =
       let k = run_lives agree es r in
-      let w : ℕ → Things = λ i. things_of i k.elements (history_of es) in
+      let w : ℕ → HeapTyping = λ i. heap_typing_of i k.elements (history_of es) in
       record {
         elements = k.elements;
         made = k.made;
@@ -528,14 +528,14 @@ module _ (s : Setting)
   -- ---- what is named
 
   -- what is known of a process wherever it stands between its actions, and of its step there
-  module _ (es : List Entry) (ran : IsRun s es) (w : ℕ → Things) (own : (i : ℕ) → (w i).owner ≡ i)
-      (fit : (i : ℕ) (p : Process) → i < s.procs → World s es i p → ProcessFits (w i) (GivesLast s es i) p) where
-    pub reached : (i : ℕ) (p q : Process) → i < s.procs → World s es i p → Reaches p q → ProcessFits (w i) (GivesLast s es i) q × Stands s i (last_kind i (history_of es)) q
+  module _ (es : List Entry) (ran : IsRun s es) (w : ℕ → HeapTyping) (own : (i : ℕ) → (w i).owner ≡ i)
+      (fit : (i : ℕ) (p : Process) → i < s.procs → ProcAfter s es i p → ProcessFits (w i) (GivesLast s es i) p) where
+    pub reached : (i : ℕ) (p q : Process) → i < s.procs → ProcAfter s es i p → Reaches p q → ProcessFits (w i) (GivesLast s es i) q × Stands s i (last_kind i (history_of es)) q
     reached i p q b x y =
         let k = way_next s es i p p ran x here in
         reaches_fits performs (w i) (GivesLast s es i) s i (last_kind i (history_of es)) p q (own i) (known_of i b) (subst (λ l. Stands s i l p) k.4 (given_facts.stands s i p k.0 k.1)) y (fit i p b x)
 
-    pub step_reached : (i : ℕ) (p q : Process) (request : Request) (go : Answer → Process) → i < s.procs → World s es i p → Reaches p q → step q ≡ At request go
+    pub step_reached : (i : ℕ) (p q : Process) (request : Request) (go : Answer → Process) → i < s.procs → ProcAfter s es i p → Reaches p q → step q ≡ At request go
         → StepFits (w i) (GivesLast s es i) (GivesLast s es i) q (At request go)
     step_reached i p q request go b x y z =
         let k = reached i p q b x y in
@@ -543,9 +543,9 @@ module _ (s : Setting)
         subst (StepFits (w i) (GivesLast s es i) (GivesLast s es i) q) z
         (step_fits performs (w i) (GivesLast s es i) (GivesLast s es i) s i last q (own i) (known_here performs s i last q (known_of i b) k.1) k.1 k.0)
 
-  pub next_fits : (es : List Entry) → IsRun s es → (w : ℕ → Things) → ((i : ℕ) → (w i).owner ≡ i)
-      → ((i : ℕ) (p : Process) → i < s.procs → World s es i p → ProcessFits (w i) (GivesLast s es i) p)
-      → (i : ℕ) (p : Process) (at : Place) (a : Action) → i < s.procs → World s es i p → (n : IsNext p (next.Act at a))
+  pub next_fits : (es : List Entry) → IsRun s es → (w : ℕ → HeapTyping) → ((i : ℕ) → (w i).owner ≡ i)
+      → ((i : ℕ) (p : Process) → i < s.procs → ProcAfter s es i p → ProcessFits (w i) (GivesLast s es i) p)
+      → (i : ℕ) (p : Process) (at : Place) (a : Action) → i < s.procs → ProcAfter s es i p → (n : IsNext p (next.Act at a))
       → (asked : Asked) × (go : Answer → Process) × (n.0.setting ≡ s) × StepFits (w i) (GivesLast s es i) (GivesLast s es i) n.0 (At (asking at a asked) go) × (step n.0 ≡ At (asking at a asked) go)
   next_fits es r w own fit i p at a b x n =
       let acts = at_action (step n.0) at a n.1.stands in
@@ -553,45 +553,45 @@ module _ (s : Setting)
 
   -- what an action hands on lives
   handed : (es : List Entry) (fit : RunLives s es) (q : Process) (asked : Request) (a : Action) (wanted : Wanted) (go : Answer → Process)
-      → (i : ℕ) → IsAtHand s.program (living (history_of es) (things_of i fit.elements (history_of es))) a wanted
-      → ActionFits (living (history_of es) (things_of i fit.elements (history_of es))) (GivesLast s es i) (GivesLast s es i) q asked a go → IfNamedLives (history_of es) (handed_by a)
-  handed es fit q asked (act.PutField obj field value) wanted go i k y = field_lives (history_of es) (things_of i fit.elements (history_of es)) s.program obj field value wanted fits.storable k
-  handed es fit q asked (act.PutElem grid index value) wanted go i k y = element_lives (history_of es) (things_of i fit.elements (history_of es)) s.program grid index value wanted k
-  handed es fit q asked (act.Arrive kind arg given) wanted go i k y = deposit_lives (history_of es) (things_of i fit.elements (history_of es)) y.0 given y.1
+      → (i : ℕ) → OperandsExist s.program (living (history_of es) (heap_typing_of i fit.elements (history_of es))) a wanted
+      → ActionFits (living (history_of es) (heap_typing_of i fit.elements (history_of es))) (GivesLast s es i) (GivesLast s es i) q asked a go → IfNamedLives (history_of es) (handed_by a)
+  handed es fit q asked (act.PutField obj field value) wanted go i k y = field_lives (history_of es) (heap_typing_of i fit.elements (history_of es)) s.program obj field value wanted fits.storable k
+  handed es fit q asked (act.PutElem grid index value) wanted go i k y = element_lives (history_of es) (heap_typing_of i fit.elements (history_of es)) s.program grid index value wanted k
+  handed es fit q asked (act.Arrive kind arg deposit_from) wanted go i k y = deposit_lives (history_of es) (heap_typing_of i fit.elements (history_of es)) y.0 deposit_from y.1
   handed es fit q asked _ wanted go i k y = tt
 
   -- all that is named lives
   pub next_lives : (es : List Entry) → IsRun s es → RunLives s es → (i : ℕ) (p : Process) (at : Place) (a : Action) → i < s.procs
-      → World s es i p → IsNext p (next.Act at a) → NamesLiving (history_of es) a
+      → ProcAfter s es i p → IsNext p (next.Act at a) → NamesLiving (history_of es) a
   next_lives es r fit i p at a b x n =
       let h = history_of es in
-      let w = things_of i fit.elements h in
-      let k = next_fits es r (λ i. living h (things_of i fit.elements h)) (λ i. refl) fit.processes i p at a b x n in
-      let there : IsAtHand s.program (living h w) a k.0.1 = subst (λ (y : Setting). IsAtHand y.program (living h w) a k.0.1) k.2 k.3.0 in
+      let w = heap_typing_of i fit.elements h in
+      let k = next_fits es r (λ i. living h (heap_typing_of i fit.elements h)) (λ i. refl) fit.processes i p at a b x n in
+      let there : OperandsExist s.program (living h w) a k.0.1 = subst (λ (y : RunConfig). OperandsExist y.program (living h w) a k.0.1) k.2 k.3.0 in
       record { used = used_lives h w s.program a k.0.1 there; handed = handed es fit n.0 (asking at a k.0) a k.0.1 k.1 i there k.3.2 }
 
   -- what an arrival hands in is of the type at which it does
   module _ (es : List Entry) (ran : IsRun s es) (fit : RunFits s es) where
-    abbrev present : ℕ → Things
-    present i = things_of i fit.elements (history_of es)
+    abbrev present : ℕ → HeapTyping
+    present i = heap_typing_of i fit.elements (history_of es)
 
-    next_handed : (i : ℕ) (p q : Process) (request : Request) (go : Answer → Process) (kind : CollKind) (arg : Option ℕ) (given : Deposit)
-        → i < s.procs → World s es i p → Reaches p q → step q ≡ At request go
-        → request.action ≡ act.Arrive kind arg given → (type : ValueType) × DepositFits (present i) type given × IsOfRound (λ u. given_by q ≡ Some u) kind type
-    next_handed i p q request go kind arg given b x y z a =
+    next_handed : (i : ℕ) (p q : Process) (request : Request) (go : Answer → Process) (kind : CollKind) (arg : Option ℕ) (deposit_from : Deposit)
+        → i < s.procs → ProcAfter s es i p → Reaches p q → step q ≡ At request go
+        → request.action ≡ act.Arrive kind arg deposit_from → (type : ValueType) × DepositFits (present i) type deposit_from × IsOfRound (λ u. contribution_by q ≡ Some u) kind type
+    next_handed i p q request go kind arg deposit_from b x y z a =
         let k = subst (λ (a : Action). ActionFits (present i) (GivesLast s es i) (GivesLast s es i) q request a go) a
         (step_reached es ran present (λ i. refl) fit.processes i p q request go b x y z).2 in
         (k.0, k.1, k.2)
 
     -- and what is asked for is there
-    next_there : (i : ℕ) (p q : Process) (request : Request) (go : Answer → Process) → i < s.procs → World s es i p → Reaches p q → step q ≡ At request go
-        → IsAtHand s.program (present i) request.action request.wanted × GoesThrough (present i) request.through request.action × SuitsWanted s.program (present i) request.action request.wanted
+    next_there : (i : ℕ) (p q : Process) (request : Request) (go : Answer → Process) → i < s.procs → ProcAfter s es i p → Reaches p q → step q ≡ At request go
+        → OperandsExist s.program (present i) request.action request.wanted × GoesThrough (present i) request.through request.action × SuitsWanted s.program (present i) request.action request.wanted
     next_there i p q request go b x y z =
         let k = step_reached es ran present (λ i. refl) fit.processes i p q request go b x y z in
         let e = (reached es ran present (λ i. refl) fit.processes i p q b x y).1.0 in (
-          subst (λ (n : Setting). IsAtHand n.program (present i) request.action request.wanted) e k.0,
+          subst (λ (n : RunConfig). OperandsExist n.program (present i) request.action request.wanted) e k.0,
           k.1,
-          subst (λ (n : Setting). SuitsWanted n.program (present i) request.action request.wanted) e k.3,
+          subst (λ (n : RunConfig). SuitsWanted n.program (present i) request.action request.wanted) e k.3,
         )
 
   pub run_typed : ((es : List Entry) → IsRun s es → ArrivalsAgree s es) → (es : List Entry) → IsRun s es → RunTyped s es
@@ -600,8 +600,8 @@ module _ (s : Setting)
       let h = history_of es in
       record {
         fits = fit;
-        processes = λ i p q b x y. (reached es r (λ j. things_of j fit.elements h) (λ j. refl) fit.processes i p q b x y).0;
-        variables = λ i p q b x y. frames_hold q.setting.program (things_of i fit.elements h) q.frames (reached es r (λ j. things_of j fit.elements h) (λ j. refl) fit.processes i p q b x y).0.0;
+        processes = λ i p q b x y. (reached es r (λ j. heap_typing_of j fit.elements h) (λ j. refl) fit.processes i p q b x y).0;
+        variables = λ i p q b x y. frames_hold q.setting.program (heap_typing_of i fit.elements h) q.frames (reached es r (λ j. heap_typing_of j fit.elements h) (λ j. refl) fit.processes i p q b x y).0.0;
         fields = λ obj class field type c f. field_value s.program fit.elements h fit.heap fits.storable obj field type (class, c, f);
         cells = λ block at element m. block_value s.program fit.elements h fit.heap fits.storable block element at m;
         handed = next_handed es r fit;

@@ -11,11 +11,11 @@ use Rattle.ti_base.specs.declared.entry.Entry.{Entry}
 use Rattle.ti_base.specs.declared.entry.Next.TheVariants as next
 use Rattle.ti_lang.specs.Program.Types.{ValueType}
 use Rattle.ti_lang.specs.Program.Types as t
-use Rattle.ti_lang.specs.Meaning.Asking.{NewThing, Request}
-use Rattle.ti_lang.specs.Meaning.Processes.{Setting, Process}
+use Rattle.ti_lang.specs.Meaning.Comp.{NewThing, Request}
+use Rattle.ti_lang.specs.Meaning.Processes.{RunConfig, Process}
 use Rattle.ti_lang.specs.Meaning.Steps.{Step, At, step}
-use Rattle.ti_lang.specs.Meaning.NextStep.{Settles}
-use Rattle.ti_lang.specs.Meaning.Runs.{World, CanTake}
+use Rattle.ti_lang.specs.Meaning.NextStep.{RunsTo}
+use Rattle.ti_lang.specs.Meaning.Runs.{ProcAfter, CanTake}
 use Rattle.ti_lang.proofs.Lemmas.{settled_same, settles_at, world_same}
 use Rattle.ti_align.specs.Owners.{MadeWith}
 use Rattle.ti_align.specs.Heap.{Elements, elements_behind}
@@ -63,7 +63,7 @@ last_or_before (b ∷ bs) rest (d ∷ ds) x e z = by (last_or_before bs rest ds 
     by (inl k) = inl (ap (λ y. y ∷ bs) (sym first) ∙ ap (λ ys. d ∷ ys) k.0, k.1)
     by (inr k) = inr (k.0, ap (λ y. y ∷ ds) first ∙ ap (λ ys. b ∷ ys) k.1)
 
-pub made_cases : (s : Setting) (es : List Entry) (e : Entry) (c : CanTake s es e.proc e) (grid : Id) (element : ValueType)
+pub made_cases : (s : RunConfig) (es : List Entry) (e : Entry) (c : CanTake s es e.proc e) (grid : Id) (element : ValueType)
     → MadeWith s (es ++ e ∷ []) grid element → MadeWith s es grid element ⊎ MadeNow c.is_next.0 e grid element
 made_cases s es e c grid element m = by (last_or_before m.before m.rest es made e m.split)
   where
@@ -94,10 +94,10 @@ made_cases s es e c grid element m = by (last_or_before m.before m.rest es made 
       stands = m.stands;
     })
     by (inl k) =
-        let here_too : World s es e.proc m.process = subst (λ n. World s es n m.process) (ap (λ (x : Entry). x.proc) k.1) (subst (λ ds. World s ds m.number m.process) k.0 m.world) in
+        let here_too : ProcAfter s es e.proc m.process = subst (λ n. ProcAfter s es n m.process) (ap (λ (x : Entry). x.proc) k.1) (subst (λ ds. ProcAfter s ds m.number m.process) k.0 m.world) in
         let same : m.process ≡ c.process = world_same s es e.proc m.process c.process here_too c.world in
-        let settles : Settles c.process m.settled (next.Act request.place request.action) =
-        subst (λ p. Settles p m.settled (next.Act request.place request.action)) same
+        let settles : RunsTo c.process m.settled (next.Act request.place request.action) =
+        subst (λ p. RunsTo p m.settled (next.Act request.place request.action)) same
         (settles_at m.process m.settled request m.go m.reaches m.stands) in
         let there : m.settled ≡ c.is_next.0 = settled_same c.process m.settled c.is_next.0 _ _ settles c.is_next.1 in
         inr (record {

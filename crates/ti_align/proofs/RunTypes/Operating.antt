@@ -20,20 +20,20 @@ use Rattle.ti_syntax.specs.declared.tree.exprs.BinaryOperator.{BinaryOperator}
 use Rattle.ti_syntax.specs.declared.tree.exprs.BinaryOperator.TheVariants as op
 use Rattle.ti_lang.specs.Program.Types.{ValueType}
 use Rattle.ti_lang.specs.Program.Types as t
-use Rattle.ti_lang.specs.Program.Classes.{NumberedProgram}
+use Rattle.ti_lang.specs.Program.Classes.{ProgramView}
 use Rattle.ti_lang.specs.Typing.Kinds.{where_true, same_truth, same_type, is_whole, is_null, is_reference, is_local, as_global}
 use Rattle.ti_lang.specs.Typing.Fits.{fits, casts}
 use Rattle.ti_lang.specs.Typing.Operators.{whole_type, truth_type, point_type, rect_type, domain_type, Sum, row_type, binary_type, unary_type}
 use Rattle.ti_lang.specs.Typing.TextTypes.{joined_type, product_type, operator_type}
-use Rattle.ti_lang.specs.Meaning.Held.{Held, Plain, Dm, truth, truth_of, thing_of, points_in, dim_of, as_type}
-use Rattle.ti_lang.specs.Meaning.Asking.{Asking, ◌>>=◌, gives}
+use Rattle.ti_lang.specs.Meaning.Held.{Held, Plain, Dm, truth, truth_of, referent_of, points_in, dim_of, as_type}
+use Rattle.ti_lang.specs.Meaning.Comp.{Comp, ◌>>=◌, gives}
 use Rattle.ti_lang.specs.Meaning.Answers.{IsPointOf, IsRectOf}
 use Rattle.ti_lang.specs.Meaning.Conversions.{most_points, to_domain, converted, domain_within, of_domains}
 use Rattle.ti_lang.specs.Meaning.Operands.{Operands, Wholes, Truths, Points, Rects, Domains, Things, Regions, Others, operands, number, same_points}
-use Rattle.ti_lang.specs.Meaning.Operators.{added, subtracted, multiplied, divided, combined, shifted, compared, equal, operated, settled, operated_alone}
+use Rattle.ti_lang.specs.Meaning.Operators.{add_values, subtract_values, multiply_values, divide_values, bitwise_values, shift_value, compare_values, equal, apply_binary, short_circuit, operated_alone}
 use Rattle.ti_lang.specs.Meaning.Evaluation.{is_own, unless_settled, with_right}
-use Rattle.ti_align.specs.Things.{IsDomainOf, IsOf}
-use Rattle.ti_align.specs.Things as there
+use Rattle.ti_align.specs.HeapTyping.{IsDomainOf, IsOf}
+use Rattle.ti_align.specs.HeapTyping as there
 use Rattle.ti_align.specs.Mirrors.Sound.{Sound}
 use Rattle.ti_align.proofs.Runs.Vars.{true_false, and_left, and_right}
 use Rattle.ti_align.proofs.RunTypes.Computing.{sound_then, weaker, sound_value, sound_guarded, sound_tested}
@@ -108,15 +108,15 @@ seen_same _ = refl
 
 -- ---- global and local references
 
-pub to_global : (w : there.Things) (a : ValueType) (h : Held) → IsOf w a h → IsOf w (as_global a) h
+pub to_global : (w : there.HeapTyping) (a : ValueType) (h : Held) → IsOf w a h → IsOf w (as_global a) h
 to_global w (t.Class c l) h k = (k.0, k.1, k.2, λ z. false_true z)
 to_global w (t.Grid e n l) h k = (k.0, k.1, k.2, λ z. false_true z)
 to_global w _ h k = k
 
 -- what names a thing of the process, if the type is local
-pub to_local : (w : there.Things) (a : ValueType) (h : Held) → IsOf w (as_global a) h → there.IsOwn w (is_local a) (thing_of h) → IsOf w a h
-to_local w (t.Class c l) h k own = (k.0, k.1, k.2, λ z. subst (λ o. is_own w.owner o ≡ true) (ap thing_of k.1) (own z))
-to_local w (t.Grid e n l) h k own = (k.0, k.1, k.2, λ z. subst (λ o. is_own w.owner o ≡ true) (ap thing_of k.1) (own z))
+pub to_local : (w : there.HeapTyping) (a : ValueType) (h : Held) → IsOf w (as_global a) h → there.IsOwn w (is_local a) (referent_of h) → IsOf w a h
+to_local w (t.Class c l) h k own = (k.0, k.1, k.2, λ z. subst (λ o. is_own w.owner o ≡ true) (ap referent_of k.1) (own z))
+to_local w (t.Grid e n l) h k own = (k.0, k.1, k.2, λ z. subst (λ o. is_own w.owner o ≡ true) (ap referent_of k.1) (own z))
 to_local w _ h k own = k
 
 -- no global type is local
@@ -141,10 +141,10 @@ rect_domain n r k h =
     let q = points_placed n r k in
     record { points = q.0; rises = q.1; few = subst (λ m. m ≤ most_points) (sym (length_points r)) (leb-true (size_of r) most_points h) }
 
-module _ (p : NumberedProgram) (w : there.Things) where
+module _ (p : ProgramView) (w : there.HeapTyping) where
   -- ---- conversions
 
-  Goal : ValueType → Asking Held → Type 0
+  Goal : ValueType → Comp Held → Type 0
   Goal type m = Sound p (λ u h. IsOf u type h) w m
 
   pub to_any : (at : Place) (h : Held) → Sound p (λ u k. Unit {0}) w (to_domain at h)
@@ -382,7 +382,7 @@ module _ (p : NumberedProgram) (w : there.Things) where
   setly _ _ r t' u' x y e i j k l = absurd (none_some r e)
 
   sets_fine : (both : List Point → List Point → List Point) (at : Place) (n : ℕ) (x y : Held) → KeepsPoints both → IsSet n x
-      → ((u : there.Things) → there.Grows w u → IsSet n y) → Sound p (λ u k. IsOf u (t.Dm n) k) w (of_domains both at x y)
+      → ((u : there.HeapTyping) → there.Grows w u → IsSet n y) → Sound p (λ u k. IsOf u (t.Dm n) k) w (of_domains both at x y)
   sets_fine both at n x y d k l =
       sound_then p (λ u h. IsOf u (t.Dm n) h) _ w (to_domain at x) _ (to_fine at n x k) (λ u g a h.
       sound_then p (λ u h. IsOf u (t.Dm n) h) _ u (to_domain at y) _ (later u (l u g)) (λ v i b j.
@@ -393,7 +393,7 @@ module _ (p : NumberedProgram) (w : there.Things) where
       kept : KeepsPoints both → (ps qs : List Point) → IsDomainOf n ps → IsDomainOf n qs → nat_le (length (both ps qs)) most_points ≡ true → IsDomainOf n (both ps qs)
       kept d ps qs a b o = let q = d n ps qs (a.points, a.rises) (b.points, b.rises) in record { points = q.0; rises = q.1; few = leb-true (length (both ps qs)) most_points o }
 
-      later : (u : there.Things) → IsSet n y → Sound p (λ u k. IsOf u (t.Dm n) k) u (to_domain at y)
+      later : (u : there.HeapTyping) → IsSet n y → Sound p (λ u k. IsOf u (t.Dm n) k) u (to_domain at y)
       later u (inl k) =
           subst (λ z. Sound p (λ u k. IsOf u (t.Dm n) k) u (to_domain at z)) (sym k.1)
           (sound_tested p _ u _ _ at _ (λ z. (points_of k.0, ap (λ d. Dm d (points_of k.0)) k.2.dim_is, rect_domain n k.0 k.2 z)))
@@ -402,7 +402,7 @@ module _ (p : NumberedProgram) (w : there.Things) where
   -- ---- rows of the table
 
   -- what an operator comes to, and the type that the text gives it
-  abbrev pub Operates : ValueType → ValueType → Asking Held → Type 0
+  abbrev pub Operates : ValueType → ValueType → Comp Held → Type 0
   Operates r seen m = Sound p (λ u h. IsOf u r h) w m × Seen r seen
 
   from_or : (a b : Option ValueType) (r : ValueType) → option_or a b ≡ Some r → (a ≡ Some r) ⊎ (b ≡ Some r)
@@ -426,59 +426,59 @@ module _ (p : NumberedProgram) (w : there.Things) where
     sets_here : (both : List Point → List Point → List Point) → KeepsPoints both → (q : Setly r t' u' x y) → Sound p (λ u h. IsOf u r h) w (of_domains both at x y)
     sets_here both d q = subst (λ z. Sound p (λ u h. IsOf u z h) w (of_domains both at x y)) (sym q.is_domain) (sets_fine both at q.dims x y d q.left (λ u g. q.right))
 
-    added_fine : row_type Sum a u ≡ Some r → Operates r (joined_type t' u') (added at x y (operands x y))
+    added_fine : row_type Sum a u ≡ Some r → Operates r (joined_type t' u') (add_values at x y (operands x y))
     added_fine e = by (from_or (whole_type a u) _ r e)
       where
-        at_sets : (q : Setly r t' u' x y) → ((c : Rect) × (b : Rect) × (operands x y ≡ Rects c b)) ⊎ (operands x y ≡ Domains) → Sound p (λ u h. IsOf u r h) w (added at x y (operands x y))
-        at_sets q (inl z) = subst (λ o. Sound p (λ u h. IsOf u r h) w (added at x y o)) (sym z.2) (sets_here union union_points_kept q)
-        at_sets q (inr z) = subst (λ o. Sound p (λ u h. IsOf u r h) w (added at x y o)) (sym z) (sets_here union union_points_kept q)
+        at_sets : (q : Setly r t' u' x y) → ((c : Rect) × (b : Rect) × (operands x y ≡ Rects c b)) ⊎ (operands x y ≡ Domains) → Sound p (λ u h. IsOf u r h) w (add_values at x y (operands x y))
+        at_sets q (inl z) = subst (λ o. Sound p (λ u h. IsOf u r h) w (add_values at x y o)) (sym z.2) (sets_here union union_points_kept q)
+        at_sets q (inr z) = subst (λ o. Sound p (λ u h. IsOf u r h) w (add_values at x y o)) (sym z) (sets_here union union_points_kept q)
 
-        other : (point_type a u ≡ Some r) ⊎ (domain_type a u ≡ Some r) → Operates r (joined_type t' u') (added at x y (operands x y))
+        other : (point_type a u ≡ Some r) ⊎ (domain_type a u ≡ Some r) → Operates r (joined_type t' u') (add_values at x y (operands x y))
         other (inl z) =
             let q = pointly a u r t' u' x y z i j k l in (
-              subst (λ o. Sound p (λ u h. IsOf u r h) w (added at x y o)) (sym q.is)
+              subst (λ o. Sound p (λ u h. IsOf u r h) w (add_values at x y o)) (sym q.is)
                   (sound_value p _ w _ (q.gives (pt_sum q.left q.right) (sum_point q.dims q.left q.right q.left_is q.right_is))),
               q.seen,
             )
         other (inr z) = let q = setly a u r t' u' x y z i j k l in (at_sets q q.is, q.seen)
 
-        by : (whole_type a u ≡ Some r) ⊎ (option_or (point_type a u) (domain_type a u) ≡ Some r) → Operates r (joined_type t' u') (added at x y (operands x y))
+        by : (whole_type a u ≡ Some r) ⊎ (option_or (point_type a u) (domain_type a u) ≡ Some r) → Operates r (joined_type t' u') (add_values at x y (operands x y))
         by (inl z) =
             let q = wholly a u r t' u' x y z i j k l in
-            (subst (λ o. Sound p (λ u h. IsOf u r h) w (added at x y o)) (sym q.is) (sound_value p _ w _ (q.gives _ (wraps_fit q.width _))), whole_seen r _ (is_number a u r z) q.seen)
+            (subst (λ o. Sound p (λ u h. IsOf u r h) w (add_values at x y o)) (sym q.is) (sound_value p _ w _ (q.gives _ (wraps_fit q.width _))), whole_seen r _ (is_number a u r z) q.seen)
         by (inr z) = other (from_or (point_type a u) (domain_type a u) r z)
 
-    subtracted_fine : row_type Sum a u ≡ Some r → Operates r (joined_type t' u') (subtracted at x y (operands x y))
+    subtracted_fine : row_type Sum a u ≡ Some r → Operates r (joined_type t' u') (subtract_values at x y (operands x y))
     subtracted_fine e = by (from_or (whole_type a u) _ r e)
       where
-        at_sets : (q : Setly r t' u' x y) → ((c : Rect) × (b : Rect) × (operands x y ≡ Rects c b)) ⊎ (operands x y ≡ Domains) → Sound p (λ u h. IsOf u r h) w (subtracted at x y (operands x y))
-        at_sets q (inl z) = subst (λ o. Sound p (λ u h. IsOf u r h) w (subtracted at x y o)) (sym z.2) (sets_here minus minus_points_kept q)
-        at_sets q (inr z) = subst (λ o. Sound p (λ u h. IsOf u r h) w (subtracted at x y o)) (sym z) (sets_here minus minus_points_kept q)
+        at_sets : (q : Setly r t' u' x y) → ((c : Rect) × (b : Rect) × (operands x y ≡ Rects c b)) ⊎ (operands x y ≡ Domains) → Sound p (λ u h. IsOf u r h) w (subtract_values at x y (operands x y))
+        at_sets q (inl z) = subst (λ o. Sound p (λ u h. IsOf u r h) w (subtract_values at x y o)) (sym z.2) (sets_here minus minus_points_kept q)
+        at_sets q (inr z) = subst (λ o. Sound p (λ u h. IsOf u r h) w (subtract_values at x y o)) (sym z) (sets_here minus minus_points_kept q)
 
-        other : (point_type a u ≡ Some r) ⊎ (domain_type a u ≡ Some r) → Operates r (joined_type t' u') (subtracted at x y (operands x y))
+        other : (point_type a u ≡ Some r) ⊎ (domain_type a u ≡ Some r) → Operates r (joined_type t' u') (subtract_values at x y (operands x y))
         other (inl z) =
             let q = pointly a u r t' u' x y z i j k l in (
-              subst (λ o. Sound p (λ u h. IsOf u r h) w (subtracted at x y o)) (sym q.is)
+              subst (λ o. Sound p (λ u h. IsOf u r h) w (subtract_values at x y o)) (sym q.is)
                   (sound_value p _ w _ (q.gives (pt_difference q.left q.right)
                   (difference_point q.dims q.left q.right q.left_is q.right_is))),
               q.seen,
             )
         other (inr z) = let q = setly a u r t' u' x y z i j k l in (at_sets q q.is, q.seen)
 
-        by : (whole_type a u ≡ Some r) ⊎ (option_or (point_type a u) (domain_type a u) ≡ Some r) → Operates r (joined_type t' u') (subtracted at x y (operands x y))
+        by : (whole_type a u ≡ Some r) ⊎ (option_or (point_type a u) (domain_type a u) ≡ Some r) → Operates r (joined_type t' u') (subtract_values at x y (operands x y))
         by (inl z) =
             let q = wholly a u r t' u' x y z i j k l in
-            (subst (λ o. Sound p (λ u h. IsOf u r h) w (subtracted at x y o)) (sym q.is) (sound_value p _ w _ (q.gives _ (wraps_fit q.width _))), whole_seen r _ (is_number a u r z) q.seen)
+            (subst (λ o. Sound p (λ u h. IsOf u r h) w (subtract_values at x y o)) (sym q.is) (sound_value p _ w _ (q.gives _ (wraps_fit q.width _))), whole_seen r _ (is_number a u r z) q.seen)
         by (inr z) = other (from_or (point_type a u) (domain_type a u) r z)
 
-    multiplied_fine : option_or (whole_type a u) (option_or (rect_type a u) (domain_type a u)) ≡ Some r → Operates r (product_type t' u') (multiplied at x y (operands x y))
+    multiplied_fine : option_or (whole_type a u) (option_or (rect_type a u) (domain_type a u)) ≡ Some r → Operates r (product_type t' u') (multiply_values at x y (operands x y))
     multiplied_fine e = by (from_or (whole_type a u) _ r e)
       where
-        rects : (a u : ValueType) → rect_type a u ≡ Some r → Seen a t' → Seen u u' → IsOf w a x → IsOf w u y → Operates r (product_type t' u') (multiplied at x y (operands x y))
+        rects : (a u : ValueType) → rect_type a u ≡ Some r → Seen a t' → Seen u u' → IsOf w a x → IsOf w u y → Operates r (product_type t' u') (multiply_values at x y (operands x y))
         rects (t.Rc n) (t.Rc m) z i j k l =
             let q = where_some (n == m) (t.Rc n) r z in
-            subst (λ z. Operates z (product_type t' u') (multiplied at x y (operands x y))) q.1 (
-              subst (λ o. Sound p (λ u h. IsOf u (t.Rc n) h) w (multiplied at x y o)) (sym (ap₂ operands k.1 l.1 ∙ rects_both k.0 l.0 (k.2.dim_is ∙ eqb-true n m q.0 ∙ sym l.2.dim_is)))
+            subst (λ z. Operates z (product_type t' u') (multiply_values at x y (operands x y))) q.1 (
+              subst (λ o. Sound p (λ u h. IsOf u (t.Rc n) h) w (multiply_values at x y o)) (sym (ap₂ operands k.1 l.1 ∙ rects_both k.0 l.0 (k.2.dim_is ∙ eqb-true n m q.0 ∙ sym l.2.dim_is)))
                   (sound_value p _ w _ (rect.meet k.0 l.0, refl, meet_form n k.0 l.0 k.2 (subst (λ d. IsRectOf d l.0) (sym (eqb-true n m q.0)) l.2))),
               (i.0, ap₂ product_type i.1 j.1),
             )
@@ -513,10 +513,10 @@ module _ (p : NumberedProgram) (w : there.Things) where
             go false h = none_some r (sym (ap (λ g. option_map t.Dm (if g then Some n else None)) h) ∙ dm)
 
         at_sets : (q : Setly r t' u' x y) → ((c : Rect) × (b : Rect) × (operands x y ≡ Rects c b)) ⊎ (operands x y ≡ Domains)
-            → rect_type a u ≡ None → domain_type a u ≡ Some r → Operates r (product_type t' u') (multiplied at x y (operands x y))
+            → rect_type a u ≡ None → domain_type a u ≡ Some r → Operates r (product_type t' u') (multiply_values at x y (operands x y))
         at_sets q o n z = go (joined a u z i j q.seen) o
           where
-            two : (n m : ℕ) → a ≡ t.Rc n → u ≡ t.Rc m → Operates r (product_type t' u') (multiplied at x y (operands x y))
+            two : (n m : ℕ) → a ≡ t.Rc n → u ≡ t.Rc m → Operates r (product_type t' u') (multiply_values at x y (operands x y))
             two d m b c = absurd (not_both d m b c z n)
 
             no_rects : (a u : ValueType) → domain_type a u ≡ Some r → IsOf w a x → IsOf w u y → (operands x y ≡ Domains) ⊎ ((n : ℕ) × (m : ℕ) × (a ≡ t.Rc n) × (u ≡ t.Rc m))
@@ -528,17 +528,17 @@ module _ (p : NumberedProgram) (w : there.Things) where
             no_rects (t.Dm n) _ z k l = absurd (none_some r z)
             no_rects _ _ z k l = absurd (none_some r z)
 
-            found : Seen r (product_type t' u') → (operands x y ≡ Domains) ⊎ ((n : ℕ) × (m : ℕ) × (a ≡ t.Rc n) × (u ≡ t.Rc m)) → Operates r (product_type t' u') (multiplied at x y (operands x y))
-            found h (inl d) = (subst (λ o. Sound p (λ u h. IsOf u r h) w (multiplied at x y o)) (sym d) (sets_here meet meet_points_kept q), h)
+            found : Seen r (product_type t' u') → (operands x y ≡ Domains) ⊎ ((n : ℕ) × (m : ℕ) × (a ≡ t.Rc n) × (u ≡ t.Rc m)) → Operates r (product_type t' u') (multiply_values at x y (operands x y))
+            found h (inl d) = (subst (λ o. Sound p (λ u h. IsOf u r h) w (multiply_values at x y o)) (sym d) (sets_here meet meet_points_kept q), h)
             found h (inr g) = two g.0 g.1 g.2 g.3
 
             go : Seen r (product_type t' u') ⊎ ((n : ℕ) × (m : ℕ) × (a ≡ t.Rc n) × (u ≡ t.Rc m))
                 → ((c : Rect) × (b : Rect) × (operands x y ≡ Rects c b)) ⊎ (operands x y ≡ Domains)
-                → Operates r (product_type t' u') (multiplied at x y (operands x y))
+                → Operates r (product_type t' u') (multiply_values at x y (operands x y))
             go (inr g) o = two g.0 g.1 g.2 g.3
             go (inl h) o = found h (no_rects a u z k l)
 
-        other : (o : Option ValueType) → rect_type a u ≡ o → option_or o (domain_type a u) ≡ Some r → Operates r (product_type t' u') (multiplied at x y (operands x y))
+        other : (o : Option ValueType) → rect_type a u ≡ o → option_or o (domain_type a u) ≡ Some r → Operates r (product_type t' u') (multiply_values at x y (operands x y))
         other (Some z) q h = rects a u (q ∙ h) i j k l
         other None q h = let s = setly a u r t' u' x y h i j k l in at_sets s s.is q h
 
@@ -551,50 +551,50 @@ module _ (p : NumberedProgram) (w : there.Things) where
         numbers t.Long _ z i j = absurd (none_some r z)
         numbers _ _ z i j = absurd (none_some r z)
 
-        by : (whole_type a u ≡ Some r) ⊎ (option_or (rect_type a u) (domain_type a u) ≡ Some r) → Operates r (product_type t' u') (multiplied at x y (operands x y))
+        by : (whole_type a u ≡ Some r) ⊎ (option_or (rect_type a u) (domain_type a u) ≡ Some r) → Operates r (product_type t' u') (multiply_values at x y (operands x y))
         by (inl z) =
             let q = wholly a u r t' u' x y z i j k l in (
-              subst (λ o. Sound p (λ u h. IsOf u r h) w (multiplied at x y o)) (sym q.is)
+              subst (λ o. Sound p (λ u h. IsOf u r h) w (multiply_values at x y o)) (sym q.is)
                   (sound_value p _ w _ (q.gives _ (wraps_fit q.width _))),
               whole_seen r _ (is_number a u r z) (sym (numbers a u z i j) ∙ q.seen),
             )
         by (inr z) = other (rect_type a u) refl z
 
-    divided_fine : (f : Width → ℤ → ℤ → ℤ) → ((w : Width) (m n : ℤ) → Fits w m → Fits w (f w m n)) → whole_type a u ≡ Some r → Operates r (joined_type t' u') (divided f at (operands x y))
+    divided_fine : (f : Width → ℤ → ℤ → ℤ) → ((w : Width) (m n : ℤ) → Fits w m → Fits w (f w m n)) → whole_type a u ≡ Some r → Operates r (joined_type t' u') (divide_values f at (operands x y))
     divided_fine f d z =
         let q = wholly a u r t' u' x y z i j k l in
-        (subst (λ o. Sound p (λ u h. IsOf u r h) w (divided f at o)) (sym q.is) (sound_guarded p _ w _ _ at _ (q.gives _ (d q.width q.left q.right q.fits))), whole_seen r _ (is_number a u r z) q.seen)
+        (subst (λ o. Sound p (λ u h. IsOf u r h) w (divide_values f at o)) (sym q.is) (sound_guarded p _ w _ _ at _ (q.gives _ (d q.width q.left q.right q.fits))), whole_seen r _ (is_number a u r z) q.seen)
 
-    combined_fine : (f : ℕ → ℕ → ℕ) (g : Bool → Bool → Bool) → option_or (whole_type a u) (truth_type a u) ≡ Some r → Operates r (joined_type t' u') (gives (combined f g (operands x y)))
+    combined_fine : (f : ℕ → ℕ → ℕ) (g : Bool → Bool → Bool) → option_or (whole_type a u) (truth_type a u) ≡ Some r → Operates r (joined_type t' u') (gives (bitwise_values f g (operands x y)))
     combined_fine f g e = by (from_or (whole_type a u) _ r e)
       where
-        truths : (a u : ValueType) → truth_type a u ≡ Some r → Seen a t' → Seen u u' → IsOf w a x → IsOf w u y → Operates r (joined_type t' u') (gives (combined f g (operands x y)))
+        truths : (a u : ValueType) → truth_type a u ≡ Some r → Seen a t' → Seen u u' → IsOf w a x → IsOf w u y → Operates r (joined_type t' u') (gives (bitwise_values f g (operands x y)))
         truths t.Boolean t.Boolean z i j k l =
-            subst (λ q. Operates q (joined_type t' u') (gives (combined f g (operands x y)))) (some_same t.Boolean r z)
-            (sound_value p _ w _ (g k.0 l.0, ap (combined f g) (ap₂ operands k.1 l.1)), ap₂ joined_type i j)
+            subst (λ q. Operates q (joined_type t' u') (gives (bitwise_values f g (operands x y)))) (some_same t.Boolean r z)
+            (sound_value p _ w _ (g k.0 l.0, ap (bitwise_values f g) (ap₂ operands k.1 l.1)), ap₂ joined_type i j)
         truths t.Boolean _ z i j k l = absurd (none_some r z)
         truths _ _ z i j k l = absurd (none_some r z)
 
-        by : (whole_type a u ≡ Some r) ⊎ (truth_type a u ≡ Some r) → Operates r (joined_type t' u') (gives (combined f g (operands x y)))
+        by : (whole_type a u ≡ Some r) ⊎ (truth_type a u ≡ Some r) → Operates r (joined_type t' u') (gives (bitwise_values f g (operands x y)))
         by (inl z) =
             let q = wholly a u r t' u' x y z i j k l in
-            (subst (λ o. Sound p (λ u h. IsOf u r h) w (gives (combined f g o))) (sym q.is) (sound_value p _ w _ (q.gives _ (wraps_fit q.width _))), whole_seen r _ (is_number a u r z) q.seen)
+            (subst (λ o. Sound p (λ u h. IsOf u r h) w (gives (bitwise_values f g o))) (sym q.is) (sound_value p _ w _ (q.gives _ (wraps_fit q.width _))), whole_seen r _ (is_number a u r z) q.seen)
         by (inr z) = truths a u z i j k l
 
-    shifted_fine : (f : Width → ℤ → ℤ → ℤ) → ((w : Width) (m n : ℤ) → Fits w m → Fits w (f w m n)) → where_true (is_whole a && is_whole u) a ≡ Some r → Operates r t' (gives (shifted f x y))
-    shifted_fine f d e = let z = where_some (is_whole a && is_whole u) a r e in subst (λ q. Operates q t' (gives (shifted f x y))) z.1 (by a (and_left _ _ z.0) k, i)
+    shifted_fine : (f : Width → ℤ → ℤ → ℤ) → ((w : Width) (m n : ℤ) → Fits w m → Fits w (f w m n)) → where_true (is_whole a && is_whole u) a ≡ Some r → Operates r t' (gives (shift_value f x y))
+    shifted_fine f d e = let z = where_some (is_whole a && is_whole u) a r e in subst (λ q. Operates q t' (gives (shift_value f x y))) z.1 (by a (and_left _ _ z.0) k, i)
       where
-        by : (a : ValueType) → is_whole a ≡ true → IsOf w a x → Sound p (λ u h. IsOf u a h) w (gives (shifted f x y))
-        by t.Int h k = sound_value p _ w _ (f w32 k.0 _, ap (λ z. shifted f z y) k.1, d w32 k.0 _ k.2)
-        by t.Long h k = sound_value p _ w _ (f w64 k.0 _, ap (λ z. shifted f z y) k.1, d w64 k.0 _ k.2)
+        by : (a : ValueType) → is_whole a ≡ true → IsOf w a x → Sound p (λ u h. IsOf u a h) w (gives (shift_value f x y))
+        by t.Int h k = sound_value p _ w _ (f w32 k.0 _, ap (λ z. shift_value f z y) k.1, d w32 k.0 _ k.2)
+        by t.Long h k = sound_value p _ w _ (f w64 k.0 _, ap (λ z. shift_value f z y) k.1, d w64 k.0 _ k.2)
         by _ h k = false_true h
 
-    compared_fine : (test : ℤ → ℤ → Bool) (b : Bool) → where_true b t.Boolean ≡ Some r → Operates r t.Boolean (gives (compared test (operands x y)))
+    compared_fine : (test : ℤ → ℤ → Bool) (b : Bool) → where_true b t.Boolean ≡ Some r → Operates r t.Boolean (gives (compare_values test (operands x y)))
     compared_fine test b e =
         let z = where_some b t.Boolean r e in
-        subst (λ q. Operates q t.Boolean (gives (compared test (operands x y)))) z.1 (sound_value p _ w _ (by (operands x y)), refl)
+        subst (λ q. Operates q t.Boolean (gives (compare_values test (operands x y)))) z.1 (sound_value p _ w _ (by (operands x y)), refl)
       where
-        by : (o : Operands) → (b : Bool) × (compared test o ≡ truth b)
+        by : (o : Operands) → (b : Bool) × (compare_values test o ≡ truth b)
         by (Wholes q m n) = (_, refl)
         by (Points m n) = (_, refl)
         by _ = (false, refl)
@@ -602,7 +602,7 @@ module _ (p : NumberedProgram) (w : there.Things) where
     equal_any : (o : Operands) → Sound p (λ u b. Unit {0}) w (equal at x y o)
     equal_any Domains = sound_then p (λ u h. Unit {0}) _ w (to_domain at x) _ (to_any at x) (λ u g d h. weaker p _ _ u _ (tail u d) (λ v i b q. tt))
       where
-        any_there : (u : there.Things) (z : Held) → Sound p (λ u k. Unit {0}) u (to_domain at z)
+        any_there : (u : there.HeapTyping) (z : Held) → Sound p (λ u k. Unit {0}) u (to_domain at z)
         any_there u (Plain (v.Rc r)) = sound_guarded p _ u _ _ at _ tt
         any_there u (Plain (v.Int n)) = sound_value p _ u _ tt
         any_there u (Plain (v.Long n)) = sound_value p _ u _ tt
@@ -613,7 +613,7 @@ module _ (p : NumberedProgram) (w : there.Things) where
         any_there u (Plain (v.Grid o)) = sound_value p _ u _ tt
         any_there u (Dm n ps) = sound_value p _ u _ tt
 
-        tail : (u : there.Things) (d : Held) → Sound p (λ u b. Unit {0}) u (to_domain at y >>= λ e. gives (same_points (points_in d) (points_in e)))
+        tail : (u : there.HeapTyping) (d : Held) → Sound p (λ u b. Unit {0}) u (to_domain at y >>= λ e. gives (same_points (points_in d) (points_in e)))
         tail u d = sound_then p (λ u h. Unit {0}) _ u (to_domain at y) _ (any_there u y) (λ v g e h. sound_value p _ v _ tt)
     equal_any (Wholes q m n) = sound_value p _ w _ tt
     equal_any (Truths m n) = sound_value p _ w _ tt
@@ -637,7 +637,7 @@ module _ (p : NumberedProgram) (w : there.Things) where
         by t.Boolean _ e l = absurd (none_some r e)
         by _ _ e l = absurd (none_some r e)
 
-    pub operated_fine : (o : BinaryOperator) → binary_type o a u ≡ Some r → Operates r (operator_type o t' u') (operated at o x y)
+    pub operated_fine : (o : BinaryOperator) → binary_type o a u ≡ Some r → Operates r (operator_type o t' u') (apply_binary at o x y)
     operated_fine op.OrElse e = logic_fine e
     operated_fine op.AndThen e = logic_fine e
     operated_fine op.Or e = combined_fine bit_or (λ a b. a || b) e
@@ -661,7 +661,7 @@ module _ (p : NumberedProgram) (w : there.Things) where
   -- ---- operators in expressions
 
   -- what the left operand alone tells
-  settled_fine : (o : BinaryOperator) (a u r : ValueType) (x z : Held) → binary_type o a u ≡ Some r → settled o x ≡ Some z → IsOf w r z
+  settled_fine : (o : BinaryOperator) (a u r : ValueType) (x z : Held) → binary_type o a u ≡ Some r → short_circuit o x ≡ Some z → IsOf w r z
   settled_fine o a u r x z e k = by o e k
     where
       logic : (a u : ValueType) → truth_type a u ≡ Some r → (b : Bool) → truth b ≡ z → IsOf w r z
@@ -677,16 +677,16 @@ module _ (p : NumberedProgram) (w : there.Things) where
       left_and true k = absurd (none_some z k)
       left_and false k = (false, some_same _ z k)
 
-      by : (o : BinaryOperator) → binary_type o a u ≡ Some r → settled o x ≡ Some z → IsOf w r z
+      by : (o : BinaryOperator) → binary_type o a u ≡ Some r → short_circuit o x ≡ Some z → IsOf w r z
       by op.OrElse e k = let q = left_or (truth_of x) k in logic a u e q.0 q.1
       by op.AndThen e k = let q = left_and (truth_of x) k in logic a u e q.0 q.1
       by _ e k = absurd (none_some z k)
 
-  pub right_fine : (at : Place) (o : BinaryOperator) (a u r : ValueType) (x : Held) (right : Asking Held) → binary_type o a u ≡ Some r → Sound p (λ v h. IsOf v u h) w right
-      → ((v : there.Things) → there.Grows w v → (y : Held) → IsOf v u y → Sound p (λ z h. IsOf z r h) v (operated at o x y)) → Sound p (λ v h. IsOf v r h) w (with_right at o x right)
-  right_fine at o a u r x right e k f = by (settled o x) refl
+  pub right_fine : (at : Place) (o : BinaryOperator) (a u r : ValueType) (x : Held) (right : Comp Held) → binary_type o a u ≡ Some r → Sound p (λ v h. IsOf v u h) w right
+      → ((v : there.HeapTyping) → there.Grows w v → (y : Held) → IsOf v u y → Sound p (λ z h. IsOf z r h) v (apply_binary at o x y)) → Sound p (λ v h. IsOf v r h) w (with_right at o x right)
+  right_fine at o a u r x right e k f = by (short_circuit o x) refl
     where
-      by : (z : Option Held) → settled o x ≡ z → Sound p (λ v h. IsOf v r h) w (unless_settled z (right >>= λ y. operated at o x y))
+      by : (z : Option Held) → short_circuit o x ≡ z → Sound p (λ v h. IsOf v r h) w (unless_settled z (right >>= λ y. apply_binary at o x y))
       by (Some z) q = sound_value p _ w z (settled_fine o a u r x z e q)
       by None q = sound_then p (λ v h. IsOf v u h) (λ v h. IsOf v r h) w right _ k f
 

@@ -10,16 +10,16 @@ use Rattle.ti_lang.specs.Program.Types.{ValueType}
 use Rattle.ti_lang.specs.Program.Types as t
 use Rattle.ti_lang.specs.Program.Expressions.{NumberedExp, NumberedExps, place_of_numbered}
 use Rattle.ti_lang.specs.Program.Expressions as e
-use Rattle.ti_lang.specs.Program.Classes.{NumberedParam, Words, Params, NumberedMethod, NumberedProgram}
+use Rattle.ti_lang.specs.Program.Classes.{NumberedParam, MainArgs, Params, NumberedMethod, ProgramView}
 use Rattle.ti_lang.specs.Program.Scope.{ScopeContents, this_of}
 use Rattle.ti_lang.specs.Typing.Kinds.{is_void, is_object}
 use Rattle.ti_lang.specs.Typing.Fits.{fits}
 use Rattle.ti_lang.specs.Typing.Declared.{instance_method, result_type, types_of}
-use Rattle.ti_lang.specs.Typing.Expressions.{all_fit, takes, called, member_given, known, operand, operands, operand_type}
+use Rattle.ti_lang.specs.Typing.Expressions.{all_fit, takes, called, member_given, type_result, operand, operands, operand_type}
 use Rattle.ti_lang.specs.Typing.Expressions as typing
 use Rattle.ti_lang.specs.Typing.Called.{method_behind}
-use Rattle.ti_lang.specs.Meaning.Held.{Held, Plain, thing_of}
-use Rattle.ti_lang.specs.Meaning.Asking.{Asking, needed}
+use Rattle.ti_lang.specs.Meaning.Held.{Held, Plain, referent_of}
+use Rattle.ti_lang.specs.Meaning.Comp.{Comp, needed}
 use Rattle.ti_lang.specs.Meaning.Conversions.{converted}
 use Rattle.ti_lang.specs.Meaning.Processes.{Variable, Receiver}
 use Rattle.ti_lang.specs.Meaning.Scoping.{Env, type_of, type_here}
@@ -27,13 +27,13 @@ use Rattle.ti_lang.specs.Meaning.Evaluation.{eval}
 use Rattle.ti_lang.specs.Meaning.Targets.{into}
 use Rattle.ti_lang.specs.Meaning.Moves.{Move, receives}
 use Rattle.ti_lang.specs.Meaning.Calls as call
-use Rattle.ti_lang.specs.Meaning.Calls.{Call, call_of, parameters_from, parameters_of, bound, maybe_eval, maybe_needed, calling}
+use Rattle.ti_lang.specs.Meaning.Calls.{Call, call_of, parameters_from, parameters_of, bind_params, maybe_eval, maybe_needed, calling}
 use Rattle.ti_lang.specs.Meaning.Statements.{valued_or_called}
-use Rattle.ti_align.specs.Things.{Things, Grows, IsOf, VariablesFit, ThisFits}
+use Rattle.ti_align.specs.HeapTyping.{HeapTyping, Grows, IsOf, VariablesFit, ThisFits}
 use Rattle.ti_align.specs.Mirrors.Sound.{Sound}
 use Rattle.ti_align.specs.Mirrors.Fitting.{EnvFits, IsWritten, AreWritten}
 use Rattle.ti_align.specs.Heap.{FieldsFit, FieldsStorable}
-use Rattle.ti_align.specs.Mirrors.Work.{uses_of, WholeFits, ReceiverFits, MethodFits, MethodsFit, MoveFits}
+use Rattle.ti_align.specs.Mirrors.ContItem.{uses_of, WholeFits, ReceiverFits, MethodFits, MethodsFit, MoveFits}
 use Rattle.ti_align.proofs.Runs.Vars.{true_false, and_left, and_right}
 use Rattle.ti_align.proofs.RunTypes.Computing.{grows_then, sound_then, sound_value, Names, needed_as}
 use Rattle.ti_align.proofs.RunTypes.Operating.{none_some, some_same, where_some, seen_same, converted_fine}
@@ -42,12 +42,12 @@ use Rattle.ti_align.proofs.RunTypes.Storing.{variables_stay, into_fine}
 
 -- ---- methods
 
-method_at : (p : NumberedProgram) (ms : List NumberedMethod) (k : ℕ) (m : NumberedMethod) → MethodsFit p ms → slice_get ms k ≡ Some m → MethodFits p m
+method_at : (p : ProgramView) (ms : List NumberedMethod) (k : ℕ) (m : NumberedMethod) → MethodsFit p ms → slice_get ms k ≡ Some m → MethodFits p m
 method_at p [] k m f z = absurd (none_some m z)
 method_at p (x ∷ xs) zero m f z = subst (MethodFits p) (some_same x m z) f.0
 method_at p (x ∷ xs) (suc k) m f z = method_at p xs k m f.1 z
 
-method_found : (p : NumberedProgram) (test : NumberedMethod → Bool) (ms : List NumberedMethod) (m : NumberedMethod) → MethodsFit p ms → find test ms ≡ Some m → MethodFits p m × (test m ≡ true)
+method_found : (p : ProgramView) (test : NumberedMethod → Bool) (ms : List NumberedMethod) (m : NumberedMethod) → MethodsFit p ms → find test ms ≡ Some m → MethodFits p m × (test m ≡ true)
 method_found p test [] m f z = absurd (none_some m z)
 method_found p test (x ∷ xs) m f z = by (test x) refl z (λ k. method_found p test xs m f.1 k)
   where
@@ -63,7 +63,7 @@ only_is test (Some x) a z = by (test x) z
     by true z = z
     by false z = absurd (none_some a z)
 
-instance_fits : (p : NumberedProgram) (c name : ℕ) (m : NumberedMethod) → MethodsFit p p.methods → instance_method p c name ≡ Some m → MethodFits p m × (m.class ≡ c)
+instance_fits : (p : ProgramView) (c name : ℕ) (m : NumberedMethod) → MethodsFit p p.methods → instance_method p c name ≡ Some m → MethodFits p m × (m.class ≡ c)
 unfolding instance_method
 instance_fits p c name m f z =
     let q = method_found p (λ (m : NumberedMethod). (m.class == c) && (m.name == name)) p.methods m f (only_is _ _ m z) in
@@ -79,12 +79,12 @@ class_is m class z = by (list_any (λ (x : Modifier). is_static_word x.word) m.m
 only_there : (o : Option ValueType) (type : ValueType) → o ≡ Some type → is_void type ≡ false → only_if (λ u. not (is_void u)) o ≡ Some type
 only_there o type z v = ap (only_if (λ u. not (is_void u))) z ∙ ap (λ b. if not b then Some type else None) v
 
-behind_none : (p : NumberedProgram) (u : ValueType) (name : ℕ) → is_object u ≡ false → method_behind p u name ≡ None
+behind_none : (p : ProgramView) (u : ValueType) (name : ℕ) → is_object u ≡ false → method_behind p u name ≡ None
 behind_none p (t.Class c l) name z = absurd (true_false z)
 behind_none p _ name z = refl
 
 -- what is known where work is performed
-pub record Ready (s : ScopeContents) (w : Things) (env : Env) : Type 0 where
+pub record Ready (s : ScopeContents) (w : HeapTyping) (env : Env) : Type 0 where
   pub fits : EnvFits (uses_of env.method) s w env
   pub variables : VariablesFit w env.variables
   pub fields : FieldsFit env.program
@@ -93,7 +93,7 @@ pub record Ready (s : ScopeContents) (w : Things) (env : Env) : Type 0 where
   -- an expression inside another has its type in the text
   pub types : (x : NumberedExp) (type : ValueType) → IsWritten (uses_of env.method) x → operand_type env.program s x ≡ Some type → type_here env x ≡ type
 
-pub ready_stays : (s : ScopeContents) (u w : Things) (env : Env) → Grows u w → Ready s u env → Ready s w env
+pub ready_stays : (s : ScopeContents) (u w : HeapTyping) (env : Env) → Grows u w → Ready s u env → Ready s w env
 ready_stays s u w env g r = record {
   fits = env_stays (uses_of env.method) s u w env g r.fits;
   variables = variables_stay u w env.variables g r.variables;
@@ -104,20 +104,20 @@ ready_stays s u w env g r = record {
 }
 
 module _ (s : ScopeContents) (env : Env) where
-  abbrev p : NumberedProgram
+  abbrev p : ProgramView
   p = env.program
 
   -- the computation comes to a move that fits, where values of these types are handed in and are left to be taken
-  abbrev pub Fine : Option ValueType → Option ValueType → Things → Asking Move → Type 0
+  abbrev pub Fine : Option ValueType → Option ValueType → HeapTyping → Comp Move → Type 0
   Fine handed untaken w m = Sound p (λ u move. MoveFits p env.method handed untaken s u move) w m
 
   -- an expression inside another
-  pub inner_fine : (w : Things) → Ready s w env → (x : NumberedExp) (type : ValueType) → IsWritten (uses_of env.method) x
+  pub inner_fine : (w : HeapTyping) → Ready s w env → (x : NumberedExp) (type : ValueType) → IsWritten (uses_of env.method) x
       → operand_type p s x ≡ Some type → Sound p (λ u h. IsOf u type h) w (eval env x)
   inner_fine w r x type k z = (eval_fine (uses_of env.method) s w env r.fits r.fields x k type z).sound
 
-  pub receives_fine : (handed untaken : Option ValueType) (w : Things) → Ready s w env → (receiver : Receiver) (type : ValueType) (right : Asking Held) → ReceiverFits p env.method s receiver type
-      → ((u : Things) → Grows w u → Sound p (λ x h. IsOf x type h) u right) → Fine handed untaken w (receives env receiver right)
+  pub receives_fine : (handed untaken : Option ValueType) (w : HeapTyping) → Ready s w env → (receiver : Receiver) (type : ValueType) (right : Comp Held) → ReceiverFits p env.method s receiver type
+      → ((u : HeapTyping) → Grows w u → Sound p (λ x h. IsOf x type h) u right) → Fine handed untaken w (receives env receiver right)
   receives_fine handed untaken w r receiver type right k q =
       sound_then p (λ x vs. VariablesFit x vs) _ w (into env receiver right) _
       (into_fine s w env r.fits r.fields r.store r.variables receiver type right k q) (λ u g vs y. sound_value p _ u _ (y, tt, tt))
@@ -125,10 +125,10 @@ module _ (s : ScopeContents) (env : Env) where
   -- ---- calls
 
   -- an object on which a method is called
-  abbrev ObjectFits : Things → NumberedMethod → Option Held → Type 0
-  ObjectFits u m o = (h : Held) → o ≡ Some h → (class : ℕ) → this_of m ≡ Some class → (id : Id) → thing_of h ≡ Some id → u.class_at id ≡ Some class
+  abbrev ObjectFits : HeapTyping → NumberedMethod → Option Held → Type 0
+  ObjectFits u m o = (h : Held) → o ≡ Some h → (class : ℕ) → this_of m ≡ Some class → (id : Id) → referent_of h ≡ Some id → u.class_at id ≡ Some class
 
-  pub record CallFits (w : Things) (c : Call) (type : ValueType) : Type 0 where
+  pub record CallFits (w : HeapTyping) (c : Call) (type : ValueType) : Type 0 where
     pub method : MethodFits p c.method
     pub result : result_type c.method ≡ type
     pub types : List ValueType
@@ -138,7 +138,7 @@ module _ (s : ScopeContents) (env : Env) where
     pub object : Sound p (λ u o. ObjectFits u c.method o) w (maybe_eval env c.object)
 
   -- a whole expression is a call, or else has a value where it isn't void
-  abbrev pub CalledOr : Things → NumberedExp → ValueType → Type 0
+  abbrev pub CalledOr : HeapTyping → NumberedExp → ValueType → Type 0
   CalledOr w x type =
       ((c : Call) × (call.called env x ≡ Some c) × CallFits w c type) ⊎ ((call.called env x ≡ None) × IsWritten (uses_of env.method) x × (is_void type ≡ false → operand_type p s x ≡ Some type))
 
@@ -152,14 +152,14 @@ module _ (s : ScopeContents) (env : Env) where
   call_there (Some m) None type z = absurd (none_some type z)
   call_there (Some m) (Some ts) type z = let q = where_some (takes m.params ts) (result_type m) type z in (m, ts, refl, refl, q.0, q.1)
 
-  some_object : (w : Things) → Ready s w env → (m : NumberedMethod) (x : NumberedExp) (P : Things → Held → Type 0) → Sound p P w (eval env x)
-      → ((u : Things) → Grows w u → (h : Held) → P u h → (class : ℕ) → this_of m ≡ Some class → (id : Id) → thing_of h ≡ Some id
+  some_object : (w : HeapTyping) → Ready s w env → (m : NumberedMethod) (x : NumberedExp) (P : HeapTyping → Held → Type 0) → Sound p P w (eval env x)
+      → ((u : HeapTyping) → Grows w u → (h : Held) → P u h → (class : ℕ) → this_of m ≡ Some class → (id : Id) → referent_of h ≡ Some id
       → u.class_at id ≡ Some class) → Sound p (λ u o. ObjectFits u m o) w (maybe_eval env (Some x))
   some_object w r m x P k f =
-      sound_then p P _ w (eval env x) _ k (λ u g h y. sound_value p _ u _ (λ j z class c id q. f u g h y class c id (ap thing_of (some_same h j z) ∙ q)))
+      sound_then p P _ w (eval env x) _ k (λ u g h y. sound_value p _ u _ (λ j z class c id q. f u g h y class c id (ap referent_of (some_same h j z) ∙ q)))
 
-  member_or : (w : Things) → Ready s w env → (at : Place) (a : NumberedExp) (name : ℕ) (args : NumberedExps) (type : ValueType)
-      → (known p s (e.Member at a name args)).type ≡ Some type → IsWritten (uses_of env.method) (e.Member at a name args)
+  member_or : (w : HeapTyping) → Ready s w env → (at : Place) (a : NumberedExp) (name : ℕ) (args : NumberedExps) (type : ValueType)
+      → (type_result p s (e.Member at a name args)).type ≡ Some type → IsWritten (uses_of env.method) (e.Member at a name args)
       → CalledOr w (e.Member at a name args) type
   member_or w r at a name args type z k = by (operand_type p s a) refl (operands p s args) refl z
     where
@@ -214,7 +214,7 @@ module _ (s : ScopeContents) (env : Env) where
       by (Some u) i None j z = absurd (none_some type z)
       by (Some u) i (Some ts) j z = given u ts i j z
 
-  pub called_or : (w : Things) → Ready s w env → (x : NumberedExp) (type : ValueType) → WholeFits p env.method s x type → CalledOr w x type
+  pub called_or : (w : HeapTyping) → Ready s w env → (x : NumberedExp) (type : ValueType) → WholeFits p env.method s x type → CalledOr w x type
   called_or w r (e.Call at method args) type k =
       let q = call_there (slice_get p.methods method) (operands p s args) type k.0 in
       inl (
@@ -243,16 +243,16 @@ module _ (s : ScopeContents) (env : Env) where
           takes = q.4;
           written = k.1.0;
           object = some_object w r q.0 (e.This at) (λ u h. h ≡ Plain (v.Obj env.this)) (sound_value p _ w _ refl)
-              (λ u g h y class o id x. g.classes id class (r.fits.this class (k.1.1 q.0 q.2 class o) id (sym (ap thing_of y) ∙ x)));
+              (λ u g h y class o id x. g.classes id class (r.fits.this class (k.1.1 q.0 q.2 class o) id (sym (ap referent_of y) ∙ x)));
         },
       )
   called_or w r (e.Member at a name args) type k = member_or w r at a name args type k.0 k.1
   called_or w r _ type k = inr (refl, k.1, λ v. only_there _ type k.0 v)
 
   -- arguments become values of their parameters
-  bound_fine : (w : Things) → Ready s w env → (params : List NumberedParam) (number : ℕ) (args : NumberedExps) (ts : List ValueType)
+  bound_fine : (w : HeapTyping) → Ready s w env → (params : List NumberedParam) (number : ℕ) (args : NumberedExps) (ts : List ValueType)
       (found : List Variable) → operands p s args ≡ Some ts → all_fit ts (types_of params) ≡ true → AreWritten (uses_of env.method) args
-      → VariablesFit w found → Sound p (λ u vs. VariablesFit u vs) w (bound env (parameters_from number params) args found)
+      → VariablesFit w found → Sound p (λ u vs. VariablesFit u vs) w (bind_params env (parameters_from number params) args found)
   bound_fine w r [] number args ts found z f k v = sound_value p _ w _ v
   bound_fine w r (q ∷ qs) number e.NoExp ts found z f k v = sound_value p _ w _ v
   bound_fine w r (q ∷ qs) number (e.MoreExp x xs) ts found z f k v =
@@ -264,7 +264,7 @@ module _ (s : ScopeContents) (env : Env) where
       (converted_fine p u (place_of_numbered x) o.0 q.ty.type _ h (and_left (fits o.0 q.ty.type) _ fit) (seen_same _) y) (λ l i n m.
       bound_fine l (ready_stays s w l env (grows_then w u l g i) r) qs _ xs j.1 _ j.3 (and_right (fits o.0 q.ty.type) _ fit) k.1 (m, variables_stay w l found (grows_then w u l g i) v)))
 
-  needed_this : (w : Things) (at : Place) (m : NumberedMethod) (o : Option Held) → ObjectFits w m o → Sound p (λ u this. ThisFits u m this) w (maybe_needed at o)
+  needed_this : (w : HeapTyping) (at : Place) (m : NumberedMethod) (o : Option Held) → ObjectFits w m o → Sound p (λ u this. ThisFits u m this) w (maybe_needed at o)
   needed_this w at m None f = sound_value p _ w _ (λ class c id z. absurd (none_some id z))
   needed_this w at m (Some h) f =
       sound_then p (λ u r. Names (λ u id. (class : ℕ) → this_of m ≡ Some class → u.class_at id ≡ Some class) t.Void u r) _ w
@@ -272,27 +272,27 @@ module _ (s : ScopeContents) (env : Env) where
       (λ id z class c. f h refl class c id z) (λ z. absurd (true_false (sym z)))) (λ u g r k.
       sound_value p _ u _ (λ class c id z. subst (λ i. u.class_at i ≡ Some class) (some_same r.thing id z) (k.thing class c)))
 
-  object_stays : (u w : Things) (m : NumberedMethod) (o : Option Held) → Grows u w → ObjectFits u m o → ObjectFits w m o
+  object_stays : (u w : HeapTyping) (m : NumberedMethod) (o : Option Held) → Grows u w → ObjectFits u m o → ObjectFits w m o
   object_stays u w m o g f = λ h z class c id q. g.classes id class (f h z class c id q)
 
-  params_fine : (w : Things) → Ready s w env → (c : Call) (type : ValueType) → CallFits w c type → (u : Things) → Grows w u
-      → Sound p (λ x vs. VariablesFit x vs) u (bound env (parameters_of c.method.params) c.args [])
+  params_fine : (w : HeapTyping) → Ready s w env → (c : Call) (type : ValueType) → CallFits w c type → (u : HeapTyping) → Grows w u
+      → Sound p (λ x vs. VariablesFit x vs) u (bind_params env (parameters_of c.method.params) c.args [])
   params_fine w r c type k u g = by c.method.params k.takes
     where
-      by : (q : _) → takes q k.types ≡ true → Sound p (λ x vs. VariablesFit x vs) u (bound env (parameters_of q) c.args [])
-      by Words z = sound_value p _ u _ tt
+      by : (q : _) → takes q k.types ≡ true → Sound p (λ x vs. VariablesFit x vs) u (bind_params env (parameters_of q) c.args [])
+      by MainArgs z = sound_value p _ u _ tt
       by (Params params) z = bound_fine u (ready_stays s w u env g r) params 0 c.args k.types [] k.args z k.written tt
 
-  pub calling_fine : (handed untaken : Option ValueType) (w : Things) → Ready s w env → (receiver : Receiver) (c : Call) (type : ValueType)
+  pub calling_fine : (handed untaken : Option ValueType) (w : HeapTyping) → Ready s w env → (receiver : Receiver) (c : Call) (type : ValueType)
       → CallFits w c type → ReceiverFits p env.method s receiver type → Fine handed untaken w (calling env receiver c)
   calling_fine handed untaken w r receiver c type k q =
       sound_then p (λ u o. ObjectFits u c.method o) _ w (maybe_eval env c.object) _ k.object (λ u g o y.
-      sound_then p (λ x vs. VariablesFit x vs) _ u (bound env (parameters_of c.method.params) c.args []) _ (params_fine w r c type k u g) (λ l i vs m.
+      sound_then p (λ x vs. VariablesFit x vs) _ u (bind_params env (parameters_of c.method.params) c.args []) _ (params_fine w r c type k u g) (λ l i vs m.
       sound_then p (λ x this. ThisFits x c.method this) _ l (maybe_needed c.place o) _ (needed_this l c.place c.method o (object_stays u l c.method o i y)) (λ n j this h.
       sound_value p _ n _ (k.method, h, variables_stay l n vs j m, subst (ReceiverFits p env.method s receiver) (sym k.result) q))))
 
   -- a whole expression that goes to a receiver
-  pub whole_fine : (handed untaken : Option ValueType) (w : Things) → Ready s w env
+  pub whole_fine : (handed untaken : Option ValueType) (w : HeapTyping) → Ready s w env
       → (receiver : Receiver) (x : NumberedExp) (type : ValueType) → WholeFits p env.method s x type → is_void type ≡ false
       → ReceiverFits p env.method s receiver type
       → Fine handed untaken w (valued_or_called env receiver x (call.called env x))

@@ -21,18 +21,18 @@ use Rattle.ti_base.specs.declared.entry.Next.TheVariants as next
 use Rattle.ti_base.specs.Cells.{Grid, suits, view_fault}
 use Rattle.ti_lang.specs.Program.Types.{ValueType}
 use Rattle.ti_lang.specs.Program.Types as t
-use Rattle.ti_lang.specs.Program.Classes.{NumberedProgram}
+use Rattle.ti_lang.specs.Program.Classes.{ProgramView}
 use Rattle.ti_lang.specs.Typing.Kinds.{is_void}
 use Rattle.ti_base.specs.Forms.{is_dim}
 use Rattle.ti_lang.specs.Meaning.Held.{Plain, Dm}
 use Rattle.ti_lang.specs.Meaning.Answers.{IsCount, IsName}
-use Rattle.ti_lang.specs.Meaning.Processes.{Setting}
+use Rattle.ti_lang.specs.Meaning.Processes.{RunConfig}
 use Rattle.ti_lang.specs.Meaning.Histories.{History, history_of, is_making, is_arrival, is_departure, is_answered, things_made, arrivals}
 use Rattle.ti_lang.specs.Meaning.RoundsOf as rounds
 use Rattle.ti_lang.specs.Meaning.RoundsOf.{arrival_at, arrival_in, value_in, rounds_making, makes_region}
 use Rattle.ti_lang.specs.Meaning.RegionsOf.{is_region, is_made, is_gone, is_place}
 use Rattle.ti_lang.specs.Meaning.Zeros.{zeros_of_class}
-use Rattle.ti_lang.specs.Meaning.HeapOf.{new_id, view_id, is_object, is_grid, class_made, class_of, grid_made, grid_of}
+use Rattle.ti_lang.specs.Meaning.HeapOf.{new_id, view_id, is_object, is_grid, class_made, class_of_object, grid_made, grid_of_id}
 use Rattle.ti_lang.specs.Meaning.HeapAnswers.{Outcome, Answers, Impossible, where_some, possible_if, faults_if, makes, places, views, heap_answer, IsAnswered}
 use Rattle.ti_lang.specs.Meaning.HeapAnswers as heap
 use Rattle.ti_lang.specs.Meaning.NextStep.{IsNext}
@@ -40,9 +40,9 @@ use Rattle.ti_lang.specs.Meaning.Runs.{CanTake, IsRun}
 use Rattle.ti_lang.specs.Meaning.Runs as run
 use Rattle.ti_lang.proofs.Lemmas.{history_grows, run_answered, taker, answer_same, same_name}
 use Rattle.ti_align.specs.Names.{NamesFit}
-use Rattle.ti_align.specs.Things.{Things, IsPlaced, IsOf, DepositFits}
+use Rattle.ti_align.specs.HeapTyping.{HeapTyping, IsPlaced, IsOf, DepositFits}
 use Rattle.ti_align.specs.Typed.{RunTyped}
-use Rattle.ti_align.specs.Heap.{things_of}
+use Rattle.ti_align.specs.Heap.{heap_typing_of}
 use Rattle.ti_align.proofs.Runs.Vars.{true_false, and_left, and_right}
 use Rattle.ti_align.proofs.RunTypes.Acting.{next_handed}
 use Rattle.ti_align.proofs.Runs.Arrived.{Comes, before, now, comes, made_all}
@@ -90,7 +90,7 @@ viewed_answer true None f made r e = made_answer f made r e
 viewed_answer true (Some k) f made r e = faulty k r e
 viewed_answer false k f made r e = impossible r e
 
-module _ (program : NumberedProgram) (h : History) (i : ℕ) where
+module _ (program : ProgramView) (h : History) (i : ℕ) where
   pub object_answer : (class region : ℕ) (r : Answer) → heap_answer program h i (act.NewObj class region) ≡ Answers r → (is_place region h ≡ true) × (r ≡ Val (v.Obj (Some (new_id i region h))))
   object_answer class region r e = by (zeros_of_class program class) e
     where
@@ -109,12 +109,12 @@ module _ (program : NumberedProgram) (h : History) (i : ℕ) where
       by false e = impossible r e
 
   pub view_answer : (grid : Id) (how : ViewHow) (r : Answer) → heap_answer program h i (act.MakeView grid how) ≡ Answers r
-      → ((g : Grid) × (grid_of grid h ≡ Some g)) × (r ≡ Val (v.Grid (Some (view_id i grid h))))
-  view_answer grid how r e = by (grid_of grid h) refl e
+      → ((g : Grid) × (grid_of_id grid h ≡ Some g)) × (r ≡ Val (v.Grid (Some (view_id i grid h))))
+  view_answer grid how r e = by (grid_of_id grid h) refl e
     where
-      by : (o : Option Grid) → grid_of grid h ≡ o → where_some o (λ (g : Grid). possible_if (suits how g.domain)
+      by : (o : Option Grid) → grid_of_id grid h ≡ o → where_some o (λ (g : Grid). possible_if (suits how g.domain)
           (views (view_fault how g.domain) (makes program h i (act.MakeView grid how) (v.Grid (Some (view_id i grid h)))))) ≡ Answers r
-          → ((g : Grid) × (grid_of grid h ≡ Some g)) × (r ≡ Val (v.Grid (Some (view_id i grid h))))
+          → ((g : Grid) × (grid_of_id grid h ≡ Some g)) × (r ≡ Val (v.Grid (Some (view_id i grid h))))
       by None z e = impossible r e
       by (Some g) z e = ((g, z), viewed_answer _ _ _ (v.Grid (Some (view_id i grid h))) r e)
 
@@ -150,7 +150,7 @@ answered_region r a value e h = by value (sym (ap (is_region r) e) ∙ h)
     by _ k = absurd (true_false (sym k))
 
 -- a value of a type that is a region was made, or is none
-region_placed : (w : Things) (type : ValueType) (r : ℕ) → IsOf w type (Plain (v.Region r)) → is_void type ≡ false → IsPlaced w r
+region_placed : (w : HeapTyping) (type : ValueType) (r : ℕ) → IsOf w type (Plain (v.Region r)) → is_void type ≡ false → IsPlaced w r
 region_placed w t.Int r k n = absurd (no k.1)
   where
     no : {z : _} → Plain (v.Region r) ≡ Plain (v.Int z) → ⊥
@@ -208,7 +208,7 @@ place_count h r k e = by (or_either (r == 0) (is_made r h) e)
     by (inl z) = zero_count r (eqb-true r 0 z)
     by (inr z) = k.regions r z
 
-module _ (program : NumberedProgram) (h : History) (e : Entry) (k : Ranged h) (maker : IsCount e.proc)
+module _ (program : ProgramView) (h : History) (e : Entry) (k : Ranged h) (maker : IsCount e.proc)
     (serial : IsCount (things_made e.proc h)) (making : IsCount (rounds_making e.proc h)) (told : heap_answer program h e.proc e.act
     ≡ Answers e.answer)
     (given : (kind : CollKind) (arg : Option ℕ) (d : Deposit) (r : ℕ) → e.act ≡ act.Arrive kind arg d → value_in d ≡ Some (v.Region r) → IsCount r) where
@@ -218,7 +218,7 @@ module _ (program : NumberedProgram) (h : History) (e : Entry) (k : Ranged h) (m
   new_named : (region : ℕ) → is_place region h ≡ true → IsName (Some (new_id e.proc region h))
   new_named region p = (maker, serial, maker, place_count h region k.names p)
 
-  objects_fit : (id : Id) (class : ℕ) → class_of id (e ∷ h) ≡ Some class → IsName (Some id)
+  objects_fit : (id : Id) (class : ℕ) → class_of_object id (e ∷ h) ≡ Some class → IsName (Some id)
   objects_fit id class z = by (is_making e.act && is_object id e.answer) refl z
     where
       made : (a : Action) → e.act ≡ a → is_object id e.answer ≡ true → class_made a ≡ Some class → IsName (Some id)
@@ -227,14 +227,14 @@ module _ (program : NumberedProgram) (h : History) (e : Entry) (k : Ranged h) (m
           subst (λ (i : Id). IsName (Some i)) (sym (object_named id (new_id e.proc region h) e.answer w.1 y)) (new_named region w.0)
       made _ x y z = none_class class z
 
-      by : (b : Bool) → (is_making e.act && is_object id e.answer) ≡ b → (if b then class_made e.act else class_of id h) ≡ Some class → IsName (Some id)
+      by : (b : Bool) → (is_making e.act && is_object id e.answer) ≡ b → (if b then class_made e.act else class_of_object id h) ≡ Some class → IsName (Some id)
       by true x z = made e.act refl (and_right (is_making e.act) (is_object id e.answer) x) z
       by false x z = k.names.objects id class z
 
-  grids_fit : (id : Id) (g : Grid) → grid_of id (e ∷ h) ≡ Some g → IsName (Some id)
+  grids_fit : (id : Id) (g : Grid) → grid_of_id id (e ∷ h) ≡ Some g → IsName (Some id)
   grids_fit id g z = by (is_making e.act && is_grid id e.answer) refl z
     where
-      made : (a : Action) → e.act ≡ a → is_grid id e.answer ≡ true → grid_made id a (λ viewed. grid_of viewed h) ≡ Some g → IsName (Some id)
+      made : (a : Action) → e.act ≡ a → is_grid id e.answer ≡ true → grid_made id a (λ viewed. grid_of_id viewed h) ≡ Some g → IsName (Some id)
       made (act.NewGrid zero domain region) x y z =
           let w = grid_answer program h e.proc zero domain region e.answer (told_as (act.NewGrid zero domain region) x) in
           subst (λ (i : Id). IsName (Some i)) (sym (grid_named id (new_id e.proc region h) e.answer w.1 y)) (new_named region w.0)
@@ -244,7 +244,7 @@ module _ (program : NumberedProgram) (h : History) (e : Entry) (k : Ranged h) (m
           subst (λ (i : Id). IsName (Some i)) (sym (grid_named id (view_id e.proc grid h) e.answer w.1 y)) (maker, serial, n.2, n.3)
       made _ x y z = none_grid g z
 
-      by : (b : Bool) → (is_making e.act && is_grid id e.answer) ≡ b → (if b then grid_made id e.act (λ viewed. grid_of viewed h) else grid_of id h) ≡ Some g → IsName (Some id)
+      by : (b : Bool) → (is_making e.act && is_grid id e.answer) ≡ b → (if b then grid_made id e.act (λ viewed. grid_of_id viewed h) else grid_of_id id h) ≡ Some g → IsName (Some id)
       by true x z = made e.act refl (and_right (is_making e.act) (is_grid id e.answer) x) z
       by false x z = k.names.grids id g z
 
@@ -315,7 +315,7 @@ one_value (deposit.Count n) x e = absurd (no e)
     no : ◌≡◌ {A = Option Value} None (Some x) → ⊥
     no e = cc
 
-ranged : (s : Setting) (es : List Entry) → IsRun s es → s.procs ≤ 32 → s.fuel ≤ 4000000 → ((ds : List Entry) → IsRun s ds → RunTyped s ds) → Ranged (history_of es)
+ranged : (s : RunConfig) (es : List Entry) → IsRun s es → s.procs ≤ 32 → s.fuel ≤ 4000000 → ((ds : List Entry) → IsRun s ds → RunTyped s ds) → Ranged (history_of es)
 ranged s es run.none p f typed = record {
   names = record { objects = λ id class e. none_class class e; grids = λ id g e. none_grid g e; regions = λ r e. absurd (true_false (sym e)) };
   handed = λ i n a r e. absurd (none_arrival a e);
@@ -338,12 +338,12 @@ ranged s all (run.more {es = es} {i = i} {e = e} w c z) p f typed =
         let n : c.next ≡ next.Act e.place (act.Arrive kind arg d) = acts_as s es i c.next e c.entry (arrive_answered e (ap is_arrival a)) ∙ ap (next.Act e.place) a in
         let ty = typed es w in
         let x = next_handed s es ty i c.process e.place kind arg d c.within c.world (subst (λ x. IsNext c.process x) n c.is_next) in
-        let u = subst (DepositFits (things_of i ty.fits.elements (history_of es)) x.0) (one_value d (v.Region r) y) x.1 in
-        by (region_placed (things_of i ty.fits.elements (history_of es)) x.0 r u.0 u.1)
+        let u = subst (DepositFits (heap_typing_of i ty.fits.elements (history_of es)) x.0) (one_value d (v.Region r) y) x.1 in
+        by (region_placed (heap_typing_of i ty.fits.elements (history_of es)) x.0 r u.0 u.1)
       where
         by : (r ≡ 0) ⊎ (is_made r (history_of es) ≡ true) → IsCount r
         by (inl z) = zero_count r z
         by (inr z) = k.names.regions r z
 
-pub names_fit : (s : Setting) (es : List Entry) → IsRun s es → s.procs ≤ 32 → s.fuel ≤ 4000000 → ((ds : List Entry) → IsRun s ds → RunTyped s ds) → NamesFit (history_of es)
+pub names_fit : (s : RunConfig) (es : List Entry) → IsRun s es → s.procs ≤ 32 → s.fuel ≤ 4000000 → ((ds : List Entry) → IsRun s ds → RunTyped s ds) → NamesFit (history_of es)
 names_fit s es w p f typed = (ranged s es w p f typed).names

@@ -10,36 +10,36 @@ use Rattle.ti_lang.specs.Program.Expressions.{NumberedExp, NumberedExps}
 use Rattle.ti_lang.specs.Program.Expressions as e
 use Rattle.ti_lang.specs.Program.Statements.{NumberedStm}
 use Rattle.ti_lang.specs.Program.Statements as st
-use Rattle.ti_lang.specs.Program.Classes.{NumberedProgram}
+use Rattle.ti_lang.specs.Program.Classes.{ProgramView}
 use Rattle.ti_lang.specs.Program.Scope.{ScopeContents, this_of}
 use Rattle.ti_lang.specs.Typing.Kinds.{is_local, is_void, is_object, element_of, dim_of_type, read_through, same_type}
-use Rattle.ti_lang.specs.Typing.TextTypes.{element_seen}
+use Rattle.ti_lang.specs.Typing.TextTypes.{static_element_type}
 use Rattle.ti_lang.specs.Typing.Fits.{fits}
 use Rattle.ti_lang.specs.Typing.BuiltIn.{BuiltIn, Size, Min, Max, Contains, Domain, Restrict, Translate, Slice, Copy, Exchange, Delete, built_in, same_grids, has_local_elements, can_copy, can_exchange, member_type}
 use Rattle.ti_lang.specs.Typing.Declared.{instance_method}
-use Rattle.ti_lang.specs.Typing.Expressions.{one, known, operands, operand_type}
+use Rattle.ti_lang.specs.Typing.Expressions.{one, type_result, operands, operand_type}
 use Rattle.ti_lang.specs.Typing.Expressions as typing
 use Rattle.ti_lang.specs.Typing.Called as called
 use Rattle.ti_lang.specs.Typing.Called.{member_called}
-use Rattle.ti_lang.specs.Meaning.Held.{Held, Plain, nothing, rect_of, region_of, plain_of, as_type, truth_of}
-use Rattle.ti_lang.specs.Meaning.Asking.{gives, needed}
-use Rattle.ti_lang.specs.Meaning.Asking as ask
-use Rattle.ti_lang.specs.Meaning.Parts.{domain_asked}
-use Rattle.ti_lang.specs.Meaning.Processes.{Nowhere, Declared, Assigned, Updated, Work, Do, End, Before, Behind, Receive, CopyAll, TakeAll}
+use Rattle.ti_lang.specs.Meaning.Held.{Held, Plain, no_value, rect_of, region_of, plain_of, as_type, truth_of}
+use Rattle.ti_lang.specs.Meaning.Comp.{gives, needed}
+use Rattle.ti_lang.specs.Meaning.Comp as ask
+use Rattle.ti_lang.specs.Meaning.CellRefs.{domain_asked}
+use Rattle.ti_lang.specs.Meaning.Processes.{Nowhere, Declared, Assigned, Updated, ContItem, Do, End, Before, Behind, Receive, CopyAll, TakeAll}
 use Rattle.ti_lang.specs.Meaning.Scoping.{Env, type_of}
 use Rattle.ti_lang.specs.Meaning.Evaluation.{eval, eval_all}
-use Rattle.ti_lang.specs.Meaning.Copies.{first_type, copies, counted}
+use Rattle.ti_lang.specs.Meaning.Copies.{first_type, copies, count_up}
 use Rattle.ti_lang.specs.Meaning.Collectives.{exchanges, deletes}
 use Rattle.ti_lang.specs.Meaning.Calls as call
 use Rattle.ti_lang.specs.Meaning.Moves.{Goes, receives}
 use Rattle.ti_lang.specs.Meaning.Statements.{declared_as, member_alone, alone, statement}
-use Rattle.ti_lang.specs.Meaning.Performing.{declared_in, performed}
+use Rattle.ti_lang.specs.Meaning.Performing.{declared_in, exec_item}
 use Rattle.ti_lang.specs.Meaning.Answers.{IsRectOf}
-use Rattle.ti_align.specs.Things.{Things, Grows, ArePoints, IsStorable, IsGridOf, IsPlaced, IsOf}
+use Rattle.ti_align.specs.HeapTyping.{HeapTyping, Grows, ArePoints, IsStorable, IsGridOf, IsPlaced, IsOf}
 use Rattle.ti_align.specs.Mirrors.Sound.{ReferenceFits, Sound, value, fault, asks}
 use Rattle.ti_align.specs.Mirrors.Fitting.{IsWritten, AreWritten}
-use Rattle.ti_align.specs.Mirrors.Work.{uses_of, is_form_of_call, WholeFits, StmFits, taken_type, AreCounted, WorkFits}
-use Rattle.ti_align.specs.Given.{given_type}
+use Rattle.ti_align.specs.Mirrors.ContItem.{uses_of, is_form_of_call, WholeFits, StmFits, taken_type, AreCounted, WorkFits}
+use Rattle.ti_align.specs.Given.{contribution_type}
 use Rattle.ti_align.proofs.Runs.Vars.{true_false, and_left, and_right}
 use Rattle.ti_align.proofs.RunTypes.Computing.{grows_then, own_stays, grid_stays, of_stays, reference_stays, own_of, sound_then, sound_value, sound_guarded, Names, names_thing, needed_as}
 use Rattle.ti_align.proofs.RunTypes.Operating.{none_some, some_same, where_some, type_same, Seen, seen_same, converted_fine}
@@ -50,7 +50,7 @@ use Rattle.ti_align.proofs.RunTypes.Performed.{Ready, ready_stays, Fine, CalledO
 use Rattle.ti_align.proofs.RunTypes.Working.{points_fit, init_fine, print_fine, return_fine, before_fine, behind_fine, copied_fine, taken_fine, all_fit, none_taken}
 
 -- what a computation that gives a value at once gives
-sound_gives : {A : Type 0} (p : NumberedProgram) (P : Things → A → Type 0) (w : Things) (a : A) → Sound p P w (gives a) → P w a
+sound_gives : {A : Type 0} (p : ProgramView) (P : HeapTyping → A → Type 0) (w : HeapTyping) (a : A) → Sound p P w (gives a) → P w a
 sound_gives p P w a (value b h z) = subst (P w) (sym (same (z []))) h
   where
     same : {b : _} → ask.Gives a [] ≡ ask.Gives b [] → a ≡ b
@@ -68,7 +68,7 @@ no_place : Place
 no_place = record { line = 0; col = 0 }
 
 -- a value as one of the type of an element
-as_fine : (p : NumberedProgram) (w : Things) (a b : ValueType) (h : Held) → IsStorable b → fits a b ≡ true → IsOf w a h → IsOf w b (as_type b h)
+as_fine : (p : ProgramView) (w : HeapTyping) (a b : ValueType) (h : Held) → IsStorable b → fits a b ≡ true → IsOf w a h → IsOf w b (as_type b h)
 as_fine p w a t.Int h s f k = sound_gives p _ w _ (converted_fine p w no_place a t.Int _ h f (seen_same t.Int) k)
 as_fine p w a t.Long h s f k = sound_gives p _ w _ (converted_fine p w no_place a t.Long _ h f (seen_same t.Long) k)
 as_fine p w a t.Boolean h s f k = sound_gives p _ w _ (converted_fine p w no_place a t.Boolean _ h f (seen_same t.Boolean) k)
@@ -125,12 +125,12 @@ copied_local : (b l i : Bool) → (not b || (l && i)) ≡ true → b ≡ true �
 copied_local true l i h z = (and_left l i h, and_right l i h)
 copied_local false l i h z = absurd (true_false (sym z))
 
-counted_fit : (i n : ℕ) → i + n < 2 ^ 31 → AreCounted (counted i n)
+counted_fit : (i n : ℕ) → i + n < 2 ^ 31 → AreCounted (count_up i n)
 counted_fit i zero h = tt
 counted_fit i (suc n) h = (natural_fits i (omega (arith, h)), counted_fit (i + 1) n (omega (arith, h)))
 
 module _ (s : ScopeContents) (env : Env) where
-  abbrev p : NumberedProgram
+  abbrev p : ProgramView
   p = env.program
 
   -- the type of what is handed in at an exchange of this grid
@@ -138,12 +138,12 @@ module _ (s : ScopeContents) (env : Env) where
   exchanged x = option_map element_of (operand_type p s x)
 
   -- the one argument
-  one_held : (w : Things) (a : ValueType) (hs : List Held) → AllOfTypes w (a ∷ []) hs → IsOf w a (slice_index_or hs 0 nothing)
+  one_held : (w : HeapTyping) (a : ValueType) (hs : List Held) → AllOfTypes w (a ∷ []) hs → IsOf w a (slice_index_or hs 0 no_value)
   one_held w a (h ∷ []) k = k.0
   one_held w a [] k = absurd k
   one_held w a (h ∷ i ∷ is) k = absurd k.1
 
-  first_seen : (w : Things) → Ready s w env → (args : NumberedExps) (a : ValueType) → AreWritten (uses_of env.method) args → operands p s args ≡ Some (a ∷ []) → Seen a (first_type env args)
+  first_seen : (w : HeapTyping) → Ready s w env → (args : NumberedExps) (a : ValueType) → AreWritten (uses_of env.method) args → operands p s args ≡ Some (a ∷ []) → Seen a (first_type env args)
   first_seen w r e.NoExp a k q = absurd (none_first (some_same [] (a ∷ []) q))
     where
       none_first : [] ≡ a ∷ [] → ⊥
@@ -156,7 +156,7 @@ module _ (s : ScopeContents) (env : Env) where
       same_first : (x y : ValueType) (xs : List ValueType) → x ∷ xs ≡ y ∷ [] → x ≡ y
       same_first x y xs z = cc
 
-  copies_fine : (handed untaken : Option ValueType) (w : Things) → Ready s w env
+  copies_fine : (handed untaken : Option ValueType) (w : HeapTyping) → Ready s w env
       → (at : Place) (x : NumberedExp) (args : NumberedExps) (a u : ValueType) (ts : List ValueType) → member_type Copy a ts ≡ Some u
       → IsWritten (uses_of env.method) (e.Member at x 0 args) → operand_type p s x ≡ Some a → operands p s args ≡ Some ts
       → Fine s env handed untaken w (copies env at x args)
@@ -175,8 +175,8 @@ module _ (s : ScopeContents) (env : Env) where
       sound_then p (λ u g. Names (λ u id. IsGridOf u d n id) (type_of env x) u g) _ b (needed at (type_of env x) h) _
       (needed_as p b at (type_of env x) h (λ u id. IsGridOf u d n id) (grid_in b d n l h to_of) (λ z. own_of b (t.Grid d n l) h to_of (sym (ap is_local to_seen) ∙ z))) (λ f v to z.
       let from_of = of_stays b f (t.Grid c m i) _ v (one_held b (t.Grid c m i) hs ys) in
-      sound_then p (λ u g. Names (λ u id. IsGridOf u d n id) (first_type env args) u g) _ f (needed at (first_type env args) (slice_index_or hs 0 nothing)) _
-      (needed_as p f at (first_type env args) (slice_index_or hs 0 nothing) (λ u id. IsGridOf u d n id)
+      sound_then p (λ u g. Names (λ u id. IsGridOf u d n id) (first_type env args) u g) _ f (needed at (first_type env args) (slice_index_or hs 0 no_value)) _
+      (needed_as p f at (first_type env args) (slice_index_or hs 0 no_value) (λ u id. IsGridOf u d n id)
       (λ id id_is. subst (λ n. IsGridOf f d n id) n_is (subst (λ d. IsGridOf f d m id) d_is (grid_in f c m i _ from_of id id_is)))
       (λ z. own_of f (t.Grid c m i) _ from_of (sym (ap is_local from_seen) ∙ z))) (λ f2 v2 from z2.
       let to_fits : ReferenceFits f to = names_thing _ (type_of env x) (t.Grid d n l) f to to_seen z z.thing in
@@ -204,7 +204,7 @@ module _ (s : ScopeContents) (env : Env) where
             reference_stays f2 f4 from from_there from_fits,
             λ e. own_stays f f4 (is_local to.type) (Some to.thing) all z.own (ap is_local (z.type ∙ to_seen) ∙ (here e).0),
             λ e. own_stays f2 f4 (is_local from.type) (Some from.thing) from_there z2.own (ap is_local (z2.type ∙ from_seen) ∙ (here e).1),
-            seen_form (element_seen from.type) d i (ap element_seen (z2.type ∙ from_seen) ∙ ap (read_through i) d_is),
+            seen_form (static_element_type from.type) d i (ap static_element_type (z2.type ∙ from_seen) ∙ ap (read_through i) d_is),
           ),
           tt,
         ),
@@ -214,7 +214,7 @@ module _ (s : ScopeContents) (env : Env) where
   copies_fine handed untaken w r at x args _ u [] z k j q = absurd (none_some u z)
   copies_fine handed untaken w r at x args _ u (y ∷ y2 ∷ ys) z k j q = absurd (none_some u z)
 
-  exchanges_fine : (untaken : Option ValueType) (w : Things) → Ready s w env
+  exchanges_fine : (untaken : Option ValueType) (w : HeapTyping) → Ready s w env
       → (at : Place) (x : NumberedExp) (args : NumberedExps) (a u : ValueType) (ts : List ValueType) → member_type Exchange a ts ≡ Some u
       → IsWritten (uses_of env.method) (e.Member at x 0 args) → operand_type p s x ≡ Some a → operands p s args ≡ Some ts
       → Fine s env (exchanged x) untaken w (exchanges env at x args)
@@ -241,7 +241,7 @@ module _ (s : ScopeContents) (env : Env) where
           d,
           tt,
           (
-            subst (λ b. IsOf f2 d (Plain (plain_of (as_type b (slice_index_or hs 0 nothing))))) (sym of)
+            subst (λ b. IsOf f2 d (Plain (plain_of (as_type b (slice_index_or hs 0 no_value))))) (sym of)
                 (plain_is f2 d _ grid.4 (as_fine p f2 c d _ grid.4 (and_right (n == 1) (fits c d) can) held)),
             stored_value d grid.4,
             global,
@@ -264,7 +264,7 @@ module _ (s : ScopeContents) (env : Env) where
   exchanges_fine untaken w r at x args _ u [] z k j q = absurd (none_some u z)
   exchanges_fine untaken w r at x args _ u (y ∷ y2 ∷ ys) z k j q = absurd (none_some u z)
 
-  deletes_fine : (handed untaken : Option ValueType) (w : Things) → Ready s w env
+  deletes_fine : (handed untaken : Option ValueType) (w : HeapTyping) → Ready s w env
       → (at : Place) (x : NumberedExp) (a u : ValueType) (ts : List ValueType) → member_type Delete a ts ≡ Some u
       → IsWritten (uses_of env.method) x → operand_type p s x ≡ Some a → Fine s env handed untaken w (deletes env at x)
   deletes_fine handed untaken w r at x t.Region u ts z k j =
@@ -274,12 +274,12 @@ module _ (s : ScopeContents) (env : Env) where
   -- ---- statements that stand alone
 
   -- nothing is left of it
-  nowhere_fine : (handed untaken : Option ValueType) (w : Things) → Ready s w env → Fine s env handed untaken w (receives env Nowhere (gives nothing))
-  nowhere_fine handed untaken w r = receives_fine s env handed untaken w r Nowhere t.Void (gives nothing) tt (λ u g. sound_value p _ u _ tt)
+  nowhere_fine : (handed untaken : Option ValueType) (w : HeapTyping) → Ready s w env → Fine s env handed untaken w (receives env Nowhere (gives no_value))
+  nowhere_fine handed untaken w r = receives_fine s env handed untaken w r Nowhere t.Void (gives no_value) tt (λ u g. sound_value p _ u _ tt)
 
-  member_fine : (untaken : Option ValueType) (w : Things) → Ready s w env
+  member_fine : (untaken : Option ValueType) (w : HeapTyping) → Ready s w env
       → (at : Place) (a : NumberedExp) (name : ℕ) (args : NumberedExps) (u : ValueType) → call.called env (e.Member at a name args) ≡ None
-      → (known p s (e.Member at a name args)).type ≡ Some u
+      → (type_result p s (e.Member at a name args)).type ≡ Some u
       → IsWritten (uses_of env.method) (e.Member at a name args) → (is_void u ≡ false → operand_type p s (e.Member at a name args) ≡ Some u)
       → Fine s env (exchanged a) untaken w (member_alone env at a args (receives env Nowhere (eval env (e.Member at a name args))) (member_called p (this_of env.method) a name))
   member_fine untaken w r at a name args u c z k o = by (operand_type p s a) refl (operands p s args) refl z
@@ -336,25 +336,25 @@ module _ (s : ScopeContents) (env : Env) where
       by (Some t.Null) i (Some ts) j z = other t.Null ts i j refl z
       by (Some t.Void) i (Some ts) j z = other t.Void ts i j refl z
 
-  alone_fine : (untaken : Option ValueType) (w : Things) → Ready s w env → (x : NumberedExp) (u : ValueType) → WholeFits p env.method s x u
-      → is_form_of_call x ≡ true → Fine s env (given_type p s (Do (st.Call x))) untaken w (alone env x (call.called env x))
+  alone_fine : (untaken : Option ValueType) (w : HeapTyping) → Ready s w env → (x : NumberedExp) (u : ValueType) → WholeFits p env.method s x u
+      → is_form_of_call x ≡ true → Fine s env (contribution_type p s (Do (st.Call x))) untaken w (alone env x (call.called env x))
   alone_fine untaken w r x u k f = by (called_or s env w r x u k)
     where
       none : (x : NumberedExp) → WholeFits p env.method s x u → is_form_of_call x ≡ true → call.called env x ≡ None
           → IsWritten (uses_of env.method) x → (is_void u ≡ false → operand_type p s x ≡ Some u)
-          → Fine s env (given_type p s (Do (st.Call x))) untaken w (alone env x None)
+          → Fine s env (contribution_type p s (Do (st.Call x))) untaken w (alone env x None)
       none (e.Call at method args) k f c i o = nowhere_fine None untaken w r
       none (e.OwnCall at method args) k f c i o = nowhere_fine None untaken w r
       none (e.Member at a name args) k f c i o = member_fine untaken w r at a name args u c k.0 i o
       none _ k f c i o = absurd (true_false (sym f))
 
-      by : CalledOr s env w x u → Fine s env (given_type p s (Do (st.Call x))) untaken w (alone env x (call.called env x))
-      by (inl c) = subst (λ o. Fine s env (given_type p s (Do (st.Call x))) untaken w (alone env x o)) (sym c.1) (calling_fine s env (given_type p s (Do (st.Call x))) untaken w r Nowhere c.0 u c.2 tt)
-      by (inr c) = subst (λ o. Fine s env (given_type p s (Do (st.Call x))) untaken w (alone env x o)) (sym c.0) (none x k f c.0 c.1 c.2)
+      by : CalledOr s env w x u → Fine s env (contribution_type p s (Do (st.Call x))) untaken w (alone env x (call.called env x))
+      by (inl c) = subst (λ o. Fine s env (contribution_type p s (Do (st.Call x))) untaken w (alone env x o)) (sym c.1) (calling_fine s env (contribution_type p s (Do (st.Call x))) untaken w r Nowhere c.0 u c.2 tt)
+      by (inr c) = subst (λ o. Fine s env (contribution_type p s (Do (st.Call x))) untaken w (alone env x o)) (sym c.0) (none x k f c.0 c.1 c.2)
 
   -- ---- all statements
 
-  pub statement_fine : (w : Things) → Ready s w env → (x : NumberedStm) → StmFits p env.method s x → Fine s env (given_type p s (Do x)) None w (statement env x)
+  pub statement_fine : (w : HeapTyping) → Ready s w env → (x : NumberedStm) → StmFits p env.method s x → Fine s env (contribution_type p s (Do x)) None w (statement env x)
   statement_fine w r st.Empty k = sound_value p _ w _ (r.variables, tt, tt)
   statement_fine w r (st.Declare at type variable right) k = init_fine s env None w r (Declared at (declared_as type variable)) right k.0 k.1 k.2
   statement_fine w r (st.Assign at target right) k = init_fine s env None w r (Assigned at target) right k.0 k.1 k.2
@@ -369,12 +369,12 @@ module _ (s : ScopeContents) (env : Env) where
   statement_fine w r (st.Block body) k = sound_value p _ w _ (r.variables, all_fit s env w body (End (st.Block body) ∷ []) k (tt, tt), none_taken s env None body (End (st.Block body) ∷ []) tt)
   statement_fine w r (st.If at c x) k = sound_then p (λ u h. IsOf u t.Boolean h) _ w (eval env c) _ (inner_fine s env w r c t.Boolean k.0.0 k.0.1) (λ u g h y. by u g (truth_of h))
     where
-      by : (u : Things) → Grows w u → (b : Bool) → Fine s env None None u (gives (Goes env.variables (if b then Do x ∷ [] else [])))
+      by : (u : HeapTyping) → Grows w u → (b : Bool) → Fine s env None None u (gives (Goes env.variables (if b then Do x ∷ [] else [])))
       by u g true = sound_value p _ u _ (variables_stay w u env.variables g r.variables, (k.1, tt), tt)
       by u g false = sound_value p _ u _ (variables_stay w u env.variables g r.variables, tt, tt)
   statement_fine w r (st.IfElse at c x y) k = sound_then p (λ u h. IsOf u t.Boolean h) _ w (eval env c) _ (inner_fine s env w r c t.Boolean k.0.0 k.0.1) (λ u g h z. by u g (truth_of h))
     where
-      by : (u : Things) → Grows w u → (b : Bool) → Fine s env None None u (gives (Goes env.variables (Do (if b then x else y) ∷ [])))
+      by : (u : HeapTyping) → Grows w u → (b : Bool) → Fine s env None None u (gives (Goes env.variables (Do (if b then x else y) ∷ [])))
       by u g true = sound_value p _ u _ (variables_stay w u env.variables g r.variables, (k.1, tt), tt)
       by u g false = sound_value p _ u _ (variables_stay w u env.variables g r.variables, (k.2, tt), tt)
   statement_fine w r (st.While at c body) k = sound_value p _ w _ (r.variables, ((k.0, tt, k.1), tt), tt)
@@ -385,7 +385,7 @@ module _ (s : ScopeContents) (env : Env) where
       sound_then p (λ u h. IsOf u d.0 h) _ w (eval env domain) _ (inner_fine s env w r domain d.0 d.1.0 d.1.1) (λ u g h y.
       sound_value p _ u _ (variables_stay w u env.variables g r.variables, (((k.0.0, k.0.1, points_fit u d.0 k.0.0 h d.2 y), k.1), tt), tt))
 
-  pub work_fine : (w : Things) → Ready s w env → (x : Work) → WorkFits p env.method s w x → Fine s env (given_type p s x) (taken_type x) w (performed env x)
+  pub work_fine : (w : HeapTyping) → Ready s w env → (x : ContItem) → WorkFits p env.method s w x → Fine s env (contribution_type p s x) (taken_type x) w (exec_item env x)
   work_fine w r (Do x) k = statement_fine w r x k
   work_fine w r (End x) k = sound_value p _ w _ (without_fits w (declared_in x) env.variables r.variables, tt, tt)
   work_fine w r (Before loop) k = before_fine s env None None w r loop k

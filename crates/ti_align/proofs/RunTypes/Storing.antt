@@ -11,32 +11,32 @@ use Rattle.ti_lang.specs.Program.Types.{ValueType, Declaration, VariableUse}
 use Rattle.ti_lang.specs.Program.Types as t
 use Rattle.ti_lang.specs.Program.Expressions.{NumberedExp, place_of_numbered}
 use Rattle.ti_lang.specs.Program.Expressions as e
-use Rattle.ti_lang.specs.Program.Classes.{NumberedProgram}
+use Rattle.ti_lang.specs.Program.Classes.{ProgramView}
 use Rattle.ti_lang.specs.Program.Scope.{ScopeContents, this_of}
 use Rattle.ti_lang.specs.Typing.Kinds.{is_local, as_global, read_through, class_of_type}
 use Rattle.ti_lang.specs.Typing.Fits.{fits}
-use Rattle.ti_lang.specs.Typing.TextTypes.{element_seen}
+use Rattle.ti_lang.specs.Typing.TextTypes.{static_element_type}
 use Rattle.ti_lang.specs.Typing.Declared.{variable_type, field_type, field_numbered, named_field_type}
 use Rattle.ti_lang.specs.Typing.Expressions.{plain, operand, all_ints, index_type, select_type, operands, operand_type}
-use Rattle.ti_lang.specs.Meaning.Held.{Held, Plain, thing_of, plain_of}
-use Rattle.ti_lang.specs.Meaning.Asking.{ToBeDone, ValueOf, request_through, Asking, gives, asked, needed}
+use Rattle.ti_lang.specs.Meaning.Held.{Held, Plain, referent_of, plain_of}
+use Rattle.ti_lang.specs.Meaning.Comp.{ToBeDone, ValueOf, request_through, Comp, gives, asked, needed}
 use Rattle.ti_lang.specs.Meaning.Literals.{point_of_numbers}
 use Rattle.ti_lang.specs.Meaning.Conversions.{converted}
-use Rattle.ti_lang.specs.Meaning.Operators.{operated}
-use Rattle.ti_lang.specs.Meaning.Parts.{Field, Element}
+use Rattle.ti_lang.specs.Meaning.Operators.{apply_binary}
+use Rattle.ti_lang.specs.Meaning.CellRefs.{Field, Element}
 use Rattle.ti_lang.specs.Meaning.Processes.{Variable, Receiver, Nowhere, Declared, Assigned, Updated}
-use Rattle.ti_lang.specs.Meaning.Scoping.{Env, same_declaration, same_variable, declared_type, zero_declared, find_variable, with_changed, without, type_of, field_selected}
+use Rattle.ti_lang.specs.Meaning.Scoping.{Env, same_declaration, same_variable, declared_type, zero_declared, find_variable, with_changed, without_variables, type_of, field_selected}
 use Rattle.ti_lang.specs.Meaning.Evaluation.{is_own, eval, eval_numbers}
 use Rattle.ti_lang.specs.Meaning.Targets.{Target, InVariable, InPart, located, held_in, stored, into}
 use Rattle.ti_rules.specs.Broken.Targets.{is_foreach_use, maybe_local, hidden_field, hidden_element}
 use Rattle.ti_rules.specs.Broken.Statements.{narrows}
 use Rattle.ti_lang.specs.Meaning.Answers.{IsPointOf, HasForm}
-use Rattle.ti_align.specs.Things.{Things, seen_by, Grows, NamesNothing, IsStorable, IsGridOf, IsOwn, IsOf, IsThingOf, DimsFine, HoldsOf, VariablesFit}
-use Rattle.ti_align.specs.There.{SameForm, IsFieldOf}
+use Rattle.ti_align.specs.HeapTyping.{HeapTyping, with_owner, Grows, NamesNothing, IsStorable, IsGridOf, IsOwn, IsOf, IsThingOf, DimsFine, HoldsOf, VariablesFit}
+use Rattle.ti_align.specs.Existing.{SameForm, IsFieldOf}
 use Rattle.ti_align.specs.Mirrors.Sound.{Sound}
 use Rattle.ti_align.specs.Mirrors.Fitting.{EnvFits}
 use Rattle.ti_align.specs.Heap.{FieldsFit, FieldsStorable}
-use Rattle.ti_align.specs.Mirrors.Work.{uses_of, DeclaredFits, IsTarget, ReceiverFits}
+use Rattle.ti_align.specs.Mirrors.ContItem.{uses_of, DeclaredFits, IsTarget, ReceiverFits}
 use Rattle.ti_align.proofs.Runs.Vars.{true_false, and_left, and_right}
 use Rattle.ti_align.proofs.RunTypes.Computing.{grows_not, grows_then, own_stays, grid_stays, of_stays, thing_stays, seen_from, own_of, goes_through, sound_then, sound_value, sound_asked, Names, names_thing, needed_as}
 use Rattle.ti_align.proofs.RunTypes.Operating.{none_some, some_same, where_some, or_either, type_same, Seen, seen_same, converted_fine, cast_fine, operated_fine}
@@ -70,7 +70,7 @@ read_whole false t.Null h = refl
 read_whole false t.Void h = refl
 
 -- what goes into a cell
-pub plain_is : (w : Things) (a : ValueType) (h : Held) → IsStorable a → IsOf w a h → IsOf w a (Plain (plain_of h))
+pub plain_is : (w : HeapTyping) (a : ValueType) (h : Held) → IsStorable a → IsOf w a h → IsOf w a (Plain (plain_of h))
 plain_is w t.Int h s k = (k.0, ap (λ y. Plain (plain_of y)) k.1, k.2)
 plain_is w t.Long h s k = (k.0, ap (λ y. Plain (plain_of y)) k.1, k.2)
 plain_is w t.Boolean h s k = (k.0, ap (λ y. Plain (plain_of y)) k.1)
@@ -84,7 +84,7 @@ plain_is w t.Null h s k = absurd s
 plain_is w t.Void h s k = absurd s
 
 -- a value of a type that names nothing has the form of the type
-pub has_form : (w : Things) (type : ValueType) (value : Value) → NamesNothing type → IsOf w type (Plain value) → HasForm type value
+pub has_form : (w : HeapTyping) (type : ValueType) (value : Value) → NamesNothing type → IsOf w type (Plain value) → HasForm type value
 has_form w t.Int value n k = subst (HasForm t.Int) (sym (ap plain_of k.1)) k.2
 has_form w t.Long value n k = subst (HasForm t.Long) (sym (ap plain_of k.1)) k.2
 has_form w t.Boolean value n k = subst (HasForm t.Boolean) (sym (ap plain_of k.1)) tt
@@ -95,19 +95,19 @@ has_form w _ value n k = absurd n
 -- ---- variables
 
 -- what a variable holds is of its type, and so is what it may hold
-pub held_of : (w : Things) (d : Declaration) (h : Held) → HoldsOf w d h → IsOf w (declared_type d) h
+pub held_of : (w : HeapTyping) (d : Declaration) (h : Held) → HoldsOf w d h → IsOf w (declared_type d) h
 held_of w (t.Typed l a) h k = k
 held_of w t.Foreach h k = absurd k
 
-held_instead : (w : Things) (d : Declaration) (old h : Held) → HoldsOf w d old → IsOf w (declared_type d) h → HoldsOf w d h
+held_instead : (w : HeapTyping) (d : Declaration) (old h : Held) → HoldsOf w d old → IsOf w (declared_type d) h → HoldsOf w d h
 held_instead w (t.Typed l a) old h k i = i
 held_instead w t.Foreach old h k i = absurd k
 
-held_stays : (u w : Things) (d : Declaration) (h : Held) → Grows u w → HoldsOf u d h → HoldsOf w d h
+held_stays : (u w : HeapTyping) (d : Declaration) (h : Held) → Grows u w → HoldsOf u d h → HoldsOf w d h
 held_stays u w (t.Typed l a) h g k = of_stays u w a h g k
 held_stays u w t.Foreach h g k = absurd k
 
-pub variables_stay : (u w : Things) (xs : List Variable) → Grows u w → VariablesFit u xs → VariablesFit w xs
+pub variables_stay : (u w : HeapTyping) (xs : List Variable) → Grows u w → VariablesFit u xs → VariablesFit w xs
 variables_stay u w [] g f = tt
 variables_stay u w (x ∷ xs) g f = (held_stays u w x.named.declared x.held g f.0, variables_stay u w xs g f.1)
 
@@ -117,7 +117,7 @@ same_declared t.Foreach t.Foreach h = refl
 same_declared (t.Typed l a) t.Foreach h = absurd (true_false (sym h))
 same_declared t.Foreach (t.Typed l a) h = absurd (true_false (sym h))
 
-pub found_fits : (w : Things) (x : VariableUse) (xs : List Variable) → DimsFine (declared_type x.declared) → VariablesFit w xs → IsOf w (declared_type x.declared) (find_variable x xs)
+pub found_fits : (w : HeapTyping) (x : VariableUse) (xs : List Variable) → DimsFine (declared_type x.declared) → VariablesFit w xs → IsOf w (declared_type x.declared) (find_variable x xs)
 found_fits w x [] d f = by x.declared d
   where
     by : (d : Declaration) → DimsFine (declared_type d) → IsOf w (declared_type d) (zero_declared d)
@@ -129,7 +129,7 @@ found_fits w x (y ∷ ys) d f = by (same_variable x y.named) refl (found_fits w 
     by true z k = subst (λ a. IsOf w a y.held) (sym (same_declared x.declared y.named.declared (and_right (x.number == y.named.number) _ z))) (held_of w y.named.declared y.held f.0)
     by false z k = k
 
-changed_fits : (w : Things) (x : VariableUse) (h : Held) (xs : List Variable) → IsOf w (declared_type x.declared) h → VariablesFit w xs → VariablesFit w (with_changed x h xs)
+changed_fits : (w : HeapTyping) (x : VariableUse) (h : Held) (xs : List Variable) → IsOf w (declared_type x.declared) h → VariablesFit w xs → VariablesFit w (with_changed x h xs)
 changed_fits w x h [] k f = tt
 changed_fits w x h (y ∷ ys) k f = by (same_variable x y.named) refl (changed_fits w x h ys k f.1)
   where
@@ -137,11 +137,11 @@ changed_fits w x h (y ∷ ys) k f = by (same_variable x y.named) refl (changed_f
     by true z i = (held_instead w y.named.declared y.held h f.0 (subst (λ a. IsOf w a h) (same_declared x.declared y.named.declared (and_right (x.number == y.named.number) _ z)) k), f.1)
     by false z i = (f.0, i)
 
-pub without_fits : (w : Things) (xs : List VariableUse) (ys : List Variable) → VariablesFit w ys → VariablesFit w (without xs ys)
+pub without_fits : (w : HeapTyping) (xs : List VariableUse) (ys : List Variable) → VariablesFit w ys → VariablesFit w (without_variables xs ys)
 without_fits w xs [] f = tt
 without_fits w xs (y ∷ ys) f = by (not (list_any (λ x. same_variable x y.named) xs)) (without_fits w xs ys f.1)
   where
-    by : (b : Bool) → VariablesFit w (without xs ys) → VariablesFit w (if b then y ∷ without xs ys else without xs ys)
+    by : (b : Bool) → VariablesFit w (without_variables xs ys) → VariablesFit w (if b then y ∷ without_variables xs ys else without_variables xs ys)
     by true i = (f.0, i)
     by false i = i
 
@@ -149,19 +149,19 @@ without_fits w xs (y ∷ ys) f = by (not (list_any (λ x. same_variable x y.name
 
 -- A field or an element of the thing, which is of the last type, takes values of the second type, and has the first one in the text; where
 -- these are local references the thing is the own one of the process.
-abbrev FieldTakes : NumberedProgram → ValueType → ValueType → ℕ → ValueType → Things → Id → Type 0
+abbrev FieldTakes : ProgramView → ValueType → ValueType → ℕ → ValueType → HeapTyping → Id → Type 0
 FieldTakes p a u field through w id = IsFieldOf p w id field u × IsOwn w (is_local u) (Some id) × SameForm a u × IsThingOf w through id
 
-abbrev ElementTakes : ValueType → ValueType → Point → ValueType → Things → Id → Type 0
+abbrev ElementTakes : ValueType → ValueType → Point → ValueType → HeapTyping → Id → Type 0
 ElementTakes a u index through w id = (n : ℕ) × IsGridOf w u n id × IsPointOf n index × IsOwn w (is_local u) (Some id) × SameForm a u × IsThingOf w through id
 
 -- a target takes values of the second type
-abbrev TargetFits : NumberedProgram → Things → ValueType → ValueType → Target → Type 0
+abbrev TargetFits : ProgramView → HeapTyping → ValueType → ValueType → Target → Type 0
 TargetFits p w a u (InVariable x) = u ≡ declared_type x.declared
-TargetFits p w a u (InPart (Field object through field)) = ((id : Id) → thing_of object ≡ Some id → FieldTakes p a u field through w id) × IsOwn w (is_local through) (thing_of object)
-TargetFits p w a u (InPart (Element grid through index)) = ((id : Id) → thing_of grid ≡ Some id → ElementTakes a u index through w id) × IsOwn w (is_local through) (thing_of grid)
+TargetFits p w a u (InPart (Field object through field)) = ((id : Id) → referent_of object ≡ Some id → FieldTakes p a u field through w id) × IsOwn w (is_local through) (referent_of object)
+TargetFits p w a u (InPart (Element grid through index)) = ((id : Id) → referent_of grid ≡ Some id → ElementTakes a u index through w id) × IsOwn w (is_local through) (referent_of grid)
 
-target_stays : (p : NumberedProgram) (u w : Things) (a type : ValueType) (x : Target) → Grows u w → TargetFits p u a type x → TargetFits p w a type x
+target_stays : (p : ProgramView) (u w : HeapTyping) (a type : ValueType) (x : Target) → Grows u w → TargetFits p u a type x → TargetFits p w a type x
 target_stays p u w a type (InVariable x) g f = f
 target_stays p u w a type (InPart (Field object through field)) g f = (
   (λ id z. let k = f.0 id z in (
@@ -170,7 +170,7 @@ target_stays p u w a type (InPart (Field object through field)) g f = (
     k.2,
     thing_stays u w through id g k.3,
   )),
-  own_stays u w (is_local through) (thing_of object) g f.1,
+  own_stays u w (is_local through) (referent_of object) g f.1,
 )
 target_stays p u w a type (InPart (Element grid through index)) g f = (
   (λ id z. let k = f.0 id z in (
@@ -181,14 +181,14 @@ target_stays p u w a type (InPart (Element grid through index)) g f = (
     k.4,
     thing_stays u w through id g k.5,
   )),
-  own_stays u w (is_local through) (thing_of grid) g f.1,
+  own_stays u w (is_local through) (referent_of grid) g f.1,
 )
 
 plainly : (o : Option ValueType) (u : ValueType) → operand (plain o) ≡ Some u → o ≡ Some u
 plainly o u h = (no_call (plain o) u h).1
 
-module _ (s : ScopeContents) (w : Things) (env : Env) (f : EnvFits (uses_of env.method) s w env) (g : FieldsFit env.program) where
-  abbrev p : NumberedProgram
+module _ (s : ScopeContents) (w : HeapTyping) (env : Env) (f : EnvFits (uses_of env.method) s w env) (g : FieldsFit env.program) where
+  abbrev p : ProgramView
   p = env.program
 
   variable_target : (at : Place) (x : VariableUse) (u : ValueType) → IsTarget p env.method s (e.Variable at x) u → u ≡ declared_type x.declared
@@ -198,20 +198,20 @@ module _ (s : ScopeContents) (w : Things) (env : Env) (f : EnvFits (uses_of env.
       by (t.Typed l a) z i = sym (some_same a u z)
       by t.Foreach z i = absurd (true_false i)
 
-  index_dims : (a u : ValueType) (ts : List ValueType) (h : Held) (zs : List ℤ) (through : ValueType) (x : Things) → index_type a ts
+  index_dims : (a u : ValueType) (ts : List ValueType) (h : Held) (zs : List ℤ) (through : ValueType) (x : HeapTyping) → index_type a ts
       ≡ Some u → hidden_element (Some a) ≡ false → Seen a through → DimsFine a → IsOf x a h → Numbers (counts ts) zs
-      → TargetFits p x (element_seen through) u (InPart (Element h through (point_of_numbers zs)))
-  index_dims (t.Pt n) u ts h zs through x z o e d k c = ((λ id q. absurd (none_some id (sym (ap thing_of k.1) ∙ q))), λ i. ap (λ o. is_own x.owner (thing_of o)) k.1)
+      → TargetFits p x (static_element_type through) u (InPart (Element h through (point_of_numbers zs)))
+  index_dims (t.Pt n) u ts h zs through x z o e d k c = ((λ id q. absurd (none_some id (sym (ap referent_of k.1) ∙ q))), λ i. ap (λ o. is_own x.owner (referent_of o)) k.1)
   index_dims (t.Grid a n l) u ts h zs through x z o e d k c =
       let q = by ts z c in
       let own = own_of x (t.Grid a n l) h k in
-      subst (λ b. TargetFits p x (element_seen through) b (InPart (Element h through (point_of_numbers zs)))) (sym (read_whole l a o) ∙ q.0) (
+      subst (λ b. TargetFits p x (static_element_type through) b (InPart (Element h through (point_of_numbers zs)))) (sym (read_whole l a o) ∙ q.0) (
         (λ id i. (
           n,
           grid_in x a n l h k id i,
           q.1,
           (λ j. subst (λ o. is_own x.owner o ≡ true) i (own (reached (is_local a) l o j))),
-          seen_form (element_seen through) a l (ap element_seen e),
+          seen_form (static_element_type through) a l (ap static_element_type e),
           subst (λ b. IsThingOf x b id) (sym e) (grid_in x a n l h k id i),
         )),
         λ i. own (sym (ap is_local e) ∙ i),
@@ -291,7 +291,7 @@ module _ (s : ScopeContents) (w : Things) (env : Env) (f : EnvFits (uses_of env.
         goes_through x r (act.GetField r.thing field) refl (names_thing _ through through x r refl z z.thing.3),
         (u, type, z.thing.0, refl, z.thing.2),
       ) (λ y l answer q.
-      seen_from (seen_by r.thing.owner y) y.owner u _ (λ i. eqb-true r.thing.owner x.owner (z.thing.1 i) ∙ l.owner) (q u (z.thing.0.0, l.classes r.thing z.thing.0.0 z.thing.0.1, z.thing.0.2))))
+      seen_from (with_owner r.thing.owner y) y.owner u _ (λ i. eqb-true r.thing.owner x.owner (z.thing.1 i) ∙ l.owner) (q u (z.thing.0.0, l.classes r.thing z.thing.0.0 z.thing.0.1, z.thing.0.2))))
   held_fine at u type (InPart (Element grid through index)) d k v =
       sound_then p (λ x r. Names (ElementTakes type u index through) through x r) _ w (needed at through grid) _ (needed_as p w at through grid (ElementTakes type u index through) k.0 k.1) (λ x j r z.
       sound_asked p _ x (request_through r at (act.GetElem r.thing index) (ValueOf type)) (
@@ -299,7 +299,7 @@ module _ (s : ScopeContents) (w : Things) (env : Env) (f : EnvFits (uses_of env.
         goes_through x r (act.GetElem r.thing index) refl (names_thing _ through through x r refl z z.thing.5),
         (u, type, z.thing.0, z.thing.1, refl, z.thing.4),
       ) (λ y l answer q.
-      seen_from (seen_by r.thing.owner y) y.owner u _ (λ i. eqb-true r.thing.owner x.owner (z.thing.3 i) ∙ l.owner) (q u z.thing.0 (grid_stays x y u z.thing.0 r.thing l z.thing.1))))
+      seen_from (with_owner r.thing.owner y) y.owner u _ (λ i. eqb-true r.thing.owner x.owner (z.thing.3 i) ∙ l.owner) (q u z.thing.0 (grid_stays x y u z.thing.0 r.thing l z.thing.1))))
 
   -- what a target takes
   stored_fine : FieldsStorable p → (at : Place) (type u : ValueType) (x : Target) (h : Held) → TargetFits p w type u x
@@ -336,14 +336,14 @@ module _ (s : ScopeContents) (w : Things) (env : Env) (f : EnvFits (uses_of env.
       (λ y l answer q. tt)) (λ y l o q.
       sound_value p _ y _ (variables_stay x y env.variables l (variables_stay w x env.variables j v))))
 
-grows_two : (u w x : Things) → Grows u w → Grows w x → Grows u x
+grows_two : (u w x : HeapTyping) → Grows u w → Grows w x → Grows u x
 grows_two u w x a b = grows_then u w x a b
 
-grows_all : (u w x y : Things) → Grows u w → Grows w x → Grows x y → Grows u y
+grows_all : (u w x y : HeapTyping) → Grows u w → Grows w x → Grows x y → Grows u y
 grows_all u w x y a b c = grows_then u x y (grows_then u w x a b) c
 
 -- a value that an operator gives goes into a target
-into_fine_update : (p : NumberedProgram) (w : Things) (at : Place) (r u seen : ValueType) (h : Held) → (narrows r u || fits r u) ≡ true
+into_fine_update : (p : ProgramView) (w : HeapTyping) (at : Place) (r u seen : ValueType) (h : Held) → (narrows r u || fits r u) ≡ true
     → Seen u seen → IsOf w r h → Sound p (λ x k. IsOf x u k) w (converted at seen h)
 into_fine_update p w at r u seen h z i k = by (or_either _ _ z)
   where
@@ -360,14 +360,14 @@ declared_fits : (d : Declaration) (type : ValueType) → DeclaredFits d type →
 declared_fits (t.Typed l a) type k = k
 declared_fits t.Foreach type k = absurd k
 
-declared_holds : (w : Things) (d : Declaration) (type : ValueType) (h : Held) → DeclaredFits d type → IsOf w (declared_type d) h → HoldsOf w d h
+declared_holds : (w : HeapTyping) (d : Declaration) (type : ValueType) (h : Held) → DeclaredFits d type → IsOf w (declared_type d) h → HoldsOf w d h
 declared_holds w (t.Typed l a) type h k i = i
 declared_holds w t.Foreach type h k i = absurd k
 
 -- a value on its way to a receiver
-pub into_fine : (s : ScopeContents) (w : Things) (env : Env) → EnvFits (uses_of env.method) s w env → FieldsFit env.program → FieldsStorable env.program → VariablesFit w env.variables
-    → (receiver : Receiver) (type : ValueType) (right : Asking Held) → ReceiverFits env.program env.method s receiver type
-    → ((u : Things) → Grows w u → Sound env.program (λ x h. IsOf x type h) u right) → Sound env.program (λ x vs. VariablesFit x vs) w (into env receiver right)
+pub into_fine : (s : ScopeContents) (w : HeapTyping) (env : Env) → EnvFits (uses_of env.method) s w env → FieldsFit env.program → FieldsStorable env.program → VariablesFit w env.variables
+    → (receiver : Receiver) (type : ValueType) (right : Comp Held) → ReceiverFits env.program env.method s receiver type
+    → ((u : HeapTyping) → Grows w u → Sound env.program (λ x h. IsOf x type h) u right) → Sound env.program (λ x vs. VariablesFit x vs) w (into env receiver right)
 into_fine s w env f g d v Nowhere type right k r = sound_then env.program _ _ w right _ (r w (grows_not w)) (λ x j h y. sound_value env.program _ x _ (variables_stay w x env.variables j v))
 into_fine s w env f g d v (Declared at variable) type right k r =
     let p = env.program in
@@ -392,7 +392,7 @@ into_fine s w env f g d v (Updated at op target) type right k r =
     sound_then p (λ x h. IsOf x k.0 h) _ x (held_in env (place_of_numbered target) (type_of env target) place) _
     (held_fine s x env (env_stays (uses_of env.method) s w x env j f) g (place_of_numbered target) k.0 (type_of env target) place told.dims y (variables_stay w x env.variables j v)) (λ b n old old_is.
     sound_then p (λ x h. IsOf x type h) _ b right _ (r b (grows_two w x b j n)) (λ z l h o.
-    sound_then p (λ x h. IsOf x k.1 h) _ z (operated at op old h) _
+    sound_then p (λ x h. IsOf x k.1 h) _ z (apply_binary at op old h) _
     (operated_fine p z at k.0 type k.1 k.0 type old h (seen_same k.0) (seen_same type) (of_stays b z k.0 old l old_is) o op k.3).0
     (λ c m new new_is.
     sound_then p (λ x h. IsOf x k.0 h) _ c (converted at (type_of env target) new) _ (into_fine_update p c at k.1 k.0 _ new k.4 told.seen new_is) (λ a q i i_is.

@@ -12,31 +12,31 @@ use Rattle.ti_lang.specs.Program.Types as t
 use Rattle.ti_lang.specs.Program.Expressions.{NumberedExp}
 use Rattle.ti_lang.specs.Program.Statements.{NumberedDims, NumberedInit, NumberedPrint, NumberedStms}
 use Rattle.ti_lang.specs.Program.Statements as st
-use Rattle.ti_lang.specs.Program.Classes.{NumberedProgram}
+use Rattle.ti_lang.specs.Program.Classes.{ProgramView}
 use Rattle.ti_lang.specs.Program.Scope.{ScopeContents}
 use Rattle.ti_lang.specs.Typing.Declared.{result_type}
-use Rattle.ti_lang.specs.Typing.TextTypes.{element_seen}
+use Rattle.ti_lang.specs.Typing.TextTypes.{static_element_type}
 use Rattle.ti_lang.specs.Typing.Kinds.{is_local, is_void, element_of, as_global, domain_dim}
 use Rattle.ti_lang.specs.Meaning.Held.{Held, Plain, rect_of, region_of, plain_of, points_in, truth_of}
-use Rattle.ti_lang.specs.Meaning.Asking.{ToBeDone, ValueOf, NewThing, request, request_through, Asking, ◌>>=◌, gives, asked}
+use Rattle.ti_lang.specs.Meaning.Comp.{ToBeDone, ValueOf, NewThing, request, request_through, Comp, ◌>>=◌, gives, asked}
 use Rattle.ti_lang.specs.Meaning.Answers.{IsPointOf, IsRectOf}
 use Rattle.ti_lang.specs.Meaning.Conversions.{converted}
 use Rattle.ti_lang.specs.Meaning.Zeros.{zero_of_type}
 use Rattle.ti_lang.specs.Meaning.Makers.{region_for, spread, new_object, new_grid}
-use Rattle.ti_lang.specs.Meaning.Processes.{Receiver, Loop, While, Foreach, Work, Do, Before, Behind, CopyAll, TakeAll}
+use Rattle.ti_lang.specs.Meaning.Processes.{Receiver, Loop, While, Foreach, ContItem, Do, Before, Behind, CopyAll, TakeAll}
 use Rattle.ti_lang.specs.Meaning.Scoping.{Env, type_here}
 use Rattle.ti_lang.specs.Meaning.Evaluation.{eval}
 use Rattle.ti_lang.specs.Meaning.Moves.{Goes, Turns}
 use Rattle.ti_lang.specs.Meaning.Collectives.{root_among, root_deposit}
 use Rattle.ti_lang.specs.Meaning.Copies.{element_at, copied, taken}
 use Rattle.ti_lang.specs.Meaning.Statements.{made_first, initialized, prints, printed, returns}
-use Rattle.ti_lang.specs.Meaning.Performing.{condition, before_turn, update_of, turned}
+use Rattle.ti_lang.specs.Meaning.Performing.{condition, before_turn, loop_update, next_iteration}
 use Rattle.ti_rules.specs.InitialTypes.{can_broadcast}
-use Rattle.ti_align.specs.Things.{Things, seen_by, Grows, ArePoints, IsPlaced, IsOf, DepositFits}
+use Rattle.ti_align.specs.HeapTyping.{HeapTyping, with_owner, Grows, ArePoints, IsPlaced, IsOf, DepositFits}
 use Rattle.ti_align.specs.Mirrors.Sound.{Sound}
 use Rattle.ti_lang.specs.Meaning.Processes
-use Rattle.ti_align.specs.Mirrors.Work.{uses_of, domain_written, IsInner, ReceiverFits, RegionFits, InitFits, PrintFits, ConditionFits, StmFits, StmsFit, LoopFits, TakesOf, WorksFit, WorkFits}
-use Rattle.ti_align.specs.Given.{scope_over, given_at}
+use Rattle.ti_align.specs.Mirrors.ContItem.{uses_of, domain_written, IsInner, ReceiverFits, RegionFits, InitFits, PrintFits, ConditionFits, StmFits, StmsFit, LoopFits, TakesOf, WorksFit, WorkFits}
+use Rattle.ti_align.specs.Given.{scope_over, contribution_at}
 use Rattle.ti_align.proofs.RunTypes.Computing.{grows_then, own_stays, grid_stays, place_stays, of_stays, reference_stays, seen_from, goes_through, sound_then, sound_value, sound_guarded, sound_request, sound_asked}
 use Rattle.ti_align.proofs.Runs.Vars.{true_false}
 use Rattle.ti_align.proofs.RunTypes.Operating.{some_same, none_some, seen_same, to_global, global_type, converted_fine}
@@ -45,7 +45,7 @@ use Rattle.ti_align.proofs.RunTypes.Evaluating.{eval_fine}
 use Rattle.ti_align.proofs.RunTypes.Storing.{plain_is, variables_stay}
 use Rattle.ti_align.proofs.RunTypes.Performed.{Ready, ready_stays, Fine, inner_fine, receives_fine, whole_fine}
 
-sent : (w : Things) (u : ValueType) (h : Held) → can_broadcast u ≡ true → IsOf w u h → IsOf w (as_global u) (Plain (plain_of h))
+sent : (w : HeapTyping) (u : ValueType) (h : Held) → can_broadcast u ≡ true → IsOf w u h → IsOf w (as_global u) (Plain (plain_of h))
 sent w t.Int h z k = plain_is w t.Int h tt k
 sent w t.Long h z k = plain_is w t.Long h tt k
 sent w t.Boolean h z k = plain_is w t.Boolean h tt k
@@ -66,7 +66,7 @@ given_value t.Void z = cc
 given_value _ z = refl
 
 -- the points of a domain
-pub points_fit : (w : Things) (u : ValueType) (n : ℕ) (h : Held) → domain_dim u ≡ Some n → IsOf w u h → ArePoints n (points_in h)
+pub points_fit : (w : HeapTyping) (u : ValueType) (n : ℕ) (h : Held) → domain_dim u ≡ Some n → IsOf w u h → ArePoints n (points_in h)
 points_fit w (t.Rc m) n h z k = subst (λ i. ArePoints i (points_in h)) (some_same m n z) (subst (λ y. ArePoints m (points_in y)) (sym k.1) (points_placed m k.0 k.2).0)
 points_fit w (t.Dm m) n h z k = subst (λ i. ArePoints i (points_in h)) (some_same m n z) (subst (λ y. ArePoints m (points_in y)) (sym k.1) k.2.points)
 points_fit w _ n h z k = absurd (none_some n z)
@@ -76,23 +76,23 @@ element_point : (i : ℕ) → Fits w32 (pos i) → IsPointOf 1 (element_at i)
 element_point i f = numbers_point (pos i ∷ []) 1 refl (omega arith, omega arith) (f, tt)
 
 module _ (s : ScopeContents) (env : Env) where
-  abbrev p : NumberedProgram
+  abbrev p : ProgramView
   p = env.program
 
   -- ---- new things
 
-  region_fine : (w : Things) → Ready s w env → (region : Option NumberedExp) → RegionFits p env.method s region → Sound p (λ u r. IsPlaced u r) w (region_for env region)
+  region_fine : (w : HeapTyping) → Ready s w env → (region : Option NumberedExp) → RegionFits p env.method s region → Sound p (λ u r. IsPlaced u r) w (region_for env region)
   region_fine w r None k = sound_value p _ w _ (inl refl)
   region_fine w r (Some x) k =
       sound_then p (λ u h. IsOf u t.Region h) _ w (eval env x) _ (inner_fine s env w r x t.Region k.0 k.1) (λ u g h y. sound_value p _ u _ (subst (IsPlaced u) (sym (ap region_of y.1)) y.2))
 
-  spread_fine : (w : Things) → Ready s w env → (at : Place) (dims : NumberedDims) (n : ℕ)
+  spread_fine : (w : HeapTyping) → Ready s w env → (at : Place) (dims : NumberedDims) (n : ℕ)
       → IsInner p env.method s (domain_written at dims) (t.Rc n) → Sound p (λ u h. IsOf u (t.Rc n) h) w (spread env at dims)
   spread_fine w r at (st.Domain x) n k = inner_fine s env w r x (t.Rc n) k.0 k.1
   spread_fine w r at (st.Ranges ranges) n k = inner_fine s env w r (domain_written at (st.Ranges ranges)) (t.Rc n) k.0 k.1
 
-  made_fine : (handed untaken : Option ValueType) (w : Things) → Ready s w env
-      → (receiver : Receiver) (type : ValueType) (new : Asking Held) → ReceiverFits p env.method s receiver type
+  made_fine : (handed untaken : Option ValueType) (w : HeapTyping) → Ready s w env
+      → (receiver : Receiver) (type : ValueType) (new : Comp Held) → ReceiverFits p env.method s receiver type
       → Sound p (λ u h. IsOf u type h) w new → Fine s env handed untaken w (made_first env receiver new)
   made_fine handed untaken w r receiver type new q k =
       sound_then p (λ u h. IsOf u type h) _ w new _ k (λ u g h y. receives_fine s env handed untaken u
@@ -100,7 +100,7 @@ module _ (s : ScopeContents) (env : Env) where
 
   -- ---- right sides
 
-  root_fine : (w : Things) → Ready s w env → (root : ℕ) (x : NumberedExp) (u : ValueType) → IsInner p env.method s x u → can_broadcast u ≡ true
+  root_fine : (w : HeapTyping) → Ready s w env → (root : ℕ) (x : NumberedExp) (u : ValueType) → IsInner p env.method s x u → can_broadcast u ≡ true
       → Sound p (λ x given. DepositFits x (as_global u) given) w (root_deposit env root x)
   root_fine w r root x u k z = by (env.number == root)
     where
@@ -108,9 +108,9 @@ module _ (s : ScopeContents) (env : Env) where
       by true = sound_then p (λ u' h. IsOf u' u h) _ w (eval env x) _ (inner_fine s env w r x u k.0 k.1) (λ a g h y. sound_value p _ a _ (sent a u h z y, given_value u z, global_type u))
       by false = sound_value p _ w _ tt
 
-  pub init_fine : (untaken : Option ValueType) (w : Things) → Ready s w env
+  pub init_fine : (untaken : Option ValueType) (w : HeapTyping) → Ready s w env
       → (receiver : Receiver) (value : NumberedInit) (type : ValueType) → InitFits p env.method s value type
-      → ReceiverFits p env.method s receiver type → Fine s env (given_at p s value) untaken w (initialized env receiver value)
+      → ReceiverFits p env.method s receiver type → Fine s env (contribution_at p s value) untaken w (initialized env receiver value)
   init_fine untaken w r receiver (st.Value x) type k q = whole_fine s env None untaken w r receiver x type k.0 k.1 q
   init_fine untaken w r receiver (st.NewRegion at) type k q = sound_value p _ w _ ((type, q, tt, k, refl, tt), tt)
   init_fine untaken w r receiver (st.NewObject at region class) type k q =
@@ -152,13 +152,13 @@ module _ (s : ScopeContents) (env : Env) where
 
   -- ---- prints
 
-  print_done : (handed untaken : Option ValueType) (w : Things) → Ready s w env → (at : Place) (literal : Option ℕ) (value : Option Value) → Fine s env handed untaken w (prints env at literal value)
+  print_done : (handed untaken : Option ValueType) (w : HeapTyping) → Ready s w env → (at : Place) (literal : Option ℕ) (value : Option Value) → Fine s env handed untaken w (prints env at literal value)
   print_done handed untaken w r at literal value =
       sound_then p (λ u h. Unit {0}) _ w (asked (request at (act.Print literal value) ToBeDone)) _
       (sound_request p _ w at (act.Print literal value) ToBeDone refl tt refl (λ u g answer o. tt))
       (λ u g h y. sound_value p _ u _ (variables_stay w u env.variables g r.variables, tt, tt))
 
-  pub print_fine : (handed untaken : Option ValueType) (w : Things) → Ready s w env → (at : Place) (what : NumberedPrint)
+  pub print_fine : (handed untaken : Option ValueType) (w : HeapTyping) → Ready s w env → (at : Place) (what : NumberedPrint)
       → PrintFits p env.method s what → Fine s env handed untaken w (printed env at what)
   print_fine handed untaken w r at st.Nothing k = print_done handed untaken w r at None None
   print_fine handed untaken w r at (st.Text literal) k = print_done handed untaken w r at (Some literal) None
@@ -169,7 +169,7 @@ module _ (s : ScopeContents) (env : Env) where
       sound_then p (λ u h. IsOf u k.0 h) _ w (eval env x) _ (inner_fine s env w r x k.0 k.1.0 k.1.1)
       (λ u g h y. print_done handed untaken u (ready_stays s w u env g r) at (Some literal) (Some (plain_of h)))
 
-  pub return_fine : (handed untaken : Option ValueType) (w : Things) → Ready s w env → (at : Place) (value : Option NumberedExp)
+  pub return_fine : (handed untaken : Option ValueType) (w : HeapTyping) → Ready s w env → (at : Place) (value : Option NumberedExp)
       → StmFits p env.method s (st.Return at value) → Fine s env handed untaken w (returns env at value)
   return_fine handed untaken w r at None k = sound_value p _ w _ tt
   return_fine handed untaken w r at (Some x) k =
@@ -179,22 +179,22 @@ module _ (s : ScopeContents) (env : Env) where
 
   -- ---- loops
 
-  condition_fine : (w : Things) → Ready s w env → (c : Option NumberedExp) → ConditionFits p env.method s c → Sound p (λ u h. IsOf u t.Boolean h) w (condition env c)
+  condition_fine : (w : HeapTyping) → Ready s w env → (c : Option NumberedExp) → ConditionFits p env.method s c → Sound p (λ u h. IsOf u t.Boolean h) w (condition env c)
   condition_fine w r None k = sound_value p _ w _ (true, refl)
   condition_fine w r (Some c) k = inner_fine s env w r c t.Boolean k.0 k.1
 
-  pub before_fine : (handed untaken : Option ValueType) (w : Things) → Ready s w env → (loop : Loop) → LoopFits p env.method s loop → Fine s env handed untaken w (before_turn env loop)
+  pub before_fine : (handed untaken : Option ValueType) (w : HeapTyping) → Ready s w env → (loop : Loop) → LoopFits p env.method s loop → Fine s env handed untaken w (before_turn env loop)
   before_fine handed untaken w r (While at c update body) k =
       sound_then p (λ u h. IsOf u t.Boolean h) _ w (condition env c) _ (condition_fine w r c k.0) (λ u g h y. by u g (truth_of h))
     where
-      by : (u : Things) → Grows w u → (b : Bool) → Fine s env handed untaken u (gives (if b then Turns at env.variables (Do body ∷ Behind (While at c update body) ∷ []) else Goes env.variables []))
+      by : (u : HeapTyping) → Grows w u → (b : Bool) → Fine s env handed untaken u (gives (if b then Turns at env.variables (Do body ∷ Behind (While at c update body) ∷ []) else Goes env.variables []))
       by u g true = sound_value p _ u _ (variables_stay w u env.variables g r.variables, (k.2, ((k, tt), tt)), tt)
       by u g false = sound_value p _ u _ (variables_stay w u env.variables g r.variables, tt, tt)
   before_fine handed untaken w r (Foreach at number domain [] body) k = sound_value p _ w _ (r.variables, tt, tt)
   before_fine handed untaken w r (Foreach at number domain (q ∷ qs) body) k = sound_value p _ w _ (r.variables, (k.1, ((k, tt), tt)), tt)
 
-  pub behind_fine : (handed untaken : Option ValueType) (w : Things) → Ready s w env → (loop : Loop) → LoopFits p env.method s loop
-      → Fine s env handed untaken w (gives (Goes env.variables (update_of loop ++ Before (turned loop) ∷ [])))
+  pub behind_fine : (handed untaken : Option ValueType) (w : HeapTyping) → Ready s w env → (loop : Loop) → LoopFits p env.method s loop
+      → Fine s env handed untaken w (gives (Goes env.variables (loop_update loop ++ Before (next_iteration loop) ∷ [])))
   behind_fine handed untaken w r (While at c st.NoStm body) k = sound_value p _ w _ (r.variables, (k, tt), tt)
   behind_fine handed untaken w r (While at c (st.SomeStm x) body) k = sound_value p _ w _ (r.variables, (k.1, (k, tt)), tt)
   behind_fine handed untaken w r (Foreach at number domain [] body) k = sound_value p _ w _ (r.variables, (k, tt), tt)
@@ -202,20 +202,20 @@ module _ (s : ScopeContents) (env : Env) where
 
   -- ---- copies and exchanges
 
-  pub copied_fine : (handed untaken : Option ValueType) (w : Things) → Ready s w env → (at : Place) (to from : _) (points : _)
+  pub copied_fine : (handed untaken : Option ValueType) (w : HeapTyping) → Ready s w env → (at : Place) (to from : _) (points : _)
       → WorkFits p env.method s w (CopyAll at to from points) → Fine s env handed untaken w (copied env at to from points)
   copied_fine handed untaken w r at to from [] k = sound_value p _ w _ (r.variables, tt, tt)
   copied_fine handed untaken w r at to from (q ∷ qs) k =
-      sound_then p (λ u h. IsOf (seen_by from.thing.owner u) k.0 h) _ w (asked (request_through from at (act.GetElem from.thing q) (ValueOf (element_seen from.type)))) _
-      (sound_asked p _ w (request_through from at (act.GetElem from.thing q) (ValueOf (element_seen from.type))) (
+      sound_then p (λ u h. IsOf (with_owner from.thing.owner u) k.0 h) _ w (asked (request_through from at (act.GetElem from.thing q) (ValueOf (static_element_type from.type)))) _
+      (sound_asked p _ w (request_through from at (act.GetElem from.thing q) (ValueOf (static_element_type from.type))) (
         (k.0, k.1, k.3, k.4.0),
         goes_through w from (act.GetElem from.thing q) refl k.6,
-        (k.0, element_seen from.type, k.1, k.3, refl, k.9),
+        (k.0, static_element_type from.type, k.1, k.3, refl, k.9),
       )
       (λ u g answer o. o k.0 k.1 (grid_stays w u k.0 k.1 from.thing g k.3))) (λ u g h y.
       let copy =
-      seen_from (seen_by from.thing.owner u) to.thing.owner k.0 _ (λ z. eqb-true from.thing.owner w.owner (k.8 z)
-      ∙ sym (eqb-true to.thing.owner w.owner (k.7 z))) (plain_is (seen_by from.thing.owner u) k.0 h k.2.4 y) in
+      seen_from (with_owner from.thing.owner u) to.thing.owner k.0 _ (λ z. eqb-true from.thing.owner w.owner (k.8 z)
+      ∙ sym (eqb-true to.thing.owner w.owner (k.7 z))) (plain_is (with_owner from.thing.owner u) k.0 h k.2.4 y) in
       sound_then p (λ u h. Unit {0}) _ u (asked (request_through to at (act.PutElem to.thing q (plain_of h)) ToBeDone)) _
       (sound_asked p _ u (request_through to at (act.PutElem to.thing q (plain_of h)) ToBeDone) (
         (k.0, k.1, grid_stays w u k.0 k.1 to.thing g k.2, k.4.0, copy),
@@ -244,7 +244,7 @@ module _ (s : ScopeContents) (env : Env) where
         tt,
       )))
 
-  pub taken_fine : (handed : Option ValueType) (w : Things) → Ready s w env → (at : Place) (grid : _) (procs : List ℕ)
+  pub taken_fine : (handed : Option ValueType) (w : HeapTyping) → Ready s w env → (at : Place) (grid : _) (procs : List ℕ)
       → WorkFits p env.method s w (TakeAll at grid procs) → Fine s env handed (Some (element_of grid.type)) w (taken env at grid procs)
   taken_fine handed w r at grid [] k = sound_value p _ w _ (r.variables, tt, tt)
   taken_fine handed w r at grid (i ∷ is) k =
@@ -269,16 +269,16 @@ module _ (s : ScopeContents) (env : Env) where
 
   -- ---- blocks
 
-  all_over : (xs : NumberedStms) (left : List Work) → scope_over p s (Processes.all_before xs left) ≡ scope_over p s left
+  all_over : (xs : NumberedStms) (left : List ContItem) → scope_over p s (Processes.all_before xs left) ≡ scope_over p s left
   all_over st.Nil left = refl
   all_over (st.Cons x rest) left = all_over rest left
 
-  pub all_fit : (w : Things) (xs : NumberedStms) (left : List Work) → StmsFit p env.method (scope_over p s left) xs
+  pub all_fit : (w : HeapTyping) (xs : NumberedStms) (left : List ContItem) → StmsFit p env.method (scope_over p s left) xs
       → WorksFit p env.method s w left → WorksFit p env.method s w (Processes.all_before xs left)
   all_fit w st.Nil left k q = q
   all_fit w (st.Cons x rest) left k q = (subst (λ y. StmFits p env.method y x) (sym (all_over rest left)) k.0, all_fit w rest left k.1 q)
 
   -- nothing is taken in statements
-  pub none_taken : (untaken : Option ValueType) (xs : NumberedStms) (left : List Work) → TakesOf untaken left → TakesOf untaken (Processes.all_before xs left)
+  pub none_taken : (untaken : Option ValueType) (xs : NumberedStms) (left : List ContItem) → TakesOf untaken left → TakesOf untaken (Processes.all_before xs left)
   none_taken untaken st.Nil left k = k
   none_taken untaken (st.Cons x rest) left k = none_taken untaken rest left k

@@ -1,10 +1,10 @@
 -- What work asks for by itself is no collective.
 use Rattle.std.proofs.Common.{◌≡◌, false, List, refl}
 use Rattle.ti_base.specs.declared.entry.Answer.{Answer}
-use Rattle.ti_lang.specs.Meaning.Asking.{Request}
-use Rattle.ti_lang.specs.Meaning.Processes.{Work}
+use Rattle.ti_lang.specs.Meaning.Comp.{Request}
+use Rattle.ti_lang.specs.Meaning.Processes.{ContItem}
 use Rattle.ti_lang.specs.Meaning.Scoping.{Env}
-use Rattle.ti_lang.specs.Meaning.Performing.{performed}
+use Rattle.ti_lang.specs.Meaning.Performing.{exec_item}
 use Rattle.ti_lang.specs.Meaning.Histories.{is_arrival, is_departure, is_end}
 use Rattle.ti_lang.proofs.Lemmas.{Anyone, Each, any_first, performed_asks}
 use Rattle.ti_align.proofs.Alignment.Stepping.{Alone}
@@ -27,5 +27,5 @@ own = record {
 }
 
 -- what work asks for by itself is no collective
-pub work_alone : (env : Env) (w : Work) (rest : List Answer) → Alone (performed env w rest)
+pub work_alone : (env : Env) (w : ContItem) (rest : List Answer) → Alone (exec_item env w rest)
 work_alone env w rest = performed_asks Anyone IsAlone own env w rest (any_first w)

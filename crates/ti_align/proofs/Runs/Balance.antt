@@ -5,13 +5,13 @@ use Rattle.ti_base.specs.declared.fault.FaultKind.TheVariants.{Fuel}
 use Rattle.ti_base.specs.declared.action.Action.{Action}
 use Rattle.ti_base.specs.declared.action.Action.TheVariants as act
 use Rattle.ti_base.specs.declared.entry.Answer.{Answer}
-use Rattle.ti_lang.specs.Meaning.Asking.{Got, Gives, Asks, Fails}
-use Rattle.ti_lang.specs.Meaning.Processes.{Setting, Work, Frame, Wait, Process, begin}
+use Rattle.ti_lang.specs.Meaning.Comp.{CompResult, Gives, Asks, Fails}
+use Rattle.ti_lang.specs.Meaning.Processes.{RunConfig, ContItem, Frame, Wait, Process, begin}
 use Rattle.ti_lang.specs.Meaning.Scoping.{env_of}
 use Rattle.ti_lang.specs.Meaning.Moves.{Move, Goes, Turns, Breaks, Continues, Calls, Returns, Meets, Deletes}
-use Rattle.ti_lang.specs.Meaning.Performing.{performed}
+use Rattle.ti_lang.specs.Meaning.Performing.{exec_item}
 use Rattle.ti_lang.specs.Meaning.Jumps.{has_mark}
-use Rattle.ti_lang.specs.Meaning.Steps.{Step, To, At, Ends, Faults, ticks, valued, most_frames, moves, works, runs, steps, step}
+use Rattle.ti_lang.specs.Meaning.Steps.{Step, To, At, Ends, Faults, ticks, step_of_result, most_frames, moves, works, runs, steps, step}
 use Rattle.ti_lang.specs.Meaning.Histories.{is_arrival, is_departure}
 use Rattle.ti_align.proofs.Runs.Ways.{Asked, asking, Meeting, Came, Left, Way, comings, answers_left, waiting}
 use Rattle.ti_align.proofs.Runs.Ways as way
@@ -47,7 +47,7 @@ jump_waits : (p : Process) (b : Bool) (x y : Process) → p.wait ≡ None → x.
 jump_waits p true x y e f g = (e, f)
 jump_waits p false x y e f g = (e, g)
 
-moves_wait : (p : Process) (f : Frame) (fs : List Frame) (left : List Work) (mv : Move) → p.wait ≡ None → Waits p (moves p f fs left mv)
+moves_wait : (p : Process) (f : Frame) (fs : List Frame) (left : List ContItem) (mv : Move) → p.wait ≡ None → Waits p (moves p f fs left mv)
 moves_wait p f fs left (Goes vs ws) e = (e, refl)
 moves_wait p f fs left (Turns at vs ws) e = ticks_wait p at _ (e, refl)
 moves_wait p f fs left Breaks e = jump_waits p (has_mark left) _ _ e refl refl
@@ -57,14 +57,14 @@ moves_wait p f fs left (Returns v) e = (e, refl)
 moves_wait p f fs left (Meets w d b) e = ticks_wait p w.place _ (e, λ r. (w, refl, refl, refl))
 moves_wait p f fs left (Deletes at region) e = ticks_wait p at _ (e, λ r. (_, refl, refl, refl))
 
-valued_waits : (p : Process) (g : Got Move) (go : Move → Step) → p.wait ≡ None → Alone g → ((mv : Move) → Waits p (go mv)) → Waits p (valued p g go)
+valued_waits : (p : Process) (g : CompResult Move) (go : Move → Step) → p.wait ≡ None → Alone g → ((mv : Move) → Waits p (go mv)) → Waits p (step_of_result p g go)
 valued_waits p (Gives mv rest) go e a h = h mv
 valued_waits p (Asks request) go e a h = ticks_wait p request.place _ (alone_waits p request.action _ a.0 a.1 e (λ r. e))
 valued_waits p (Fails kind at) go e a h = tt
 
-works_wait : (p : Process) (f : Frame) (fs : List Frame) (ws : List Work) → p.wait ≡ None → Waits p (works p f fs ws)
+works_wait : (p : Process) (f : Frame) (fs : List Frame) (ws : List ContItem) → p.wait ≡ None → Waits p (works p f fs ws)
 works_wait p f fs [] e = (e, refl)
-works_wait p f fs (w ∷ left) e = valued_waits p (performed (env_of p f left) w p.answers) (moves p f fs left) e (work_alone (env_of p f left) w p.answers) (λ mv. moves_wait p f fs left mv e)
+works_wait p f fs (w ∷ left) e = valued_waits p (exec_item (env_of p f left) w p.answers) (moves p f fs left) e (work_alone (env_of p f left) w p.answers) (λ mv. moves_wait p f fs left mv e)
 
 runs_wait : (p : Process) (fs : List Frame) → p.wait ≡ None → Waits p (runs p fs)
 runs_wait p [] e = tt
@@ -113,5 +113,5 @@ way_balance p r (m ∷ ms) (way.left {at = at} {wanted = v} {go = go} {answer = 
 plus_zero : (a b : ℕ) → a + 0 ≡ b → a ≡ b
 plus_zero a b h = omega arith
 
-pub balanced : (s : Setting) (i : ℕ) (p : Process) (ms : List Meeting) → Way (begin s i) ms p → comings ms ≡ length (answers_left ms) + waiting p.wait
+pub balanced : (s : RunConfig) (i : ℕ) (p : Process) (ms : List Meeting) → Way (begin s i) ms p → comings ms ≡ length (answers_left ms) + waiting p.wait
 balanced s i p ms w = plus_zero _ _ (way_balance (begin s i) p ms w)

@@ -7,16 +7,16 @@ use Rattle.ti_base.specs.declared.place.Place.{Place}
 use Rattle.ti_base.specs.declared.fault.FaultKind.TheVariants.{Depth, Fuel}
 use Rattle.ti_base.specs.declared.entry.Answer.{Answer}
 use Rattle.ti_base.specs.declared.entry.Entry.{Entry}
-use Rattle.ti_lang.specs.Meaning.Asking.{Got, Gives, Asks, Fails}
-use Rattle.ti_lang.specs.Meaning.Processes.{Setting, Work, Frame, frame_of, Wait, Process, begin}
+use Rattle.ti_lang.specs.Meaning.Comp.{CompResult, Gives, Asks, Fails}
+use Rattle.ti_lang.specs.Meaning.Processes.{RunConfig, ContItem, Frame, frame_of, Wait, Process, begin}
 use Rattle.ti_lang.specs.Meaning.Moves.{Move, Goes, Turns, Breaks, Continues, Calls, Returns, Meets, Deletes}
-use Rattle.ti_lang.specs.Meaning.Performing.{performed}
+use Rattle.ti_lang.specs.Meaning.Performing.{exec_item}
 use Rattle.ti_lang.specs.Meaning.Scoping.{env_of}
 use Rattle.ti_lang.specs.Meaning.Jumps.{has_mark}
-use Rattle.ti_lang.specs.Meaning.Steps.{Step, To, At, Faults, spends, ticks, valued, most_frames, moves, works, runs, steps}
+use Rattle.ti_lang.specs.Meaning.Steps.{Step, To, At, Faults, spends, ticks, step_of_result, most_frames, moves, works, runs, steps}
 use Rattle.ti_lang.specs.Meaning.NextStep.{Reaches, here, later, After, none, more}
 use Rattle.ti_lang.specs.Meaning.Histories.{history_of, is_answered, entries_of, answers_of}
-use Rattle.ti_lang.specs.Meaning.Runs.{World, IsRun}
+use Rattle.ti_lang.specs.Meaning.Runs.{ProcAfter, IsRun}
 use Rattle.ti_lang.proofs.Lemmas as limits
 use Rattle.ti_align.proofs.Runs.Vars.{true_false}
 use Rattle.ti_align.proofs.Runs.Running.{on_way}
@@ -46,7 +46,7 @@ no_less a = omega arith
 one_more : (a : ℕ) → a ≤ a + 1
 one_more a = omega arith
 
-pays_moves : (p : Process) (f : Frame) (fs : List Frame) (left : List Work) (mv : Move) → Pays p (moves p f fs left mv)
+pays_moves : (p : Process) (f : Frame) (fs : List Frame) (left : List ContItem) (mv : Move) → Pays p (moves p f fs left mv)
 pays_moves p f fs left (Goes vs ws) = no_less p.spent
 pays_moves p f fs left (Turns at vs ws) = pays_ticks p at _ (one_more p.spent)
 pays_moves p f fs left Breaks = same_pays p (has_mark left) _ _ refl refl
@@ -59,14 +59,14 @@ pays_moves p f fs left (Returns v) = no_less p.spent
 pays_moves p f fs left (Meets wait given behind) = pays_ticks p wait.place _ (λ r. refl)
 pays_moves p f fs left (Deletes at region) = pays_ticks p at _ (λ r. refl)
 
-pays_valued : (p : Process) (f : Frame) (fs : List Frame) (left : List Work) (g : Got Move) → Pays p (valued p g (moves p f fs left))
+pays_valued : (p : Process) (f : Frame) (fs : List Frame) (left : List ContItem) (g : CompResult Move) → Pays p (step_of_result p g (moves p f fs left))
 pays_valued p f fs left (Gives mv rest) = pays_moves p f fs left mv
 pays_valued p f fs left (Asks request) = pays_ticks p request.place _ (λ r. refl)
 pays_valued p f fs left (Fails kind at) = tt
 
-pays_works : (p : Process) (f : Frame) (fs : List Frame) (ws : List Work) → Pays p (works p f fs ws)
+pays_works : (p : Process) (f : Frame) (fs : List Frame) (ws : List ContItem) → Pays p (works p f fs ws)
 pays_works p f fs [] = no_less p.spent
-pays_works p f fs (x ∷ left) = pays_valued p f fs left (performed (env_of p f left) x p.answers)
+pays_works p f fs (x ∷ left) = pays_valued p f fs left (exec_item (env_of p f left) x p.answers)
 
 pays_runs : (p : Process) (fs : List Frame) → Pays p (runs p fs)
 pays_runs p [] = tt
@@ -126,12 +126,12 @@ bounded : (a b c d : ℕ) → a ≤ b → 0 + b ≤ c → c ≤ d → a ≤ d
 bounded a b c d h k l = omega (arith, h, k, l)
 
 -- a process has done no more of a kind than it has ticks
-pub no_more_than_fuel : (s : Setting) (es : List Entry) (i : ℕ) (p : Process) → World s es i p → (f : Entry → Bool)
+pub no_more_than_fuel : (s : RunConfig) (es : List Entry) (i : ℕ) (p : Process) → ProcAfter s es i p → (f : Entry → Bool)
     → ((e : Entry) → f e ≡ true → is_answered e ≡ true) → count_by f (entries_of i es) ≤ s.fuel
 no_more_than_fuel s es i p w f h =
     bounded (count_by f (entries_of i es)) (length (answers_of i es)) p.spent s.fuel (counted f h (entries_of i es))
     (after_pays (begin s i) p (answers_of i es) w) (limits.within s i (answers_of i es) p w).0
 
 -- nor has one in a run
-pub at_most_fuel : (s : Setting) (es : List Entry) → IsRun s es → (i : ℕ) (f : Entry → Bool) → ((e : Entry) → f e ≡ true → is_answered e ≡ true) → count_by f (entries_of i (history_of es)) ≤ s.fuel
+pub at_most_fuel : (s : RunConfig) (es : List Entry) → IsRun s es → (i : ℕ) (f : Entry → Bool) → ((e : Entry) → f e ≡ true → is_answered e ≡ true) → count_by f (entries_of i (history_of es)) ≤ s.fuel
 at_most_fuel s es w i f h = let o = on_way s es w i in subst (λ n. n ≤ s.fuel) (sym (back f i es)) (no_more_than_fuel s es i o.process o.world f h)

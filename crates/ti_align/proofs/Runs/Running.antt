@@ -9,13 +9,13 @@ use Rattle.ti_base.specs.declared.entry.Answer.{Answer}
 use Rattle.ti_base.specs.declared.entry.Entry.{Entry}
 use Rattle.ti_base.specs.declared.entry.Next.{Next}
 use Rattle.ti_base.specs.declared.entry.Next.TheVariants as next
-use Rattle.ti_lang.specs.Meaning.Processes.{Setting, Process, begin}
+use Rattle.ti_lang.specs.Meaning.Processes.{RunConfig, Process, begin}
 use Rattle.ti_lang.specs.Meaning.Steps.{Step, To, At, Ends, Faults, step}
-use Rattle.ti_lang.specs.Meaning.NextStep.{Reaches, here, later, shown, After, none, more}
+use Rattle.ti_lang.specs.Meaning.NextStep.{Reaches, here, later, step_label, After, none, more}
 use Rattle.ti_lang.specs.Meaning.Histories.{is_answered, is_arrival, is_departure, entries_of, answers_of, arrivals, history_of}
 use Rattle.ti_lang.specs.Meaning.HeapAnswers.{Outcome, Answers, Impossible, heap_answer}
 use Rattle.ti_lang.specs.Meaning.HeapAnswers as heap
-use Rattle.ti_lang.specs.Meaning.Runs.{World, entry_with, entry_of, CanTake, IsRun}
+use Rattle.ti_lang.specs.Meaning.Runs.{ProcAfter, entry_with, entry_of, CanTake, IsRun}
 use Rattle.ti_lang.specs.Meaning.Runs as run
 use Rattle.ti_lang.proofs.Lemmas.{after_same, none_some, some_same, taker, history_grows, some_entry}
 use Rattle.ti_align.proofs.Runs.Ways.{Asked, asking, Meeting, Came, Left, Way, comings, answers_left, answers_at_departures, last_from}
@@ -104,25 +104,25 @@ last_one at act.Depart r b = refl
 last_one at _ r b = refl
 
 -- what a process has done after an entry more
-pub data Grows (s : Setting) (es all : List Entry) (j : ℕ) : Type 0 where
+pub data Grows (s : RunConfig) (es all : List Entry) (j : ℕ) : Type 0 where
   still : Unseen j es all → Grows s es all j
-  acted : (p q : Process) (at : Place) (a : Action) (w : Asked) (go : Answer → Process) (r : Answer) → World s es j p → Reaches p q → step q
+  acted : (p q : Process) (at : Place) (a : Action) (w : Asked) (go : Answer → Process) (r : Answer) → ProcAfter s es j p → Reaches p q → step q
       ≡ At (asking at a w) go → answers_of j all ≡ answers_of j es ++ r ∷ []
       → arrivals j all ≡ arrivals j es + comings (meeting at a r) → answers_at_departures j all ≡ answers_at_departures j es ++ answers_left (meeting at a r)
       → last_kind j (history_of all) ≡ kind_after a (last_kind j (history_of es)) → heap_answer s.program (history_of es) j a ≡ Answers r
       → all ≡ es ++ record { proc = j; place = at; act = a; answer = r } ∷ [] → Grows s es all j
 
 -- where the process of a run is, with its way
-pub record OnWay (s : Setting) (es : List Entry) (j : ℕ) : Type 0 where
+pub record OnWay (s : RunConfig) (es : List Entry) (j : ℕ) : Type 0 where
   pub process : Process
-  pub world : World s es j process
+  pub world : ProcAfter s es j process
   pub meetings : List Meeting
   pub goes : Way (begin s j) meetings process
   pub count : comings meetings ≡ arrivals j es
   pub told : answers_left meetings ≡ answers_at_departures j es
   pub last : last_from None meetings ≡ last_kind j (history_of es)
 
-pub step_on : (s : Setting) (es all : List Entry) (j : ℕ) → Grows s es all j → OnWay s es j → OnWay s all j
+pub step_on : (s : RunConfig) (es all : List Entry) (j : ℕ) → Grows s es all j → OnWay s es j → OnWay s all j
 step_on s es all j (still u) o = record {
   process = o.process;
   world = subst (λ rs. After (begin s j) rs o.process) (sym u.0) o.world;
@@ -159,20 +159,20 @@ fault_act : (k : FaultKind) (a b : Place) (c : Action) → next.Fault k a ≡ ne
 fault_act k a b c h = cc
 
 -- where an action is next, the step stands at it
-pub at_action : (st : Step) (at : Place) (a : Action) → shown st ≡ Some (next.Act at a) → (w : Asked) × (go : Answer → Process) × (st ≡ At (asking at a w) go)
+pub at_action : (st : Step) (at : Place) (a : Action) → step_label st ≡ Some (next.Act at a) → (w : Asked) × (go : Answer → Process) × (st ≡ At (asking at a w) go)
 at_action (To p) at a h = absurd (none_some _ h)
 at_action (At r go) at a h = let s = act_same r.place at r.action a (some_same _ _ h) in ((r.through, r.wanted), go, ap₂ (λ x y. At (asking x y (r.through, r.wanted)) go) s.0 s.1)
 at_action (Ends place) at a h = absurd (end_act _ _ _ (some_same _ _ h))
 at_action (Faults kind place) at a h = absurd (fault_act _ _ _ _ (some_same _ _ h))
 
 -- an entry of another process
-grows_other : (s : Setting) (es : List Entry) (j : ℕ) (e : Entry) → (e.proc == j) ≡ false → Grows s es (es ++ e ∷ []) j
+grows_other : (s : RunConfig) (es : List Entry) (j : ℕ) (e : Entry) → (e.proc == j) ≡ false → Grows s es (es ++ e ∷ []) j
 grows_other s es j e h =
     still (unseen j es e (ap (filter is_answered) (other j e h)) (ap (count_by (λ (e : Entry). is_arrival e.act)) (other j e h))
     (ap (filter (λ (e : Entry). is_departure e.act)) (other j e h)) (ap (λ b. b && is_arrival e.act) h))
 
 -- one that is no answer: an end or a fault
-grows_last : (s : Setting) (es : List Entry) (j : ℕ) (e : Entry) → (e.proc == j) ≡ true → is_answered e ≡ false → is_arrival e.act ≡ false → is_departure e.act ≡ false → Grows s es (es ++ e ∷ []) j
+grows_last : (s : RunConfig) (es : List Entry) (j : ℕ) (e : Entry) → (e.proc == j) ≡ true → is_answered e ≡ false → is_arrival e.act ≡ false → is_departure e.act ≡ false → Grows s es (es ++ e ∷ []) j
 grows_last s es j e h x y z = still (unseen j es e (ap (filter is_answered) (own j e h) ∙ out)
     (ap (count_by (λ (e : Entry). is_arrival e.act)) (own j e h) ∙ uncounted) (ap (filter (λ (e : Entry). is_departure e.act)) (own j e h)
     ∙ left_out) (ap₂ (λ a b. a && b) h y))
@@ -187,8 +187,8 @@ grows_last s es j e h x y z = still (unseen j es e (ap (filter is_answered) (own
     left_out = rw z refl
 
 -- an answer
-grows_act : (s : Setting) (es : List Entry) (j : ℕ) (p q : Process) (at : Place) (a : Action) (w : Asked) (go : Answer → Process)
-    (r : Answer) → World s es j p → Reaches p q → step q ≡ At (asking at a w) go
+grows_act : (s : RunConfig) (es : List Entry) (j : ℕ) (p q : Process) (at : Place) (a : Action) (w : Asked) (go : Answer → Process)
+    (r : Answer) → ProcAfter s es j p → Reaches p q → step q ≡ At (asking at a w) go
     → is_answered (record { proc = j; place = at; act = a; answer = r }) ≡ true → heap_answer s.program (history_of es) j a ≡ Answers r
     → Grows s es (es ++ record { proc = j; place = at; act = a; answer = r } ∷ []) j
 grows_act s es j p q at a w go r x y z h c =
@@ -217,7 +217,7 @@ grows_act s es j p q at a w go r x y z h c =
     by true k = rw k refl
     by false k = rw k refl
 
-grows_own : (s : Setting) (es : List Entry) (j : ℕ) (p q : Process) (n : Next) (e : Entry) → World s es j p → Reaches p q → shown (step q)
+grows_own : (s : RunConfig) (es : List Entry) (j : ℕ) (p q : Process) (n : Next) (e : Entry) → ProcAfter s es j p → Reaches p q → step_label (step q)
     ≡ Some n → entry_of s es j n ≡ Some e → Grows s es (es ++ e ∷ []) j
 grows_own s es j p q (next.Act at a) e x y z h = by (heap_answer s.program (history_of es) j a) refl h
   where
@@ -239,7 +239,7 @@ grows_own s es j p q (next.Act at a) e x y z h = by (heap_answer s.program (hist
 grows_own s es j p q (next.End at) e x y z h = subst (λ d. Grows s es (es ++ d ∷ []) j) (some_entry _ e h) (grows_last s es j _ (eq-eqb j j refl) refl refl refl)
 grows_own s es j p q (next.Fault kind at) e x y z h = subst (λ d. Grows s es (es ++ d ∷ []) j) (some_entry _ e h) (grows_last s es j _ (eq-eqb j j refl) refl refl refl)
 
-pub grows : (s : Setting) (es all : List Entry) (i j : ℕ) (e : Entry) → CanTake s es i e → all ≡ es ++ e ∷ [] → Grows s es all j
+pub grows : (s : RunConfig) (es all : List Entry) (i j : ℕ) (e : Entry) → CanTake s es i e → all ≡ es ++ e ∷ [] → Grows s es all j
 grows s es all i j e t z = subst (λ x. Grows s es x j) (sym z) (go (i == j) refl)
   where
     go : (b : Bool) → (i == j) ≡ b → Grows s es (es ++ e ∷ []) j
@@ -247,6 +247,6 @@ grows s es all i j e t z = subst (λ x. Grows s es x j) (sym z) (go (i == j) ref
     go false h = grows_other s es j e (subst (λ x. (x == j) ≡ false) (sym (taker s es i e t)) h)
 
 -- in every run each process has its way
-pub on_way : (s : Setting) (es : List Entry) → IsRun s es → (j : ℕ) → OnWay s es j
+pub on_way : (s : RunConfig) (es : List Entry) → IsRun s es → (j : ℕ) → OnWay s es j
 on_way s es run.none j = record { process = begin s j; world = none; meetings = []; goes = way.stop; count = refl; told = refl; last = refl }
 on_way s all (run.more {es = es} {i = i} {e = e} w t z) j = step_on s es all j (grows s es all i j e t z) (on_way s es w j)

@@ -5,7 +5,7 @@ use Rattle.ti_lang.specs.Program.Types.{Declaration, Typed, Foreach, VariableUse
 use Rattle.ti_lang.specs.Typing.Kinds.{same_truth}
 use Rattle.ti_lang.specs.Meaning.Held.{Held}
 use Rattle.ti_lang.specs.Meaning.Processes.{Variable}
-use Rattle.ti_lang.specs.Meaning.Scoping.{same_declaration, same_variable, find_variable, with_changed, without}
+use Rattle.ti_lang.specs.Meaning.Scoping.{same_declaration, same_variable, find_variable, with_changed, without_variables}
 use Rattle.ti_align.specs.SinglePart.{is_single_declared, singles}
 
 pub true_false : true ≡ false → ⊥
@@ -117,22 +117,22 @@ put_singles x v (w ∷ ws) = go (is_single_declared w.named.declared) refl (same
 abbrev gone : List VariableUse → Variable → Bool
 gone xs w = list_any (λ (x : VariableUse). same_variable x w.named) xs
 
-without_on : (xs : List VariableUse) (w : Variable) (ws : List Variable) → gone xs w ≡ false → without xs (w ∷ ws) ≡ w ∷ without xs ws
+without_on : (xs : List VariableUse) (w : Variable) (ws : List Variable) → gone xs w ≡ false → without_variables xs (w ∷ ws) ≡ w ∷ without_variables xs ws
 without_on xs w ws e = rw e refl
 
-without_out : (xs : List VariableUse) (w : Variable) (ws : List Variable) → gone xs w ≡ true → without xs (w ∷ ws) ≡ without xs ws
+without_out : (xs : List VariableUse) (w : Variable) (ws : List Variable) → gone xs w ≡ true → without_variables xs (w ∷ ws) ≡ without_variables xs ws
 without_out xs w ws e = rw e refl
 
-pub without_singles : (xs : List VariableUse) (ws : List Variable) → singles (without xs ws) ≡ without xs (singles ws)
+pub without_singles : (xs : List VariableUse) (ws : List Variable) → singles (without_variables xs ws) ≡ without_variables xs (singles ws)
 without_singles xs [] = refl
 without_singles xs (w ∷ ws) = go (is_single_declared w.named.declared) refl (gone xs w) refl (without_singles xs ws)
   where
-    go : (b : Bool) → is_single_declared w.named.declared ≡ b → (d : Bool) → gone xs w ≡ d → singles (without xs ws)
-        ≡ without xs (singles ws) → singles (without xs (w ∷ ws)) ≡ without xs (singles (w ∷ ws))
-    go true e true k ih = ap singles (without_out xs w ws k) ∙ ih ∙ sym (ap (without xs) (singles_keep w ws e) ∙ without_out xs w (singles ws) k)
-    go true e false k ih = ap singles (without_on xs w ws k) ∙ singles_keep w (without xs ws) e ∙ ap (λ y. w ∷ y) ih ∙ sym (ap (without xs) (singles_keep w ws e) ∙ without_on xs w (singles ws) k)
-    go false e true k ih = ap singles (without_out xs w ws k) ∙ ih ∙ sym (ap (without xs) (singles_drop w ws e))
-    go false e false k ih = ap singles (without_on xs w ws k) ∙ singles_drop w (without xs ws) e ∙ ih ∙ sym (ap (without xs) (singles_drop w ws e))
+    go : (b : Bool) → is_single_declared w.named.declared ≡ b → (d : Bool) → gone xs w ≡ d → singles (without_variables xs ws)
+        ≡ without_variables xs (singles ws) → singles (without_variables xs (w ∷ ws)) ≡ without_variables xs (singles (w ∷ ws))
+    go true e true k ih = ap singles (without_out xs w ws k) ∙ ih ∙ sym (ap (without_variables xs) (singles_keep w ws e) ∙ without_out xs w (singles ws) k)
+    go true e false k ih = ap singles (without_on xs w ws k) ∙ singles_keep w (without_variables xs ws) e ∙ ap (λ y. w ∷ y) ih ∙ sym (ap (without_variables xs) (singles_keep w ws e) ∙ without_on xs w (singles ws) k)
+    go false e true k ih = ap singles (without_out xs w ws k) ∙ ih ∙ sym (ap (without_variables xs) (singles_drop w ws e))
+    go false e false k ih = ap singles (without_on xs w ws k) ∙ singles_drop w (without_variables xs ws) e ∙ ih ∙ sym (ap (without_variables xs) (singles_drop w ws e))
 
 abbrev pub Plain : List VariableUse → Type 0
 Plain [] = Unit {0}
@@ -142,13 +142,13 @@ plain_stays : (xs : List VariableUse) (w : Variable) → Plain xs → is_single_
 plain_stays [] w p e = refl
 plain_stays (x ∷ xs) w p e = ap₂ (λ a b. a || b) (differ x w.named false true p.0 e false_true) (plain_stays xs w p.1 e)
 
-pub without_plain : (xs : List VariableUse) (ws : List Variable) → Plain xs → without xs (singles ws) ≡ singles ws
+pub without_plain : (xs : List VariableUse) (ws : List Variable) → Plain xs → without_variables xs (singles ws) ≡ singles ws
 without_plain xs [] p = refl
 without_plain xs (w ∷ ws) p = go (is_single_declared w.named.declared) refl (without_plain xs ws p)
   where
-    go : (b : Bool) → is_single_declared w.named.declared ≡ b → without xs (singles ws) ≡ singles ws → without xs (singles (w ∷ ws)) ≡ singles (w ∷ ws)
-    go true e ih = ap (without xs) (singles_keep w ws e) ∙ without_on xs w (singles ws) (plain_stays xs w p e) ∙ ap (λ y. w ∷ y) ih ∙ sym (singles_keep w ws e)
-    go false e ih = ap (without xs) (singles_drop w ws e) ∙ ih ∙ sym (singles_drop w ws e)
+    go : (b : Bool) → is_single_declared w.named.declared ≡ b → without_variables xs (singles ws) ≡ singles ws → without_variables xs (singles (w ∷ ws)) ≡ singles (w ∷ ws)
+    go true e ih = ap (without_variables xs) (singles_keep w ws e) ∙ without_on xs w (singles ws) (plain_stays xs w p e) ∙ ap (λ y. w ∷ y) ih ∙ sym (singles_keep w ws e)
+    go false e ih = ap (without_variables xs) (singles_drop w ws e) ∙ ih ∙ sym (singles_drop w ws e)
 
 pub plain_both : (xs ys : List VariableUse) → Plain xs → Plain ys → Plain (xs ++ ys)
 plain_both [] ys p q = q

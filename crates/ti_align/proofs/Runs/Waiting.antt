@@ -5,12 +5,12 @@ use Rattle.ti_base.specs.declared.action.Action.{Action}
 use Rattle.ti_base.specs.declared.action.Action.TheVariants as act
 use Rattle.ti_base.specs.declared.entry.Answer.{Answer}
 use Rattle.ti_base.specs.declared.entry.Entry.{Entry}
-use Rattle.ti_lang.specs.Meaning.Processes.{Setting, Wait, Process, begin}
+use Rattle.ti_lang.specs.Meaning.Processes.{RunConfig, Wait, Process, begin}
 use Rattle.ti_lang.specs.Meaning.Steps.{To, At, step}
 use Rattle.ti_lang.specs.Meaning.NextStep.{Reaches, here, later, none}
 use Rattle.ti_lang.specs.Meaning.Histories.{History, history_of, is_arrival, is_departure}
 use Rattle.ti_lang.specs.Meaning.RoundsOf.{Arrival, arrival_in, last_arrival}
-use Rattle.ti_lang.specs.Meaning.Runs.{World, CanTake, IsRun}
+use Rattle.ti_lang.specs.Meaning.Runs.{ProcAfter, CanTake, IsRun}
 use Rattle.ti_lang.specs.Meaning.Runs as run
 use Rattle.ti_lang.proofs.Lemmas.{after_same, taker, history_grows}
 use Rattle.ti_align.proofs.Runs.Vars.{true_false}
@@ -38,10 +38,10 @@ alone_free p at act.Depart v go r x y e = absurd (true_false y)
 alone_free p at a v go r x y e = (step_waits p (At (asking at a v) go) e).1 r
 
 -- so it is for each process of a run
-abbrev pub RunWaits : Setting → List Entry → Type 0
-RunWaits s es = (i : ℕ) (p : Process) → World s es i p → WaitsFor (last_arrival i (history_of es)) p
+abbrev pub RunWaits : RunConfig → List Entry → Type 0
+RunWaits s es = (i : ℕ) (p : Process) → ProcAfter s es i p → WaitsFor (last_arrival i (history_of es)) p
 
-module _ (s : Setting) (es : List Entry) (e : Entry) (ran : IsRun s es) (t : CanTake s es e.proc e) (old : RunWaits s es) where
+module _ (s : RunConfig) (es : List Entry) (e : Entry) (ran : IsRun s es) (t : CanTake s es e.proc e) (old : RunWaits s es) where
   abbrev h : History
   h = history_of es
 
@@ -76,12 +76,12 @@ module _ (s : Setting) (es : List Entry) (e : Entry) (ran : IsRun s es) (t : Can
           (subst (WaitsFor (last_arrival i (history_of (es ++ e ∷ [])))) (sym is)
           (subst (λ o. WaitsFor o (go e.answer)) (sym (ap (last_arrival i) (history_grows es e))) (goes_on asked go e.act refl z)))
 
-pub run_waits : (s : Setting) (es : List Entry) → IsRun s es → RunWaits s es
+pub run_waits : (s : RunConfig) (es : List Entry) → IsRun s es → RunWaits s es
 run_waits s es run.none = λ i p x. subst (WaitsFor None) (after_same (begin s i) (begin s i) p [] none x) (free_waits None (begin s i) refl)
 run_waits s whole (run.more {es = es} {i = i} {e = e} r t z) = subst (RunWaits s) (sym z) (entry_waits s es e r (subst (λ j. CanTake s es j e) (sym (taker s es i e t)) t) (run_waits s es r))
 
 -- and where it comes to from there
-pub waits_there : (s : Setting) (es : List Entry) (i : ℕ) (p q : Process) → IsRun s es → World s es i p → Reaches p q → WaitsFor (last_arrival i (history_of es)) q
+pub waits_there : (s : RunConfig) (es : List Entry) (i : ℕ) (p q : Process) → IsRun s es → ProcAfter s es i p → Reaches p q → WaitsFor (last_arrival i (history_of es)) q
 waits_there s es i p q ran x y = by p q y (run_waits s es ran i p x)
   where
     by : (p q : Process) → Reaches p q → WaitsFor (last_arrival i (history_of es)) p → WaitsFor (last_arrival i (history_of es)) q

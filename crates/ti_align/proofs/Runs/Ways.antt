@@ -8,7 +8,7 @@ use Rattle.ti_base.specs.declared.action.Deposit.{Deposit}
 use Rattle.ti_base.specs.declared.entry.Answer.{Answer}
 use Rattle.ti_base.specs.declared.entry.Entry.{Entry}
 use Rattle.ti_lang.specs.Program.Types.{ValueType}
-use Rattle.ti_lang.specs.Meaning.Asking.{Wanted, Request}
+use Rattle.ti_lang.specs.Meaning.Comp.{Wanted, Request}
 use Rattle.ti_lang.specs.Meaning.Processes.{Wait, Process}
 use Rattle.ti_lang.specs.Meaning.Steps.{To, At, step}
 use Rattle.ti_lang.specs.Meaning.Histories.{is_arrival, is_departure}

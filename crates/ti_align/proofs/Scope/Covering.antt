@@ -11,9 +11,9 @@ use Rattle.ti_lang.specs.Program.Types.{ValueType, Declaration, Typed, Foreach, 
 use Rattle.ti_lang.specs.Program.Types as t
 use Rattle.ti_lang.specs.Program.Expressions.{NumberedExp, NumberedExps, NumberedRange, NumberedRanges}
 use Rattle.ti_lang.specs.Program.Statements.{NumberedDims, NumberedInit, NumberedPrint, NumberedStm, MaybeNumbered, NumberedStms, numbered_stms}
-use Rattle.ti_lang.specs.Program.Classes.{NumberedParam, NumberedParams, NumberedMethod, NumberedProgram}
+use Rattle.ti_lang.specs.Program.Classes.{NumberedParam, NumberedParams, NumberedMethod, ProgramView}
 use Rattle.ti_lang.specs.Members.{OwnMethod, methods_of}
-use Rattle.ti_lang.specs.Scopes.{Known, Site, with_variable, declares, typed_as, past, past_maybe, past_all, behind, behind_maybe, behind_params, method_site, body_site}
+use Rattle.ti_lang.specs.Scopes.{Known, Site, with_variable, declares, typed_as, past, past_maybe, past_all, site_after, behind_maybe, behind_params, method_site, body_site}
 use Rattle.ti_lang.specs.Typing.Kinds.{same_truth, same_type}
 use Rattle.ti_lang.specs.MainForm.{is_void, is_words as tells_words, has_main_modifiers, has_main_form}
 use Rattle.ti_lang.specs.Numbering as number
@@ -202,9 +202,9 @@ fits_past_stm names site x f = let k = past_is site x in fits_past names site (p
 fits_past_maybe : (names : Names) (site : Site) (x : MaybeStm) → Fits names site → Fits names (past_maybe site x)
 fits_past_maybe names site x f = let k = past_maybe_is site x in fits_past names site (past_maybe site x) k.0 k.1 f
 
-fits_behind : (names : Names) (site : Site) (x : Stm) (y : NumberedStm) → NumbersStm site x y → Fits names site → Fits (with_all (declared_alone y) names) (behind site x)
+fits_behind : (names : Names) (site : Site) (x : Stm) (y : NumberedStm) → NumbersStm site x y → Fits names site → Fits (with_all (declared_alone y) names) (site_after site x)
 fits_behind names site x y (number.declare {ty = ty} {name = name} (number.known b) fresh room v) f = fits_declared names site name (typed_as site.text ty) f
-fits_behind names site x y (number.print {what = what} h) f = fits_past names site (behind site x) refl (same_number site.variables) f
+fits_behind names site x y (number.print {what = what} h) f = fits_past names site (site_after site x) refl (same_number site.variables) f
 fits_behind names site x y (number.block h) f = fits_past_stm names site x f
 fits_behind names site x y (number.if_alone h i) f = fits_past_stm names site x f
 fits_behind names site x y (number.if_else h i j) f = fits_past_stm names site x f
@@ -234,7 +234,7 @@ fresh_maybe : (names : Names) (site : Site) (x : MaybeStm) (y : MaybeNumbered) �
 fresh_maybe names site x y number.no_stm b = tt
 fresh_maybe names site x y (number.some_stm {x = a} {y = c} h) b = fresh_alone names site a c h b
 
-behind_later : (site : Site) (x : Stm) → site.variables ≤ (behind site x).variables
+behind_later : (site : Site) (x : Stm) → site.variables ≤ (site_after site x).variables
 behind_later site (tree.Declare at type name value) = one_later site.variables
 behind_later site x = (past_is site x).1
 
@@ -248,7 +248,7 @@ fresh_among : (names : Names) (site : Site) (xs : Stms) (ys : NumberedStms) → 
 fresh_among names site xs ys number.nil b = tt
 fresh_among names site xs ys (number.cons {x = x} {y = y} {xs = us} {ys = vs} h rest) b =
     fresh_both names (declared_alone y) (declared_among vs) (fresh_alone names site x y h b)
-    (fresh_among names (behind site x) us vs rest (below_later names site.variables (behind site x).variables (behind_later site x) b))
+    (fresh_among names (site_after site x) us vs rest (below_later names site.variables (site_after site x).variables (behind_later site x) b))
 
 -- ---- expressions
 
@@ -342,7 +342,7 @@ mutual
   stms_scoped : (names : Names) (site : Site) → Fits names site → (xs : Stms) (ys : NumberedStms) → NumbersStms site xs ys → StmsScoped names ys
   stms_scoped names site f xs ys number.nil = tt
   stms_scoped names site f xs ys (number.cons {x = x} {y = y} h rest) =
-      (stm_scoped names site f x y h, stms_scoped (with_all (declared_alone y) names) (behind site x) (fits_behind names site x y h f) _ _ rest)
+      (stm_scoped names site f x y h, stms_scoped (with_all (declared_alone y) names) (site_after site x) (fits_behind names site x y h f) _ _ rest)
 
 -- ---- methods
 
@@ -394,7 +394,7 @@ methods_prop : (ms : List NumberedMethod) → IsProp (MethodsScoped ms)
 methods_prop [] = hlevel
 methods_prop (m ∷ ms) = hlevel (stms_prop (is_one (parameters_of m.params)) (numbered_stms m.body), methods_prop ms)
 
-pub scoped : (p : NumberedProgram) → ∥ IsNumbered p ∥₁ → MethodsScoped p.methods
+pub scoped : (p : ProgramView) → ∥ IsNumbered p ∥₁ → MethodsScoped p.methods
 scoped p c = ∥∥₁_elim c (methods_prop p.methods) (λ n. methods_scoped n.0 0 0 _ p.methods n.2.methods)
 
 -- ---- `main`
@@ -421,5 +421,5 @@ second_true false b e = cc
 main_tells : (m : MethodTree) → has_main_form m ≡ true → tells_words m.params ≡ true
 main_tells m e = second_true (is_void m.result) (tells_words m.params) (second_true (has_main_modifiers m) (is_void m.result && tells_words m.params) e)
 
-pub main_words : (p : NumberedProgram) → ∥ IsNumbered p ∥₁ → (m : NumberedMethod) → slice_get p.methods p.main ≡ Some m → is_words m.params ≡ true
+pub main_words : (p : ProgramView) → ∥ IsNumbered p ∥₁ → (m : NumberedMethod) → slice_get p.methods p.main ≡ Some m → is_words m.params ≡ true
 main_words p c m z = ∥∥₁_elim c (Bool-set _ _) (λ n. words_at n.0 0 0 (methods_of n.0) p.methods n.2.methods p.main n.2.main.own m n.2.main.stands z (main_tells n.2.main.own.method n.2.main.form))

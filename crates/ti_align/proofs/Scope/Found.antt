@@ -5,15 +5,15 @@ use Rattle.ti_lang.specs.Program.Types.{Declaration, Typed, Foreach, VariableUse
 use Rattle.ti_lang.specs.Typing.Kinds.{same_truth}
 use Rattle.ti_lang.specs.Meaning.Held.{Held}
 use Rattle.ti_lang.specs.Meaning.Processes.{Variable}
-use Rattle.ti_lang.specs.Meaning.Scoping.{same_declaration, same_variable, with_new, with_changed, without}
+use Rattle.ti_lang.specs.Meaning.Scoping.{same_declaration, same_variable, with_new, with_changed, without_variables}
 use Rattle.ti_align.proofs.Runs.Vars.{true_false, and_left, and_right, or_left, or_right}
 use Rattle.ti_align.proofs.RunTypes.Operating.{type_same, or_either}
-use Rattle.ti_align.specs.Scoped.{Names, found}
+use Rattle.ti_align.specs.Scoped.{Names, is_among}
 use Rattle.ti_align.proofs.Scope.Scoped.{is_one, with_all, Fresh}
 
 -- all names are found there
 abbrev pub Holds : Names → List Variable → Type 0
-Holds names vs = (v : VariableUse) → names v ≡ true → found v vs ≡ true
+Holds names vs = (v : VariableUse) → names v ≡ true → is_among v vs ≡ true
 
 -- all of the first names are among the second
 abbrev pub Among : Names → Names → Type 0
@@ -48,7 +48,7 @@ variable_is x y h =
 pub holds_new : (names : Names) (d : VariableUse) (h : Held) (vs : List Variable) → Holds names vs → Holds (with_all (d ∷ []) names) (with_new d h vs)
 holds_new names d h vs k v z = by (or_either (same_variable v d || false) (names v) z)
   where
-    by : ((same_variable v d || false) ≡ true) ⊎ (names v ≡ true) → (same_variable v d || found v vs) ≡ true
+    by : ((same_variable v d || false) ≡ true) ⊎ (names v ≡ true) → (same_variable v d || is_among v vs) ≡ true
     by (inl x) = or_left (same_variable v d) _ (one (same_variable v d) x)
       where
         one : (b : Bool) → (b || false) ≡ true → b ≡ true
@@ -56,12 +56,12 @@ holds_new names d h vs k v z = by (or_either (same_variable v d || false) (names
         one false h = h
     by (inr x) = or_right (same_variable v d) _ (k v x)
 
-pub found_changed : (v x : VariableUse) (h : Held) (vs : List Variable) → found v vs ≡ true → found v (with_changed x h vs) ≡ true
+pub found_changed : (v x : VariableUse) (h : Held) (vs : List Variable) → is_among v vs ≡ true → is_among v (with_changed x h vs) ≡ true
 found_changed v x h [] k = k
-found_changed v x h (w ∷ ws) k = by (found_changed v x h ws) (same_variable x w.named) (or_either (same_variable v w.named) (found v ws) k)
+found_changed v x h (w ∷ ws) k = by (found_changed v x h ws) (same_variable x w.named) (or_either (same_variable v w.named) (is_among v ws) k)
   where
-    by : (found v ws ≡ true → found v (with_changed x h ws) ≡ true) → (b : Bool) → (same_variable v w.named ≡ true) ⊎ (found v ws ≡ true)
-        → found v (if b then record w { held = h } ∷ ws else w ∷ with_changed x h ws) ≡ true
+    by : (is_among v ws ≡ true → is_among v (with_changed x h ws) ≡ true) → (b : Bool) → (same_variable v w.named ≡ true) ⊎ (is_among v ws ≡ true)
+        → is_among v (if b then record w { held = h } ∷ ws else w ∷ with_changed x h ws) ≡ true
     by f true (inl i) = or_left _ _ i
     by f true (inr i) = or_right (same_variable v w.named) _ i
     by f false (inl i) = or_left _ _ i
@@ -70,18 +70,18 @@ found_changed v x h (w ∷ ws) k = by (found_changed v x h ws) (same_variable x 
 pub holds_changed : (names : Names) (x : VariableUse) (h : Held) (vs : List Variable) → Holds names vs → Holds names (with_changed x h vs)
 holds_changed names x h vs k v z = found_changed v x h vs (k v z)
 
-pub found_without : (v : VariableUse) (ds : List VariableUse) (vs : List Variable) → list_any (λ d. same_variable d v) ds ≡ false → found v vs ≡ true → found v (without ds vs) ≡ true
+pub found_without : (v : VariableUse) (ds : List VariableUse) (vs : List Variable) → list_any (λ d. same_variable d v) ds ≡ false → is_among v vs ≡ true → is_among v (without_variables ds vs) ≡ true
 found_without v ds [] a k = k
-found_without v ds (w ∷ ws) a k = by (found_without v ds ws a) (list_any (λ d. same_variable d w.named) ds) refl (or_either (same_variable v w.named) (found v ws) k)
+found_without v ds (w ∷ ws) a k = by (found_without v ds ws a) (list_any (λ d. same_variable d w.named) ds) refl (or_either (same_variable v w.named) (is_among v ws) k)
   where
-    by : (found v ws ≡ true → found v (without ds ws) ≡ true) → (b : Bool) → list_any (λ d. same_variable d w.named) ds ≡ b
-        → (same_variable v w.named ≡ true) ⊎ (found v ws ≡ true) → found v (if not b then w ∷ without ds ws else without ds ws) ≡ true
+    by : (is_among v ws ≡ true → is_among v (without_variables ds ws) ≡ true) → (b : Bool) → list_any (λ d. same_variable d w.named) ds ≡ b
+        → (same_variable v w.named ≡ true) ⊎ (is_among v ws ≡ true) → is_among v (if not b then w ∷ without_variables ds ws else without_variables ds ws) ≡ true
     by f false z (inl i) = or_left _ _ i
     by f false z (inr i) = or_right (same_variable v w.named) _ (f i)
     by f true z (inl i) = absurd (true_false (sym z ∙ sym (ap (λ x. list_any (λ d. same_variable d x) ds) (variable_is v w.named i)) ∙ a))
     by f true z (inr i) = f i
 
-pub holds_without : (names : Names) (ds : List VariableUse) (vs : List Variable) → Apart names ds → Holds names vs → Holds names (without ds vs)
+pub holds_without : (names : Names) (ds : List VariableUse) (vs : List Variable) → Apart names ds → Holds names vs → Holds names (without_variables ds vs)
 holds_without names ds vs a k v z = found_without v ds vs (a v z) (k v z)
 
 pub holds_some : (names others : Names) (vs : List Variable) → Among names others → Holds others vs → Holds names vs

@@ -11,29 +11,29 @@ use Rattle.ti_lang.specs.Program.Expressions.{NumberedExp, NumberedExps, place_o
 use Rattle.ti_lang.specs.Program.Expressions as e
 use Rattle.ti_lang.specs.Program.Statements.{NumberedInit, NumberedPrint, NumberedStm, MaybeNumbered, NoStm, SomeStm, NumberedStms}
 use Rattle.ti_lang.specs.Program.Statements as s
-use Rattle.ti_lang.specs.Program.Classes.{NumberedMethod, NumberedProgram}
+use Rattle.ti_lang.specs.Program.Classes.{NumberedMethod, ProgramView}
 use Rattle.ti_lang.specs.Program.Scope.{this_of}
 use Rattle.ti_lang.specs.Typing.Kinds.{is_void}
 use Rattle.ti_lang.specs.Typing.BuiltIn.{BuiltIn, Copy, Exchange, Delete}
-use Rattle.ti_lang.specs.Typing.TextTypes.{type_in_text}
+use Rattle.ti_lang.specs.Typing.TextTypes.{syntactic_type}
 use Rattle.ti_lang.specs.Typing.Declared.{result_type, instance_method}
 use Rattle.ti_lang.specs.Typing.Called.{method_behind, member_called}
 use Rattle.ti_lang.specs.Meaning.Held.{Held, truth_of, points_in}
-use Rattle.ti_lang.specs.Meaning.Asking.{ToBeDone, ValueOf, Reference, Asking, Got, Gives, Asks, Fails, gives, asked, needed}
+use Rattle.ti_lang.specs.Meaning.Comp.{ToBeDone, ValueOf, Reference, Comp, CompResult, Gives, Asks, Fails, gives, asked, needed}
 use Rattle.ti_lang.specs.Meaning.Conversions.{converted}
-use Rattle.ti_lang.specs.Meaning.Operators.{operated}
-use Rattle.ti_lang.specs.Meaning.Processes.{Variable, Receiver, Nowhere, Declared, Assigned, Updated, Loop, While, Foreach, Work, Do, End, Before, Behind, Receive, CopyAll, TakeAll, all_before}
-use Rattle.ti_lang.specs.Meaning.Scoping.{Env, same_variable, type_of, type_here, declared_type, with_new, without}
+use Rattle.ti_lang.specs.Meaning.Operators.{apply_binary}
+use Rattle.ti_lang.specs.Meaning.Processes.{Variable, Receiver, Nowhere, Declared, Assigned, Updated, Loop, While, Foreach, ContItem, Do, End, Before, Behind, Receive, CopyAll, TakeAll, all_before}
+use Rattle.ti_lang.specs.Meaning.Scoping.{Env, same_variable, type_of, type_here, declared_type, with_new, without_variables}
 use Rattle.ti_lang.specs.Meaning.Evaluation.{eval, eval_all}
 use Rattle.ti_lang.specs.Meaning.Targets.{Target, InVariable, InPart, located, held_in, stored, into}
-use Rattle.ti_lang.specs.Meaning.Parts.{Field, Element, domain_asked}
+use Rattle.ti_lang.specs.Meaning.CellRefs.{Field, Element, domain_asked}
 use Rattle.ti_lang.specs.Meaning.Makers.{new_object, new_grid}
-use Rattle.ti_lang.specs.Meaning.Copies.{copies, copied, counted, taken}
+use Rattle.ti_lang.specs.Meaning.Copies.{copies, copied, count_up, taken}
 use Rattle.ti_lang.specs.Meaning.Collectives.{root_among, root_deposit, broadcasts, exchanges}
-use Rattle.ti_lang.specs.Meaning.Calls.{Call, call_of, called, parameters_of, bound, maybe_eval, maybe_needed, calling}
+use Rattle.ti_lang.specs.Meaning.Calls.{Call, call_of, called, parameters_of, bind_params, maybe_eval, maybe_needed, calling}
 use Rattle.ti_lang.specs.Meaning.Moves.{Move, Goes, Turns, Breaks, Continues, Calls, Returns, Meets, Deletes, receives}
 use Rattle.ti_lang.specs.Meaning.Statements.{made_first, valued_or_called, initialized, member_alone, alone, printed, one_more, declared_as, maybe_do, statement}
-use Rattle.ti_lang.specs.Meaning.Performing.{condition, declared_alone, declared_among, declared_maybe, declared_in, performed}
+use Rattle.ti_lang.specs.Meaning.Performing.{condition, declared_alone, declared_among, declared_maybe, declared_in, exec_item}
 use Rattle.ti_lang.proofs.Lemmas.{Giving, then_giving, guarded_giving}
 use Rattle.ti_align.proofs.Alignment.Fitting.{giving_followed}
 use Rattle.ti_align.proofs.Runs.Vars.{true_false, or_left}
@@ -52,7 +52,7 @@ stored_holds env names at (InPart (Field object through field)) h rest k =
 stored_holds env names at (InPart (Element grid through index)) h rest k =
     then_giving (Holds names) (needed at through grid rest) _ (λ r u. then_giving (Holds names) (asked _ u) _ (λ d z. k))
 
-into_holds : (env : Env) (names : Names) (r : Receiver) (right : Asking Held) (rest : List Answer) → Holds names env.variables → Giving (Holds (with_received names r)) (into env r right rest)
+into_holds : (env : Env) (names : Names) (r : Receiver) (right : Comp Held) (rest : List Answer) → Holds names env.variables → Giving (Holds (with_received names r)) (into env r right rest)
 into_holds env names Nowhere right rest k = then_giving (Holds names) (right rest) _ (λ h u. k)
 into_holds env names (Declared at v) right rest k =
     then_giving (Holds (with_all (v ∷ []) names)) (right rest) _ (λ h u.
@@ -65,13 +65,13 @@ into_holds env names (Updated at op target) right rest k =
     then_giving (Holds names) (located env target rest) _ (λ place u.
     then_giving (Holds names) (held_in env (place_of_numbered target) (type_of env target) place u) _ (λ old w.
     then_giving (Holds names) (right w) _ (λ h z.
-    then_giving (Holds names) (operated at op old h z) _ (λ new y.
+    then_giving (Holds names) (apply_binary at op old h z) _ (λ new y.
     then_giving (Holds names) (converted at (type_of env target) new y) _ (λ x q. stored_holds env names at place x q k)))))
 
 -- ---- parameters
 
 -- what holds of what is given holds otherwise
-pub giving_with : {A : Type 0} (P Q : A → Type 0) (g : Got A) → ((a : A) → P a → Q a) → Giving P g → Giving Q g
+pub giving_with : {A : Type 0} (P Q : A → Type 0) (g : CompResult A) → ((a : A) → P a → Q a) → Giving P g → Giving Q g
 giving_with P Q (Gives a rest) f h = f a h
 giving_with P Q (Asks q) f h = tt
 giving_with P Q (Fails kind at) f h = tt
@@ -84,33 +84,33 @@ more_bound false true c h = refl
 more_bound false false c h = h
 
 bound_holds : (env : Env) (ps : List VariableUse) (xs : NumberedExps) (vs : List Variable) (some : Names) (rest : List Answer)
-    → Enough ps xs → Holds some vs → Giving (Holds (with_all ps some)) (bound env ps xs vs rest)
+    → Enough ps xs → Holds some vs → Giving (Holds (with_all ps some)) (bind_params env ps xs vs rest)
 bound_holds env [] xs vs some rest n k = k
 bound_holds env (p ∷ ps) e.NoExp vs some rest n k = absurd n
 bound_holds env (p ∷ ps) (e.MoreExp x xs) vs some rest n k =
     then_giving (Holds (with_all (p ∷ ps) some)) (eval env x rest) _ (λ h u.
     then_giving (Holds (with_all (p ∷ ps) some)) (converted (place_of_numbered x) (declared_type p.declared) h u) _ (λ y w.
-    giving_with (Holds (with_all ps (with_all (p ∷ []) some))) (Holds (with_all (p ∷ ps) some)) (bound env ps xs (with_new p y vs) w)
+    giving_with (Holds (with_all ps (with_all (p ∷ []) some))) (Holds (with_all (p ∷ ps) some)) (bind_params env ps xs (with_new p y vs) w)
     (λ a f v z. f v (more_bound (same_variable v p) (is_one ps v) (some v) z))
     (bound_holds env ps xs (with_new p y vs) (with_all (p ∷ []) some) w n (holds_new some p y vs k))))
 
 -- ---- calls
 
 -- a call of a method that stands, with all its arguments; it gives a value, where one is declared
-abbrev CallStands : NumberedProgram → Bool → Option Call → Type 0
+abbrev CallStands : ProgramView → Bool → Option Call → Type 0
 CallStands p some None = Unit {0}
 CallStands p some (Some c) = MethodStands p c.method × Enough (parameters_of c.method.params) c.args × (some ≡ true → is_void (result_type c.method) ≡ false)
 
-abbrev pub OneStands : NumberedProgram → Option NumberedMethod → Type 0
+abbrev pub OneStands : ProgramView → Option NumberedMethod → Type 0
 OneStands p None = Unit {0}
 OneStands p (Some m) = MethodStands p m
 
-pub at_stands : (p : NumberedProgram) (ms : List NumberedMethod) (k : ℕ) → MethodsStand p ms → OneStands p (slice_get ms k)
+pub at_stands : (p : ProgramView) (ms : List NumberedMethod) (k : ℕ) → MethodsStand p ms → OneStands p (slice_get ms k)
 at_stands p [] k f = tt
 at_stands p (m ∷ ms) zero f = f.0
 at_stands p (m ∷ ms) (suc k) f = at_stands p ms k f.1
 
-found_stands : (p : NumberedProgram) (test : NumberedMethod → Bool) (ms : List NumberedMethod) → MethodsStand p ms → OneStands p (find test ms)
+found_stands : (p : ProgramView) (test : NumberedMethod → Bool) (ms : List NumberedMethod) → MethodsStand p ms → OneStands p (find test ms)
 found_stands p test [] f = tt
 found_stands p test (m ∷ ms) f = by_test (test m) (found_stands p test ms f.1)
   where
@@ -118,7 +118,7 @@ found_stands p test (m ∷ ms) f = by_test (test m) (found_stands p test ms f.1)
     by_test true h = f.0
     by_test false h = h
 
-only_stands : (p : NumberedProgram) (test : NumberedMethod → Bool) (o : Option NumberedMethod) → OneStands p o → OneStands p (only_if test o)
+only_stands : (p : ProgramView) (test : NumberedMethod → Bool) (o : Option NumberedMethod) → OneStands p o → OneStands p (only_if test o)
 only_stands p test None h = tt
 only_stands p test (Some m) h = by_test (test m)
   where
@@ -126,15 +126,15 @@ only_stands p test (Some m) h = by_test (test m)
     by_test true = h
     by_test false = tt
 
-instance_stands : (p : NumberedProgram) (class name : ℕ) → MethodsStand p p.methods → OneStands p (instance_method p class name)
+instance_stands : (p : ProgramView) (class name : ℕ) → MethodsStand p p.methods → OneStands p (instance_method p class name)
 unfolding instance_method
 instance_stands p class name f = only_stands p _ (find (λ (m : NumberedMethod). (m.class == class) && (m.name == name)) p.methods) (found_stands p _ p.methods f)
 
-behind_stands : (p : NumberedProgram) (type : ValueType) (name : ℕ) → MethodsStand p p.methods → OneStands p (method_behind p type name)
+behind_stands : (p : ProgramView) (type : ValueType) (name : ℕ) → MethodsStand p p.methods → OneStands p (method_behind p type name)
 behind_stands p (t.Class c is_local) name f = instance_stands p c name f
 behind_stands p _ name f = tt
 
-by_method : (p : NumberedProgram) (some : Bool) (at : Place) (object : Option NumberedExp) (args : NumberedExps) (o : Option NumberedMethod) → OneStands p o
+by_method : (p : ProgramView) (some : Bool) (at : Place) (object : Option NumberedExp) (args : NumberedExps) (o : Option NumberedMethod) → OneStands p o
     → ((c : NumberedMethod) → o ≡ Some c → Enough (parameters_of c.params) args) → ((c : NumberedMethod) → o ≡ Some c → some ≡ true → is_void (result_type c) ≡ false)
     → CallStands p some (option_map (call_of at object args) o)
 by_method p some at object args None f g h = tt
@@ -147,13 +147,13 @@ called_stands env some (e.Call at method args) f g h =
 called_stands env some (e.OwnCall at method args) f g h =
     by_method env.program some at _ args (slice_get env.program.methods method) (at_stands env.program env.program.methods method f) g (λ c z k. h k c z)
 called_stands env some (e.Member at x name args) f g h =
-    let type = type_in_text env.program (this_of env.method) x in
+    let type = syntactic_type env.program (this_of env.method) x in
     by_method env.program some at (Some x) args (method_behind env.program type name) (behind_stands env.program type name f) g (λ c z k. h k c z)
 called_stands env some _ f g h = tt
 
 -- ---- moves
 
-module _ (env : Env) (left : List Work) where
+module _ (env : Env) (left : List ContItem) where
   -- a move that leads to work that stands
   abbrev pub MoveStands : Move → Type 0
   MoveStands (Goes vs works) = Standing env.program env.method vs (works ++ left)
@@ -168,7 +168,7 @@ module _ (env : Env) (left : List Work) where
   MoveStands (Meets wait given works) = Awaiting env.program env.method env.variables wait.receiver (works ++ left) × (wait.wanted ≡ ToBeDone → declares wait.receiver ≡ false)
   MoveStands (Deletes at region) = Standing env.program env.method env.variables left
 
-module _ (env : Env) (all : MethodsStand env.program env.program.methods) (left : List Work) (names base next outer : Names) (holds : Holds names env.variables) (some : Among base names)
+module _ (env : Env) (all : MethodsStand env.program env.program.methods) (left : List ContItem) (names base next outer : Names) (holds : Holds names env.variables) (some : Among base names)
     (stays : Among outer base) (within : Among outer next) (rest_stands : WorksStand env.program env.method next outer left) where
   abbrev Moving : Move → Type 0
   Moving = MoveStands env left
@@ -181,7 +181,7 @@ module _ (env : Env) (all : MethodsStand env.program env.program.methods) (left 
   waits_stands : (r : Receiver) → ReceiverScoped names r → Among next (with_received names r) → Awaiting env.program env.method env.variables r left
   waits_stands r k a = (names, base, holds, some, k, (next, outer, record { known = a; apart = λ v z. refl; base_stays = stays; within = within }, rest_stands))
 
-  receives_stands : (r : Receiver) (right : Asking Held) (rest : List Answer) → Among next (with_received names r) → Giving Moving (receives env r right rest)
+  receives_stands : (r : Receiver) (right : Comp Held) (rest : List Answer) → Among next (with_received names r) → Giving Moving (receives env r right rest)
   receives_stands r right rest a =
       giving_followed (Holds (with_received names r)) Moving (into env r right rest) _ (into_holds env names r right rest holds)
       (λ vs u h. left_stands vs (holds_some next (with_received names r) vs a h))
@@ -191,8 +191,8 @@ module _ (env : Env) (all : MethodsStand env.program env.program.methods) (left 
   calling_stands r c rest k a f =
       let ps = parameters_of c.method.params in
       then_giving Moving (maybe_eval env c.object rest) _ (λ object u.
-      giving_followed (Holds (is_one ps)) Moving (bound env ps c.args [] u) _
-      (giving_with (Holds (with_all ps (λ v. false))) (Holds (is_one ps)) (bound env ps c.args [] u)
+      giving_followed (Holds (is_one ps)) Moving (bind_params env ps c.args [] u) _
+      (giving_with (Holds (with_all ps (λ v. false))) (Holds (is_one ps)) (bind_params env ps c.args [] u)
       (λ vs h v z. h v (or_left (is_one ps v) false z)) (bound_holds env ps c.args [] (λ v. false) u f.1 (λ v z. z)))
       (λ vs w h. then_giving Moving (maybe_needed c.place object w) _ (λ this z. (f.0, h, f.2, waits_stands r k a))))
 
@@ -201,7 +201,7 @@ module _ (env : Env) (all : MethodsStand env.program env.program.methods) (left 
   value_stands r x None rest k a f = receives_stands r (eval env x) rest a
   value_stands r x (Some c) rest k a f = calling_stands r c rest k a f
 
-  made_stands : (r : Receiver) (new : Asking Held) (rest : List Answer) → Among next (with_received names r) → Giving Moving (made_first env r new rest)
+  made_stands : (r : Receiver) (new : Comp Held) (rest : List Answer) → Among next (with_received names r) → Giving Moving (made_first env r new rest)
   made_stands r new rest a = then_giving Moving (new rest) _ (λ h u. receives_stands r (gives h) u a)
 
   wanted_value : (type : ValueType) (b : Bool) → ValueOf type ≡ ToBeDone → b ≡ false
@@ -232,7 +232,7 @@ module _ (env : Env) (all : MethodsStand env.program env.program.methods) (left 
     goes_stands = left_stands env.variables (holds_some next names env.variables known holds)
 
     -- one piece of work more
-    more_stands : (w : Work) → WorkStands env.program env.method names base w → Among names (behind names base w) → Apart next (leaving w) → Standing env.program env.method env.variables (w ∷ left)
+    more_stands : (w : ContItem) → WorkStands env.program env.method names base w → Among names (behind names base w) → Apart next (leaving w) → Standing env.program env.method env.variables (w ∷ left)
     more_stands w k a b = (names, base, holds, some, (k, (next, outer, record { known = λ v z. a v (known v z); apart = b; base_stays = stays; within = within }, rest_stands)))
 
     do_stands : (x : NumberedStm) → StmStands env.program env.method names x → Standing env.program env.method env.variables (Do x ∷ left)
@@ -240,7 +240,7 @@ module _ (env : Env) (all : MethodsStand env.program env.program.methods) (left 
 
     exchanges_stand : (at : Place) (x : NumberedExp) (args : NumberedExps) (rest : List Answer) → Giving Moving (exchanges env at x args rest)
     exchanges_stand at x args rest =
-        let k : (grid : Reference) → Awaiting env.program env.method env.variables Nowhere (TakeAll at grid (counted 0 env.procs) ∷ left) =
+        let k : (grid : Reference) → Awaiting env.program env.method env.variables Nowhere (TakeAll at grid (count_up 0 env.procs) ∷ left) =
         λ grid. (
           names,
           base,
@@ -265,7 +265,7 @@ module _ (env : Env) (all : MethodsStand env.program env.program.methods) (left 
         λ to from points. more_stands (CopyAll at to from points) tt (λ v z. z) (λ v z. refl) in
         search (then_giving, k) depth 14
 
-    member_stands : (at : Place) (x : NumberedExp) (args : NumberedExps) (other : Asking Move) (o : Option BuiltIn) (rest : List Answer)
+    member_stands : (at : Place) (x : NumberedExp) (args : NumberedExps) (other : Comp Move) (o : Option BuiltIn) (rest : List Answer)
         → Giving Moving (other rest) → Giving Moving (member_alone env at x args other o rest)
     member_stands at x args other (Some Copy) rest k = copies_stand at x args rest
     member_stands at x args other (Some Exchange) rest k = exchanges_stand at x args rest
@@ -437,9 +437,9 @@ module _ (env : Env) (all : MethodsStand env.program env.program.methods) (left 
     (k.1, (base, outer, record { known = among_with base (declared_alone x); apart = λ v z. refl; base_stays = λ v z. z; within = stays }, again_stands (While at c (SomeStm x) body) k known)),
   )
 
-  work_stands : (w : Work) (rest : List Answer) → WorkStands env.program env.method names base w → Among next (behind names base w) → Apart next (leaving w) → Giving Moving (performed env w rest)
+  work_stands : (w : ContItem) (rest : List Answer) → WorkStands env.program env.method names base w → Among next (behind names base w) → Apart next (leaving w) → Giving Moving (exec_item env w rest)
   work_stands (Do x) rest k a b = statement_stands x rest k a
-  work_stands (End x) rest k a b = left_stands (without (declared_in x) env.variables) (holds_without next (declared_in x) env.variables b (holds_some next names env.variables a holds))
+  work_stands (End x) rest k a b = left_stands (without_variables (declared_in x) env.variables) (holds_without next (declared_in x) env.variables b (holds_some next names env.variables a holds))
   work_stands (Before (While at c update body)) rest k a b = then_giving Moving (condition env c rest) _ (λ h u. tested a (truth_of h) at (While at c update body) body k k.2)
   work_stands (Before (Foreach at v d [] body)) rest k a b = goes_stands a
   work_stands (Before (Foreach at v d (p ∷ ps) body)) rest k a b = turn_stands a (Foreach at v d (p ∷ ps) body) body k k
@@ -451,8 +451,8 @@ module _ (env : Env) (all : MethodsStand env.program env.program.methods) (left 
   work_stands (TakeAll at grid procs) rest k a b = taken_stands a at grid procs rest
 
 -- what the first piece of work comes to, with these variables in scope before it
-pub performed_stands : (env : Env) (w : Work) (left : List Work) (rest : List Answer) → MethodsStand env.program env.program.methods
-    → Standing env.program env.method env.variables (w ∷ left) → Giving (MoveStands env left) (performed env w rest)
+pub performed_stands : (env : Env) (w : ContItem) (left : List ContItem) (rest : List Answer) → MethodsStand env.program env.program.methods
+    → Standing env.program env.method env.variables (w ∷ left) → Giving (MoveStands env left) (exec_item env w rest)
 performed_stands env w left rest all k =
     let next = k.4.1 in
     work_stands env all left k.0 k.1 next.0 next.1 k.2 k.3 next.2.base_stays next.2.within next.3 w rest k.4.0 next.2.known next.2.apart

@@ -3,12 +3,12 @@ use Rattle.std.proofs.Common.{◌≡◌, Bool, true, false, ◌⊎◌, inl, inr,
 use Rattle.ti_lang.specs.Program.Types.{VariableUse}
 use Rattle.ti_lang.specs.Program.Statements.{NumberedStm, MaybeNumbered, NumberedStms, Nil, Cons, numbered_stms}
 use Rattle.ti_lang.specs.Program.Statements as s
-use Rattle.ti_lang.specs.Program.Classes.{NumberedMethod, NumberedProgram}
+use Rattle.ti_lang.specs.Program.Classes.{NumberedMethod, ProgramView}
 use Rattle.ti_lang.specs.Typing.Kinds.{is_void}
 use Rattle.ti_lang.specs.Typing.Declared.{result_type}
 use Rattle.ti_lang.specs.Meaning.Held.{Held}
-use Rattle.ti_lang.specs.Meaning.Processes.{Variable, Receiver, Nowhere, Declared, Assigned, Updated, Loop, While, Foreach, Work, Do, End, Before, Behind, Receive, CopyAll, TakeAll, all_before}
-use Rattle.ti_lang.specs.Meaning.Scoping.{without}
+use Rattle.ti_lang.specs.Meaning.Processes.{Variable, Receiver, Nowhere, Declared, Assigned, Updated, Loop, While, Foreach, ContItem, Do, End, Before, Behind, Receive, CopyAll, TakeAll, all_before}
+use Rattle.ti_lang.specs.Meaning.Scoping.{without_variables}
 use Rattle.ti_lang.specs.Meaning.Calls.{parameters_of}
 use Rattle.ti_lang.specs.Meaning.Performing.{declared_alone, declared_in}
 use Rattle.ti_lang.specs.Meaning.Jumps.{has_mark, from_mark, past_mark, variables_at_mark}
@@ -33,14 +33,14 @@ with_received names receiver = names
 -- ---- work
 
 -- the names behind a piece of work, and behind a loop's mark those that are in scope at each of its turns
-abbrev pub behind : Names → Names → Work → Names
+abbrev pub behind : Names → Names → ContItem → Names
 behind names base (Do x) = with_all (declared_alone x) names
 behind names base (Behind loop) = base
 behind names base (Receive receiver h) = with_received names receiver
 behind names base w = names
 
 -- the variables that leave
-abbrev pub leaving : Work → List VariableUse
+abbrev pub leaving : ContItem → List VariableUse
 leaving (End x) = declared_in x
 leaving w = []
 
@@ -51,7 +51,7 @@ pub record Leads (after : Names) (gone : List VariableUse) (base next outer : Na
   pub base_stays : Among outer base
   pub within : Among outer next
 
-module _ (p : NumberedProgram) (m : NumberedMethod) where
+module _ (p : ProgramView) (m : NumberedMethod) where
   abbrev pub StmStands : Names → NumberedStm → Type 0
   StmStands names x = StmScoped names x × StmSuits p m x
 
@@ -66,7 +66,7 @@ module _ (p : NumberedProgram) (m : NumberedMethod) where
   LoopStands names (Foreach at variable domain points body) = StmStands names body
 
   -- a piece of work with these names in scope, of which some are in scope at the next mark
-  abbrev pub WorkStands : Names → Names → Work → Type 0
+  abbrev pub WorkStands : Names → Names → ContItem → Type 0
   WorkStands names base (Do x) = StmStands names x
   WorkStands names base (Before loop) = LoopStands names loop
   WorkStands names base (Behind loop) = LoopStands base loop
@@ -74,27 +74,27 @@ module _ (p : NumberedProgram) (m : NumberedMethod) where
   WorkStands names base w = Unit {0}
 
   -- the work that is left
-  abbrev pub WorksStand : Names → Names → List Work → Type 0
+  abbrev pub WorksStand : Names → Names → List ContItem → Type 0
   WorksStand names base [] = Unit {0}
   WorksStand names base (w ∷ left) =
       WorkStands names base w × ((next : Names) × (outer : Names) × Leads (behind names base w) (leaving w) base next outer × WorksStand next outer left)
 
   -- work before which these variables are in scope
-  abbrev pub Standing : List Variable → List Work → Type 0
+  abbrev pub Standing : List Variable → List ContItem → Type 0
   Standing vs works = (names : Names) × (base : Names) × Holds names vs × Among base names × WorksStand names base works
 
   -- the same where a value is to go to a receiver first
-  abbrev pub Awaiting : List Variable → Receiver → List Work → Type 0
+  abbrev pub Awaiting : List Variable → Receiver → List ContItem → Type 0
   Awaiting vs receiver works =
       (names : Names) × (base : Names) × Holds names vs × Among base names × ReceiverScoped names receiver
       × ((next : Names) × (outer : Names) × Leads (with_received names receiver) [] base next outer × WorksStand next outer works)
 
   -- ---- values come
 
-  pub received : (vs : List Variable) (receiver : Receiver) (h : Held) (works : List Work) → Awaiting vs receiver works → Standing vs (Receive receiver h ∷ works)
+  pub received : (vs : List Variable) (receiver : Receiver) (h : Held) (works : List ContItem) → Awaiting vs receiver works → Standing vs (Receive receiver h ∷ works)
   received vs receiver h works k = (k.0, k.1, k.2, k.3, (k.4, k.5))
 
-  pub not_received : (vs : List Variable) (receiver : Receiver) (works : List Work) → declares receiver ≡ false → Awaiting vs receiver works → Standing vs works
+  pub not_received : (vs : List Variable) (receiver : Receiver) (works : List ContItem) → declares receiver ≡ false → Awaiting vs receiver works → Standing vs works
   not_received vs receiver works d k = (k.5.0, k.5.1, holds_some k.5.0 k.0 vs (same k.0 receiver k.5.0 d k.5.2.known) k.2, k.5.2.within, k.5.3)
     where
       same : (names : Names) (r : Receiver) (next : Names) → declares r ≡ false → Among next (with_received names r) → Among next names
@@ -104,29 +104,29 @@ module _ (p : NumberedProgram) (m : NumberedMethod) where
       same names (Declared at v) next d a = absurd (cc)
 
   -- where no value goes anywhere
-  pub awaits_nothing : (vs : List Variable) (works : List Work) → Standing vs works → Awaiting vs Nowhere works
+  pub awaits_nothing : (vs : List Variable) (works : List ContItem) → Standing vs works → Awaiting vs Nowhere works
   awaits_nothing vs works k = (k.0, k.1, k.2, k.3, tt, (k.0, k.1, record { known = λ v z. z; apart = λ v z. refl; base_stays = λ v z. z; within = k.3 }, k.4))
 
   -- ---- jumps
 
-  pub from_stands : (names base : Names) (left : List Work) (vs : List Variable) → Holds base vs → WorksStand names base left → Standing (variables_at_mark left vs) (from_mark left)
+  pub from_stands : (names base : Names) (left : List ContItem) (vs : List Variable) → Holds base vs → WorksStand names base left → Standing (variables_at_mark left vs) (from_mark left)
   from_stands names base [] vs h k = (base, base, h, λ v z. z, tt)
   from_stands names base (Behind loop ∷ left) vs h k = (base, base, h, λ v z. z, k)
   from_stands names base (End x ∷ left) vs h k =
       let l = k.1.2 in
-      from_stands k.1.0 k.1.1 left (without (declared_in x) vs) (holds_without k.1.1 (declared_in x) vs (λ v z. l.apart v (l.within v z)) (holds_some k.1.1 base vs l.base_stays h)) k.1.3
+      from_stands k.1.0 k.1.1 left (without_variables (declared_in x) vs) (holds_without k.1.1 (declared_in x) vs (λ v z. l.apart v (l.within v z)) (holds_some k.1.1 base vs l.base_stays h)) k.1.3
   from_stands names base (Do x ∷ left) vs h k = from_stands k.1.0 k.1.1 left vs (holds_some k.1.1 base vs k.1.2.base_stays h) k.1.3
   from_stands names base (Before loop ∷ left) vs h k = from_stands k.1.0 k.1.1 left vs (holds_some k.1.1 base vs k.1.2.base_stays h) k.1.3
   from_stands names base (Receive r x ∷ left) vs h k = from_stands k.1.0 k.1.1 left vs (holds_some k.1.1 base vs k.1.2.base_stays h) k.1.3
   from_stands names base (CopyAll at to from points ∷ left) vs h k = from_stands k.1.0 k.1.1 left vs (holds_some k.1.1 base vs k.1.2.base_stays h) k.1.3
   from_stands names base (TakeAll at grid procs ∷ left) vs h k = from_stands k.1.0 k.1.1 left vs (holds_some k.1.1 base vs k.1.2.base_stays h) k.1.3
 
-  pub past_stands : (names base : Names) (left : List Work) (vs : List Variable) → Holds base vs → WorksStand names base left → Standing (variables_at_mark left vs) (past_mark left)
+  pub past_stands : (names base : Names) (left : List ContItem) (vs : List Variable) → Holds base vs → WorksStand names base left → Standing (variables_at_mark left vs) (past_mark left)
   past_stands names base [] vs h k = (base, base, h, λ v z. z, tt)
   past_stands names base (Behind loop ∷ left) vs h k = (k.1.0, k.1.1, holds_some k.1.0 base vs k.1.2.known h, k.1.2.within, k.1.3)
   past_stands names base (End x ∷ left) vs h k =
       let l = k.1.2 in
-      past_stands k.1.0 k.1.1 left (without (declared_in x) vs) (holds_without k.1.1 (declared_in x) vs (λ v z. l.apart v (l.within v z)) (holds_some k.1.1 base vs l.base_stays h)) k.1.3
+      past_stands k.1.0 k.1.1 left (without_variables (declared_in x) vs) (holds_without k.1.1 (declared_in x) vs (λ v z. l.apart v (l.within v z)) (holds_some k.1.1 base vs l.base_stays h)) k.1.3
   past_stands names base (Do x ∷ left) vs h k = past_stands k.1.0 k.1.1 left vs (holds_some k.1.1 base vs k.1.2.base_stays h) k.1.3
   past_stands names base (Before loop ∷ left) vs h k = past_stands k.1.0 k.1.1 left vs (holds_some k.1.1 base vs k.1.2.base_stays h) k.1.3
   past_stands names base (Receive r x ∷ left) vs h k = past_stands k.1.0 k.1.1 left vs (holds_some k.1.1 base vs k.1.2.base_stays h) k.1.3
@@ -136,7 +136,7 @@ module _ (p : NumberedProgram) (m : NumberedMethod) where
   -- ---- blocks
 
   -- statements in order before more work, which stands wherever the names are still in scope
-  pub all_stand : (names base first : Names) (xs : NumberedStms) (works left : List Work) → StmsStand names xs → Among base names → Among first names
+  pub all_stand : (names base first : Names) (xs : NumberedStms) (works left : List ContItem) → StmsStand names xs → Among base names → Among first names
       → ((after : Names) → Among base after → Among first after → WorksStand after base (works ++ left)) → WorksStand names base (all_before xs works ++ left)
   all_stand names base first Nil works left k b f g = g names b f
   all_stand names base first (Cons x rest) works left k b f g =
@@ -154,27 +154,27 @@ module _ (p : NumberedProgram) (m : NumberedMethod) where
 -- ---- results
 
 -- a `return` of a value
-abbrev pub IsReturn : Work → Type 0
+abbrev pub IsReturn : ContItem → Type 0
 IsReturn (Do (s.Return at (Some x))) = Unit {0}
 IsReturn w = ⊥
 
 -- the last piece of work is such a `return`
-abbrev pub Returning : List Work → Type 0
+abbrev pub Returning : List ContItem → Type 0
 Returning [] = ⊥
 Returning (w ∷ left) = (IsReturn w × (left ≡ [])) ⊎ Returning left
 
-pub returning_both : (xs left : List Work) → Returning left → Returning (xs ++ left)
+pub returning_both : (xs left : List ContItem) → Returning left → Returning (xs ++ left)
 returning_both [] left r = r
 returning_both (w ∷ xs) left r = inr (returning_both xs left r)
 
-no_mark : (w : Work) (left : List Work) → IsReturn w → left ≡ [] → has_mark (w ∷ left) ≡ true → ⊥
+no_mark : (w : ContItem) (left : List ContItem) → IsReturn w → left ≡ [] → has_mark (w ∷ left) ≡ true → ⊥
 no_mark (Do x) left i e h = absurd (none (sym (ap has_mark e) ∙ h))
   where
     none : false ≡ true → ⊥
     none e = cc
 no_mark _ left i e h = i
 
-pub returning_from : (left : List Work) → has_mark left ≡ true → Returning left → Returning (from_mark left)
+pub returning_from : (left : List ContItem) → has_mark left ≡ true → Returning left → Returning (from_mark left)
 returning_from [] h r = r
 returning_from (Behind loop ∷ left) h r = r
 returning_from (w ∷ left) h (inl r) = absurd (no_mark w left r.0 r.1 h)
@@ -185,7 +185,7 @@ returning_from (Receive t x ∷ left) h (inr r) = returning_from left h r
 returning_from (CopyAll at to from points ∷ left) h (inr r) = returning_from left h r
 returning_from (TakeAll at grid procs ∷ left) h (inr r) = returning_from left h r
 
-pub returning_past : (left : List Work) → has_mark left ≡ true → Returning left → Returning (past_mark left)
+pub returning_past : (left : List ContItem) → has_mark left ≡ true → Returning left → Returning (past_mark left)
 returning_past [] h r = r
 returning_past (Behind loop ∷ left) h (inl r) = absurd r.0
 returning_past (Behind loop ∷ left) h (inr r) = r
@@ -200,11 +200,11 @@ returning_past (TakeAll at grid procs ∷ left) h (inr r) = returning_past left 
 -- ---- methods
 
 -- the statements of a method stand in its parameters; where it has a result, the last one is a `return`
-pub record MethodStands (p : NumberedProgram) (m : NumberedMethod) : Type 0 where
+pub record MethodStands (p : ProgramView) (m : NumberedMethod) : Type 0 where
   pub scoped : StmsScoped (is_one (parameters_of m.params)) (numbered_stms m.body)
   pub suit : StmsSuit p m (numbered_stms m.body)
   pub returns : is_void (result_type m) ≡ false → ends_with_return m.body ≡ true
 
-abbrev pub MethodsStand : NumberedProgram → List NumberedMethod → Type 0
+abbrev pub MethodsStand : ProgramView → List NumberedMethod → Type 0
 MethodsStand p [] = Unit {0}
 MethodsStand p (m ∷ ms) = MethodStands p m × MethodsStand p ms

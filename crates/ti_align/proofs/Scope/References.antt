@@ -10,18 +10,18 @@ use Rattle.ti_lang.specs.Program.Types.{ValueType, Declaration}
 use Rattle.ti_lang.specs.Program.Types as t
 use Rattle.ti_lang.specs.Program.Expressions.{NumberedExp}
 use Rattle.ti_lang.specs.Program.Expressions as e
-use Rattle.ti_lang.specs.Program.Classes.{NumberedMethod, NumberedProgram}
+use Rattle.ti_lang.specs.Program.Classes.{NumberedMethod, ProgramView}
 use Rattle.ti_lang.specs.Program.Scope.{ScopeVariable, ScopeContents, this_of, method_scope}
 use Rattle.ti_lang.specs.Typing.Kinds.{where_true, is_whole, is_void, is_object, is_reference, as_global, read_through, domain_dim}
 use Rattle.ti_lang.specs.Typing.Operators.{wider, whole_type, truth_type, point_type, rect_type, same_dim, domain_type, Row, Sum, Product, Shift, Bits, row_of, row_type, unary_type, binary_type}
 use Rattle.ti_lang.specs.Typing.BuiltIn.{BuiltIn, Size, Min, Max, Contains, Domain, Restrict, Translate, Slice, Copy, Exchange, Delete, built_in, member_type}
 use Rattle.ti_lang.specs.Typing.Declared.{in_scope, declared_type, field_type, named_field_type}
-use Rattle.ti_lang.specs.Typing.Expressions.{plain, operand, both, all_ints, point_literal, rect_literal, index_type, select_type, called, range_count, operands, bounds, operand_type}
-use Rattle.ti_lang.specs.Typing.TextTypes.{used_type, joined_type, product_type, operator_type, field_seen, element_seen, sliced, built_in_type, member_seen, type_in_text}
+use Rattle.ti_lang.specs.Typing.Expressions.{plain, operand, and_then_both, all_ints, point_literal, rect_literal, index_type, select_type, called, range_count, operands, bounds, operand_type}
+use Rattle.ti_lang.specs.Typing.TextTypes.{used_type, joined_type, product_type, operator_type, static_field_type, static_element_type, slice_type, built_in_type, static_member_type, syntactic_type}
 use Rattle.ti_lang.specs.Typing.Fits.{casts}
-use Rattle.ti_rules.specs.Standing.{with_point, variables_inside}
+use Rattle.ti_rules.specs.StmtInContext.{with_point, variables_inside}
 use Rattle.ti_align.specs.Mirrors.Fitting.{IsWritten}
-use Rattle.ti_align.specs.Mirrors.Work.{may_use, uses_of}
+use Rattle.ti_align.specs.Mirrors.ContItem.{may_use, uses_of}
 use Rattle.ti_align.proofs.Runs.Vars.{true_false, and_left}
 use Rattle.ti_align.proofs.RunTypes.Operating.{none_some, some_same, where_some}
 use Rattle.ti_align.proofs.Regions.Results.{NoneOf, either}
@@ -133,7 +133,7 @@ method_points m number type k h = absurd (by (in_scope (method_scope m) number) 
     by None k h = none_some type h
     by (Some v) k h = true_false (sym k)
 
-pub inside_points : (p : NumberedProgram) (m : NumberedMethod) (s : ScopeContents) (number : ℕ) (domain : NumberedExp) → Points m s
+pub inside_points : (p : ProgramView) (m : NumberedMethod) (s : ScopeContents) (number : ℕ) (domain : NumberedExp) → Points m s
     → Points m (record s { variables = variables_inside p s number domain })
 inside_points p m s number domain f = by _ (option_and_then domain_dim (operand_type p s domain))
   where
@@ -167,18 +167,18 @@ exact r u h = (λ k. h, λ k. subst Plain (sym h) k)
 neither : (r u : ValueType) → Plain r → Plain u → Alike r u
 neither r u h k = (λ z. absurd (true_false (sym z ∙ h)), λ z. k)
 
-selected : (p : NumberedProgram) (u : ValueType) (name : ℕ) (r : ValueType) → select_type p u name ≡ Some r → (is_reference u ≡ true) × (field_seen p name u ≡ r)
+selected : (p : ProgramView) (u : ValueType) (name : ℕ) (r : ValueType) → select_type p u name ≡ Some r → (is_reference u ≡ true) × (static_field_type p name u ≡ r)
 selected p (t.Class c l) name r z = let q = mapped (read_through l) (named_field_type p c name) r z in (refl, ap (λ o. option_map_or (read_through l) o t.Void) q.1 ∙ q.2)
 selected p _ name r z = absurd (none_some r z)
 
-element_plain : (u : ValueType) → Plain u → Plain (element_seen u)
+element_plain : (u : ValueType) → Plain u → Plain (static_element_type u)
 element_plain (t.Pt n) h = refl
 element_plain (t.Grid x n l) h = absurd (true_false h)
 element_plain _ h = refl
 
-indexed : (u x : ValueType) (ts : List ValueType) (r : ValueType) → index_type u ts ≡ Some r → Alike u x → Alike r (element_seen x)
-indexed (t.Pt n) x (t.Int ∷ []) r z f = neither r (element_seen x) (subst Plain (some_same t.Int r z) refl) (element_plain x (f.1 refl))
-indexed (t.Grid e n l) x ts r z f = exact r (element_seen x) (ap element_seen (f.0 refl) ∙ by ts z)
+indexed : (u x : ValueType) (ts : List ValueType) (r : ValueType) → index_type u ts ≡ Some r → Alike u x → Alike r (static_element_type x)
+indexed (t.Pt n) x (t.Int ∷ []) r z f = neither r (static_element_type x) (subst Plain (some_same t.Int r z) refl) (element_plain x (f.1 refl))
+indexed (t.Grid e n l) x ts r z f = exact r (static_element_type x) (ap static_element_type (f.0 refl) ∙ by ts z)
   where
     by : (ts : List ValueType) → index_type (t.Grid e n l) ts ≡ Some r → read_through l e ≡ r
     by (t.Pt k ∷ []) z = (where_some (n == k) (read_through l e) r z).1
@@ -198,14 +198,14 @@ member_alike Contains (t.Dm n) x (t.Pt k ∷ []) r z v f = neither r _ (subst Pl
 member_alike Domain (t.Grid e n l) x [] r z v f = neither r _ (subst Plain (some_same (t.Rc n) r z) refl) refl
 member_alike Restrict (t.Grid e n l) x (t.Rc k ∷ []) r z v f = exact r x (f.0 refl ∙ (where_some (n == k) (t.Grid e n l) r z).1)
 member_alike Translate (t.Grid e n l) x (t.Pt k ∷ []) r z v f = exact r x (f.0 refl ∙ (where_some (n == k) (t.Grid e n l) r z).1)
-member_alike Slice (t.Grid e n l) x (t.Int ∷ t.Int ∷ []) r z v f = exact r (sliced x) (ap sliced (f.0 refl) ∙ (where_some (nat_lt 1 n) (t.Grid e (n - 1) l) r z).1)
+member_alike Slice (t.Grid e n l) x (t.Int ∷ t.Int ∷ []) r z v f = exact r (slice_type x) (ap slice_type (f.0 refl) ∙ (where_some (nat_lt 1 n) (t.Grid e (n - 1) l) r z).1)
 member_alike Copy u x (y ∷ []) r z v f = something r (where_some _ t.Void r z).1 v
 member_alike Exchange u x (y ∷ []) r z v f = something r (where_some _ t.Void r z).1 v
 member_alike Delete t.Region x [] r z v f = something r (some_same t.Void r z) v
 member_alike _ u x ts r z v f = absurd (none_some r z)
 
 -- behind no object a member of the language
-built_in_is : (p : NumberedProgram) (name : ℕ) (u : ValueType) (b : BuiltIn) → built_in p name ≡ Some b → is_object u ≡ false → member_seen p name u ≡ built_in_type (Some b) u
+built_in_is : (p : ProgramView) (name : ℕ) (u : ValueType) (b : BuiltIn) → built_in p name ≡ Some b → is_object u ≡ false → static_member_type p name u ≡ built_in_type (Some b) u
 built_in_is p name (t.Class c l) b z k = absurd (true_false k)
 built_in_is p name t.Int b z k = ap (λ o. built_in_type o t.Int) z
 built_in_is p name t.Long b z k = ap (λ o. built_in_type o t.Long) z
@@ -227,7 +227,7 @@ no_object (t.Class c l) x k f = absurd (true_false k)
 no_object (t.Grid e n l) x k f = ap is_object (f.0 refl)
 no_object _ x k f = plain_object x (f.1 refl)
 
-module _ (p : NumberedProgram) (m : NumberedMethod) (s : ScopeContents) (this : s.this_class ≡ this_of m) (points : Points m s) where
+module _ (p : ProgramView) (m : NumberedMethod) (s : ScopeContents) (this : s.this_class ≡ this_of m) (points : Points m s) where
   never_called : (o : Option NumberedMethod) (ts : Option (List ValueType)) (r : ValueType) → operand (called o ts) ≡ Some r → ⊥
   never_called o None r h = none_some r h
   never_called None (Some ts) r h = none_some r h
@@ -248,7 +248,7 @@ module _ (p : NumberedProgram) (m : NumberedMethod) (s : ScopeContents) (this : 
   field_is o r z = ap (λ x. unwrap_or x t.Void) (no_call (plain o) r z).1
 
   -- an expression inside another has in the text its type, where that or this is a reference
-  pub in_text : (x : NumberedExp) → IsWritten (uses_of m) x → (r : ValueType) → operand_type p s x ≡ Some r → Alike r (type_in_text p (this_of m) x)
+  pub in_text : (x : NumberedExp) → IsWritten (uses_of m) x → (r : ValueType) → operand_type p s x ≡ Some r → Alike r (syntactic_type p (this_of m) x)
   in_text (e.Int at n) k r z = literal_is t.Int r z
   in_text (e.Long at n) k r z = literal_is t.Long r z
   in_text (e.Truth at b) k r z = literal_is t.Boolean r z
@@ -274,8 +274,8 @@ module _ (p : NumberedProgram) (m : NumberedMethod) (s : ScopeContents) (this : 
       let f = unary_plain op q.0 r q.2 in
       neither r _ f.1 ((in_text x k q.0 q.1).1 f.0)
   in_text (e.Binary at op x y) k r z =
-      let q = both_there (binary_type op) (operand_type p s x) (operand_type p s y) r (no_call (plain (both (operand_type p s x) (operand_type p s y) (binary_type op))) r z).1 in
-      neither r _ (row_plain (row_of op) q.0 q.1 r q.4) (operator_plain op q.0 q.1 r _ (type_in_text p (this_of m) y) q.4 (in_text x k.0 q.0 q.2).1)
+      let q = both_there (binary_type op) (operand_type p s x) (operand_type p s y) r (no_call (plain (and_then_both (operand_type p s x) (operand_type p s y) (binary_type op))) r z).1 in
+      neither r _ (row_plain (row_of op) q.0 q.1 r q.4) (operator_plain op q.0 q.1 r _ (syntactic_type p (this_of m) y) q.4 (in_text x k.0 q.0 q.2).1)
   in_text (e.Cast at to x) k r z =
       let cast = λ (u : ValueType). where_true (casts to.type u) to.type in
       let q = and_then cast (operand_type p s x) r (no_call (plain (option_and_then cast (operand_type p s x))) r z).1 in
@@ -284,12 +284,12 @@ module _ (p : NumberedProgram) (m : NumberedMethod) (s : ScopeContents) (this : 
       let select = λ (u : ValueType). select_type p u name in
       let q = and_then select (operand_type p s x) r (no_call (plain (option_and_then select (operand_type p s x))) r z).1 in
       let f = selected p q.0 name r q.2 in
-      exact r _ (ap (field_seen p name) ((in_text x k q.0 q.1).0 f.0) ∙ f.1)
+      exact r _ (ap (static_field_type p name) ((in_text x k q.0 q.1).0 f.0) ∙ f.1)
   in_text (e.Member at x name args) k r z =
       let q = member_there p (operand_type p s x) (operands p s args) name r z in
       let f = in_text x k.0 q.0 q.2 in
-      let u = type_in_text p (this_of m) x in
+      let u = syntactic_type p (this_of m) x in
       subst (λ y. Alike r y) (sym (built_in_is p name u q.4 q.5 (no_object q.0 u q.7 f))) (member_alike q.4 q.0 u q.1 r q.6 q.8 f)
   in_text (e.Index at x parts) k r z =
-      let q = both_there index_type (operand_type p s x) (operands p s parts) r (no_call (plain (both (operand_type p s x) (operands p s parts) index_type)) r z).1 in
+      let q = both_there index_type (operand_type p s x) (operands p s parts) r (no_call (plain (and_then_both (operand_type p s x) (operands p s parts) index_type)) r z).1 in
       indexed q.0 _ q.1 r q.4 (in_text x k.0 q.0 q.2)

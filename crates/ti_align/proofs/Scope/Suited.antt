@@ -5,7 +5,7 @@ use Rattle.ti_lang.specs.Program.Expressions.{NumberedExp, NumberedExps}
 use Rattle.ti_lang.specs.Program.Expressions as e
 use Rattle.ti_lang.specs.Program.Statements.{NumberedInit, NumberedStm, MaybeNumbered, NoStm, SomeStm, NumberedStms, Nil, Cons}
 use Rattle.ti_lang.specs.Program.Statements as s
-use Rattle.ti_lang.specs.Program.Classes.{NumberedMethod, NumberedProgram}
+use Rattle.ti_lang.specs.Program.Classes.{NumberedMethod, ProgramView}
 use Rattle.ti_lang.specs.Program.Scope.{this_of}
 use Rattle.ti_lang.specs.Typing.Kinds.{is_void}
 use Rattle.ti_lang.specs.Typing.Declared.{result_type}
@@ -25,7 +25,7 @@ args_of (e.OwnCall at method args) = args
 args_of (e.Member at x name args) = args
 args_of x = e.NoExp
 
-module _ (p : NumberedProgram) (m : NumberedMethod) where
+module _ (p : ProgramView) (m : NumberedMethod) where
   -- a call is given all arguments
   abbrev pub CallSuits : NumberedExp → Type 0
   CallSuits x = (c : NumberedMethod) → called_method p (this_of m) x ≡ Some c → Enough (parameters_of c.params) (args_of x)

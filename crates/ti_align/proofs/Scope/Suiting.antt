@@ -6,23 +6,23 @@ use Rattle.ti_lang.specs.Program.Expressions.{NumberedExp, NumberedExps}
 use Rattle.ti_lang.specs.Program.Expressions as e
 use Rattle.ti_lang.specs.Program.Statements.{NumberedInit, NumberedStm, MaybeNumbered, NoStm, SomeStm, NumberedStms, Nil, Cons, numbered_stms}
 use Rattle.ti_lang.specs.Program.Statements as st
-use Rattle.ti_lang.specs.Program.Classes.{NumberedParam, NumberedParams, Words, Params, NumberedMethod, NumberedProgram}
+use Rattle.ti_lang.specs.Program.Classes.{NumberedParam, NumberedParams, MainArgs, Params, NumberedMethod, ProgramView}
 use Rattle.ti_lang.specs.Program.Scope.{ScopeContents, this_of, method_scope}
 use Rattle.ti_lang.specs.Typing.Kinds.{is_void, is_object}
 use Rattle.ti_lang.specs.Typing.Fits.{fits}
 use Rattle.ti_lang.specs.Typing.Declared.{result_type, types_of, instance_method}
 use Rattle.ti_lang.specs.Typing.Expressions.{one, all_fit, takes, called, member, operands, operand_type}
 use Rattle.ti_lang.specs.Typing.Called.{called_method, method_behind}
-use Rattle.ti_lang.specs.Typing.TextTypes.{type_in_text}
+use Rattle.ti_lang.specs.Typing.TextTypes.{syntactic_type}
 use Rattle.ti_lang.specs.Meaning.Calls.{parameters_from, parameters_of}
 use Rattle.ti_rules.specs.declared.rule.Rule.TheVariants.{Y6}
 use Rattle.ti_rules.specs.Refusals.{refused_if}
-use Rattle.ti_rules.specs.Standing.{Around, scope_of, Standing, stands, in_loop, in_foreach, inside, inside_maybe, inside_all, around_method, standing_in_method}
+use Rattle.ti_rules.specs.StmtInContext.{StmtContext, scope_of, StmtInContext, stands, in_loop, in_foreach, inside, inside_maybe, inside_all, around_method, standing_in_method}
 use Rattle.ti_rules.specs.Broken.Statements.{statement_refusals, standing_refusals}
 use Rattle.ti_rules.specs.TypeRules.{ends_with_return, head_refusals, end_refusals, method_refusals, class_refusals}
 use Rattle.ti_rules.specs.ProgramRefusals.{IsChecked}
 use Rattle.ti_rules.proofs.Lemmas.{nil_left, nil_right, each_left, each_right, not_refused}
-use Rattle.ti_align.specs.Mirrors.Work.{WholeFits, InitFits, StmFits, MaybeFits, StmsFit, MethodsFit}
+use Rattle.ti_align.specs.Mirrors.ContItem.{WholeFits, InitFits, StmFits, MaybeFits, StmsFit, MethodsFit}
 use Rattle.ti_align.proofs.Runs.Vars.{true_false, and_right}
 use Rattle.ti_align.proofs.RunTypes.Operating.{none_some, some_same, where_some}
 use Rattle.ti_align.proofs.RunTypes.Evaluating.{joined_there, one_there}
@@ -36,10 +36,10 @@ use Rattle.ti_align.proofs.Scope.References.{Points, method_points, inside_point
 -- ---- calls
 
 -- a method of this result takes arguments of these types
-abbrev pub Takes : NumberedProgram → ScopeContents → NumberedExps → ValueType → NumberedMethod → Type 0
+abbrev pub Takes : ProgramView → ScopeContents → NumberedExps → ValueType → NumberedMethod → Type 0
 Takes p s args type c = (ts : List ValueType) × (operands p s args ≡ Some ts) × (takes c.params ts ≡ true) × (result_type c ≡ type)
 
-enough : (p : NumberedProgram) (s : ScopeContents) (n : ℕ) (params : List NumberedParam) (args : NumberedExps) (ts : List ValueType)
+enough : (p : ProgramView) (s : ScopeContents) (n : ℕ) (params : List NumberedParam) (args : NumberedExps) (ts : List ValueType)
     → operands p s args ≡ Some ts → all_fit ts (types_of params) ≡ true → Enough (parameters_from n params) args
 enough p s n [] args ts z h = tt
 enough p s n (q ∷ params) e.NoExp ts z h = absurd (true_false (sym (subst (λ us. all_fit us (types_of (q ∷ params)) ≡ true) (sym (some_same [] ts z)) h)))
@@ -49,12 +49,12 @@ enough p s n (q ∷ params) (e.MoreExp a rest) ts z h =
     let whole : k.0 ∷ j.1 ≡ ts = ap (λ us. us ++ j.1) (sym k.2) ∙ j.4 in
     enough p s (n + 1) params rest j.1 j.3 (and_right (fits k.0 q.ty.type) _ (subst (λ us. all_fit us (types_of (q ∷ params)) ≡ true) (sym whole) h))
 
-params_take : (p : NumberedProgram) (s : ScopeContents) (args : NumberedExps) (n : NumberedParams) (ts : List ValueType) → operands p s args
+params_take : (p : ProgramView) (s : ScopeContents) (args : NumberedExps) (n : NumberedParams) (ts : List ValueType) → operands p s args
     ≡ Some ts → takes n ts ≡ true → Enough (parameters_of n) args
-params_take p s args Words ts j h = absurd (true_false (sym h))
+params_take p s args MainArgs ts j h = absurd (true_false (sym h))
 params_take p s args (Params params) ts j h = enough p s 0 params args ts j h
 
-call_takes : (p : NumberedProgram) (s : ScopeContents) (args : NumberedExps) (o : Option NumberedMethod) (type : ValueType)
+call_takes : (p : ProgramView) (s : ScopeContents) (args : NumberedExps) (o : Option NumberedMethod) (type : ValueType)
     → (called o (operands p s args)).type ≡ Some type → (c : NumberedMethod) → o ≡ Some c → Takes p s args type c
 call_takes p s args o type z c i = by (operands p s args) refl (ap (λ x. (called x (operands p s args)).type) (sym i) ∙ z)
   where
@@ -62,7 +62,7 @@ call_takes p s args o type z c i = by (operands p s args) refl (ap (λ x. (calle
     by None j z = absurd (none_some type z)
     by (Some ts) j z = let q = where_some (takes c.params ts) (result_type c) type z in (ts, j, q.0, q.1)
 
-module _ (p : NumberedProgram) (m : NumberedMethod) (s : ScopeContents) (this : s.this_class ≡ this_of m) (points : Points m s) where
+module _ (p : ProgramView) (m : NumberedMethod) (s : ScopeContents) (this : s.this_class ≡ this_of m) (points : Points m s) where
   -- a call that has a type
   abbrev pub CallTakes : NumberedExp → ValueType → Type 0
   CallTakes x type = (c : NumberedMethod) → called_method p (this_of m) x ≡ Some c → Takes p s (args_of x) type c
@@ -100,7 +100,7 @@ module _ (p : NumberedProgram) (m : NumberedMethod) (s : ScopeContents) (this : 
     where
       by : (o : Option ValueType) → operand_type p s a ≡ o → (member p o name (operands p s args)).type ≡ Some type → Takes p s args type c
       by None j z = absurd (none_some type z)
-      by (Some u) j z = member_takes name args u (type_in_text p (this_of m) a) type (in_text p m s this points a k.1.0 u j) z c i
+      by (Some u) j z = member_takes name args u (syntactic_type p (this_of m) a) type (in_text p m s this points a k.1.0 u j) z c i
   whole_takes _ type k c i = absurd (none_some c i)
 
   call_suits : (x : NumberedExp) (type : ValueType) → WholeFits p m s x type → CallSuits p m x
@@ -119,15 +119,15 @@ not_is : (b : Bool) → not b ≡ false → b ≡ true
 not_is true h = refl
 not_is false h = absurd (true_false h)
 
-module _ (p : NumberedProgram) where
-  abbrev Clean : List Standing → Type 0
+module _ (p : ProgramView) where
+  abbrev Clean : List StmtInContext → Type 0
   Clean xs = flat_map (standing_refusals p) xs ≡ []
 
-  within : (a : Around) (x : NumberedStm) (xs : List Standing) → Clean (stands a x ∷ xs) → Clean xs
+  within : (a : StmtContext) (x : NumberedStm) (xs : List StmtInContext) → Clean (stands a x ∷ xs) → Clean xs
   within a x xs h = nil_right (statement_refusals p a x) (flat_map (standing_refusals p) xs) h
 
   mutual
-    stm_suits : (a : Around) → Points a.method (scope_of a) → (x : NumberedStm) → StmFits p a.method (scope_of a) x → Clean (inside p a x) → StmSuits p a.method x
+    stm_suits : (a : StmtContext) → Points a.method (scope_of a) → (x : NumberedStm) → StmFits p a.method (scope_of a) x → Clean (inside p a x) → StmSuits p a.method x
     stm_suits a f (st.Declare at type variable value) k h = init_suits p a.method (scope_of a) refl f value k.0 k.1
     stm_suits a f (st.Assign at target value) k h = init_suits p a.method (scope_of a) refl f value k.0 k.1
     stm_suits a f (st.Update at op target x) k h = init_suits p a.method (scope_of a) refl f (st.Value x) k.0 k.1
@@ -154,11 +154,11 @@ module _ (p : NumberedProgram) where
         stm_suits b (inside_points p a.method (scope_of a) number domain f) body k.1 (within a (st.Foreach at number domain body) (inside p b body) h)
     stm_suits a f _ k h = tt
 
-    maybe_suits : (a : Around) → Points a.method (scope_of a) → (x : MaybeNumbered) → MaybeFits p a.method (scope_of a) x → Clean (inside_maybe p a x) → MaybeSuits p a.method x
+    maybe_suits : (a : StmtContext) → Points a.method (scope_of a) → (x : MaybeNumbered) → MaybeFits p a.method (scope_of a) x → Clean (inside_maybe p a x) → MaybeSuits p a.method x
     maybe_suits a f NoStm k h = tt
     maybe_suits a f (SomeStm x) k h = stm_suits a f x k h
 
-    stms_suit : (a : Around) → Points a.method (scope_of a) → (xs : NumberedStms) → StmsFit p a.method (scope_of a) xs → Clean (inside_all p a xs) → StmsSuit p a.method xs
+    stms_suit : (a : StmtContext) → Points a.method (scope_of a) → (xs : NumberedStms) → StmsFit p a.method (scope_of a) xs → Clean (inside_all p a xs) → StmsSuit p a.method xs
     stms_suit a f Nil k h = tt
     stms_suit a f (Cons x rest) k h =
         (stm_suits a f x k.0 (each_left (standing_refusals p) (inside p a x) (inside_all p a rest) h), stms_suit a f rest k.1 (each_right (standing_refusals p) (inside p a x) (inside_all p a rest) h))
@@ -189,7 +189,7 @@ module _ (p : NumberedProgram) where
       (method_stands m k.0 (nil_left (method_refusals p m) (flat_map (method_refusals p) ms) h) f.0, methods_stand ms k.1 (nil_right (method_refusals p m) (flat_map (method_refusals p) ms) h) f.1)
 
 -- the methods of a checked program stand in their parameters, where they fit the types
-pub program_stands : (p : NumberedProgram) → IsChecked p → MethodsFit p p.methods → ProgramStands p
+pub program_stands : (p : ProgramView) → IsChecked p → MethodsFit p p.methods → ProgramStands p
 program_stands p c k = record {
   methods = methods_stand p p.methods k (nil_right (flat_map class_refusals p.classes) (flat_map (method_refusals p) p.methods) c.unbroken.types) (scoped p c.numbered);
   main = main_words p c.numbered;

@@ -5,12 +5,12 @@ use Rattle.ti_lang.specs.Program.Expressions.{NumberedExp, NumberedExps, Numbere
 use Rattle.ti_lang.specs.Program.Expressions as e
 use Rattle.ti_lang.specs.Program.Statements.{NumberedDims, NumberedInit, NumberedPrint, NumberedStm}
 use Rattle.ti_lang.specs.Program.Statements as s
-use Rattle.ti_lang.specs.Program.Classes.{NumberedMethod, NumberedProgram}
-use Rattle.ti_lang.specs.Meaning.Processes.{Variable, Receiver, Nowhere, Declared, Assigned, Updated, While, Foreach, Work, Do, Before, Receive, Frame}
+use Rattle.ti_lang.specs.Program.Classes.{NumberedMethod, ProgramView}
+use Rattle.ti_lang.specs.Meaning.Processes.{Variable, Receiver, Nowhere, Declared, Assigned, Updated, While, Foreach, ContItem, Do, Before, Receive, Frame}
 use Rattle.ti_rules.specs.ProgramRefusals.{IsChecked}
 use Rattle.ti_rules.specs.Mirrors.Literals.{LiteralsFit}
 use Rattle.ti_align.specs.Mirrors.Fitting.{IsWritten, AreWritten, IsRangeWritten, AreRangesWritten}
-use Rattle.ti_align.specs.Scoped.{Names, KnownAs, ExpScoped, ExpsScoped, RangeScoped, RangesScoped, OptionScoped, DimsScoped, InitScoped, PrintScoped, found, ReceiverScoped, StmUses, WorkUses, FirstUses, FramesUse}
+use Rattle.ti_align.specs.Scoped.{Names, KnownAs, ExpScoped, ExpsScoped, RangeScoped, RangesScoped, OptionScoped, DimsScoped, InitScoped, PrintScoped, is_among, ReceiverScoped, StmUses, WorkUses, FirstUses, FramesUse}
 use Rattle.ti_align.proofs.Scope.Scoped.{StmScoped}
 use Rattle.ti_align.proofs.Scope.Found.{Holds, Among}
 use Rattle.ti_align.proofs.Scope.Reaching.{WorkStands, WorksStand}
@@ -92,7 +92,7 @@ module _ (names others : Names) (more : Among names others) where
   receiver_in (Assigned at target) k = exp_in target k
   receiver_in (Updated at op target) k = exp_in target k
 
-  work_in : (p : NumberedProgram) (m : NumberedMethod) (base : Names) (w : Work) → WorkStands p m names base w → WorkUses others w
+  work_in : (p : ProgramView) (m : NumberedMethod) (base : Names) (w : ContItem) → WorkStands p m names base w → WorkUses others w
   work_in p m base (Do x) k = stm_in x k.0
   work_in p m base (Before (While at c update body)) k = option_in c k.0
   work_in p m base (Receive receiver h) k = receiver_in receiver k
@@ -100,16 +100,16 @@ module _ (names others : Names) (more : Among names others) where
 
 -- ---- processes
 
-works_use : (p : NumberedProgram) (m : NumberedMethod) (names base : Names) (vs : List Variable) (ws : List Work) → Holds names vs → WorksStand p m names base ws → FirstUses vs ws
+works_use : (p : ProgramView) (m : NumberedMethod) (names base : Names) (vs : List Variable) (ws : List ContItem) → Holds names vs → WorksStand p m names base ws → FirstUses vs ws
 works_use p m names base vs [] h k = tt
-works_use p m names base vs (w ∷ left) h k = work_in names (λ v. found v vs) h p m base w k.0
+works_use p m names base vs (w ∷ left) h k = work_in names (λ v. is_among v vs) h p m base w k.0
 
-pub frames_use : (p : NumberedProgram) (fs : List Frame) → FramesStand p fs → FramesUse fs
+pub frames_use : (p : ProgramView) (fs : List Frame) → FramesStand p fs → FramesUse fs
 frames_use p [] k = tt
 frames_use p (f ∷ fs) k = works_use p f.method k.0.0 k.0.1 f.variables f.left k.0.2 k.0.4
 
 -- the methods of a checked program stand in their scope
-pub checked_stands : (p : NumberedProgram) → IsChecked p → LiteralsFit p → ProgramStands p
+pub checked_stands : (p : ProgramView) → IsChecked p → LiteralsFit p → ProgramStands p
 checked_stands p c l = program_stands p c (checked_fits p c l).methods
 
 -- ---- expressions that are written so

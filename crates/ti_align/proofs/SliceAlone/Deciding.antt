@@ -18,7 +18,7 @@ use Rattle.ti_base.specs.Forms.{is_dim, is_point, is_rect}
 use Rattle.ti_base.proofs.Lemmas.{is_point_decides, is_rect_decides}
 use Rattle.ti_lang.specs.Program.Types.{ValueType}
 use Rattle.ti_lang.specs.Program.Types as t
-use Rattle.ti_lang.specs.Meaning.Asking.{Wanted, ToBeDone, ValueOf, NewThing}
+use Rattle.ti_lang.specs.Meaning.Comp.{Wanted, ToBeDone, ValueOf, NewThing}
 use Rattle.ti_base.specs.Cells.{named_by}
 use Rattle.ti_lang.specs.Meaning.Answers.{IsCount, IsPointOf, IsRectOf, IsName, HasForm, FitsWanted}
 use Rattle.ti_align.proofs.Runs.Vars.{true_false}

@@ -9,9 +9,9 @@ use Rattle.ti_lang.specs.Program.Scope.{this_of}
 use Rattle.ti_lang.specs.Typing.BuiltIn.{BuiltIn, Exchange, Delete}
 use Rattle.ti_lang.specs.Typing.Called.{member_called}
 use Rattle.ti_lang.specs.Typing.Singleness.{has_single_result}
-use Rattle.ti_lang.specs.Meaning.Asking.{gives}
+use Rattle.ti_lang.specs.Meaning.Comp.{gives}
 use Rattle.ti_lang.specs.Meaning.Evaluation.{eval}
-use Rattle.ti_lang.specs.Meaning.Processes.{Variable, Receiver, Nowhere, Declared, Assigned, Updated, Work, Do, Frame, Wait, Process}
+use Rattle.ti_lang.specs.Meaning.Processes.{Variable, Receiver, Nowhere, Declared, Assigned, Updated, ContItem, Do, Frame, Wait, Process}
 use Rattle.ti_lang.specs.Meaning.Scoping.{Env, env_of}
 use Rattle.ti_lang.specs.Meaning.Calls.{Call, called}
 use Rattle.ti_lang.specs.Meaning.Moves.{Goes, Returns, goes_on, receives}
@@ -76,11 +76,11 @@ positive (s.Foreach at variable domain body) = omega arith
 positive (s.Call x) = omega arith
 positive _ = omega arith
 
-weighs : (w : Work) → 0 < weight_of w
+weighs : (w : ContItem) → 0 < weight_of w
 weighs (Do x) = positive x
 weighs _ = omega arith
 
-single_falls : (b : ℕ) (env : Env) (w : Work) → MethodsFit b env.program → need w ≤ b → Giving (MoveFalls b (weight_of w + 0)) (single_performed env w [])
+single_falls : (b : ℕ) (env : Env) (w : ContItem) → MethodsFit b env.program → need w ≤ b → Giving (MoveFalls b (weight_of w + 0)) (single_performed env w [])
 single_falls b env (Do (s.Declare at type variable value)) m n = initial_falls b (1 + 0) (omega arith) env (Declared at (declared_as type variable)) value m
 single_falls b env (Do (s.Assign at target value)) m n = initial_falls b (1 + 0) (omega arith) env (Assigned at target) value m
 single_falls b env (Do (s.Update at op target x)) m n = initial_falls b (1 + 0) (omega arith) env (Updated at op target) (s.Value x) m
@@ -98,7 +98,7 @@ plus_none a b c h e = omega (arith, h, e)
 no_answers : (p : Process) → p.answers ≡ [] → length p.answers ≡ 0
 no_answers p e = ap length e
 
-works_fall : (b : ℕ) (p : Process) (f : Frame) (fs : List Frame) (ws : List Work) → p.answers ≡ [] → p.frames ≡ f ∷ fs → f.left ≡ ws
+works_fall : (b : ℕ) (p : Process) (f : Frame) (fs : List Frame) (ws : List ContItem) → p.answers ≡ [] → p.frames ≡ f ∷ fs → f.left ≡ ws
     → Fits b ws → FitsAll b fs → MethodsFit b p.setting.program → Falls b p (slice_works p f fs ws)
 works_fall b p f fs [] a e z x y m = returns_fall b p f fs [] None e y m
 works_fall b p f fs (w ∷ left) a e z x y m =

@@ -7,7 +7,7 @@ use Rattle.ti_base.specs.declared.action.Action.TheVariants as act
 use Rattle.ti_base.specs.declared.action.CollKind.{CollKind}
 use Rattle.ti_base.specs.declared.action.Deposit.{Deposit}
 use Rattle.ti_base.specs.declared.entry.Answer.{Answer}
-use Rattle.ti_lang.specs.Meaning.Asking.{Wanted}
+use Rattle.ti_lang.specs.Meaning.Comp.{Wanted}
 use Rattle.ti_lang.specs.Meaning.Processes.{Process}
 use Rattle.ti_lang.specs.Meaning.Steps.{To, At, step}
 use Rattle.ti_lang.specs.Meaning.NextStep.{Reaches, here, later}

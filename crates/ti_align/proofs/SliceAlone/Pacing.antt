@@ -7,8 +7,8 @@ use Rattle.ti_base.specs.declared.action.Action.TheVariants as act
 use Rattle.ti_base.specs.declared.action.CollKind.{CollKind}
 use Rattle.ti_base.specs.declared.action.Deposit.{Deposit}
 use Rattle.ti_base.specs.declared.entry.Answer.{Answer}
-use Rattle.ti_lang.specs.Meaning.Asking.{Wanted, Request, Got, Gives, Asks, Fails}
-use Rattle.ti_lang.specs.Meaning.Processes.{Setting, Work, Frame, Wait, Process}
+use Rattle.ti_lang.specs.Meaning.Comp.{Wanted, Request, CompResult, Gives, Asks, Fails}
+use Rattle.ti_lang.specs.Meaning.Processes.{RunConfig, ContItem, Frame, Wait, Process}
 use Rattle.ti_lang.specs.Meaning.Moves as move
 use Rattle.ti_lang.specs.Meaning.RoundsOf as rounds
 use Rattle.ti_lang.specs.Meaning.Steps.{To, At, Faults, most_frames, departs, step, steps}
@@ -26,7 +26,7 @@ abbrev pub deletes_any : List ℕ → CollKind → Option ℕ → Bool
 deletes_any gone kind arg = list_any (λ r. rounds.deletes r kind arg) gone
 
 -- a way through the slice that costs at most so many ticks, from where these regions are gone; it deletes none of them again
-pub data Paced (n : Setting) (F : Wanted → Answer → Type 0) : List ℕ → State → List Meeting → ℕ → State → Type 0 where
+pub data Paced (n : RunConfig) (F : Wanted → Answer → Type 0) : List ℕ → State → List Meeting → ℕ → State → Type 0 where
   stop : {gone : List ℕ} {s : State} {d : ℕ} → Paced n F gone s [] d s
   silent : {gone : List ℕ} {timed : Bool} {s t u : State} {ms : List Meeting} {c d : ℕ} → move_of n s ≡ Silent timed t → Paced n F gone t ms c u → spent_by timed c ≤ d → Paced n F gone s ms d u
   came : {gone : List ℕ} {s t u : State} {w : Wait} {at : Place} {kind : CollKind} {arg : Option ℕ} {ms : List Meeting} {c d : ℕ} →
@@ -44,7 +44,7 @@ Rests x (Departure w go) = (x ≡ Some w) × ((r : Answer) → (go r).wait ≡ N
 Rests x Over = Unit {0}
 Rests x (Fault kind place) = Unit {0}
 
-rests_to : (n : Setting) (f : Frame) (fs : List Frame) (rest : List Work) (mv : move.Move) → Rests None (moves_to n f fs rest mv)
+rests_to : (n : RunConfig) (f : Frame) (fs : List Frame) (rest : List ContItem) (mv : move.Move) → Rests None (moves_to n f fs rest mv)
 rests_to n f fs rest (move.Calls at m this ps r) = go (nat_lt (length (f ∷ fs)) most_frames)
   where
     go : (b : Bool) → Rests None (if b then Silent true (record { frames = sl.callee_part n.program m ps r ∷ record f { left = rest } ∷ fs; wait = None }) else Fault Depth at)
@@ -52,24 +52,24 @@ rests_to n f fs rest (move.Calls at m this ps r) = go (nat_lt (length (f ∷ fs)
     go false = tt
 rests_to n f fs rest _ = (refl, refl)
 
-rests_certain : (n : Setting) (f : Frame) (fs : List Frame) (rest : List Work) (g : Got move.Move) → Rests None (certain g (moves_to n f fs rest))
+rests_certain : (n : RunConfig) (f : Frame) (fs : List Frame) (rest : List ContItem) (g : CompResult move.Move) → Rests None (certain g (moves_to n f fs rest))
 rests_certain n f fs rest (Gives mv more) = rests_to n f fs rest mv
 rests_certain n f fs rest (Asks request) = tt
 rests_certain n f fs rest (Fails kind at) = tt
 
-rests_on : (n : Setting) (f : Frame) (fs : List Frame) (ws : List Work) → Rests None (moves_on n f fs ws)
+rests_on : (n : RunConfig) (f : Frame) (fs : List Frame) (ws : List ContItem) → Rests None (moves_on n f fs ws)
 rests_on n f fs [] = (refl, refl)
 rests_on n f fs (w ∷ rest) = rests_certain n f fs rest (single_performed (env_in n f rest) w [])
 
-rests_in : (n : Setting) (fs : List Frame) → Rests None (moves_in n fs)
+rests_in : (n : RunConfig) (fs : List Frame) → Rests None (moves_in n fs)
 rests_in n [] = tt
 rests_in n (f ∷ fs) = rests_on n f fs f.left
 
-rests_by : (n : Setting) (fs : List Frame) (w : Option Wait) → Rests w (sl.moves n fs w)
+rests_by : (n : RunConfig) (fs : List Frame) (w : Option Wait) → Rests w (sl.moves n fs w)
 rests_by n fs None = rests_in n fs
 rests_by n fs (Some w) = (refl, λ r. refl)
 
-pub rests : (n : Setting) (s : State) (m : Move) → move_of n s ≡ m → Rests s.wait m
+pub rests : (n : RunConfig) (s : State) (m : Move) → move_of n s ≡ m → Rests s.wait m
 rests n s m e = subst (Rests s.wait) e (rests_by n s.frames s.wait)
 
 -- ---- what is wanted
@@ -102,7 +102,7 @@ Free pend gone (Left r ∷ ms) = Free [] (pend ++ gone) ms
 
 -- ---- processes
 
-Reached : Setting → (Wanted → Answer → Type 0) → List ℕ → Process → List Meeting → Process → Type 0
+Reached : RunConfig → (Wanted → Answer → Type 0) → List ℕ → Process → List Meeting → Process → Type 0
 Reached n F gone p ms q = Ok n q × ((c : ℕ) × Paced n F gone (slice p) ms c (slice q) × (p.spent + c ≤ q.spent))
 
 less_by : (a b c e : ℕ) → a ≤ b → b + c ≤ e → a + c ≤ e
@@ -118,7 +118,7 @@ timed_sum false a b c e x y = less_by a b c e (omega (arith, x)) y
 same_le : (a : ℕ) → a ≤ a
 same_le a = omega arith
 
-by_silent : (n : Setting) (F : Wanted → Answer → Type 0) (gone : List ℕ) (p q r : Process) (ms : List Meeting)
+by_silent : (n : RunConfig) (F : Wanted → Answer → Type 0) (gone : List ℕ) (p q r : Process) (ms : List Meeting)
     → Kinds n p.spent (move_of n (slice p)) (slice p) p.frames (To q)
     → (Ok n q → deleted_by q.wait ≡ deleted_by p.wait → Reached n F gone q ms r) → Reached n F gone p ms r
 unfolding Reached
@@ -134,14 +134,14 @@ by_silent n F gone p q r ms k go = by k.0
         let h = go k.1 (ap deleted_by (w.1 ∙ sym w.0)) in
         (h.0, (spent_by z.0 h.1.0, silent z.1 h.1.1 (same_le _), timed_sum z.0 p.spent q.spent h.1.0 r.spent z.2 h.1.2))
 
-by_stay : (n : Setting) (F : Wanted → Answer → Type 0) (gone : List ℕ) (p q r : Process) (ms : List Meeting) → (slice q ≡ slice p) × Ok n q
+by_stay : (n : RunConfig) (F : Wanted → Answer → Type 0) (gone : List ℕ) (p q r : Process) (ms : List Meeting) → (slice q ≡ slice p) × Ok n q
     × (p.spent ≤ q.spent) → (Ok n q → deleted_by q.wait ≡ deleted_by p.wait → Reached n F gone q ms r) → Reached n F gone p ms r
 unfolding Reached
 by_stay n F gone p q r ms k go =
     let h = go k.1 (ap deleted_by (ap (λ (s : State). s.wait) k.0)) in
     (h.0, (h.1.0, subst (λ y. Paced n F gone y ms h.1.0 (slice r)) k.0 h.1.1, less_by p.spent q.spent h.1.0 r.spent k.2 h.1.2))
 
-by_came : (n : Setting) (F : Wanted → Answer → Type 0) (gone : List ℕ) (p : Process) (at : Place) (kind : CollKind) (arg : Option ℕ)
+by_came : (n : RunConfig) (F : Wanted → Answer → Type 0) (gone : List ℕ) (p : Process) (at : Place) (kind : CollKind) (arg : Option ℕ)
     (d : Deposit) (step_to : Answer → Process) (t : Answer) (r : Process) (ms : List Meeting)
     → KindsAt n p.spent (move_of n (slice p)) (slice p) p.frames at (act.Arrive kind arg d) step_to
     → deletes_any gone kind arg ≡ false → (Ok n (step_to t) → deleted_by (step_to t).wait ≡ deleted_at kind arg → Reached n F gone (step_to t) ms r) → Reached n F gone p (Came at kind arg ∷ ms) r
@@ -152,7 +152,7 @@ by_came n F gone p at kind arg d g t r ms k f go =
     let h = go z.1 (ap deleted_by w.1 ∙ ap₂ deleted_at k.2 k.3) in
     (h.0, (h.1.0 + 1, came z.0 k.1 k.2 k.3 f h.1.1 (same_le _), tick_sum p.spent (g t).spent h.1.0 r.spent z.2 h.1.2))
 
-by_left : (n : Setting) (F : Wanted → Answer → Type 0) (gone pend : List ℕ) (p : Process) (at : Place) (step_to : Answer → Process)
+by_left : (n : RunConfig) (F : Wanted → Answer → Type 0) (gone pend : List ℕ) (p : Process) (at : Place) (step_to : Answer → Process)
     (t : Answer) (r : Process) (ms : List Meeting) → KindsAt n p.spent (move_of n (slice p)) (slice p) p.frames at act.Depart step_to
     → (asked : Asked) → step p ≡ At (asking at act.Depart asked) step_to → F asked.1 t → pend ≡ deleted_by p.wait
     → (Ok n (step_to t) → deleted_by (step_to t).wait ≡ [] → Reached n F (pend ++ gone) (step_to t) ms r) → Reached n F gone p (Left t ∷ ms) r
@@ -174,7 +174,7 @@ by_left n F gone pend p at g t r ms k asked x j e go =
 no_cost : (a : ℕ) → a + 0 ≤ a
 no_cost a = omega arith
 
-ways : (n : Setting) (F : Wanted → Answer → Type 0) (gone pend : List ℕ) (p q : Process) (ms : List Meeting) → Ok n p → FitWay F p ms q
+ways : (n : RunConfig) (F : Wanted → Answer → Type 0) (gone pend : List ℕ) (p q : Process) (ms : List Meeting) → Ok n p → FitWay F p ms q
     → pend ≡ deleted_by p.wait → Free pend gone ms → Reached n F gone p ms q
 unfolding Reached
 ways n F gone pend p q ms o way.stop e f = (o, (0, stop, no_cost p.spent))
@@ -187,7 +187,7 @@ ways n F gone pend p r ms o (way.came {ms = ns} {at = at} {kind = kind} {arg = a
 ways n F gone pend p r ms o (way.left {ms = ns} {at = at} {wanted = v} {go = go} {answer = t} x j w) e f =
     by_left n F gone pend p at go t r ns (kind_of n p (At (asking at act.Depart v) go) o x) v x j e (λ u k. ways n F (pend ++ gone) [] (go t) r ns u w (sym k) f)
 
-pub paced : (n : Setting) (F : Wanted → Answer → Type 0) (gone pend : List ℕ) (p q : Process) (ms : List Meeting) → Ok n p → FitWay F p ms q
+pub paced : (n : RunConfig) (F : Wanted → Answer → Type 0) (gone pend : List ℕ) (p q : Process) (ms : List Meeting) → Ok n p → FitWay F p ms q
     → pend ≡ deleted_by p.wait → Free pend gone ms → Ok n q × ((c : ℕ) × Paced n F gone (slice p) ms c (slice q) × (p.spent + c ≤ q.spent))
 unfolding Reached
 paced n F gone pend p q ms o w e f = ways n F gone pend p q ms o w e f

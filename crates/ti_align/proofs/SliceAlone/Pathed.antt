@@ -12,8 +12,8 @@ use Rattle.ti_base.specs.declared.action.Deposit.{Deposit}
 use Rattle.ti_base.specs.declared.entry.Answer.{Answer}
 use Rattle.ti_base.specs.declared.entry.Answer.TheVariants.{Done}
 use Rattle.ti_base.specs.declared.entry.Entry.{Entry}
-use Rattle.ti_lang.specs.Meaning.Processes.{Setting, Process, begin}
-use Rattle.ti_lang.specs.Meaning.Asking.{Wanted}
+use Rattle.ti_lang.specs.Meaning.Processes.{RunConfig, Process, begin}
+use Rattle.ti_lang.specs.Meaning.Comp.{Wanted}
 use Rattle.ti_lang.specs.Meaning.Steps.{At, step}
 use Rattle.ti_lang.specs.Meaning.NextStep.{Reaches, After, none}
 use Rattle.ti_lang.specs.Meaning.Histories.{History, history_of, is_arrival, is_departure, answers_of, arrivals}
@@ -22,7 +22,7 @@ use Rattle.ti_lang.specs.Meaning.RoundsOf.{is_delete_of, last_arrival, arrival_a
 use Rattle.ti_lang.specs.Meaning.RegionsOf.{is_made, is_gone}
 use Rattle.ti_lang.specs.Meaning.HeapAnswers.{Outcome, Answers, Impossible, heap_answer, arrives, possible_if, faults_if}
 use Rattle.ti_lang.specs.Meaning.HeapAnswers as heap
-use Rattle.ti_lang.specs.Meaning.Runs.{World, CanTake, IsRun}
+use Rattle.ti_lang.specs.Meaning.Runs.{ProcAfter, CanTake, IsRun}
 use Rattle.ti_lang.specs.Meaning.Runs as run
 use Rattle.ti_lang.proofs.Lemmas.{after_same, taker, history_grows}
 use Rattle.ti_align.specs.declared.slices.SliceStep.{SliceStep}
@@ -150,9 +150,9 @@ met_in j [] = None
 met_in j (e ∷ h) = if e.proc == j then met_by e e.act (met_in j h) else met_in j h
 
 -- the way of a process of a run
-pub record Path (F : Wanted → Answer → Type 0) (s : Setting) (es : List Entry) (j : ℕ) (ms : List Meeting) : Type 0 where
+pub record Path (F : Wanted → Answer → Type 0) (s : RunConfig) (es : List Entry) (j : ℕ) (ms : List Meeting) : Type 0 where
   pub process : Process
-  pub world : World s es j process
+  pub world : ProcAfter s es j process
   pub goes : FitWay F (begin s j) ms process
   pub told : answers_left ms ≡ answers_at_departures j es
   pub free : Free [] [] ms
@@ -167,7 +167,7 @@ plus_none : (a b : ℕ) → a + b ≡ a → b ≡ 0
 plus_none a b h = omega arith
 
 -- an entry that adds no arrival is no own arrival
-quiet : (s : Setting) (es all : List Entry) (j : ℕ) (e : Entry) → all ≡ es ++ e ∷ [] → arrivals j all ≡ arrivals j es → is_own j e ≡ false
+quiet : (s : RunConfig) (es all : List Entry) (j : ℕ) (e : Entry) → all ≡ es ++ e ∷ [] → arrivals j all ≡ arrivals j es → is_own j e ≡ false
 quiet s es all j e z k =
     not_true (is_own j e) (λ h. one_none _ (one_own j e h) (plus_none (arrivals j es) _ (sym (arrivals_both j es (e ∷ [])) ∙ ap (arrivals j) (sym z) ∙ k)))
 
@@ -198,8 +198,8 @@ met_still j e h k d = go (e.proc == j) refl
     go true z = if_true (e.proc == j) _ _ z ∙ met_quiet e e.act (met_in j h) (sym (ap (λ b. b && is_arrival e.act) z) ∙ k) (d z)
     go false z = if_false (e.proc == j) _ _ z
 
-still_path : {F : Wanted → Answer → Type 0} (s : Setting) (es all : List Entry) (j : ℕ) (e : Entry) (ms : List Meeting) (p : Process) → all
-    ≡ es ++ e ∷ [] → arrivals j all ≡ arrivals j es → World s all j p → answers_at_departures j all ≡ answers_at_departures j es
+still_path : {F : Wanted → Answer → Type 0} (s : RunConfig) (es all : List Entry) (j : ℕ) (e : Entry) (ms : List Meeting) (p : Process) → all
+    ≡ es ++ e ∷ [] → arrivals j all ≡ arrivals j es → ProcAfter s all j p → answers_at_departures j all ≡ answers_at_departures j es
     → (o : Path F s es j ms) → o.process ≡ p → Path F s all j ms
 still_path s es all j e ms p z k w d o q =
     let grown = ap history_of z ∙ history_grows es e in
@@ -216,7 +216,7 @@ still_path s es all j e ms p z k w d o q =
 
 -- ---- an action more
 
-module _ (s : Setting) (es : List Entry) (j : ℕ) (at : Place) (r : Answer) where
+module _ (s : RunConfig) (es : List Entry) (j : ℕ) (at : Place) (r : Answer) where
   abbrev entry : Action → Entry
   entry a = record { proc = j; place = at; act = a; answer = r }
 
@@ -249,16 +249,16 @@ module _ (s : Setting) (es : List Entry) (j : ℕ) (at : Place) (r : Answer) whe
       by act.Depart = refl
       by _ = refl
 
-left_one_more : (s : Setting) (es : List Entry) (j : ℕ) (at : Place) (a : Action) (r : Answer) (ms : List Meeting) (all : List Entry)
+left_one_more : (s : RunConfig) (es : List Entry) (j : ℕ) (at : Place) (a : Action) (r : Answer) (ms : List Meeting) (all : List Entry)
     → answers_left ms ≡ answers_at_departures j es → answers_at_departures j all ≡ answers_at_departures j es
     ++ answers_left (meeting at a r)
     → answers_left (ms ++ meeting at a r) ≡ answers_at_departures j all
 left_one_more s es j at a r ms all t m = left_both ms (meeting at a r) ∙ ap (λ x. x ++ answers_left (meeting at a r)) t ∙ sym m
 
 -- what a process is answered next at a departure suits what is wanted there
-abbrev pub Suits : (Wanted → Answer → Type 0) → Setting → List Entry → ℕ → Type 0
+abbrev pub Suits : (Wanted → Answer → Type 0) → RunConfig → List Entry → ℕ → Type 0
 Suits F s es j =
-    j < s.procs → (p q : Process) (at : Place) (asked : Asked) (go : Answer → Process) (r : Answer) → World s es j p → Reaches p q → step q
+    j < s.procs → (p q : Process) (at : Place) (asked : Asked) (go : Answer → Process) (r : Answer) → ProcAfter s es j p → Reaches p q → step q
     ≡ At (asking at act.Depart asked) go → heap_answer s.program (history_of es) j act.Depart ≡ Answers r → F asked.1 r
 
 cons_same : (x y : Entry) (xs ys : List Entry) → x ∷ xs ≡ y ∷ ys → (x ≡ y) × (xs ≡ ys)
@@ -268,7 +268,7 @@ last_same : (es : List Entry) (d e : Entry) → es ++ d ∷ [] ≡ es ++ e ∷ [
 last_same [] d e z = (cons_same d e [] [] z).0
 last_same (x ∷ xs) d e z = last_same xs d e (cons_same x x (xs ++ d ∷ []) (xs ++ e ∷ []) z).1
 
-step_path : (F : Wanted → Answer → Type 0) (s : Setting) (es all : List Entry) (j : ℕ) (e : Entry) (ms : List Meeting) → e.proc < s.procs
+step_path : (F : Wanted → Answer → Type 0) (s : RunConfig) (es all : List Entry) (j : ℕ) (e : Entry) (ms : List Meeting) → e.proc < s.procs
     → Suits F s es j → all ≡ es ++ e ∷ [] → Grows s es all j → Path F s es j ms → (ns : List Meeting) × Path F s all j ns
 step_path F s es all j e ms b i z (still u) o = (ms, still_path s es all j e ms o.process z u.1 (subst (λ rs. After (begin s j) rs o.process) (sym u.0) o.world) u.2 o refl)
 step_path F s es all j e ms b i z (acted p q at a w go r x y t k l m n c v) o =
@@ -297,7 +297,7 @@ step_path F s es all j e ms b i z (acted p q at a w go r x y t k l m n c v) o =
     )
 
 -- in every run each process has its way
-pub on_path : (F : Wanted → Answer → Type 0) (s : Setting) (es : List Entry) → IsRun s es → (j : ℕ) → ((ds : List Entry) → IsRun s ds → Suits F s ds j) → (ms : List Meeting) × Path F s es j ms
+pub on_path : (F : Wanted → Answer → Type 0) (s : RunConfig) (es : List Entry) → IsRun s es → (j : ℕ) → ((ds : List Entry) → IsRun s ds → Suits F s ds j) → (ms : List Meeting) × Path F s es j ms
 on_path F s es run.none j f = ([], record { process = begin s j; world = none; goes = way.stop; told = refl; free = tt; gone = tt; pend = tt; met = refl })
 on_path F s all (run.more {es = es} {i = i} {e = e} w t z) j f = let o = on_path F s es w j f in
     step_path F s es all j e o.0 (subst (λ k. k < s.procs) (sym (taker s es i e t)) t.within) (f es w) z (grows s es all i j e t z) o.1

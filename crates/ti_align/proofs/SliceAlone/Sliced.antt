@@ -7,14 +7,14 @@ use Rattle.ti_base.specs.declared.fault.FaultKind.TheVariants.{Fuel, Depth}
 use Rattle.ti_base.specs.declared.entry.Answer.{Answer}
 use Rattle.ti_lang.specs.Program.Classes.{NumberedMethod}
 use Rattle.ti_lang.specs.Meaning.Held.{Held}
-use Rattle.ti_lang.specs.Meaning.Asking.{Got, Gives, Asks, Fails}
-use Rattle.ti_lang.specs.Meaning.Processes.{Setting, Variable, Receiver, Nowhere, Work, Do, End, Before, Behind, Receive, CopyAll, TakeAll, Frame, frame_of, Wait, Process, begin}
+use Rattle.ti_lang.specs.Meaning.Comp.{CompResult, Gives, Asks, Fails}
+use Rattle.ti_lang.specs.Meaning.Processes.{RunConfig, Variable, Receiver, Nowhere, ContItem, Do, End, Before, Behind, Receive, CopyAll, TakeAll, Frame, frame_of, Wait, Process, begin}
 use Rattle.ti_lang.specs.Meaning.Scoping.{env_of}
 use Rattle.ti_lang.specs.Meaning.Moves.{Move, Goes, Turns, Breaks, Continues, Calls, Returns, Meets, Deletes}
 use Rattle.ti_lang.specs.Meaning.Performing.{declared_in}
 use Rattle.ti_lang.specs.Meaning.Jumps.{has_mark, from_mark, past_mark, variables_at_mark}
-use Rattle.ti_lang.specs.Meaning.Scoping.{without}
-use Rattle.ti_lang.specs.Meaning.Steps.{Step, To, At, Ends, Faults, spends, ticks, valued, going, handed, most_frames, value_asked, moves}
+use Rattle.ti_lang.specs.Meaning.Scoping.{without_variables}
+use Rattle.ti_lang.specs.Meaning.Steps.{Step, To, At, Ends, Faults, spends, ticks, step_of_result, with_continuation, deliver, most_frames, value_asked, moves}
 use Rattle.ti_align.specs.Slice.{slice_works, slice_runs, slice_steps, slice_step}
 use Rattle.ti_align.proofs.Alignment.Slice.{jump_at, work_acts, kept, frame_part, frame_parts, State, slice, Over, certain, moves_to, moves_on, moves_in, move_of, single_performed}
 use Rattle.ti_align.proofs.Alignment.Slice as sl
@@ -54,43 +54,43 @@ bare_ticks q at after h = go (nat_lt q.spent q.setting.fuel)
     go true = h
     go false = tt
 
-bare_handed : (r : Receiver) (v : Option Held) (fs : List Frame) → AllBare fs → AllBare (handed r v fs)
+bare_handed : (r : Receiver) (v : Option Held) (fs : List Frame) → AllBare fs → AllBare (deliver r v fs)
 bare_handed r None fs h = h
 bare_handed r (Some v) [] h = tt
 bare_handed r (Some v) (f ∷ fs) h = h
 
-closed_at_mark : (ws : List Work) (vs : List Variable) → Closed vs → Closed (variables_at_mark ws vs)
+closed_at_mark : (ws : List ContItem) (vs : List Variable) → Closed vs → Closed (variables_at_mark ws vs)
 closed_at_mark [] vs h = h
 closed_at_mark (Do x ∷ ws) vs h = closed_at_mark ws vs h
-closed_at_mark (End x ∷ ws) vs h = closed_at_mark ws (without (declared_in x) vs) (without_singles (declared_in x) vs ∙ ap (without (declared_in x)) h)
+closed_at_mark (End x ∷ ws) vs h = closed_at_mark ws (without_variables (declared_in x) vs) (without_singles (declared_in x) vs ∙ ap (without_variables (declared_in x)) h)
 closed_at_mark (Before loop ∷ ws) vs h = closed_at_mark ws vs h
 closed_at_mark (Behind loop ∷ ws) vs h = h
 closed_at_mark (Receive receiver held ∷ ws) vs h = closed_at_mark ws vs h
 closed_at_mark (CopyAll at to from points ∷ ws) vs h = closed_at_mark ws vs h
 closed_at_mark (TakeAll at grid procs ∷ ws) vs h = closed_at_mark ws vs h
 
-goes_variables : (vs ws : List Variable) (a b : List Work) → Goes vs a ≡ Goes ws b → vs ≡ ws
+goes_variables : (vs ws : List Variable) (a b : List ContItem) → Goes vs a ≡ Goes ws b → vs ≡ ws
 goes_variables vs ws a b e = cc
 
-turns_variables : (at bt : Place) (vs ws : List Variable) (a b : List Work) → Turns at vs a ≡ Turns bt ws b → vs ≡ ws
+turns_variables : (at bt : Place) (vs ws : List Variable) (a b : List ContItem) → Turns at vs a ≡ Turns bt ws b → vs ≡ ws
 turns_variables at bt vs ws a b e = cc
 
 calls_parts : (at bt : Place) (m n : NumberedMethod) (this that : Option Id) (vs ws : List Variable) (r t : Receiver) → Calls at m this vs r ≡ Calls bt n that ws t → (this ≡ that) × (vs ≡ ws)
 calls_parts at bt m n this that vs ws r t e = (cc, cc)
 
-bare_moves : (q : Process) (f : Frame) (fs : List Frame) (left : List Work) (ok : OkWorks q.setting.program f.method left)
+bare_moves : (q : Process) (f : Frame) (fs : List Frame) (left : List ContItem) (ok : OkWorks q.setting.program f.method left)
     (fine : FineMethods q.setting.program q.setting.program.methods) (closed : env_part (env_of q f left) ≡ env_of q f left)
     → q.number ≡ 0 → Bare f → AllBare fs → (mv : Move) → Stated q f left ok fine closed mv → BareStep (moves q f fs left mv)
 bare_moves q f fs left ok fine closed n b bs (Goes vs ws) s = (n, refl, ((b.0, sym (goes_variables _ _ _ _ s.1)), bs))
 bare_moves q f fs left ok fine closed n b bs (Turns at vs ws) s = bare_ticks q at _ (n, refl, ((b.0, sym (turns_variables _ _ _ _ _ _ s.1)), bs))
 bare_moves q f fs left ok fine closed n b bs Breaks s = go (has_mark left)
   where
-    go : (t : Bool) → IsBare (if t then going q f fs (variables_at_mark left f.variables) (past_mark left) else going q f fs f.variables left)
+    go : (t : Bool) → IsBare (if t then with_continuation q f fs (variables_at_mark left f.variables) (past_mark left) else with_continuation q f fs f.variables left)
     go true = (n, refl, ((b.0, closed_at_mark left f.variables b.1), bs))
     go false = (n, refl, (b, bs))
 bare_moves q f fs left ok fine closed n b bs Continues s = go (has_mark left)
   where
-    go : (t : Bool) → IsBare (if t then going q f fs (variables_at_mark left f.variables) (from_mark left) else going q f fs f.variables left)
+    go : (t : Bool) → IsBare (if t then with_continuation q f fs (variables_at_mark left f.variables) (from_mark left) else with_continuation q f fs f.variables left)
     go true = (n, refl, ((b.0, closed_at_mark left f.variables b.1), bs))
     go false = (n, refl, (b, bs))
 bare_moves q f fs left ok fine closed n b bs (Calls at m this ps r) s =
@@ -106,47 +106,47 @@ bare_moves q f fs left ok fine closed n b bs (Deletes at region) s = bare_ticks 
 -- ---- steps of the slice
 
 -- a process of the slice
-abbrev pub Sliced : Setting → Process → Type 0
+abbrev pub Sliced : RunConfig → Process → Type 0
 Sliced n q = Ok n q × IsBare q
 
 -- a step leaves the slice where it is, or is the machine's
-abbrev pub Slices : Setting → Process → Step → Type 0
+abbrev pub Slices : RunConfig → Process → Step → Type 0
 Slices n q (To r) = (((slice r ≡ slice q) × (r.spent ≡ q.spent)) ⊎ stepping.GoesOn q.spent (move_of n (slice q)) r) × Sliced n r
 Slices n q (At request go) = MovesAt n q.spent (move_of n (slice q)) q.frames request.place request.action go × ((r : Answer) → IsBare (go r))
 Slices n q (Ends place) = move_of n (slice q) ≡ Over
 Slices n q (Faults kind place) = ((kind ≡ Fuel) × (n.fuel ≤ q.spent) × Costs (move_of n (slice q))) ⊎ (move_of n (slice q) ≡ sl.Fault kind place)
 
-own_slices : (n : Setting) (q : Process) (st : Step) → Own n q.spent (move_of n (slice q)) q.frames st → BareStep st → Slices n q st
+own_slices : (n : RunConfig) (q : Process) (st : Step) → Own n q.spent (move_of n (slice q)) q.frames st → BareStep st → Slices n q st
 own_slices n q (To r) o b = (inr o.0, (o.1, b))
 own_slices n q (At request go) o b = (o, b)
 own_slices n q (Ends place) o b = o
 own_slices n q (Faults kind place) o b = o
 
-own_valued : (q : Process) (f : Frame) (fs above : List Frame) (left : List Work) (P : Move → Type 0) (g : Got Move) (go : Move → sl.Move)
+own_valued : (q : Process) (f : Frame) (fs above : List Frame) (left : List ContItem) (P : Move → Type 0) (g : CompResult Move) (go : Move → sl.Move)
     → Sure P g → ((mv : Move) → P mv → Own q.setting q.spent (go mv) above (moves q f fs left mv))
-    → Own q.setting q.spent (certain g go) above (valued q g (moves q f fs left))
+    → Own q.setting q.spent (certain g go) above (step_of_result q g (moves q f fs left))
 own_valued q f fs above left P (Gives mv rest) go s h = h mv s
 own_valued q f fs above left P (Asks request) go s h = absurd s
 own_valued q f fs above left P (Fails kind at) go s h = inr refl
 
-bare_valued : (q : Process) (P : Move → Type 0) (g : Got Move) (go : Move → Step) → Sure P g → ((mv : Move) → P mv → BareStep (go mv)) → BareStep (valued q g go)
+bare_valued : (q : Process) (P : Move → Type 0) (g : CompResult Move) (go : Move → Step) → Sure P g → ((mv : Move) → P mv → BareStep (go mv)) → BareStep (step_of_result q g go)
 bare_valued q P (Gives mv rest) go s h = h mv s
 bare_valued q P (Asks request) go s h = absurd s
 bare_valued q P (Fails kind at) go s h = tt
 
 -- single values alone are evaluated in a process of the slice
-closed_env : (q : Process) (f : Frame) (left : List Work) → q.number ≡ 0 → Bare f → env_part (env_of q f left) ≡ env_of q f left
+closed_env : (q : Process) (f : Frame) (left : List ContItem) → q.number ≡ 0 → Bare f → env_part (env_of q f left) ≡ env_of q f left
 closed_env q f left n b =
     ap (λ vs. record (env_of q f left) { number = 0; this = None; variables = vs }) b.1
     ∙ ap (λ t. record (env_of q f left) { number = 0; this = t }) (sym b.0)
     ∙ ap (λ k. record (env_of q f left) { number = k }) (sym n)
 
-single_slices : (q : Process) (f : Frame) (fs : List Frame) (w : Work) (left : List Work) → f.left ≡ w ∷ left
+single_slices : (q : Process) (f : Frame) (fs : List Frame) (w : ContItem) (left : List ContItem) → f.left ≡ w ∷ left
     → OkWorks q.setting.program f.method (w ∷ left) → Frames q f fs → work_acts q.setting.program f.method left w ≡ true → q.number ≡ 0
     → Bare f → AllBare fs
     → Own q.setting q.spent (moves_on q.setting (frame_part q.setting.program f) (frame_parts q.setting.program fs)
-    (w ∷ kept q.setting.program f.method left)) (f ∷ fs) (valued q (single_performed (env_of q f left) w []) (moves q f fs left))
-    × BareStep (valued q (single_performed (env_of q f left) w []) (moves q f fs left))
+    (w ∷ kept q.setting.program f.method left)) (f ∷ fs) (step_of_result q (single_performed (env_of q f left) w []) (moves q f fs left))
+    × BareStep (step_of_result q (single_performed (env_of q f left) w []) (moves q f fs left))
 single_slices q f fs w left z x o h n b bs =
     let p = q.setting.program in
     let d = x.1 h in
@@ -159,7 +159,7 @@ single_slices q f fs w left z x o h n b bs =
     let sure = work_sure q f left x.2 o.2 closed w x h in (
       subst (λ i. Own q.setting q.spent (certain (single_performed i w [])
           (moves_to q.setting (frame_part p f) (frame_parts p fs) (kept p f.method left))) (f ∷ fs)
-          (valued q (single_performed (env_of q f left) w []) (moves q f fs left)))
+          (step_of_result q (single_performed (env_of q f left) w []) (moves q f fs left)))
           (sym (env_same q f left a ∙ closed))
           (own_valued q f fs (f ∷ fs) left (Stated q f left x.2 o.2 closed) (single_performed (env_of q f left) w []) _ sure
           (λ mv s. single_move q f fs (f ∷ fs) left mv mv l e i c d o x.2 a s.0 s.1)),
@@ -167,7 +167,7 @@ single_slices q f fs w left z x o h n b bs =
     )
 
 -- what is left of a frame
-frame_slices : (q : Process) (f : Frame) (fs : List Frame) (ws : List Work) → f.left ≡ ws → q.frames ≡ f ∷ fs → q.wait ≡ None → q.number ≡ 0
+frame_slices : (q : Process) (f : Frame) (fs : List Frame) (ws : List ContItem) → f.left ≡ ws → q.frames ≡ f ∷ fs → q.wait ≡ None → q.number ≡ 0
     → OkWorks q.setting.program f.method ws → Frames q f fs → Bare f → AllBare fs → Slices q.setting q (slice_works q f fs ws)
 frame_slices q f fs ws z y e n x o b bs =
     go (f.method.is_single) refl ws z x
@@ -178,7 +178,7 @@ frame_slices q f fs ws z y e n x o b bs =
     same : slice q ≡ record { frames = frame_parts q.setting.program (f ∷ fs); wait = None }
     same = ap (λ i. record { frames = frame_parts q.setting.program q.frames; wait = i }) e ∙ ap (λ k. record { frames = frame_parts q.setting.program k; wait = None }) y
 
-    go : (t : Bool) → f.method.is_single ≡ t → (ws : List Work) → f.left ≡ ws → OkWorks q.setting.program f.method ws → Slices q.setting q (slice_works q f fs ws)
+    go : (t : Bool) → f.method.is_single ≡ t → (ws : List ContItem) → f.left ≡ ws → OkWorks q.setting.program f.method ws → Slices q.setting q (slice_works q f fs ws)
     go true t [] z x = (
       inr (
         false,
@@ -206,9 +206,9 @@ frame_slices q f fs ws z y e n x o b bs =
             ∙ ap (λ j. moves_on q.setting (frame_part q.setting.program f) (frame_parts q.setting.program fs) (kept q.setting.program f.method j)) z
             ∙ ap (moves_on q.setting (frame_part q.setting.program f) (frame_parts q.setting.program fs)) (kept_on q.setting.program f.method w left h) in
             subst (Slices q.setting q) (sym (if_true (work_acts q.setting.program f.method left w) _ _ h))
-            (own_slices q.setting q _ (subst (λ j. Own q.setting q.spent j q.frames (valued q (single_performed (env_of q f left) w []) (moves q f fs left))) (sym moved)
+            (own_slices q.setting q _ (subst (λ j. Own q.setting q.spent j q.frames (step_of_result q (single_performed (env_of q f left) w []) (moves q f fs left))) (sym moved)
             (subst (λ j. Own q.setting q.spent (moves_on q.setting (frame_part q.setting.program f) (frame_parts q.setting.program fs)
-            (w ∷ kept q.setting.program f.method left)) j (valued q (single_performed (env_of q f left) w [])
+            (w ∷ kept q.setting.program f.method left)) j (step_of_result q (single_performed (env_of q f left) w [])
             (moves q f fs left))) (sym y) k.0)) k.1)
         by_work false h =
             subst (Slices q.setting q) (sym (if_false (work_acts q.setting.program f.method left w) _ _ h)) (
@@ -239,12 +239,12 @@ wait_slices q (Some w) e ok b x =
     (bare_ticks q w.place _ (λ r. (b.0, refl, bare_handed w.receiver (value_asked w.wanted r) q.frames b.2)))
 
 -- each step of the slice is of one of these kinds
-pub slices : (n : Setting) (q : Process) → Sliced n q → Slices n q (slice_step q)
+pub slices : (n : RunConfig) (q : Process) → Sliced n q → Slices n q (slice_step q)
 slices n q s =
     let o = s.0 in
-    let f = subst (λ (k : Setting). OkFrames k.program q.frames) (sym o.0) o.1 in
-    let w = subst (λ (k : Setting). OkWait k.program q.wait q.frames) (sym o.0) o.2 in
-    let g = subst (λ (k : Setting). FineMethods k.program k.program.methods) (sym o.0) o.3 in
+    let f = subst (λ (k : RunConfig). OkFrames k.program q.frames) (sym o.0) o.1 in
+    let w = subst (λ (k : RunConfig). OkWait k.program q.wait q.frames) (sym o.0) o.2 in
+    let g = subst (λ (k : RunConfig). FineMethods k.program k.program.methods) (sym o.0) o.3 in
     subst (λ k. Slices k q (slice_step q)) o.0 (wait_slices q q.wait refl (refl, f, w, g) s.1 w)
 
 -- ---- the beginning
@@ -253,5 +253,5 @@ bare_main : (o : Option NumberedMethod) → AllBare (option_map_or (λ (main : N
 bare_main None = tt
 bare_main (Some m) = ((refl, refl), tt)
 
-pub begin_sliced : (n : Setting) → FineMethods n.program n.program.methods → Sliced n (begin n 0)
+pub begin_sliced : (n : RunConfig) → FineMethods n.program n.program.methods → Sliced n (begin n 0)
 begin_sliced n f = (begin_ok n 0 f, (refl, refl, bare_main (slice_get n.program.methods n.program.main)))

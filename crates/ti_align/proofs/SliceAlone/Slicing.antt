@@ -9,13 +9,13 @@ use Rattle.ti_base.specs.declared.action.CollKind.{CollKind}
 use Rattle.ti_base.specs.declared.action.Deposit.{Deposit}
 use Rattle.ti_base.specs.declared.entry.Answer.{Answer}
 use Rattle.ti_base.specs.declared.entry.Answer.TheVariants.{Done}
-use Rattle.ti_lang.specs.Meaning.Asking.{Wanted, Request}
+use Rattle.ti_lang.specs.Meaning.Comp.{Wanted, Request}
 use Rattle.ti_lang.specs.Meaning.Answers.{FitsWanted}
-use Rattle.ti_lang.specs.Meaning.Processes.{Setting, Wait, Process}
+use Rattle.ti_lang.specs.Meaning.Processes.{RunConfig, Wait, Process}
 use Rattle.ti_lang.specs.Meaning.Steps.{Step, To, At, Ends, Faults}
 use Rattle.ti_align.specs.declared.slices.SliceStep.{SliceStep}
 use Rattle.ti_align.specs.declared.slices.SliceStep.TheVariants as answer
-use Rattle.ti_align.specs.Slice.{deletes_one, judged, deleted_by, slice_steps, slice_step, at_fault, Comes, AllFit, answers_at_departures}
+use Rattle.ti_align.specs.Slice.{deletes_one, fault_if_deleted, deleted_by, slice_steps, slice_step, at_fault, SliceComes, AllFit, answers_at_departures}
 use Rattle.ti_align.specs.Slice as sp
 use Rattle.ti_align.proofs.Alignment.Slice.{State, slice, Move, Silent, Arrival, Departure, Over, Fault, spent_by, move_of}
 use Rattle.ti_align.proofs.Alignment.Slice as sl
@@ -30,7 +30,7 @@ use Rattle.ti_align.proofs.SliceAlone.Pathed.{met_after}
 -- ---- which way on
 
 -- what the first step of a way is
-pub data First (n : Setting) (F : Wanted → Answer → Type 0) (gone : List ℕ) (s : State) (ms : List Meeting) (d : ℕ) (u : State) : Type 0 where
+pub data First (n : RunConfig) (F : Wanted → Answer → Type 0) (gone : List ℕ) (s : State) (ms : List Meeting) (d : ℕ) (u : State) : Type 0 where
   here : ms ≡ [] → s ≡ u → First n F gone s ms d u
   on : (timed : Bool) (t : State) (c : ℕ) → move_of n s ≡ Silent timed t → Paced n F gone t ms c u → spent_by timed c ≤ d → First n F gone s ms d u
   arrives : (w : Wait) (t : State) (ns : List Meeting) (c : ℕ) → move_of n s ≡ Arrival w t → ms ≡ Came w.place w.kind w.arg ∷ ns
@@ -38,7 +38,7 @@ pub data First (n : Setting) (F : Wanted → Answer → Type 0) (gone : List ℕ
   leaves : (w : Wait) (go : Answer → State) (r : Answer) (ns : List Meeting) (c : ℕ) → move_of n s ≡ Departure w go → F w.wanted r → ms
       ≡ Left r ∷ ns → Paced n F (deleted_by s.wait ++ gone) (go r) ns c u → c + 1 ≤ d → First n F gone s ms d u
 
-first : (n : Setting) (F : Wanted → Answer → Type 0) (gone : List ℕ) (s : State) (ms : List Meeting) (d : ℕ) (u : State) → Paced n F gone s ms d u → First n F gone s ms d u
+first : (n : RunConfig) (F : Wanted → Answer → Type 0) (gone : List ℕ) (s : State) (ms : List Meeting) (d : ℕ) (u : State) → Paced n F gone s ms d u → First n F gone s ms d u
 first n F gone s [] d u stop = here refl refl
 first n F gone s ms d u (silent {timed = timed} {t = t} {c = c} m x l) = on timed t c m x l
 first n F gone s (Came at kind arg ∷ ms) d u (came {t = t} {w = w} {c = c} m e f g h x l) =
@@ -65,11 +65,11 @@ none_some z e = absurd (no e)
 -- ---- what a way shows
 
 -- a process that met this last, at this state, shows the answer z: it has arrived last, or it ends
-abbrev pub ShowsAt : Setting → SliceStep → Option SliceStep → State → Type 0
+abbrev pub ShowsAt : RunConfig → SliceStep → Option SliceStep → State → Type 0
 ShowsAt n z met u = (met ≡ Some z) ⊎ ((move_of n u ≡ Over) × (z ≡ answer.Ended))
 
 -- the same behind these meetings
-abbrev pub Shows : Setting → Option SliceStep → List Meeting → State → SliceStep → Type 0
+abbrev pub Shows : RunConfig → Option SliceStep → List Meeting → State → SliceStep → Type 0
 Shows n y ms u z = ShowsAt n z (met_after y ms) u
 
 -- what it met last, or outcomes are left
@@ -93,7 +93,7 @@ still_left false a b c d e k x y = omega (arith, k, x, y)
 same_left : (a b d e : ℕ) → e ≡ a → a + d ≤ b → e + d ≤ b
 same_left a b d e k x = omega (arith, k, x)
 
-step_to : (st : Step) (gone : List ℕ) (q : Process) → judged gone st ≡ To q → st ≡ To q
+step_to : (st : Step) (gone : List ℕ) (q : Process) → fault_if_deleted gone st ≡ To q → st ≡ To q
 step_to (To p) gone q e = e
 step_to (At request go) gone q e = absurd (by (deletes_one gone request.action) e)
   where
@@ -103,7 +103,7 @@ step_to (At request go) gone q e = absurd (by (deletes_one gone request.action) 
 step_to (Ends place) gone q e = e
 step_to (Faults kind place) gone q e = e
 
-step_at : (st : Step) (gone : List ℕ) (request : Request) (go : Answer → Process) → judged gone st ≡ At request go → st ≡ At request go
+step_at : (st : Step) (gone : List ℕ) (request : Request) (go : Answer → Process) → fault_if_deleted gone st ≡ At request go → st ≡ At request go
 step_at (To p) gone request go e = e
 step_at (At r g) gone request go e = by (deletes_one gone r.action) e
   where
@@ -116,7 +116,7 @@ step_at (At r g) gone request go e = by (deletes_one gone r.action) e
 step_at (Ends place) gone request go e = e
 step_at (Faults kind place) gone request go e = e
 
-step_ends : (st : Step) (gone : List ℕ) (place : Place) → judged gone st ≡ Ends place → st ≡ Ends place
+step_ends : (st : Step) (gone : List ℕ) (place : Place) → fault_if_deleted gone st ≡ Ends place → st ≡ Ends place
 step_ends (To p) gone place e = e
 step_ends (At request go) gone place e = absurd (by (deletes_one gone request.action) e)
   where
@@ -127,7 +127,7 @@ step_ends (Ends p) gone place e = e
 step_ends (Faults kind p) gone place e = e
 
 -- a fault is the slice's own, or the arrival at a delete of a region that is gone
-step_faults : (st : Step) (gone : List ℕ) (kind : FaultKind) (place : Place) → judged gone st ≡ Faults kind place → (st ≡ Faults kind place)
+step_faults : (st : Step) (gone : List ℕ) (kind : FaultKind) (place : Place) → fault_if_deleted gone st ≡ Faults kind place → (st ≡ Faults kind place)
     ⊎ ((request : Request) × (go : Answer → Process) × (st ≡ At request go) × (deletes_one gone request.action ≡ true))
 step_faults (To p) gone kind place e = inl e
 step_faults (At request go) gone kind place e = by (deletes_one gone request.action) refl e
@@ -170,7 +170,7 @@ none_wait o w a b = absurd (no a b)
     no a b = cc
 
 -- where a state waits, it leaves
-leaving : (n : Setting) (s : State) (w : Wait) → s.wait ≡ Some w → (go : Answer → State) × (move_of n s ≡ Departure w go)
+leaving : (n : RunConfig) (s : State) (w : Wait) → s.wait ≡ Some w → (go : Answer → State) × (move_of n s ≡ Departure w go)
 leaving n s w e = (_, ap (sl.moves n s.frames) e)
 
 some_same : (a b : SliceStep) → Some a ≡ Some b → a ≡ b
@@ -184,7 +184,7 @@ open_none y [] o e = o
 open_none y (r ∷ rs) o e = nil_cons r rs (sym e)
 
 -- a way that stops where nothing is left shows an end alone
-shown_end : (n : Setting) (y : Option SliceStep) (rs : List Answer) (ms : List Meeting) (s u : State) (z : SliceStep) → Open y rs
+shown_end : (n : RunConfig) (y : Option SliceStep) (rs : List Answer) (ms : List Meeting) (s u : State) (z : SliceStep) → Open y rs
     → answers_left ms ≡ rs → ms ≡ [] → s ≡ u → Shows n y ms u z → (move_of n s ≡ Over) × (z ≡ answer.Ended)
 shown_end n y rs ms s u z o a e f (inl h) =
     let none : y ≡ None = open_none y rs o (sym a ∙ ap answers_left e) in
@@ -194,20 +194,20 @@ shown_end n y rs ms s u z o a e f (inr h) = (ap (move_of n) f ∙ h.0, h.1)
 -- ---- where no way goes on
 
 -- it is over or at fault, no tick is left for what costs one, or it comes to a delete of a region that is gone
-data Stops (n : Setting) (spent : ℕ) (m : Move) (gone : List ℕ) : Type 0 where
+data Stops (n : RunConfig) (spent : ℕ) (m : Move) (gone : List ℕ) : Type 0 where
   over : m ≡ Over → Stops n spent m gone
   fault : (kind : FaultKind) (place : Place) → m ≡ Fault kind place → Stops n spent m gone
   fuel : n.fuel ≤ spent → Costs m → Stops n spent m gone
   delete : (w : Wait) (t : State) → m ≡ Arrival w t → deletes_any gone w.kind w.arg ≡ true → Stops n spent m gone
 
-stops_silent : {A : Type 0} (n : Setting) (spent : ℕ) (m : Move) (gone : List ℕ) (timed : Bool) (t : State) (c d : ℕ) → Stops n spent m gone
+stops_silent : {A : Type 0} (n : RunConfig) (spent : ℕ) (m : Move) (gone : List ℕ) (timed : Bool) (t : State) (c d : ℕ) → Stops n spent m gone
     → m ≡ Silent timed t → spent + d ≤ n.fuel → spent_by timed c ≤ d → A
 stops_silent n spent m gone timed t c d (over e) k l i = absurd (over_silent _ _ _ e k)
 stops_silent n spent m gone timed t c d (fault kind place e) k l i = fault_silent _ _ _ _ _ e k
 stops_silent n spent m gone timed t c d (fuel b q) k l i = too_much spent n.fuel c d l b (subst (λ t. spent_by t c ≤ d) (subst Costs k q) i)
 stops_silent n spent m gone timed t c d (delete w u e h) k l i = absurd (silent_arrival _ _ _ _ _ k e)
 
-stops_arrival : {A : Type 0} (n : Setting) (spent : ℕ) (m : Move) (gone : List ℕ) (w : Wait) (t : State) (c d : ℕ) → Stops n spent m gone
+stops_arrival : {A : Type 0} (n : RunConfig) (spent : ℕ) (m : Move) (gone : List ℕ) (w : Wait) (t : State) (c d : ℕ) → Stops n spent m gone
     → m ≡ Arrival w t → deletes_any gone w.kind w.arg ≡ false → spent + d ≤ n.fuel → c + 1 ≤ d → A
 stops_arrival n spent m gone w t c d (over e) k f l i = absurd (over_arrival _ _ _ e k)
 stops_arrival n spent m gone w t c d (fault kind place e) k f l i = fault_arrival _ _ _ _ _ e k
@@ -215,7 +215,7 @@ stops_arrival n spent m gone w t c d (fuel b q) k f l i = too_much spent n.fuel 
 stops_arrival n spent m gone w t c d (delete v u e h) k f l i =
     absurd (true_false (sym h ∙ ap (λ (w : Wait). deletes_any gone w.kind w.arg) (arrival_same _ _ _ _ _ e k).1 ∙ f))
 
-stops_departure : {A : Type 0} (n : Setting) (spent : ℕ) (m : Move) (gone : List ℕ) (w : Wait) (go : Answer → State) (c d : ℕ)
+stops_departure : {A : Type 0} (n : RunConfig) (spent : ℕ) (m : Move) (gone : List ℕ) (w : Wait) (go : Answer → State) (c d : ℕ)
     → Stops n spent m gone → m ≡ Departure w go → spent + d ≤ n.fuel → c + 1 ≤ d → A
 stops_departure n spent m gone w go c d (over e) k l i = absurd (over_departure _ _ _ e k)
 stops_departure n spent m gone w go c d (fault kind place e) k l i = fault_departure _ _ _ _ _ e k
@@ -226,7 +226,7 @@ stops_departure n spent m gone w go c d (delete v u e h) k l i = absurd (arrival
 slice_wants : (p : Process) (w : Wait) (request : Request) (go : Answer → Process) → p.wait ≡ Some w → slice_step p ≡ At request go → request.wanted ≡ w.wanted
 slice_wants p w request go z e = departs_wanted p w request go (sym (ap (slice_steps p) z) ∙ e)
 
-module _ (n : Setting) (F : Wanted → Answer → Type 0) where
+module _ (n : RunConfig) (F : Wanted → Answer → Type 0) where
   -- what holds of each way from a state, where something holds of what it met last and of its end
   abbrev OfWays : (Option SliceStep → State → Type 0) → Type 0 → List ℕ → State → ℕ → Option SliceStep → List Answer → Type 0
   OfWays V C gone s spent y rs = (ms : List Meeting) (d : ℕ) (u : State) → Paced n F gone s ms d u → answers_left ms ≡ rs → spent + d ≤ n.fuel → V (met_after y ms) u → C
@@ -291,7 +291,7 @@ module _ (n : Setting) (F : Wanted → Answer → Type 0) where
   open_rest [] = refl
   open_rest (r ∷ rest) = tt
 
-module _ (n : Setting) (F : Wanted → Answer → Type 0) (z : SliceStep) where
+module _ (n : RunConfig) (F : Wanted → Answer → Type 0) (z : SliceStep) where
   -- what is to be shown of a way from a state
   abbrev Shown : SliceStep → List ℕ → State → ℕ → Option SliceStep → List Answer → Type 0
   Shown x gone s spent y rs = OfWays n F (ShowsAt n z) (x ≡ z) gone s spent y rs
@@ -373,7 +373,7 @@ module _ (n : Setting) (F : Wanted → Answer → Type 0) (z : SliceStep) where
   gone_at x gone p y b fs at (act.Arrive kind arg given) go o k h = by_gone x gone p (go Done) y k.0 o (k.4 Done).0 (ap₂ (deletes_any gone) k.2 k.3 ∙ h)
   gone_at x gone p y b fs at _ go o k h = absurd (true_false (sym h))
 
-  pub follow : (p : Process) (gone : List ℕ) (k : ℕ) (rs : List Answer) (x : SliceStep) → Comes p gone k rs x → AllFit x → Sliced n p
+  pub follow : (p : Process) (gone : List ℕ) (k : ℕ) (rs : List Answer) (x : SliceStep) → SliceComes p gone k rs x → AllFit x → Sliced n p
       → (y : Option SliceStep) → Open y rs → Shown x gone (slice p) p.spent y rs
   follow p gone k rs x (sp.silent {q = q} e c) f s y o =
       let g = subst (Slices n p) (step_to (slice_step p) gone q e) (slices n p s) in
@@ -413,13 +413,13 @@ fault_fit Fuel place = tt
 fault_fit kind place = tt
 
 -- nor does it where none is left
-none_left : (p : Process) (gone : List ℕ) (k : ℕ) (x : SliceStep) → Comes p gone k [] x → AllFit x
+none_left : (p : Process) (gone : List ℕ) (k : ℕ) (x : SliceStep) → SliceComes p gone k [] x → AllFit x
 none_left p gone k x (sp.silent {q = q} e c) = none_left q gone k x c
 none_left p gone k x (sp.stands e a) = tt
 none_left p gone k x (sp.ends e) = tt
 none_left p gone k x (sp.faults {kind = kind} {place = place} e) = fault_fit kind place
 
-module _ (n : Setting) (F : Wanted → Answer → Type 0) (sure : (w : Wanted) (r : Answer) → F w r → FitsWanted w r) where
+module _ (n : RunConfig) (F : Wanted → Answer → Type 0) (sure : (w : Wanted) (r : Answer) → F w r → FitsWanted w r) where
   -- what is to be shown where each departure of a way is answered so
   abbrev Blames : SliceStep → List ℕ → State → ℕ → Option SliceStep → List Answer → Type 0
   Blames x gone s spent y rs = OfWays n F (λ met u. Unit {0}) (AllFit x) gone s spent y rs
@@ -449,7 +449,7 @@ module _ (n : Setting) (F : Wanted → Answer → Type 0) (sure : (w : Wanted) (
       by (leaves v go t ns c m b e j i) = stops_departure n p.spent (move_of n (slice p)) gone v go c d q m l i
 
   -- so the slice blames no outcome
-  pub blames_none : (p : Process) (gone : List ℕ) (k : ℕ) (rs : List Answer) (x : SliceStep) → Comes p gone k rs x → Sliced n p → (y : Option SliceStep) → Blames x gone (slice p) p.spent y rs
+  pub blames_none : (p : Process) (gone : List ℕ) (k : ℕ) (rs : List Answer) (x : SliceStep) → SliceComes p gone k rs x → Sliced n p → (y : Option SliceStep) → Blames x gone (slice p) p.spent y rs
   blames_none p gone k [] x c s y = λ ms d u w a l v. none_left p gone k x c
   blames_none p gone k (r ∷ rest) x (sp.silent {q = q} e c) s y =
       let g = subst (Slices n p) (step_to (slice_step p) gone q e) (slices n p s) in

@@ -10,7 +10,7 @@ use Rattle.ti_lang.specs.Program.Expressions.{NumberedExp, NumberedExps}
 use Rattle.ti_lang.specs.Program.Expressions as e
 use Rattle.ti_lang.specs.Program.Statements.{NumberedInit, NumberedStm}
 use Rattle.ti_lang.specs.Program.Statements as s
-use Rattle.ti_lang.specs.Program.Classes.{NumberedMethod, NumberedParam, NumberedParams, NumberedProgram}
+use Rattle.ti_lang.specs.Program.Classes.{NumberedMethod, NumberedParam, NumberedParams, ProgramView}
 use Rattle.ti_lang.specs.Program.Classes as c
 use Rattle.ti_lang.specs.Program.Scope.{this_of}
 use Rattle.ti_lang.specs.Typing.BuiltIn.{BuiltIn, Exchange, Delete}
@@ -19,10 +19,10 @@ use Rattle.ti_lang.specs.Typing.Called.{called_method, member_called}
 use Rattle.ti_lang.specs.Typing.Singleness.{has_single_result, is_single, is_single_part, is_single_initial}
 use Rattle.ti_lang.specs.Typing.Effects.{acts, initial_acts, is_collective, is_collective_call, is_single_target}
 use Rattle.ti_lang.specs.Meaning.Held.{Held}
-use Rattle.ti_lang.specs.Meaning.Asking.{Asking, Got, Gives, Asks, Fails, followed, gives}
+use Rattle.ti_lang.specs.Meaning.Comp.{Comp, CompResult, Gives, Asks, Fails, bind_result, gives}
 use Rattle.ti_lang.specs.Meaning.Conversions.{converted}
-use Rattle.ti_lang.specs.Meaning.Operators.{operated}
-use Rattle.ti_lang.specs.Meaning.Processes.{Variable, Receiver, Nowhere, Declared, Assigned, Updated, While, Foreach, Work, Do, End, Before, Behind, Receive, CopyAll, TakeAll, Frame, Process}
+use Rattle.ti_lang.specs.Meaning.Operators.{apply_binary}
+use Rattle.ti_lang.specs.Meaning.Processes.{Variable, Receiver, Nowhere, Declared, Assigned, Updated, While, Foreach, ContItem, Do, End, Before, Behind, Receive, CopyAll, TakeAll, Frame, Process}
 use Rattle.ti_lang.specs.Meaning.Scoping.{Env, env_of, type_of, declared_type, with_new}
 use Rattle.ti_lang.specs.Meaning.Evaluation.{eval}
 use Rattle.ti_lang.specs.Meaning.Targets.{into}
@@ -30,11 +30,11 @@ use Rattle.ti_lang.specs.Meaning.Collectives.{root_among}
 use Rattle.ti_lang.specs.Meaning.Calls.{call_of, called, parameters_of, parameters_from}
 use Rattle.ti_lang.specs.Meaning.Moves.{Move, Goes, Calls, Returns, receives}
 use Rattle.ti_lang.specs.Meaning.Statements.{declared_as, one_more, returns}
-use Rattle.ti_lang.specs.Meaning.Performing.{condition, performed}
+use Rattle.ti_lang.specs.Meaning.Performing.{condition, exec_item}
 use Rattle.ti_lang.proofs.Lemmas.{Giving}
 use Rattle.ti_rules.specs.declared.rule.Rule.TheVariants.{S1, S3, S4, S5, S7, S8}
 use Rattle.ti_rules.specs.Refusals.{refused_if}
-use Rattle.ti_rules.specs.Standing.{Around, in_foreach, inside}
+use Rattle.ti_rules.specs.StmtInContext.{StmtContext, in_foreach, inside}
 use Rattle.ti_rules.specs.SingleRules.{is_plain_part, is_plain_condition, argument_refusals, params_refusals, call_refusals, whole_refusals, is_delete, initial_refusals, return_refusals}
 use Rattle.ti_rules.proofs.Lemmas.{not_refused}
 use Rattle.ti_align.specs.SinglePart.{singles}
@@ -50,14 +50,14 @@ use Rattle.ti_align.proofs.RunTypes.Operating.{or_one}
 
 -- ---- computations
 
-pub sure_followed : {A B : Type 0} (P : A → Type 0) (Q : B → Type 0) (g : Got A) (go : A → Asking B) → Sure P g → ((a : A) (r : List Answer) → P a → Sure Q (go a r)) → Sure Q (followed g go)
+pub sure_followed : {A B : Type 0} (P : A → Type 0) (Q : B → Type 0) (g : CompResult A) (go : A → Comp B) → Sure P g → ((a : A) (r : List Answer) → P a → Sure Q (go a r)) → Sure Q (bind_result g go)
 sure_followed P Q (Gives a r) go k h = h a r k
 sure_followed P Q (Asks request) go k h = k
 sure_followed P Q (Fails kind at) go k h = tt
 
 -- behind one that gives the same in the slice
-pub sure_then : {A B : Type 0} (Q : B → Type 0) (m m' : Asking A) (go : A → Asking B) (rest : List Answer) → Same m m' rest
-    → ((a : A) (r : List Answer) → Sure Q (go a r)) → Sure Q (followed (m rest) go)
+pub sure_then : {A B : Type 0} (Q : B → Type 0) (m m' : Comp A) (go : A → Comp B) (rest : List Answer) → Same m m' rest
+    → ((a : A) (r : List Answer) → Sure Q (go a r)) → Sure Q (bind_result (m rest) go)
 sure_then Q m m' go rest k h = sure_followed _ Q (m rest) go k (λ a r z. h a r)
 
 abbrev Any : {A : Type 0} → A → Type 0
@@ -67,17 +67,17 @@ gives_same : {A : Type 0} (a b : A) (r t : List Answer) → Gives a r ≡ Gives 
 gives_same a b r t e = cc
 
 -- what gives moves that are like some of its own gives moves that are like themselves
-self_like : {A : Type 0} (P : A → Type 0) (R : A → A → Type 0) (g : Got A) → Giving P g → Giving (λ a. (b : A) × (g ≡ Gives b []) × R a b) g → Sure Any g → Sure (λ a. P a × R a a) g
+self_like : {A : Type 0} (P : A → Type 0) (R : A → A → Type 0) (g : CompResult A) → Giving P g → Giving (λ a. (b : A) × (g ≡ Gives b []) × R a b) g → Sure Any g → Sure (λ a. P a × R a a) g
 self_like P R (Gives a r) p k h = (p, subst (R a) (sym (gives_same a k.0 r [] k.1)) k.2)
 self_like P R (Asks request) p k h = h
 self_like P R (Fails kind at) p k h = tt
 
-sure_any : {A : Type 0} (P : A → Type 0) (g : Got A) → Sure P g → Sure Any g
+sure_any : {A : Type 0} (P : A → Type 0) (g : CompResult A) → Sure P g → Sure Any g
 sure_any P (Gives a r) h = tt
 sure_any P (Asks request) h = h
 sure_any P (Fails kind at) h = tt
 
-giving_sure : {A : Type 0} (P : A → Type 0) (g : Got A) → Sure P g → Giving P g
+giving_sure : {A : Type 0} (P : A → Type 0) (g : CompResult A) → Sure P g → Giving P g
 giving_sure P (Gives a r) h = h
 giving_sure P (Asks request) h = tt
 giving_sure P (Fails kind at) h = tt
@@ -85,7 +85,7 @@ giving_sure P (Fails kind at) h = tt
 -- ---- receivers
 
 -- what goes into a single variable asks for nothing
-into_sure : (env : Env) (r : Receiver) (right right' : Asking Held) (rest : List Answer) → is_single_receiver r ≡ true → ((u : List Answer) → Same right right' u) → Sure Any (into env r right rest)
+into_sure : (env : Env) (r : Receiver) (right right' : Comp Held) (rest : List Answer) → is_single_receiver r ≡ true → ((u : List Answer) → Same right right' u) → Sure Any (into env r right rest)
 into_sure env Nowhere right right' rest h k = absurd (true_false (sym h))
 into_sure env (Declared at x) right right' rest h k =
     sure_then Any right right' _ rest (k rest) (λ v u.
@@ -96,12 +96,12 @@ into_sure env (Assigned at (e.Variable place x)) right right' rest h k =
 into_sure env (Assigned at _) right right' rest h k = absurd (true_false (sym h))
 into_sure env (Updated at op (e.Variable place x)) right right' rest h k =
     sure_then Any right right' _ rest (k rest) (λ v u.
-    sure_then Any (operated at op _ v) (operated at op _ v) _ u (operated_same at op _ v u) (λ new i.
+    sure_then Any (apply_binary at op _ v) (apply_binary at op _ v) _ u (operated_same at op _ v u) (λ new i.
     sure_then Any (converted at (type_of env (e.Variable place x)) new) (converted at (type_of env (e.Variable place x)) new) _ i
     (converted_same at (type_of env (e.Variable place x)) new i) (λ w t. tt)))
 into_sure env (Updated at op _) right right' rest h k = absurd (true_false (sym h))
 
-receives_sure : (env : Env) (r : Receiver) (right right' : Asking Held) (rest : List Answer) → is_single_receiver r ≡ true
+receives_sure : (env : Env) (r : Receiver) (right right' : Comp Held) (rest : List Answer) → is_single_receiver r ≡ true
     → ((u : List Answer) → Same right right' u) → Sure Any (receives env r right rest)
 receives_sure env r right right' rest h k = sure_followed Any Any (into env r right rest) _ (into_sure env r right right' rest h k) (λ vs u z. tt)
 
@@ -110,7 +110,7 @@ receives_sure env r right right' rest h k = sure_followed Any Any (into env r ri
 abbrev pub Closed : List Variable → Type 0
 Closed vs = singles vs ≡ vs
 
-bound_sure : (env : Env) (a : Around) (params : List NumberedParam) (k : ℕ) (xs : NumberedExps) (found : List Variable) (rest : List Answer)
+bound_sure : (env : Env) (a : StmtContext) (params : List NumberedParam) (k : ℕ) (xs : NumberedExps) (found : List Variable) (rest : List Answer)
     → a.method ≡ env.method → argument_refusals env.program a params xs ≡ [] → Closed found
     → Sure Closed (single_bound env (parameters_from k params) xs found rest)
 bound_sure env a [] k xs found rest s h z = z
@@ -126,7 +126,7 @@ bound_sure env a (t ∷ ts) k (e.MoreExp x xs) found rest s h z =
         → ((r : List Answer) (g : List Variable) → Closed g → Sure Closed (single_bound env (parameters_from (k + 1) ts) xs g r))
         → Sure Closed (single_bound env (parameters_from k (t ∷ ts)) (e.MoreExp x xs) found rest)
     go true b f ih =
-        subst (λ (m : Asking (List Variable)). Sure Closed (m rest)) (sym (if_true t.ty.is_single _ _ b))
+        subst (λ (m : Comp (List Variable)). Sure Closed (m rest)) (sym (if_true t.ty.is_single _ _ b))
         (sure_then Closed (eval env x) (eval (env_part env) x) _ rest
         (single_same env (singles_at a) x rest (subst (λ m. is_single_part env.program (this_of m) (singles_at a) x ≡ true) s
         (kept_rule _ _ f b))) (λ v r.
@@ -135,16 +135,16 @@ bound_sure env a (t ∷ ts) k (e.MoreExp x xs) found rest s h z =
         (converted_same (e.place_of_numbered x) t.ty.type v r) (λ w u.
         ih u (with_new param w found) (singles_keep (record { named = param; held = w }) found b ∙ ap (λ y. record { named = param; held = w } ∷ y) z))))
     go false b f ih =
-        subst (λ (m : Asking (List Variable)). Sure Closed (m rest)) (sym (if_false t.ty.is_single _ _ b)) (ih rest found z)
+        subst (λ (m : Comp (List Variable)). Sure Closed (m rest)) (sym (if_false t.ty.is_single _ _ b)) (ih rest found z)
 
-bound_of : (env : Env) (a : Around) (ps : NumberedParams) (xs : NumberedExps) (rest : List Answer) → a.method ≡ env.method
+bound_of : (env : Env) (a : StmtContext) (ps : NumberedParams) (xs : NumberedExps) (rest : List Answer) → a.method ≡ env.method
     → params_refusals env.program a ps xs ≡ [] → Sure Closed (single_bound env (parameters_of ps) xs [] rest)
-bound_of env a c.Words xs rest s h = refl
+bound_of env a c.MainArgs xs rest s h = refl
 bound_of env a (c.Params params) xs rest s h = bound_sure env a params 0 xs [] rest s h refl
 
 -- ---- moves
 
-module _ (q : Process) (f : Frame) (left : List Work) (ok : OkWorks q.setting.program f.method left) (fine : FineMethods q.setting.program q.setting.program.methods) (closed : env_part (env_of q f left) ≡ env_of q f left) where
+module _ (q : Process) (f : Frame) (left : List ContItem) (ok : OkWorks q.setting.program f.method left) (fine : FineMethods q.setting.program q.setting.program.methods) (closed : env_part (env_of q f left) ≡ env_of q f left) where
   -- a move of the slice's own
   abbrev pub Stated : Move → Type 0
   Stated mv = Fit q.setting.program f.method left f.variables true mv × Like q.setting.program f.method left mv mv
@@ -160,7 +160,7 @@ module _ (q : Process) (f : Frame) (left : List Work) (ok : OkWorks q.setting.pr
       → Same (eval (env_of q f left) x) (eval (env_part (env_of q f left)) x) u
   part_sure x u h = single_same (env_of q f left) (singles_at (around_at q.setting.program f.method left)) x u h
 
-  received : (r : Receiver) (right : Asking Held) → is_single_receiver r ≡ true → ((u : List Answer) → Same right right u) → Sure Stated (receives (env_of q f left) r right [])
+  received : (r : Receiver) (right : Comp Held) → is_single_receiver r ≡ true → ((u : List Answer) → Same right right u) → Sure Stated (receives (env_of q f left) r right [])
   received r right h k =
       self_like (Fit q.setting.program f.method left f.variables true) (Like q.setting.program f.method left) (receives (env_of q f left) r right [])
       (giving_sure (Fit q.setting.program f.method left f.variables true) _
@@ -171,15 +171,15 @@ module _ (q : Process) (f : Frame) (left : List Work) (ok : OkWorks q.setting.pr
       (receives_sure (env_of q f left) r right right [] h k)
 
   -- what the slice does as a process does
-  same_work : (w : Work) → single_performed (env_of q f left) w [] ≡ performed (env_of q f left) w []
+  same_work : (w : ContItem) → single_performed (env_of q f left) w [] ≡ exec_item (env_of q f left) w []
       → OkWorks q.setting.program f.method (w ∷ left) → work_acts q.setting.program f.method left w ≡ true
-      → Sure Any (performed (env_of q f left) w []) → Sure Stated (single_performed (env_of q f left) w [])
+      → Sure Any (exec_item (env_of q f left) w []) → Sure Stated (single_performed (env_of q f left) w [])
   same_work w z o h k =
       subst (Sure Stated) (sym z)
-      (self_like (Fit q.setting.program f.method left f.variables true) (Like q.setting.program f.method left) (performed (env_of q f left) w [])
-      (subst (λ b. Giving (Fit q.setting.program f.method left f.variables b) (performed (env_of q f left) w [])) h (work_fits q f left w [] o fine))
-      (subst (λ g. Giving (λ a. (b : Move) × (g ≡ Gives b []) × Like q.setting.program f.method left a b) (performed (env_of q f left) w [])) z
-      (subst (λ env. Giving (λ a. (b : Move) × (single_performed env w [] ≡ Gives b []) × Like q.setting.program f.method left a b) (performed (env_of q f left) w [])) closed
+      (self_like (Fit q.setting.program f.method left f.variables true) (Like q.setting.program f.method left) (exec_item (env_of q f left) w [])
+      (subst (λ b. Giving (Fit q.setting.program f.method left f.variables b) (exec_item (env_of q f left) w [])) h (work_fits q f left w [] o fine))
+      (subst (λ g. Giving (λ a. (b : Move) × (g ≡ Gives b []) × Like q.setting.program f.method left a b) (exec_item (env_of q f left) w [])) z
+      (subst (λ env. Giving (λ a. (b : Move) × (single_performed env w [] ≡ Gives b []) × Like q.setting.program f.method left a b) (exec_item (env_of q f left) w [])) closed
       (work_single q f left w [] o fine h)))
       k)
 
@@ -223,13 +223,13 @@ module _ (q : Process) (f : Frame) (left : List Work) (ok : OkWorks q.setting.pr
 
       by_receiver : (b : Bool) → is_single_receiver r ≡ b → called_method q.setting.program (this_of f.method) x ≡ None → Sure Stated (single_value (env_of q f left) r x None [])
       by_receiver true z o =
-          subst (λ (m : Asking Move). Sure Stated (m [])) (sym (if_true (is_single_receiver r) _ _ z))
+          subst (λ (m : Comp Move). Sure Stated (m [])) (sym (if_true (is_single_receiver r) _ _ z))
           (received r (eval (env_of q f left) x) z (λ u.
           subst (λ env. Same (eval (env_of q f left) x) (eval env x) u) closed
           (part_sure x u (sym (ap (λ y. option_map_or has_single_result y
           (is_single_part q.setting.program (this_of f.method) (singles_at (around_at q.setting.program f.method left)) x)) o)
           ∙ k (g z)))))
-      by_receiver false z o = subst (λ (m : Asking Move). Sure Stated (m [])) (sym (if_false (is_single_receiver r) _ _ z)) goes_sure
+      by_receiver false z o = subst (λ (m : Comp Move). Sure Stated (m [])) (sym (if_false (is_single_receiver r) _ _ z)) goes_sure
 
       by : (o : Option NumberedMethod) → called_method q.setting.program (this_of f.method) x ≡ o → Sure Stated (single_value (env_of q f left) r x (called (env_of q f left) x) [])
       by None o = subst (λ y. Sure Stated (single_value (env_of q f left) r x y [])) (sym (called_is x v None o)) (by_receiver (is_single_receiver r) refl o)
@@ -293,15 +293,15 @@ module _ (q : Process) (f : Frame) (left : List Work) (ok : OkWorks q.setting.pr
       go : (b : Bool) → has_single_result f.method ≡ b → (value : Option NumberedExp)
           → return_refusals q.setting.program (around_at q.setting.program f.method left) at value ≡ []
           → Sure Stated (single_return (env_of q f left) at value [])
-      go true z None w = subst (λ (m : Asking Move). Sure Stated (m []))
+      go true z None w = subst (λ (m : Comp Move). Sure Stated (m []))
           (sym (if_true (has_single_result f.method) (returns (env_of q f left) at None) (gives (Returns None)) z))
           ((λ y. absurd (true_false y)), inl refl)
       go true z (Some x) w =
-          subst (λ (m : Asking Move). Sure Stated (m [])) (sym (if_true (has_single_result f.method) (returns (env_of q f left) at (Some x)) (gives (Returns None)) z))
+          subst (λ (m : Comp Move). Sure Stated (m [])) (sym (if_true (has_single_result f.method) (returns (env_of q f left) at (Some x)) (gives (Returns None)) z))
           (sure_then Stated (eval (env_of q f left) x) (eval (env_part (env_of q f left)) x) _ [] (part_sure x [] (kept_rule _ _ (not_refused _ S7 at w) z)) (λ v u.
           sure_then Stated (converted at (result_type f.method) v) (converted at (result_type f.method) v) _ u
           (converted_same at (result_type f.method) v u) (λ k y. ((λ i. absurd (true_false i)), inl refl))))
-      go false z value w = subst (λ (m : Asking Move). Sure Stated (m []))
+      go false z value w = subst (λ (m : Comp Move). Sure Stated (m []))
           (sym (if_false (has_single_result f.method) (returns (env_of q f left) at value) (gives (Returns None)) z))
           ((λ y. absurd (true_false y)), inl refl)
 
@@ -367,7 +367,7 @@ module _ (q : Process) (f : Frame) (left : List Work) (ok : OkWorks q.setting.pr
   condition_sure None h = tt
   condition_sure (Some x) h = sure_any _ (eval (env_of q f left) x []) (part_sure x [] (not_not _ h))
 
-  pub work_sure : (w : Work) → OkWorks q.setting.program f.method (w ∷ left) → work_acts q.setting.program f.method left w ≡ true → Sure Stated (single_performed (env_of q f left) w [])
+  pub work_sure : (w : ContItem) → OkWorks q.setting.program f.method (w ∷ left) → work_acts q.setting.program f.method left w ≡ true → Sure Stated (single_performed (env_of q f left) w [])
   work_sure (Do x) o h = statement_sure x o h
   work_sure (End x) o h = same_work (End x) refl o h tt
   work_sure (Before (While at c update body)) o h =

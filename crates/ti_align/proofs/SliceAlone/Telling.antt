@@ -4,7 +4,7 @@ use Rattle.ti_base.specs.declared.action.Action.TheVariants as act
 use Rattle.ti_base.specs.declared.entry.Answer.{Answer}
 use Rattle.ti_base.specs.declared.entry.Entry.{Entry}
 use Rattle.ti_lang.specs.Meaning.Answers.{FitsWanted}
-use Rattle.ti_lang.specs.Meaning.Processes.{Setting, Wait, Process, begin}
+use Rattle.ti_lang.specs.Meaning.Processes.{RunConfig, Wait, Process, begin}
 use Rattle.ti_lang.specs.Meaning.Steps.{Ends, At, step}
 use Rattle.ti_lang.specs.Meaning.Histories.{is_departure, has_end}
 use Rattle.ti_lang.specs.Meaning.Runs.{IsRun}
@@ -59,7 +59,7 @@ begun [] = refl
 begun (r ∷ rest) = tt
 
 -- where the way of a process shows an answer, the slice comes to it
-shown : (s : Setting) → FineMethods s.program s.program.methods
+shown : (s : RunConfig) → FineMethods s.program s.program.methods
     → (i : ℕ) (p : Process) (ms : List Meeting) (outcomes : List Answer) (x z : SliceStep) → FitWay FitsWanted (begin s i) ms p
     → Free [] [] ms → (Ok s p → Shows s None ms (slice p) z)
     → SliceAnswers s outcomes x → AllFit x → answers_left ms ≡ outcomes → p.spent ≤ s.fuel → x ≡ z
@@ -70,10 +70,10 @@ shown s fine i p ms outcomes x z w f o a fit t l =
 -- ---- outcomes
 
 -- what processes are answered at departures in all runs fits what is wanted there
-abbrev pub AllSuit : Setting → Type 0
+abbrev pub AllSuit : RunConfig → Type 0
 AllSuit s = (i : ℕ) (es : List Entry) → IsRun s es → Suits FitsWanted s es i
 
-fits : (s : Setting) → FineMethods s.program s.program.methods → AllSuit s → (es : List Entry) → IsRun s es → (i : ℕ) (x : SliceStep) → SliceAnswers s (answers_at_departures i es) x → AllFit x
+fits : (s : RunConfig) → FineMethods s.program s.program.methods → AllSuit s → (es : List Entry) → IsRun s es → (i : ℕ) (x : SliceStep) → SliceAnswers s (answers_at_departures i es) x → AllFit x
 fits s fine suit es w i x ans =
     let o = on_path FitsWanted s es w i (suit i) in
     let y = paced s FitsWanted [] [] (begin s i) o.1.process o.0 (begin_ok s i fine) o.1.goes refl o.1.free in
@@ -87,7 +87,7 @@ no_waiting : (a b : ℕ) → a ≡ b + 0 → a ≡ b
 no_waiting a b h = omega (arith, h)
 
 -- a process that arrives has left as often as it had arrived before
-left_all : (s : Setting) (es : List Entry) (i k : ℕ) (a : Arrival) → IsRun s es → (x : ArrivesAt s es i k a) → length (answers_at_departures i x.before) ≡ k
+left_all : (s : RunConfig) (es : List Entry) (i k : ℕ) (a : Arrival) → IsRun s es → (x : ArrivesAt s es i k a) → length (answers_at_departures i x.before) ≡ k
 left_all s es i k a w x =
     let before = run_before s es x.before x.rest _ w x.split in
     let y = way_next s x.before i x.process x.settled before x.world x.settles.reaches in
@@ -98,7 +98,7 @@ left_all s es i k a w x =
     ∙ y.2 ∙ x.count
 
 -- the entry of an arrival
-abbrev arrival_entry : (s : Setting) (es : List Entry) (i k : ℕ) (a : Arrival) → ArrivesAt s es i k a → Entry
+abbrev arrival_entry : (s : RunConfig) (es : List Entry) (i k : ℕ) (a : Arrival) → ArrivesAt s es i k a → Entry
 arrival_entry s es i k a x = record { proc = i; place = a.place; act = act.Arrive a.kind a.arg x.deposit; answer = x.answer }
 
 no_departure : (i : ℕ) (e : Entry) → (e.proc == i) ≡ true → is_departure e.act ≡ false → answers_at_departures i (e ∷ []) ≡ []
@@ -107,7 +107,7 @@ no_departure i e h d = ap (λ x. map (λ (e : Entry). e.answer) (filter (λ (e :
     none : map (λ (e : Entry). e.answer) (filter (λ (e : Entry). is_departure e.act) (e ∷ [])) ≡ []
     none = rw d refl
 
-arrives : (s : Setting) → FineMethods s.program s.program.methods → AllSuit s → (es : List Entry) → IsRun s es
+arrives : (s : RunConfig) → FineMethods s.program s.program.methods → AllSuit s → (es : List Entry) → IsRun s es
     → (i : ℕ) (outcomes others : List Answer) (x : SliceStep) (a : Arrival) → SliceAnswers s outcomes x → answers_at_departures i es
     ≡ outcomes ++ others
     → ArrivesAt s es i (length outcomes) a → x ≡ answer.At a.kind a.place a.arg
@@ -127,7 +127,7 @@ arrives s fine suit es w i outcomes others x a ans d y =
 
 -- ---- ends
 
-ends : (s : Setting) → FineMethods s.program s.program.methods → AllSuit s → (es : List Entry) → IsRun s es → (i : ℕ) (x : SliceStep)
+ends : (s : RunConfig) → FineMethods s.program s.program.methods → AllSuit s → (es : List Entry) → IsRun s es → (i : ℕ) (x : SliceStep)
     → SliceAnswers s (answers_at_departures i es) x → has_end i es ≡ true → x ≡ answer.Ended
 ends s fine suit es w i x ans h =
     let e = ends_at s fine es i w h in
@@ -140,12 +140,12 @@ ends s fine suit es w i x ans h =
     let first = paced s FitsWanted [] [] (begin s i) e.process o.0 (begin_ok s i fine) (subst (FitWay FitsWanted (begin s i) o.0) same o.1.goes) refl o.1.free in
     let last = paced s FitsWanted [] [] (begin s i) e.settled o.0 (begin_ok s i fine) goes refl o.1.free in
     let spent : e.settled.spent ≤ s.fuel =
-    subst (λ (k : Setting). e.settled.spent ≤ k.fuel) last.0.0
-    (fed e.process e.settled (subst (λ (k : Setting). e.process.spent ≤ k.fuel) (sym first.0.0) (limits.within s i _ e.process e.world).0) e.reaches) in
+    subst (λ (k : RunConfig). e.settled.spent ≤ k.fuel) last.0.0
+    (fed e.process e.settled (subst (λ (k : RunConfig). e.process.spent ≤ k.fuel) (sym first.0.0) (limits.within s i _ e.process e.world).0) e.reaches) in
     shown s fine i e.settled o.0 (answers_at_departures i es) x answer.Ended goes o.1.free
     (λ k. inr (kind_of s e.settled (Ends e.place) k e.stands, refl)) ans (fits s fine suit es w i x ans) o.1.told spent
 
 -- ---- all of it
 
-pub tells : (s : Setting) → FineMethods s.program s.program.methods → AllSuit s → (es : List Entry) → IsRun s es → SliceTells s es
+pub tells : (s : RunConfig) → FineMethods s.program s.program.methods → AllSuit s → (es : List Entry) → IsRun s es → SliceTells s es
 tells s fine suit es w = record { fits = fits s fine suit es w; arrives = arrives s fine suit es w; ends = ends s fine suit es w }

@@ -2,13 +2,13 @@
 use Rattle.std.proofs.Common.{◌≡◌, ℕ, ◌+◌, ◌<◌, ◌≤◌, nat_lt, ltb-true, length, Bool, true, false, if◌then◌else◌, List, [], ◌∷◌, Option, Some, None, refl, subst, arith}
 use Rattle.ti_base.specs.declared.place.Place.{Place}
 use Rattle.ti_base.specs.declared.fault.FaultKind.TheVariants.{Depth, Fuel}
-use Rattle.ti_lang.specs.Meaning.Asking.{Got, Gives, Asks, Fails}
-use Rattle.ti_lang.specs.Meaning.Processes.{Work, Frame, frame_of, Wait, Process}
+use Rattle.ti_lang.specs.Meaning.Comp.{CompResult, Gives, Asks, Fails}
+use Rattle.ti_lang.specs.Meaning.Processes.{ContItem, Frame, frame_of, Wait, Process}
 use Rattle.ti_lang.specs.Meaning.Moves.{Move, Goes, Turns, Breaks, Continues, Calls, Returns, Meets, Deletes}
-use Rattle.ti_lang.specs.Meaning.Performing.{performed}
+use Rattle.ti_lang.specs.Meaning.Performing.{exec_item}
 use Rattle.ti_lang.specs.Meaning.Scoping.{env_of}
 use Rattle.ti_lang.specs.Meaning.Jumps.{has_mark}
-use Rattle.ti_lang.specs.Meaning.Steps.{Step, To, Faults, spends, ticks, valued, most_frames, moves, works, runs, steps}
+use Rattle.ti_lang.specs.Meaning.Steps.{Step, To, Faults, spends, ticks, step_of_result, most_frames, moves, works, runs, steps}
 use Rattle.ti_lang.specs.Meaning.NextStep.{Reaches, here, later}
 
 -- within the fuel
@@ -38,7 +38,7 @@ fed_if false x y f g = g
 one_more : (a b : ℕ) → a < b → a + 1 ≤ b
 one_more a b h = omega (arith, h)
 
-feeds_moves : (p : Process) (f : Frame) (fs : List Frame) (left : List Work) (mv : Move) → Fed p → Feeds (moves p f fs left mv)
+feeds_moves : (p : Process) (f : Frame) (fs : List Frame) (left : List ContItem) (mv : Move) → Fed p → Feeds (moves p f fs left mv)
 feeds_moves p f fs left (Goes vs ws) w = w
 feeds_moves p f fs left (Turns at vs ws) w = feeds_ticks p at _ (λ l. one_more p.spent p.setting.fuel l)
 feeds_moves p f fs left Breaks w = fed_if (has_mark left) _ _ w w
@@ -51,14 +51,14 @@ feeds_moves p f fs left (Returns v) w = w
 feeds_moves p f fs left (Meets wait given behind) w = feeds_ticks p wait.place _ (λ l. tt)
 feeds_moves p f fs left (Deletes at region) w = feeds_ticks p at _ (λ l. tt)
 
-feeds_valued : (p : Process) (f : Frame) (fs : List Frame) (left : List Work) (g : Got Move) → Fed p → Feeds (valued p g (moves p f fs left))
+feeds_valued : (p : Process) (f : Frame) (fs : List Frame) (left : List ContItem) (g : CompResult Move) → Fed p → Feeds (step_of_result p g (moves p f fs left))
 feeds_valued p f fs left (Gives mv rest) w = feeds_moves p f fs left mv w
 feeds_valued p f fs left (Asks request) w = feeds_ticks p request.place _ (λ l. tt)
 feeds_valued p f fs left (Fails kind at) w = tt
 
-feeds_works : (p : Process) (f : Frame) (fs : List Frame) (ws : List Work) → Fed p → Feeds (works p f fs ws)
+feeds_works : (p : Process) (f : Frame) (fs : List Frame) (ws : List ContItem) → Fed p → Feeds (works p f fs ws)
 feeds_works p f fs [] w = w
-feeds_works p f fs (x ∷ left) w = feeds_valued p f fs left (performed (env_of p f left) x p.answers) w
+feeds_works p f fs (x ∷ left) w = feeds_valued p f fs left (exec_item (env_of p f left) x p.answers) w
 
 feeds_runs : (p : Process) (fs : List Frame) → Fed p → Feeds (runs p fs)
 feeds_runs p [] w = tt

@@ -10,17 +10,17 @@ use Rattle.ti_lang.specs.Program.Types.{ValueType, Declaration}
 use Rattle.ti_lang.specs.Program.Types as t
 use Rattle.ti_lang.specs.Program.Expressions.{NumberedExp, NumberedRange, NumberedRanges}
 use Rattle.ti_lang.specs.Program.Expressions as e
-use Rattle.ti_lang.specs.Program.Classes.{NumberedMethod, NumberedProgram}
+use Rattle.ti_lang.specs.Program.Classes.{NumberedMethod, ProgramView}
 use Rattle.ti_lang.specs.Program.Scope.{ScopeVariable, ScopeContents, this_of, method_scope}
 use Rattle.ti_lang.specs.Typing.Kinds.{domain_dim, is_whole, is_void, as_global, read_through, where_true}
 use Rattle.ti_lang.specs.Typing.Fits.{casts}
 use Rattle.ti_lang.specs.Typing.Operators.{wider, whole_type, truth_type, point_type, rect_type, same_dim, domain_type, unary_type, binary_type}
 use Rattle.ti_lang.specs.Typing.BuiltIn.{BuiltIn, Size, Min, Max, Contains, Domain, Restrict, Translate, Slice, Copy, Exchange, Delete, same_grids, can_copy, can_exchange, has_local_elements, member_type}
 use Rattle.ti_lang.specs.Typing.Declared.{in_scope, declared_type, variable_type, field_type, named_field_type}
-use Rattle.ti_lang.specs.Typing.Expressions.{plain, both, joined, one, all_ints, point_literal, all_points, range_of_points, rect_literal, index_type, select_type, range_count, operands, bound, bounds, operand_type}
+use Rattle.ti_lang.specs.Typing.Expressions.{plain, and_then_both, append_both, one, all_ints, point_literal, all_points, range_of_points, rect_literal, index_type, select_type, range_count, operands, bound_types, bounds, operand_type}
 use Rattle.ti_base.specs.Forms.{is_dim}
-use Rattle.ti_align.specs.Things.{IsStorable, DimsFine}
-use Rattle.ti_align.specs.Mirrors.Work.{has_dims}
+use Rattle.ti_align.specs.HeapTyping.{IsStorable, DimsFine}
+use Rattle.ti_align.specs.Mirrors.ContItem.{has_dims}
 use Rattle.ti_align.proofs.Runs.Vars.{true_false, and_left, and_right}
 use Rattle.ti_align.proofs.RunTypes.Operating.{none_some, some_same, where_some}
 use Rattle.ti_lang.proofs.Lemmas.{dims_are, dim_is, how_many_is}
@@ -264,7 +264,7 @@ variable_formed m s turns k number t.Foreach h =
 
 -- ---- expressions
 
-module _ (p : NumberedProgram) (fields : FieldsMeant p) (m : NumberedMethod) (s : ScopeContents) (turns : List ℕ) (around : Surrounds m s turns) where
+module _ (p : ProgramView) (fields : FieldsMeant p) (m : NumberedMethod) (s : ScopeContents) (turns : List ℕ) (around : Surrounds m s turns) where
   pub field_formed : (class field : ℕ) (type : ValueType) → field_type p class field ≡ Some type → (storable type ≡ true) × (formed type ≡ true)
   field_formed class field type z = let h = fields class field type z in (and_left (storable type) (formed type) h, and_right (storable type) (formed type) h)
 
@@ -309,7 +309,7 @@ module _ (p : NumberedProgram) (fields : FieldsMeant p) (m : NumberedMethod) (s 
         let q = and_then (unary_type op) (operand_type p s a) type (no_call (plain (option_and_then (unary_type op) (operand_type p s a))) type z).1 in
         unary_formed op q.0 type q.2 (exp_formed a k q.0 q.1)
     exp_formed (e.Binary at op a b) k type z =
-        let q = both_there (binary_type op) (operand_type p s a) (operand_type p s b) type (no_call (plain (both (operand_type p s a) (operand_type p s b) (binary_type op))) type z).1 in
+        let q = both_there (binary_type op) (operand_type p s a) (operand_type p s b) type (no_call (plain (and_then_both (operand_type p s a) (operand_type p s b) (binary_type op))) type z).1 in
         binary_formed op q.0 q.1 type q.4 (exp_formed a k.0 q.0 q.2)
     exp_formed (e.Cast at to a) k type z =
         let q = and_then (λ u. where_true (casts to.type u) to.type) (operand_type p s a) type
@@ -322,23 +322,23 @@ module _ (p : NumberedProgram) (fields : FieldsMeant p) (m : NumberedMethod) (s 
         let q = member_there p (operand_type p s a) (operands p s args) name type z in
         member_formed q.4 q.0 type q.1 q.6 (exp_formed a k.0 q.0 q.2)
     exp_formed (e.Index at a parts) k type z =
-        let q = both_there index_type (operand_type p s a) (operands p s parts) type (no_call (plain (both (operand_type p s a) (operands p s parts) index_type)) type z).1 in
+        let q = both_there index_type (operand_type p s a) (operands p s parts) type (no_call (plain (and_then_both (operand_type p s a) (operands p s parts) index_type)) type z).1 in
         index_formed q.0 type q.1 q.4 (exp_formed a k.0 q.0 q.2)
 
     bounds_formed : (rs : NumberedRanges) → RangesMeant p m turns rs → (ts : List ValueType) → bounds p s rs ≡ Some ts → AllFormed ts
     bounds_formed e.NoRange k ts z = subst AllFormed (some_same [] ts z) tt
     bounds_formed (e.MoreRange r rest) k ts z =
-        let j = joined_there (bound p s r) (bounds p s rest) ts z in
+        let j = joined_there (bound_types p s r) (bounds p s rest) ts z in
         subst AllFormed j.4 (formed_both j.0 j.1 (bound_formed r k.0 j.0 j.2) (bounds_formed rest k.1 j.1 j.3))
 
-    bound_formed : (r : NumberedRange) → RangeMeant p m turns r → (ts : List ValueType) → bound p s r ≡ Some ts → AllFormed ts
+    bound_formed : (r : NumberedRange) → RangeMeant p m turns r → (ts : List ValueType) → bound_types p s r ≡ Some ts → AllFormed ts
     bound_formed (e.Plain low high) k ts z =
         let j = joined_there (one (operand_type p s low)) (one (operand_type p s high)) ts z in
         let o = one_there (operand_type p s low) j.0 j.2 in
         let h = one_there (operand_type p s high) j.1 j.3 in
         subst AllFormed j.4 (formed_both j.0 j.1 (subst AllFormed (sym o.2) (exp_formed low k.0 o.0 o.1, tt)) (subst AllFormed (sym h.2) (exp_formed high k.1 h.0 h.1, tt)))
     bound_formed (e.Stepped low high step) k ts z =
-        let j = joined_there (joined (one (operand_type p s low)) (one (operand_type p s high))) (one (operand_type p s step)) ts z in
+        let j = joined_there (append_both (one (operand_type p s low)) (one (operand_type p s high))) (one (operand_type p s step)) ts z in
         let l = joined_there (one (operand_type p s low)) (one (operand_type p s high)) j.0 j.2 in
         let o = one_there (operand_type p s low) l.0 l.2 in
         let h = one_there (operand_type p s high) l.1 l.3 in

@@ -11,14 +11,14 @@ use Rattle.ti_lang.specs.Program.Expressions.{NumberedExp, NumberedExps, Numbere
 use Rattle.ti_lang.specs.Program.Expressions as e
 use Rattle.ti_lang.specs.Program.Statements.{NumberedDims, NumberedInit, NumberedPrint, NumberedStm, MaybeNumbered, NumberedStms, numbered_stms}
 use Rattle.ti_lang.specs.Program.Statements as st
-use Rattle.ti_lang.specs.Program.Classes.{NumberedMethod, NumberedProgram}
+use Rattle.ti_lang.specs.Program.Classes.{NumberedMethod, ProgramView}
 use Rattle.ti_lang.specs.Program.Scope.{this_of, method_scope}
 use Rattle.ti_lang.specs.Typing.Kinds.{is_void}
 use Rattle.ti_lang.specs.Typing.Declared.{in_scope, field_type}
 use Rattle.ti_lang.specs.Typing.Expressions.{range_count}
 use Rattle.ti_lang.specs.Typing.TextTypes.{how_many}
 use Rattle.ti_base.specs.Forms.{is_dim}
-use Rattle.ti_align.specs.Mirrors.Work.{is_form_of_call}
+use Rattle.ti_align.specs.Mirrors.ContItem.{is_form_of_call}
 
 -- ---- types
 
@@ -56,7 +56,7 @@ covers (Some c) None = false
 covers (Some c) (Some d) = c == d
 
 -- there is such a method, and `this` serves it
-abbrev pub serves : NumberedProgram → NumberedMethod → ℕ → Bool
+abbrev pub serves : ProgramView → NumberedMethod → ℕ → Bool
 serves p m method = option_map_or (λ (called : NumberedMethod). covers (this_of called) (this_of m)) (slice_get p.methods method) false
 
 -- what can be assigned to
@@ -67,7 +67,7 @@ is_place (e.Select at a name) = true
 is_place (e.Index at a parts) = true
 is_place x = false
 
-module _ (p : NumberedProgram) (m : NumberedMethod) where
+module _ (p : ProgramView) (m : NumberedMethod) where
   abbrev mutual
     -- within these foreach loops of the method; numbers are within their ranges
     pub ExpMeant : List ℕ → NumberedExp → Type 0
@@ -154,17 +154,17 @@ module _ (p : NumberedProgram) (m : NumberedMethod) where
     StmsMeant turns (st.Cons x rest) = StmMeant turns x × StmsMeant turns rest
 
 -- the statements of all of these methods
-abbrev pub MethodsMeant : NumberedProgram → List NumberedMethod → Type 0
+abbrev pub MethodsMeant : ProgramView → List NumberedMethod → Type 0
 MethodsMeant p [] = Unit {0}
 MethodsMeant p (m ∷ ms) = StmsMeant p m [] (numbered_stms m.body) × MethodsMeant p ms
 
 -- the fields of all classes have such types
-abbrev pub FieldsMeant : NumberedProgram → Type 0
+abbrev pub FieldsMeant : ProgramView → Type 0
 FieldsMeant p = (class field : ℕ) (type : ValueType) → field_type p class field ≡ Some type → (storable type && formed type) ≡ true
 
 -- ---- these are propositions
 
-module _ (p : NumberedProgram) (m : NumberedMethod) where
+module _ (p : ProgramView) (m : NumberedMethod) where
   mutual
     exp_prop : (turns : List ℕ) (x : NumberedExp) → IsProp (ExpMeant p m turns x)
     exp_prop turns (e.Int at n) = hlevel T_prop
@@ -248,9 +248,9 @@ module _ (p : NumberedProgram) (m : NumberedMethod) where
     stms_prop turns st.Nil = hlevel
     stms_prop turns (st.Cons x rest) = hlevel (stm_prop turns x, stms_prop turns rest)
 
-pub methods_prop : (p : NumberedProgram) (ms : List NumberedMethod) → IsProp (MethodsMeant p ms)
+pub methods_prop : (p : ProgramView) (ms : List NumberedMethod) → IsProp (MethodsMeant p ms)
 methods_prop p [] = hlevel
 methods_prop p (m ∷ ms) = hlevel (stms_prop p m [] (numbered_stms m.body), methods_prop p ms)
 
-pub fields_prop : (p : NumberedProgram) → IsProp (FieldsMeant p)
+pub fields_prop : (p : ProgramView) → IsProp (FieldsMeant p)
 fields_prop p = hlevel Bool-set

@@ -20,11 +20,11 @@ use Rattle.ti_lang.specs.Program.Types.{ValueType, Declaration, VariableUse}
 use Rattle.ti_lang.specs.Program.Types as t
 use Rattle.ti_lang.specs.Program.Expressions.{NumberedExp, NumberedExps, NumberedRange, NumberedRanges, numbered_ranges}
 use Rattle.ti_lang.specs.Program.Statements.{NumberedDims, NumberedInit, NumberedPrint, NumberedStm, MaybeNumbered}
-use Rattle.ti_lang.specs.Program.Classes.{NumberedMethod, NumberedProgram}
+use Rattle.ti_lang.specs.Program.Classes.{NumberedMethod, ProgramView}
 use Rattle.ti_lang.specs.Program.Scope.{this_of, method_scope}
 use Rattle.ti_lang.specs.Members as members
 use Rattle.ti_lang.specs.Members.{only_if, class_named, field_named, OwnMethod, methods_of, method_named, is_static}
-use Rattle.ti_lang.specs.Scopes.{class_type, base_type, grid_type, value_type, has_local, Known, Site, with_variable, declares, typed_as, past_variable, past, past_maybe, past_all, behind, behind_maybe, own_field_named, own_method_named}
+use Rattle.ti_lang.specs.Scopes.{class_type, base_type, grid_type, value_type, has_local, Known, Site, with_variable, declares, typed_as, past_variable, past, past_maybe, past_all, site_after, behind_maybe, own_field_named, own_method_named}
 use Rattle.ti_lang.specs.Typing.Kinds.{is_void}
 use Rattle.ti_lang.specs.Typing.Declared.{in_scope, field_type, is_static_method}
 use Rattle.ti_lang.specs.Typing.Expressions.{range_count}
@@ -34,7 +34,7 @@ use Rattle.ti_lang.specs.Numbering.{IsKnownBase, NumbersExp, NumbersExps, Number
 use Rattle.ti_lang.specs.Numbering.{NumbersDims, NumbersInit, NumbersPrint, NumbersStm, NumbersMaybeStm}
 use Rattle.ti_base.specs.Forms.{is_dim}
 use Rattle.ti_rules.specs.Mirrors.Literals.{InExp, InExps, InRange, InRanges, InOption, InDims, InInit, InPrint}
-use Rattle.ti_align.specs.Mirrors.Work.{is_form_of_call}
+use Rattle.ti_align.specs.Mirrors.ContItem.{is_form_of_call}
 use Rattle.ti_align.proofs.Runs.Vars.{true_false, not_true, and_left, and_right}
 use Rattle.ti_align.proofs.RunTypes.Operating.{none_some, some_same}
 use Rattle.ti_align.proofs.TextTypes.Meant.{storable, formed, among, means, covers, serves, is_place, ExpMeant, ExpsMeant, RangeMeant, RangesMeant, OptionMeant, DimsMeant, InitMeant, PrintMeant, TargetMeant}
@@ -122,7 +122,7 @@ typed_means m turns k text ty b f = let q = written_value text ty b f in ap₂ (
 -- ---- sites
 
 -- what the text says of its program
-pub record TextFits (p : NumberedProgram) (text : TextTree) : Type 0 where
+pub record TextFits (p : ProgramView) (text : TextTree) : Type 0 where
   pub fields : (class : ℕ) (name : List ℕ) (field : ℕ) → field_named text class name ≡ Some field → is_some (field_type p class field) ≡ true
   pub methods : (k : ℕ) (own : OwnMethod) → slice_get (methods_of text) k ≡ Some own
       → (m : NumberedMethod) × (slice_get p.methods k ≡ Some m) × (m.class ≡ own.class) × (is_static_method m ≡ is_static own.method)
@@ -134,13 +134,13 @@ AllMean m turns [] = Unit {0}
 AllMean m turns (known ∷ rest) = (means m turns known.1.number known.1.declared ≡ true) × AllMean m turns rest
 
 -- what is known at a site within these foreach loops of a method
-pub record SiteMeans (p : NumberedProgram) (m : NumberedMethod) (turns : List ℕ) (site : Site) : Type 0 where
+pub record SiteMeans (p : ProgramView) (m : NumberedMethod) (turns : List ℕ) (site : Site) : Type 0 where
   pub text : TextFits p site.text
   pub this : site.static ≡ false → this_of m ≡ Some site.class
   pub scope : AllMean m turns site.scope
 
 -- and the numbers from there on are none of these loops, nor of a parameter
-pub record SiteFits (p : NumberedProgram) (m : NumberedMethod) (turns : List ℕ) (site : Site) : Type 0 where
+pub record SiteFits (p : ProgramView) (m : NumberedMethod) (turns : List ℕ) (site : Site) : Type 0 where
   pub known : SiteMeans p m turns site
   pub below : (k : ℕ) → site.variables ≤ k → among turns k ≡ false
   pub fresh : (k : ℕ) → site.variables ≤ k → is_none (in_scope (method_scope m) k) ≡ true
@@ -167,12 +167,12 @@ with_means m turns scope name v a h = by (is_some (lookup (bytes_eq name) scope)
     by true = a
     by false = one_more_means m turns scope (name, v) a h
 
-pub declares_means : (p : NumberedProgram) (m : NumberedMethod) (turns : List ℕ) (site : Site) (name : List ℕ) (d : Declaration)
+pub declares_means : (p : ProgramView) (m : NumberedMethod) (turns : List ℕ) (site : Site) (name : List ℕ) (d : Declaration)
     → SiteMeans p m turns site → means m turns site.variables d ≡ true → SiteMeans p m turns (declares site name d)
 declares_means p m turns site name d k h =
     record { text = k.text; this = k.this; scope = with_means m turns site.scope name (record { number = site.variables; declared = d }) k.scope h }
 
-declares_fits : (p : NumberedProgram) (m : NumberedMethod) (turns : List ℕ) (site : Site) (name : List ℕ) (d : Declaration)
+declares_fits : (p : ProgramView) (m : NumberedMethod) (turns : List ℕ) (site : Site) (name : List ℕ) (d : Declaration)
     → SiteFits p m turns site → means m turns site.variables d ≡ true → SiteFits p m turns (declares site name d)
 declares_fits p m turns site name d k h = record {
   known = declares_means p m turns site name d k.known h;
@@ -193,7 +193,7 @@ all_more : (m : NumberedMethod) (turns : List ℕ) (n : ℕ) (scope : List Known
 all_more m turns n [] a = tt
 all_more m turns n (e ∷ rest) a = (means_more m turns n e.1.number e.1.declared a.0, all_more m turns n rest a.1)
 
-pub foreach_fits : (p : NumberedProgram) (m : NumberedMethod) (turns : List ℕ) (site : Site) (name : List ℕ) → SiteFits p m turns site
+pub foreach_fits : (p : ProgramView) (m : NumberedMethod) (turns : List ℕ) (site : Site) (name : List ℕ) → SiteFits p m turns site
     → SiteFits p m (site.variables ∷ turns) (declares site name t.Foreach)
 foreach_fits p m turns site name k = record {
   known = record {
@@ -254,7 +254,7 @@ mutual
   past_all_keeps site s.Nil = keeps_same site
   past_all_keeps site (s.Cons x rest) = keeps_then site (past site x) (past_all (past site x) rest) (past_keeps site x) (past_all_keeps (past site x) rest)
 
-kept_fits : (p : NumberedProgram) (m : NumberedMethod) (turns : List ℕ) (a b : Site) → Keeps a b → SiteFits p m turns a → SiteFits p m turns b
+kept_fits : (p : ProgramView) (m : NumberedMethod) (turns : List ℕ) (a b : Site) → Keeps a b → SiteFits p m turns a → SiteFits p m turns b
 kept_fits p m turns a b e k = record {
   known = record {
     text = subst (TextFits p) (sym e.text) k.known.text;
@@ -265,19 +265,19 @@ kept_fits p m turns a b e k = record {
   fresh = λ i l. let v = e.variables in k.fresh i (omega (arith, v, l));
 }
 
-pub past_fits : (p : NumberedProgram) (m : NumberedMethod) (turns : List ℕ) (site : Site) (x : Stm) → SiteFits p m turns site → SiteFits p m turns (past site x)
+pub past_fits : (p : ProgramView) (m : NumberedMethod) (turns : List ℕ) (site : Site) (x : Stm) → SiteFits p m turns site → SiteFits p m turns (past site x)
 past_fits p m turns site x k = kept_fits p m turns site (past site x) (past_keeps site x) k
 
-pub past_maybe_fits : (p : NumberedProgram) (m : NumberedMethod) (turns : List ℕ) (site : Site) (x : MaybeStm) → SiteFits p m turns site → SiteFits p m turns (past_maybe site x)
+pub past_maybe_fits : (p : ProgramView) (m : NumberedMethod) (turns : List ℕ) (site : Site) (x : MaybeStm) → SiteFits p m turns site → SiteFits p m turns (past_maybe site x)
 past_maybe_fits p m turns site x k = kept_fits p m turns site (past_maybe site x) (past_maybe_keeps site x) k
 
-pub behind_fits : (p : NumberedProgram) (m : NumberedMethod) (turns : List ℕ) (site : Site) (x : Stm) (y : NumberedStm)
-    → NumbersStm site x y → StmFine x → SiteFits p m turns site → SiteFits p m turns (behind site x)
+pub behind_fits : (p : ProgramView) (m : NumberedMethod) (turns : List ℕ) (site : Site) (x : Stm) (y : NumberedStm)
+    → NumbersStm site x y → StmFine x → SiteFits p m turns site → SiteFits p m turns (site_after site x)
 behind_fits p m turns site x y (number.declare {ty = ty} {name = name} (number.known b) fresh room v) f k =
     declares_fits p m turns site name (typed_as site.text ty) k (typed_means m turns site.variables site.text ty b f.0)
 behind_fits p m turns site x y _ f k = past_fits p m turns site x k
 
-pub behind_maybe_fits : (p : NumberedProgram) (m : NumberedMethod) (turns : List ℕ) (site : Site) (x : MaybeStm) (y : MaybeNumbered) → NumbersMaybeStm site x y → MaybeFine x → SiteFits p m turns site
+pub behind_maybe_fits : (p : ProgramView) (m : NumberedMethod) (turns : List ℕ) (site : Site) (x : MaybeStm) (y : MaybeNumbered) → NumbersMaybeStm site x y → MaybeFine x → SiteFits p m turns site
     → SiteFits p m turns (behind_maybe site x)
 behind_maybe_fits p m turns site x y number.no_stm f k = k
 behind_maybe_fits p m turns site x y (number.some_stm h) f k = behind_fits p m turns site _ _ h f k
@@ -296,7 +296,7 @@ count_ranges : (site : Site) (rs : RangeTrees) (qs : NumberedRanges) → Numbers
 count_ranges site rs qs number.no_ranges = refl
 count_ranges site rs qs (number.more_ranges h rest) = ap (λ n. 1 + n) (count_ranges site _ _ rest)
 
-module _ (p : NumberedProgram) (m : NumberedMethod) (turns : List ℕ) (site : Site) (k : SiteMeans p m turns site) where
+module _ (p : ProgramView) (m : NumberedMethod) (turns : List ℕ) (site : Site) (k : SiteMeans p m turns site) where
   own_field_there : (name : List ℕ) (field : ℕ) → own_field_named site name ≡ Some field → is_some (option_and_then (λ c. field_type p c field) (this_of m)) ≡ true
   own_field_there name field h = by site.static refl h
     where

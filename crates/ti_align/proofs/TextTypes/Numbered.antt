@@ -6,10 +6,10 @@ use Rattle.ti_syntax.specs.Trees.Classes.{FieldTree, ParamTree, ParamsTree, Memb
 use Rattle.ti_lang.specs.Program.Types.{ValueType, NumberedType}
 use Rattle.ti_lang.specs.Program.Types as t
 use Rattle.ti_lang.specs.Program.Statements.{NumberedStm, MaybeNumbered, NumberedStms, numbered_stms}
-use Rattle.ti_lang.specs.Program.Classes.{NumberedField, NumberedClass, NumberedParam, NumberedParams, NumberedMethod, NumberedProgram}
+use Rattle.ti_lang.specs.Program.Classes.{NumberedField, NumberedClass, NumberedParam, NumberedParams, NumberedMethod, ProgramView}
 use Rattle.ti_lang.specs.Program.Scope.{ScopeVariable, parameters_from, parameters}
 use Rattle.ti_lang.specs.Members.{class_named, fields_in, fields_of, field_named, OwnMethod, methods_in, methods_from, methods_of, is_single, is_static, name_number}
-use Rattle.ti_lang.specs.Scopes.{Site, declares, typed_as, past, past_maybe, behind, behind_maybe, behind_params, method_site, body_site}
+use Rattle.ti_lang.specs.Scopes.{Site, declares, typed_as, past, past_maybe, site_after, behind_maybe, behind_params, method_site, body_site}
 use Rattle.ti_lang.specs.Typing.Declared.{fields_of_class, field_type, is_static_method}
 use Rattle.ti_lang.specs.Numbering as number
 use Rattle.ti_lang.specs.Numbering.{NumbersType, NumbersStm, NumbersMaybeStm, NumbersStms, NumbersFields, NumbersClasses, NumbersParamList, NumbersParams, NumbersMethod, NumbersMethods, Numbers, IsNumbered}
@@ -22,7 +22,7 @@ use Rattle.ti_align.proofs.TextTypes.Naming.{position_there, other_number, field
 
 -- ---- statements
 
-module _ (p : NumberedProgram) (m : NumberedMethod) where
+module _ (p : ProgramView) (m : NumberedMethod) where
   mutual
     stm_meant : (turns : List ℕ) (site : Site) → SiteFits p m turns site → (x : Stm) (y : NumberedStm) → NumbersStm site x y → StmFine x → InStm y → StmMeant p m turns y
     stm_meant turns site k x y number.empty f l = tt
@@ -63,7 +63,7 @@ module _ (p : NumberedProgram) (m : NumberedMethod) where
     stms_meant : (turns : List ℕ) (site : Site) → SiteFits p m turns site → (xs : Stms) (ys : NumberedStms) → NumbersStms site xs ys → StmsFine xs → InStms ys → StmsMeant p m turns ys
     stms_meant turns site k xs ys number.nil f l = tt
     stms_meant turns site k xs ys (number.cons {x = x} {y = y} h rest) f l =
-        (stm_meant turns site k x y h f.0 l.0, stms_meant turns (behind site x) (behind_fits p m turns site x y h f.0 k) _ _ rest f.1 l.1)
+        (stm_meant turns site k x y h f.0 l.0, stms_meant turns (site_after site x) (behind_fits p m turns site x y h f.0 k) _ _ rest f.1 l.1)
 
 -- ---- methods
 
@@ -76,7 +76,7 @@ params_above n (y ∷ ys) k h =
     ∙ params_above (n + 1) ys k (omega (arith, h))
 
 -- parameters may be used, and have the first numbers
-params_mean : (p : NumberedProgram) (m : NumberedMethod) (site : Site) (ps : List ParamTree) (ys : List NumberedParam) → NumbersParamList site ps ys → ParamsFine ps → SiteMeans p m [] site
+params_mean : (p : ProgramView) (m : NumberedMethod) (site : Site) (ps : List ParamTree) (ys : List NumberedParam) → NumbersParamList site ps ys → ParamsFine ps → SiteMeans p m [] site
     → SiteMeans p m [] (behind_params site ps) × ((behind_params site ps).variables ≡ site.variables + length ys)
 params_mean p m site ps ys number.none f k = (k, omega arith)
 params_mean p m site ps ys (number.more {param = param} {params = params} {ys = rest} (number.known b) fresh room h) f k =
@@ -87,7 +87,7 @@ params_mean p m site ps ys (number.more {param = param} {params = params} {ys = 
     plus : (a b : ℕ) → (a + 1) + b ≡ a + suc b
     plus a b = omega arith
 
-body_meant : (p : NumberedProgram) (m : NumberedMethod) (site : Site) (ps : ParamsTree) (q : NumberedParams) (body : List Stm) (ys : List NumberedStm) → NumbersParams site ps q → m.params ≡ q
+body_meant : (p : ProgramView) (m : NumberedMethod) (site : Site) (ps : ParamsTree) (q : NumberedParams) (body : List Stm) (ys : List NumberedStm) → NumbersParams site ps q → m.params ≡ q
     → NumbersStms (body_site site ps) (stms body) (numbered_stms ys) → MethodFine ps body → InStms (numbered_stms ys) → SiteMeans p m [] site → site.variables ≡ 0 → StmsMeant p m [] (numbered_stms ys)
 body_meant p m site ps q body ys number.words e h f l k z =
     stms_meant p m [] site (record {
@@ -105,7 +105,7 @@ body_meant p m site ps q body ys (number.params {params = params} {ys = rest} n)
       fresh = λ i l. ap (λ q. is_none (find (λ (v : ScopeVariable). v.number == i) (parameters q))) e ∙ ap is_none (params_above 0 rest i (omega (arith, z, count, l)));
     }) (stms body) (numbered_stms ys) h f.1 l
 
-method_meant : (p : NumberedProgram) (text : TextTree) (before : ℕ) (own : OwnMethod) (m : NumberedMethod) → TextFits p text → NumbersMethod (method_site text own before) own m
+method_meant : (p : ProgramView) (text : TextTree) (before : ℕ) (own : OwnMethod) (m : NumberedMethod) → TextFits p text → NumbersMethod (method_site text own before) own m
     → MethodFine own.method.params own.method.body → InStms (numbered_stms m.body) → StmsMeant p m [] (numbered_stms m.body)
 method_meant p text before own m k (number.method {result = result} {params = params} {body = body} r ps h) f l =
     let m : NumberedMethod = record {
@@ -140,7 +140,7 @@ text_owns : (class : ℕ) (text : TextTree) → TextFine text → OwnsFine (meth
 text_owns class [] f = tt
 text_owns class (d ∷ rest) f = owns_both (methods_in class d.members) (methods_from (class + 1) rest) (members_owns class d.members f.0) (text_owns (class + 1) rest f.1)
 
-methods_meant : (p : NumberedProgram) (text : TextTree) (n before : ℕ) (owns : List OwnMethod) (ms : List NumberedMethod) → TextFits p text
+methods_meant : (p : ProgramView) (text : TextTree) (n before : ℕ) (owns : List OwnMethod) (ms : List NumberedMethod) → TextFits p text
     → NumbersMethods text n before owns ms → OwnsFine owns → InMethods ms → MethodsMeant p ms
 methods_meant p text n before owns ms k number.none f l = tt
 methods_meant p text n before owns ms k (number.more {own = own} {method = m} e h rest) f l = (method_meant p text _ own m k h f.0 l.0, methods_meant p text _ _ _ _ k rest f.1 l.1)
@@ -172,7 +172,7 @@ field_at text class n fs gs (number.more e h rest) zero f i = (_, refl)
 field_at text class n fs gs (number.more e h rest) (suc k) f i = field_at text class _ _ _ rest k f i
 
 -- the text says what there is in its program
-text_fits : (p : NumberedProgram) (text : TextTree) → Numbers text p → TextFits p text
+text_fits : (p : ProgramView) (text : TextTree) → Numbers text p → TextFits p text
 text_fits p text n = record { fields = field_there; methods = λ k own e. method_at text 0 0 (methods_of text) p.methods n.methods k own e; classes = class_there }
   where
     class_there : (name : List ℕ) (k : ℕ) → class_named text name ≡ Some k → is_some (slice_get p.classes k) ≡ true
@@ -227,7 +227,7 @@ class_stored text n cs ds (number.more {c = x} {gs = gs} e h rest) f zero d i j 
     (ap (λ (o : NumberedClass). slice_get o.fields j) (some_same (record { modifiers = x.modifiers; fields = gs }) d i) ∙ u)
 class_stored text n cs ds (number.more e h rest) f (suc k) d i j g u = class_stored text _ _ _ rest f.1 k d i j g u
 
-fields_meant : (p : NumberedProgram) (text : TextTree) → Numbers text p → TextFine text → FieldsMeant p
+fields_meant : (p : ProgramView) (text : TextTree) → Numbers text p → TextFine text → FieldsMeant p
 fields_meant p text n f class field type h = by (slice_get p.classes class) refl
   where
     found : (g : NumberedField) × (slice_get (fields_of_class p class) field ≡ Some g) × (g.ty.type ≡ type)
@@ -241,8 +241,8 @@ fields_meant p text n f class field type h = by (slice_get p.classes class) refl
 
 -- ---- programs
 
-pub numbered_methods : (p : NumberedProgram) → LiteralsFit p → IsNumbered p → MethodsMeant p p.methods
+pub numbered_methods : (p : ProgramView) → LiteralsFit p → IsNumbered p → MethodsMeant p p.methods
 numbered_methods p l n = methods_meant p n.0 0 0 (methods_of n.0) p.methods (text_fits p n.0 n.2) n.2.methods (text_owns 0 n.0 (spelled_fine n.0 n.1)) l
 
-pub numbered_fields : (p : NumberedProgram) → IsNumbered p → FieldsMeant p
+pub numbered_fields : (p : ProgramView) → IsNumbered p → FieldsMeant p
 numbered_fields p n = fields_meant p n.0 n.2 (spelled_fine n.0 n.1)

@@ -316,7 +316,7 @@ ParamsFine [] = Unit {0}
 ParamsFine (param ∷ rest) = TypeFine param.ty × ParamsFine rest
 
 abbrev pub MethodFine : ParamsTree → List Stm → Type 0
-MethodFine (c.Words at name) body = StmsFine (stms body)
+MethodFine (c.MainArgs at name) body = StmsFine (stms body)
 MethodFine (c.Params params) body = ParamsFine params × StmsFine (stms body)
 
 abbrev pub MemberFine : MemberTree → Type 0

@@ -8,7 +8,7 @@ use Rattle.ti_lang.specs.Program.Types as t
 use Rattle.ti_lang.specs.Program.Expressions.{NumberedExp, place_of_numbered}
 use Rattle.ti_lang.specs.Program.Statements.{NumberedInit, NumberedPrint, NumberedStm, MaybeNumbered, NumberedStms}
 use Rattle.ti_lang.specs.Program.Statements as st
-use Rattle.ti_lang.specs.Program.Classes.{NumberedMethod, NumberedProgram}
+use Rattle.ti_lang.specs.Program.Classes.{NumberedMethod, ProgramView}
 use Rattle.ti_lang.specs.Program.Scope.{ScopeContents, method_scope}
 use Rattle.ti_lang.specs.Typing.Kinds.{domain_dim, is_void}
 use Rattle.ti_lang.specs.Typing.Fits.{fits}
@@ -17,16 +17,16 @@ use Rattle.ti_lang.specs.Typing.Expressions.{operand_type}
 use Rattle.ti_lang.specs.Meaning.Processes.{Updated}
 use Rattle.ti_rules.specs.declared.rule.Rule.TheVariants.{Y3, Y6}
 use Rattle.ti_rules.specs.Refusals.{refused_if}
-use Rattle.ti_rules.specs.InitialTypes.{value_type, initial_type}
-use Rattle.ti_rules.specs.Standing.{Around, Standing, scope_of, stands, in_loop, in_foreach, inside, inside_maybe, inside_all}
-use Rattle.ti_rules.specs.Broken.Refused.{refused, judged, both_judged, mistaken, misfit}
+use Rattle.ti_rules.specs.InitialTypes.{right_side_type, initial_type}
+use Rattle.ti_rules.specs.StmtInContext.{StmtContext, StmtInContext, scope_of, stands, in_loop, in_foreach, inside, inside_maybe, inside_all}
+use Rattle.ti_rules.specs.Broken.Refused.{refusal_at, judged, both_judged, operand_refusal, misfit}
 use Rattle.ti_rules.specs.Broken.Words.{type_word_refusals}
 use Rattle.ti_rules.specs.Broken.Expressions.{exp_refusals}
 use Rattle.ti_rules.specs.Broken.RightSides.{inner_refusals, value_refusals, initial_refusals}
 use Rattle.ti_rules.specs.Broken.Targets.{write_refusals}
 use Rattle.ti_rules.specs.Broken.Statements.{update_refusals, operator_of, is_boolean, condition_refusals, maybe_condition_refusals, is_printed, printed_refusals, print_refusals, given_back, statement_refusals, standing_refusals}
 use Rattle.ti_rules.proofs.Lemmas.{nil_left, nil_right, each_left, each_right, not_refused, not_mistaken, no_misfit, there_is}
-use Rattle.ti_align.specs.Mirrors.Work.{IsInner, ReceiverFits, PrintFits, ConditionFits, DomainFits, StmFits, MaybeFits, StmsFit}
+use Rattle.ti_align.specs.Mirrors.ContItem.{IsInner, ReceiverFits, PrintFits, ConditionFits, DomainFits, StmFits, MaybeFits, StmsFit}
 use Rattle.ti_align.proofs.Runs.Vars.{true_false}
 use Rattle.ti_align.proofs.TextTypes.Meant.{among, ExpMeant, OptionMeant, PrintMeant, StmMeant, MaybeMeant, StmsMeant, FieldsMeant}
 use Rattle.ti_align.proofs.TextTypes.Forming.{dim_in, Surrounds, exp_formed}
@@ -42,14 +42,14 @@ boolean_is _ h = absurd (true_false h)
 given_fits : (at : Place) (result type : ValueType) → given_back at result type ≡ [] → fits type result ≡ true
 given_fits at result type h = by (is_void result) h
   where
-    by : (b : Bool) → (if b then refused Y6 at else misfit at type result) ≡ [] → fits type result ≡ true
+    by : (b : Bool) → (if b then refusal_at Y6 at else misfit at type result) ≡ [] → fits type result ≡ true
     by true h = absurd (never h)
       where
-        never : refused Y6 at ≡ [] → ⊥
+        never : refusal_at Y6 at ≡ [] → ⊥
         never h = cc
     by false h = no_misfit at type result h
 
-module _ (p : NumberedProgram) (fields : FieldsMeant p) (m : NumberedMethod) (s : ScopeContents) (turns : List ℕ) (around : Surrounds m s turns) where
+module _ (p : ProgramView) (fields : FieldsMeant p) (m : NumberedMethod) (s : ScopeContents) (turns : List ℕ) (around : Surrounds m s turns) where
   condition_fits : (c : NumberedExp) → ExpMeant p m turns c → condition_refusals p s c ≡ [] → IsInner p m s c t.Boolean
   condition_fits c k h =
       let rule = λ (type : ValueType). refused_if (not (is_boolean type)) Y3 (place_of_numbered c) in
@@ -63,7 +63,7 @@ module _ (p : NumberedProgram) (fields : FieldsMeant p) (m : NumberedMethod) (s 
 
   printed_fits : (at : Place) (x : NumberedExp) → ExpMeant p m turns x → printed_refusals p s at x ≡ [] → (type : ValueType) × IsInner p m s x type
   printed_fits at x k h =
-      let rule = λ (type : ValueType). mistaken at (is_printed type) false in
+      let rule = λ (type : ValueType). operand_refusal at (is_printed type) false in
       inner_fits p fields m s turns around x k (nil_left (inner_refusals p s x) (judged (operand_type p s x) rule) h)
 
   print_fits : (at : Place) (what : NumberedPrint) → PrintMeant p m turns what → print_refusals p s at what ≡ [] → PrintFits p m s what
@@ -82,9 +82,9 @@ module _ (p : NumberedProgram) (fields : FieldsMeant p) (m : NumberedMethod) (s 
 
   -- a domain, and how many dimensions it has
   domain_fits : (at : Place) (number : ℕ) (domain : NumberedExp) → ExpMeant p m turns domain → among turns number ≡ false → is_none (in_scope (method_scope m) number) ≡ true
-      → inner_refusals p s domain ++ judged (operand_type p s domain) (λ (type : ValueType). mistaken at (is_some (domain_dim type)) false) ≡ [] → (n : ℕ) × DomainFits p m s number domain n
+      → inner_refusals p s domain ++ judged (operand_type p s domain) (λ (type : ValueType). operand_refusal at (is_some (domain_dim type)) false) ≡ [] → (n : ℕ) × DomainFits p m s number domain n
   domain_fits at number domain k apart fresh h =
-      let rule = λ (type : ValueType). mistaken at (is_some (domain_dim type)) false in
+      let rule = λ (type : ValueType). operand_refusal at (is_some (domain_dim type)) false in
       let q = inner_fits p fields m s turns around domain k (nil_left (inner_refusals p s domain) (judged (operand_type p s domain) rule) h) in
       let n = there_is (domain_dim q.0) (not_mistaken at _ false (judged_at (operand_type p s domain) rule q.0 q.1.1
       (nil_right (inner_refusals p s domain) (judged (operand_type p s domain) rule) h))) in (
@@ -95,25 +95,25 @@ module _ (p : NumberedProgram) (fields : FieldsMeant p) (m : NumberedMethod) (s 
 -- ---- statements
 
 -- nothing is wrong with what stands there
-abbrev pub Clean : NumberedProgram → List Standing → Type 0
+abbrev pub Clean : ProgramView → List StmtInContext → Type 0
 Clean p xs = flat_map (standing_refusals p) xs ≡ []
 
 -- nor with the first
-own : (p : NumberedProgram) (a : Around) (x : NumberedStm) (xs : List Standing) → Clean p (stands a x ∷ xs) → statement_refusals p a x ≡ []
+own : (p : ProgramView) (a : StmtContext) (x : NumberedStm) (xs : List StmtInContext) → Clean p (stands a x ∷ xs) → statement_refusals p a x ≡ []
 own p a x xs h = nil_left (statement_refusals p a x) (flat_map (standing_refusals p) xs) h
 
-within : (p : NumberedProgram) (a : Around) (x : NumberedStm) (xs : List Standing) → Clean p (stands a x ∷ xs) → Clean p xs
+within : (p : ProgramView) (a : StmtContext) (x : NumberedStm) (xs : List StmtInContext) → Clean p (stands a x ∷ xs) → Clean p xs
 within p a x xs h = nil_right (statement_refusals p a x) (flat_map (standing_refusals p) xs) h
 
-module _ (p : NumberedProgram) (fields : FieldsMeant p) where
-  abbrev Stands : Around → List ℕ → Type 0
+module _ (p : ProgramView) (fields : FieldsMeant p) where
+  abbrev Stands : StmtContext → List ℕ → Type 0
   Stands a turns = Surrounds a.method (scope_of a) turns
 
   -- where names mean something and no rule is broken in it, a statement fits
-  abbrev FitsThere : Around → List ℕ → NumberedStm → Type 0
+  abbrev FitsThere : StmtContext → List ℕ → NumberedStm → Type 0
   FitsThere a turns x = StmMeant p a.method turns x → Clean p (inside p a x) → StmFits p a.method (scope_of a) x
 
-  declare_fits : (a : Around) (turns : List ℕ) → Stands a turns → (at : Place) (type : NumberedType) (variable : ℕ) (value : NumberedInit) → FitsThere a turns (st.Declare at type variable value)
+  declare_fits : (a : StmtContext) (turns : List ℕ) → Stands a turns → (at : Place) (type : NumberedType) (variable : ℕ) (value : NumberedInit) → FitsThere a turns (st.Declare at type variable value)
   declare_fits a turns around at type variable value k h =
       let s = scope_of a in
       let rule = λ (u : ValueType). misfit at u type.type in
@@ -123,7 +123,7 @@ module _ (p : NumberedProgram) (fields : FieldsMeant p) where
       (nil_left (words ++ initial_refusals p s value) (judged (initial_type p s value) rule) r)) in
       (q.0, q.1, no_misfit at q.0 type.type (judged_at (initial_type p s value) rule q.0 q.2 (nil_right (words ++ initial_refusals p s value) (judged (initial_type p s value) rule) r)))
 
-  assign_fits : (a : Around) (turns : List ℕ) → Stands a turns → (at : Place) (target : NumberedExp) (value : NumberedInit) → FitsThere a turns (st.Assign at target value)
+  assign_fits : (a : StmtContext) (turns : List ℕ) → Stands a turns → (at : Place) (target : NumberedExp) (value : NumberedInit) → FitsThere a turns (st.Assign at target value)
   assign_fits a turns around at target value k h =
       let s = scope_of a in
       let rule = λ (u type : ValueType). write_refusals p s at target (misfit at type u) in
@@ -135,19 +135,19 @@ module _ (p : NumberedProgram) (fields : FieldsMeant p) where
       let w = both_at (operand_type p s target) (initial_type p s value) rule g.0 q.0 g.1.1 q.2 (nil_right (exp_refusals p s target ++ initial_refusals p s value) judge r) in
       (q.0, q.1, assigned_fits p fields a.method s turns around at target g.0 q.0 g.1 w)
 
-  update_fits : (a : Around) (turns : List ℕ) → Stands a turns → (at : Place) (op : BinaryOperator) (target x : NumberedExp) → FitsThere a turns (st.Update at op target x)
+  update_fits : (a : StmtContext) (turns : List ℕ) → Stands a turns → (at : Place) (op : BinaryOperator) (target x : NumberedExp) → FitsThere a turns (st.Update at op target x)
   update_fits a turns around at op target x k h =
       let s = scope_of a in
       let rule = λ (u type : ValueType). write_refusals p s at target (update_refusals at op u type) in
       let r = own p a (st.Update at op target x) [] h in
-      let judge = both_judged (operand_type p s target) (value_type p s x) rule in
+      let judge = both_judged (operand_type p s target) (right_side_type p s x) rule in
       let parts = nil_left (exp_refusals p s target ++ value_refusals p s x) judge r in
       let g = target_fits p fields a.method s turns around target k.0 (nil_left (exp_refusals p s target) (value_refusals p s x) parts) in
       let q = value_fits p fields a.method s turns around x k.1 (nil_right (exp_refusals p s target) (value_refusals p s x) parts) in
-      let w = both_at (operand_type p s target) (value_type p s x) rule g.0 q.0 g.1.1 q.2 (nil_right (exp_refusals p s target ++ value_refusals p s x) judge r) in
+      let w = both_at (operand_type p s target) (right_side_type p s x) rule g.0 q.0 g.1.1 q.2 (nil_right (exp_refusals p s target ++ value_refusals p s x) judge r) in
       (q.0, q.1, updated_fits p fields a.method s turns around at op target g.0 q.0 g.1 w)
 
-  step_fits : (a : Around) (turns : List ℕ) → Stands a turns → (at : Place) (op : StepOperator) (target : NumberedExp) → FitsThere a turns (st.Step at op target)
+  step_fits : (a : StmtContext) (turns : List ℕ) → Stands a turns → (at : Place) (op : StepOperator) (target : NumberedExp) → FitsThere a turns (st.Step at op target)
   step_fits a turns around at op target k h =
       let s = scope_of a in
       let rule = λ (u : ValueType). write_refusals p s at target (update_refusals at (operator_of op) u t.Int) in
@@ -158,7 +158,7 @@ module _ (p : NumberedProgram) (fields : FieldsMeant p) where
       subst (λ o. ReceiverFits p a.method s (Updated at o target) t.Int) (same_step op) (updated_fits p fields a.method s turns around at (operator_of op) target g.0 t.Int g.1 w)
 
   mutual
-    pub stm_fits : (a : Around) (turns : List ℕ) → Stands a turns → (x : NumberedStm) → FitsThere a turns x
+    pub stm_fits : (a : StmtContext) (turns : List ℕ) → Stands a turns → (x : NumberedStm) → FitsThere a turns x
     stm_fits a turns around (st.Declare at type variable value) k h = declare_fits a turns around at type variable value k h
     stm_fits a turns around (st.Assign at target value) k h = assign_fits a turns around at target value k h
     stm_fits a turns around (st.Update at op target x) k h = update_fits a turns around at op target x k h
@@ -205,11 +205,11 @@ module _ (p : NumberedProgram) (fields : FieldsMeant p) where
         )
     stm_fits a turns around _ k h = tt
 
-    maybe_fits : (a : Around) (turns : List ℕ) → Stands a turns → (x : MaybeNumbered) → MaybeMeant p a.method turns x → Clean p (inside_maybe p a x) → MaybeFits p a.method (scope_of a) x
+    maybe_fits : (a : StmtContext) (turns : List ℕ) → Stands a turns → (x : MaybeNumbered) → MaybeMeant p a.method turns x → Clean p (inside_maybe p a x) → MaybeFits p a.method (scope_of a) x
     maybe_fits a turns around st.NoStm k h = tt
     maybe_fits a turns around (st.SomeStm x) k h = stm_fits a turns around x k h
 
-    pub stms_fit : (a : Around) (turns : List ℕ) → Stands a turns → (xs : NumberedStms) → StmsMeant p a.method turns xs → Clean p (inside_all p a xs) → StmsFit p a.method (scope_of a) xs
+    pub stms_fit : (a : StmtContext) (turns : List ℕ) → Stands a turns → (xs : NumberedStms) → StmsMeant p a.method turns xs → Clean p (inside_all p a xs) → StmsFit p a.method (scope_of a) xs
     stms_fit a turns around st.Nil k h = tt
     stms_fit a turns around (st.Cons x rest) k h = (
       stm_fits a turns around x k.0 (each_left (standing_refusals p) (inside p a x) (inside_all p a rest) h),

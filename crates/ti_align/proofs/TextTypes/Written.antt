@@ -13,14 +13,14 @@ use Rattle.ti_lang.specs.Program.Expressions.{NumberedExp, NumberedExps, Numbere
 use Rattle.ti_lang.specs.Program.Expressions as e
 use Rattle.ti_lang.specs.Program.Statements.{NumberedDims, NumberedInit}
 use Rattle.ti_lang.specs.Program.Statements as st
-use Rattle.ti_lang.specs.Program.Classes.{NumberedField, NumberedClass, NumberedMethod, NumberedProgram}
+use Rattle.ti_lang.specs.Program.Classes.{NumberedField, NumberedClass, NumberedMethod, ProgramView}
 use Rattle.ti_lang.specs.Program.Scope.{ScopeVariable, ScopeContents, this_of, method_scope}
 use Rattle.ti_lang.specs.Typing.Kinds.{domain_dim, is_void, as_global, read_through, where_true}
 use Rattle.ti_lang.specs.Typing.Fits.{fits}
 use Rattle.ti_lang.specs.Typing.Operators.{binary_type}
 use Rattle.ti_lang.specs.Typing.Declared.{in_scope, variable_type, field_type}
-use Rattle.ti_lang.specs.Typing.Expressions.{plain, operand, both, is_int, all_ints, rect_literal, index_type, select_type, range_count, known, operands, bounds, typed, operand_type}
-use Rattle.ti_lang.specs.Typing.Alike.{one_dim}
+use Rattle.ti_lang.specs.Typing.Expressions.{plain, operand, and_then_both, is_int, all_ints, rect_literal, index_type, select_type, range_count, type_result, operands, bounds, expr_type, operand_type}
+use Rattle.ti_lang.specs.Typing.Alike.{erase_dims}
 use Rattle.ti_base.specs.Forms.{is_dim}
 use Rattle.ti_lang.specs.Meaning.Zeros.{zero_of_type}
 use Rattle.ti_lang.specs.Meaning.Processes.{Assigned, Updated}
@@ -30,10 +30,10 @@ use Rattle.ti_rules.specs.declared.refusal.Refusal.{Refusal}
 use Rattle.ti_rules.specs.Refusals.{refused_if}
 use Rattle.ti_rules.specs.Known.{IsThere, IsKnown, AreKnown, IsKnownRange, AreKnownRanges}
 use Rattle.ti_rules.specs.Parts.{parts_of_ranges}
-use Rattle.ti_rules.specs.InitialTypes.{value_type, can_broadcast, broadcast_type, region_type, is_region, object_type, Spread, Over, Ranged, spread, spread_type, grid_over, new_grid_type, initial_type}
+use Rattle.ti_rules.specs.InitialTypes.{right_side_type, can_broadcast, broadcast_type, region_type, is_region, object_type, Spread, Over, Ranged, spread, spread_type, grid_over, new_grid_type, initial_type}
 use Rattle.ti_lang.specs.Typing.Singleness.{is_single_part}
-use Rattle.ti_rules.specs.Standing.{singles_in, with_point, variables_inside}
-use Rattle.ti_rules.specs.Broken.Refused.{refused, judged, both_judged, mistaken, misfit}
+use Rattle.ti_rules.specs.StmtInContext.{singles_in, with_point, variables_inside}
+use Rattle.ti_rules.specs.Broken.Refused.{refusal_at, judged, both_judged, operand_refusal, misfit}
 use Rattle.ti_rules.specs.Broken.Words.{type_word_refusals}
 use Rattle.ti_rules.specs.Broken.Misplaced.{gives_nothing, misplaced, bounds_misplaced}
 use Rattle.ti_rules.specs.Broken.Expressions.{refusals_at, exp_refusals}
@@ -42,7 +42,7 @@ use Rattle.ti_rules.specs.Broken.Targets.{is_foreach_variable, is_coordinate, is
 use Rattle.ti_rules.specs.Broken.Statements.{narrows, result_refusals, update_refusals, operator_of}
 use Rattle.ti_rules.proofs.Lemmas.{nil_left, nil_right, not_refused, not_mistaken, no_misfit, there_is, operand_there, has_type}
 use Rattle.ti_align.specs.Mirrors.Fitting.{IsWritten, AreWritten, IsRangeWritten, AreRangesWritten}
-use Rattle.ti_align.specs.Mirrors.Work.{may_use, uses_of, domain_written, IsInner, IsWhole, WholeFits, ReceiverFits, RegionFits, InitFits}
+use Rattle.ti_align.specs.Mirrors.ContItem.{may_use, uses_of, domain_written, IsInner, IsWhole, WholeFits, ReceiverFits, RegionFits, InitFits}
 use Rattle.ti_align.proofs.Runs.Vars.{true_false, or_false, and_left, and_right}
 use Rattle.ti_align.proofs.RunTypes.Operating.{none_some, some_same}
 use Rattle.ti_align.proofs.RunTypes.Evaluating.{and_then, mapped, both_there}
@@ -66,7 +66,7 @@ one_more_fine f (y ∷ xs) x h k =
     ap₂ (λ a b. a ++ b) (nil_left (f y) (flat_map f xs) h) (one_more_fine f xs x (nil_right (f y) (flat_map f xs) h) k)
 
 -- what may be written
-write_fine : (p : NumberedProgram) (s : ScopeContents) (at : Place) (target : NumberedExp) (value : List Refusal) → write_refusals p s at target value ≡ []
+write_fine : (p : ProgramView) (s : ScopeContents) (at : Place) (target : NumberedExp) (value : List Refusal) → write_refusals p s at target value ≡ []
     → ((is_foreach_variable target ≡ false) × (is_hidden_local p s target ≡ false)) × (value ≡ [])
 write_fine p s at target value h = by (is_coordinate p s target) h
   where
@@ -76,16 +76,16 @@ write_fine p s at target value h = by (is_coordinate p s target) h
     hidden : List Refusal
     hidden = refused_if (is_hidden_local p s target) Q2 at
 
-    by : (b : Bool) → (if b then refused Y1 at else (turned ++ hidden) ++ value) ≡ [] → ((is_foreach_variable target ≡ false) × (is_hidden_local p s target ≡ false)) × (value ≡ [])
+    by : (b : Bool) → (if b then refusal_at Y1 at else (turned ++ hidden) ++ value) ≡ [] → ((is_foreach_variable target ≡ false) × (is_hidden_local p s target ≡ false)) × (value ≡ [])
     by true h = absurd (never h)
       where
-        never : refused Y1 at ≡ [] → ⊥
+        never : refusal_at Y1 at ≡ [] → ⊥
         never h = cc
     by false h =
-        let both = nil_left (turned ++ hidden) value h in (
+        let and_then_both = nil_left (turned ++ hidden) value h in (
           (
-            not_refused (is_foreach_variable target) Y2 at (nil_left turned hidden both),
-            not_refused (is_hidden_local p s target) Q2 at (nil_right turned hidden both),
+            not_refused (is_foreach_variable target) Y2 at (nil_left turned hidden and_then_both),
+            not_refused (is_hidden_local p s target) Q2 at (nil_right turned hidden and_then_both),
           ),
           nil_right (turned ++ hidden) value h,
         )
@@ -99,7 +99,7 @@ result_fine at r u h = by (narrows r u) h
 
 update_fine : (at : Place) (op : BinaryOperator) (u type : ValueType) → update_refusals at op u type ≡ [] → (r : ValueType) × (binary_type op u type ≡ Some r) × ((narrows r u || fits r u) ≡ true)
 update_fine at op u type h =
-    let taken = mistaken at (is_some (binary_type op u type)) (is_some (binary_type op (one_dim u) (one_dim type))) in
+    let taken = operand_refusal at (is_some (binary_type op u type)) (is_some (binary_type op (erase_dims u) (erase_dims type))) in
     let rule = λ (r : ValueType). result_refusals at r u in
     let r = there_is (binary_type op u type) (not_mistaken at _ _ (nil_left taken (judged (binary_type op u type) rule) h)) in
     (r.0, r.1, result_fine at r.0 u (judged_at (binary_type op u type) rule r.0 r.1 (nil_right taken (judged (binary_type op u type) rule) h)))
@@ -191,7 +191,7 @@ pub region_is : (r : ValueType) → is_region r ≡ true → r ≡ t.Region
 region_is t.Region h = refl
 region_is _ h = absurd (true_false (sym h))
 
-module _ (p : NumberedProgram) (fields : FieldsMeant p) (m : NumberedMethod) (s : ScopeContents) (turns : List ℕ) (around : Surrounds m s turns) where
+module _ (p : ProgramView) (fields : FieldsMeant p) (m : NumberedMethod) (s : ScopeContents) (turns : List ℕ) (around : Surrounds m s turns) where
   -- a variable that is used may be
   used : (number : ℕ) (d : Declaration) → means m turns number d ≡ true → may_use m number d ≡ true
   used number (t.Typed is_single type) h = formed_dims type (and_left (formed type) (not (is_void type)) h)
@@ -276,17 +276,17 @@ module _ (p : NumberedProgram) (fields : FieldsMeant p) (m : NumberedMethod) (s 
   -- an expression inside another
   pub inner_fits : (x : NumberedExp) → ExpMeant p m turns x → inner_refusals p s x ≡ [] → (type : ValueType) × IsInner p m s x type
   inner_fits x k h =
-      let q = operand_there (known p s x) (place_of_numbered x) (has_type p s x (names_known x k)
+      let q = operand_there (type_result p s x) (place_of_numbered x) (has_type p s x (names_known x k)
       (nil_left (exp_refusals p s x) (misplaced p s x) h)) (nil_right (exp_refusals p s x) (misplaced p s x) h) in
       (q.0, (written x k, q.1))
 
   -- ---- right sides
 
-  pub value_fits : (x : NumberedExp) → ExpMeant p m turns x → value_refusals p s x ≡ [] → (type : ValueType) × InitFits p m s (st.Value x) type × (value_type p s x ≡ Some type)
+  pub value_fits : (x : NumberedExp) → ExpMeant p m turns x → value_refusals p s x ≡ [] → (type : ValueType) × InitFits p m s (st.Value x) type × (right_side_type p s x ≡ Some type)
   value_fits x k h =
-      let nothing = refused_if (gives_nothing (typed p s x)) Y6 (place_of_numbered x) in
+      let nothing = refused_if (gives_nothing (expr_type p s x)) Y6 (place_of_numbered x) in
       let q = whole_fits x k (nil_left (exp_refusals p s x) nothing h) in
-      let some : is_void q.0 ≡ false = sym (ap gives_nothing q.1.0) ∙ not_refused (gives_nothing (typed p s x)) Y6 (place_of_numbered x) (nil_right (exp_refusals p s x) nothing h) in
+      let some : is_void q.0 ≡ false = sym (ap gives_nothing q.1.0) ∙ not_refused (gives_nothing (expr_type p s x)) Y6 (place_of_numbered x) (nil_right (exp_refusals p s x) nothing h) in
       (q.0, (q.1, some), ap (λ o. only_if (λ u. not (is_void u)) o) q.1.0 ∙ ap (λ b. if not b then Some q.0 else None) some)
 
   region_fits : (region : Option NumberedExp) → OptionMeant p m turns region → region_refusals p s region ≡ []
@@ -299,14 +299,14 @@ module _ (p : NumberedProgram) (fields : FieldsMeant p) (m : NumberedMethod) (s 
   bounds_there at rs k h i = by (bounds p s rs) refl
     where
       rule : List ValueType → List Refusal
-      rule = λ (ts : List ValueType). mistaken at (is_some (rect_literal (range_count rs) ts)) (is_some (rect_literal (range_count rs) (map one_dim ts)))
+      rule = λ (ts : List ValueType). operand_refusal at (is_some (rect_literal (range_count rs) ts)) (is_some (rect_literal (range_count rs) (map erase_dims ts)))
 
       by : (o : Option (List ValueType)) → bounds p s rs ≡ o → IsThere (bounds p s rs)
       by (Some ts) z = (ts, z)
       by None z =
           let own : refusals_at p s (e.Rect at rs) ≡ [] = ap₂ (λ a o. a
-          ++ judged o (λ (ts : List ValueType). mistaken at (is_some (rect_literal (range_count rs) ts))
-          (is_some (rect_literal (range_count rs) (map one_dim ts))))) i z in
+          ++ judged o (λ (ts : List ValueType). operand_refusal at (is_some (rect_literal (range_count rs) ts))
+          (is_some (rect_literal (range_count rs) (map erase_dims ts))))) i z in
           let q = has_type p s (e.Rect at rs) (ranges_known rs k) (one_more_fine (refusals_at p s) (parts_of_ranges rs) (e.Rect at rs) h own) in
           absurd (none_some q.0 (ap (option_and_then (rect_literal (range_count rs))) (sym z) ∙ q.1))
 
@@ -347,15 +347,15 @@ module _ (p : NumberedProgram) (fields : FieldsMeant p) (m : NumberedMethod) (s 
   where_is true a h = refl
   where_is false a h = absurd (true_false (sym h))
 
-  both_typed : {A B : Type 0} (o : Option A) (q : Option B) (f : A → B → Option ValueType) (a : A) (b : B) (type : ValueType) → o ≡ Some a → q ≡ Some b → f a b ≡ Some type → both o q f ≡ Some type
-  both_typed o q f a b type g h k = ap₂ (λ x y. both x y f) g h ∙ k
+  both_typed : {A B : Type 0} (o : Option A) (q : Option B) (f : A → B → Option ValueType) (a : A) (b : B) (type : ValueType) → o ≡ Some a → q ≡ Some b → f a b ≡ Some type → and_then_both o q f ≡ Some type
+  both_typed o q f a b type g h k = ap₂ (λ x y. and_then_both x y f) g h ∙ k
 
   -- a right side
   pub init_fits : (value : NumberedInit) → InitMeant p m turns value → initial_refusals p s value ≡ [] → (type : ValueType) × InitFits p m s value type × (initial_type p s value ≡ Some type)
   init_fits (st.Value x) k h = value_fits x k h
   init_fits (st.NewRegion at) k h = (t.Region, refl, refl)
   init_fits (st.NewObject at region class) k h =
-      let rule = λ (r : ValueType). mistaken at (is_region r) false in
+      let rule = λ (r : ValueType). operand_refusal at (is_region r) false in
       let q = region_fits region k.0 (nil_left (region_refusals p s region) (judged (region_type p s region) rule) h) in
       let i = not_mistaken at (is_region q.0) false (judged_at (region_type p s region) rule q.0 q.1 (nil_right (region_refusals p s region) (judged (region_type p s region) rule) h)) in
       let c = there_is (slice_get p.classes class) k.1 in (
@@ -364,7 +364,7 @@ module _ (p : NumberedProgram) (fields : FieldsMeant p) (m : NumberedMethod) (s 
         ap (option_and_then (object_type class)) q.1 ∙ ap (λ b. where_true b (t.Class class true)) i,
       )
   init_fits (st.NewGrid at region element dims_at dims) k h =
-      let rule = λ (r : ValueType) (d : Spread). mistaken at (is_some (new_grid_type element.type r d)) (is_some (new_grid_type element.type r (one_dim_spread d))) in
+      let rule = λ (r : ValueType) (d : Spread). operand_refusal at (is_some (new_grid_type element.type r d)) (is_some (new_grid_type element.type r (one_dim_spread d))) in
       let own = both_judged (region_type p s region) (spread p s dims) rule in
       let parts = nil_left ((region_refusals p s region ++ type_word_refusals false element) ++ dims_refusals p s dims) own h in
       let words = nil_left (region_refusals p s region ++ type_word_refusals false element) (dims_refusals p s dims) parts in
@@ -377,7 +377,7 @@ module _ (p : NumberedProgram) (fields : FieldsMeant p) (m : NumberedMethod) (s 
         both_typed (region_type p s region) (spread p s dims) (new_grid_type element.type) q.0 d.0 (t.Grid element.type g.0 true) q.1 d.1 g.3,
       )
   init_fits (st.Broadcast at x root) k h =
-      let rule = λ (u r : ValueType). mistaken at (is_some (broadcast_type u r)) false in
+      let rule = λ (u r : ValueType). operand_refusal at (is_some (broadcast_type u r)) false in
       let own = both_judged (operand_type p s x) (operand_type p s root) rule in
       let parts = nil_left (inner_refusals p s x ++ inner_refusals p s root) own h in
       let q = inner_fits x k.0 (nil_left (inner_refusals p s x) (inner_refusals p s root) parts) in
@@ -392,7 +392,7 @@ module _ (p : NumberedProgram) (fields : FieldsMeant p) (m : NumberedMethod) (s 
 
   -- ---- targets
 
-  target_operand : (x : NumberedExp) → ExpMeant p m turns x → is_place x ≡ true → (u : ValueType) → typed p s x ≡ Some u → operand_type p s x ≡ Some u
+  target_operand : (x : NumberedExp) → ExpMeant p m turns x → is_place x ≡ true → (u : ValueType) → expr_type p s x ≡ Some u → operand_type p s x ≡ Some u
   target_operand (e.Variable at v) k h u z =
       let q = variable_formed m s turns around v.number v.declared k in
       operand_plain (variable_type s v) u z (subst (λ type. is_void type ≡ false) (some_same q.0 u (sym q.1 ∙ z)) q.3)
@@ -406,7 +406,7 @@ module _ (p : NumberedProgram) (fields : FieldsMeant p) (m : NumberedMethod) (s 
       operand_plain (option_and_then (λ type. select_type p type name) (operand_type p s a)) u z (selected p fields m s turns around name q.0 u q.2).1
   target_operand (e.Index at a parts) k h u z =
       let q = both_there index_type (operand_type p s a) (operands p s parts) u z in
-      operand_plain (both (operand_type p s a) (operands p s parts) index_type) u z (index_something q.0 u q.1 q.4 (exp_formed p fields m s turns around a k.0 q.0 q.2))
+      operand_plain (and_then_both (operand_type p s a) (operands p s parts) index_type) u z (index_something q.0 u q.1 q.4 (exp_formed p fields m s turns around a k.0 q.0 q.2))
   target_operand _ k h u z = absurd (true_false (sym h))
 
   pub target_fits : (x : NumberedExp) → TargetMeant p m turns x → exp_refusals p s x ≡ [] → (u : ValueType) × IsInner p m s x u
@@ -425,7 +425,7 @@ module _ (p : NumberedProgram) (fields : FieldsMeant p) (m : NumberedMethod) (s 
       (u, r.0, (i, q.0.0, q.0.1), r.1, r.2)
 
 -- in the body of a foreach over such a domain
-pub surrounds_inside : (p : NumberedProgram) (m : NumberedMethod) (s : ScopeContents) (turns : List ℕ) → Surrounds m s turns → (number : ℕ) (domain : NumberedExp) (n : ℕ)
+pub surrounds_inside : (p : ProgramView) (m : NumberedMethod) (s : ScopeContents) (turns : List ℕ) → Surrounds m s turns → (number : ℕ) (domain : NumberedExp) (n : ℕ)
     → among turns number ≡ false → is_none (in_scope (method_scope m) number) ≡ true → option_and_then domain_dim (operand_type p s domain) ≡ Some n → is_dim n ≡ true
     → Surrounds m (record s { variables = variables_inside p s number domain }) (number ∷ turns)
 surrounds_inside p m s turns around number domain n apart fresh h dim =

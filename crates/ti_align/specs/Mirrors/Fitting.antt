@@ -13,11 +13,11 @@ use Rattle.ti_lang.specs.Typing.Expressions.{range_count}
 use Rattle.ti_lang.specs.Meaning.Scoping.{Env, value_by}
 use Rattle.ti_lang.specs.Program.Types as t
 use Rattle.ti_lang.specs.Program.Expressions as e
-use Rattle.ti_align.specs.Things.{Things, IsOf, DimsFine}
+use Rattle.ti_align.specs.HeapTyping.{HeapTyping, IsOf, DimsFine}
 
 -- The objects are those that the process sees. Its number and the number of processes have 32 bits, `this` is an object of its class, and
 -- each variable that is used holds a value of its type; foreach variables are points.
-pub record EnvFits (uses : VariableUse → Bool) (s : ScopeContents) (w : Things) (env : Env) : Type 0 where
+pub record EnvFits (uses : VariableUse → Bool) (s : ScopeContents) (w : HeapTyping) (env : Env) : Type 0 where
   pub owner : w.owner ≡ env.number
   pub number : Fits w32 (pos env.number)
   pub procs : Fits w32 (pos env.procs)

@@ -4,17 +4,17 @@ use Rattle.std.specs.List.{list_any}
 use Rattle.std.specs.BTreeMap.{is_at}
 use Rattle.std.specs.BTreeSet.{contains}
 use Rattle.ti_blame.specs.declared.mark.Mark.{Mark}
-use Rattle.ti_blame.specs.declared.mark.Name.{Name}
-use Rattle.ti_blame.specs.declared.fall.Falls.{Falls}
-use Rattle.ti_blame.specs.Names.{name_of, name_cmp}
+use Rattle.ti_blame.specs.declared.mark.MarkKey.{MarkKey}
+use Rattle.ti_blame.specs.declared.propagation.Propagation.{Propagation}
+use Rattle.ti_blame.specs.Keys.{key_of, key_cmp}
 
 -- the key is that of one of these annotations
-abbrev pub is_named : List Mark → Name → Bool
-is_named names n = list_any (λ m. is_at (name_cmp n) (name_of m)) names
+abbrev pub has_key : List Mark → MarkKey → Bool
+has_key names n = list_any (λ m. is_at (key_cmp n) (key_of m)) names
 
 -- these annotations are assumed, and nothing has been ruled out
-pub record IsStart (names : List Mark) (s : Falls) : Type 0 where
-  pub standing : (n : Name) → contains name_cmp s.standing n ≡ is_named names n
-  pub fallen : s.fallen.items ≡ []
+pub record IsStart (names : List Mark) (s : Propagation) : Type 0 where
+  pub assumed : (n : MarkKey) → contains key_cmp s.assumed n ≡ has_key names n
+  pub worklist : s.worklist.items ≡ []
   pub blamed : s.blamed ≡ None
   pub done : (i : ℕ) → get_or s.done.items i 0 ≡ 0

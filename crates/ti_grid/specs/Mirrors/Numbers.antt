@@ -10,7 +10,7 @@ abbrev pub steps_to : Range → ℤ → ℕ
 steps_to r x = natural (x -ℤ r.low) / r.step
 
 -- the cell index of a point of the domain
-abbrev pub number_of : Layout → Point → ℕ
-number_of v p =
+abbrev pub cell_index : Layout → Point → ℕ
+cell_index v p =
     v.base + steps_to (first_range v.dom) p.x1 * slice_index v.steps 0 + steps_to (second_range v.dom) p.x2 * slice_index v.steps 1
     + steps_to (third_range v.dom) p.x3 * slice_index v.steps 2

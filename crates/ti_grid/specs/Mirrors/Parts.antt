@@ -4,7 +4,7 @@ use Rattle.ti_base.specs.Ranges.{Range, IsOn, IsRange}
 use Rattle.ti_grid.specs.Mirrors.Numbers.{steps_to}
 
 -- part is a subrange of the range a, one step of which adds s to the cell index
-pub record IsPart (a part : Range) (s : ℕ) : Type 0 where
+pub record IsSubrange (a part : Range) (s : ℕ) : Type 0 where
   pub whole : IsRange a
   pub form : IsRange part
   pub inside : (x : ℤ) → IsOn part x → IsOn a x

@@ -1,6 +1,6 @@
 -- Mirrors the code, for contracts of private functions: an option as a list.
 use Rattle.std.specs.Prelude.{List, [], ◌∷◌, Option, Some, None}
 
-abbrev pub listed : {A : Type 0} → Option A → List A
-listed None = []
-listed (Some x) = x ∷ []
+abbrev pub option_list : {A : Type 0} → Option A → List A
+option_list None = []
+option_list (Some x) = x ∷ []

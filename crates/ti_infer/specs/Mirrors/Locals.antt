@@ -5,17 +5,17 @@ use Rattle.ti_base.specs.declared.place.Place.{Place}
 use Rattle.ti_lang.specs.Program.Types.{NumberedType}
 use Rattle.ti_lang.specs.Program.Statements.{NumberedStm, MaybeNumbered, NumberedStms}
 use Rattle.ti_lang.specs.Program.Statements as st
-use Rattle.ti_lang.specs.Program.Classes.{NumberedParam, NumberedParams, Words, Params}
-use Rattle.ti_blame.specs.declared.blame.Blame.TheVariants.{OfVariable}
+use Rattle.ti_lang.specs.Program.Classes.{NumberedParam, NumberedParams, MainArgs, Params}
+use Rattle.ti_blame.specs.declared.reason.Reason.TheVariants.{OfVariable}
 use Rattle.ti_blame.specs.declared.mark.Mark.{Mark}
-use Rattle.ti_blame.specs.declared.edge.Edge.{Edge}
+use Rattle.ti_blame.specs.declared.implication.Implication.{Implication}
 use Rattle.ti_infer.specs.declared.local.Local.{Local}
-use Rattle.ti_infer.specs.Names.{variable_name}
+use Rattle.ti_infer.specs.Candidates.{variable_candidate}
 use Rattle.ti_infer.specs.Mirrors.Places.{place_if}
-use Rattle.ti_infer.specs.Mirrors.Fits.{falls_unless, takes_mark}
+use Rattle.ti_infer.specs.Mirrors.Fits.{rule_out_unless, accepts_single}
 
 abbrev pub local_of : ℕ → Place → NumberedType → Local
-local_of number at type = record { number = number; place = at; takes = takes_mark at type }
+local_of number at type = record { number = number; place = at; accepts = accepts_single at type }
 
 abbrev mutual
   -- those that a statement declares; the variable of a foreach isn't one
@@ -44,13 +44,13 @@ abbrev pub place_among : List Local → ℕ → Option Place
 place_among [] n = None
 place_among (l ∷ ls) n = option_or (place_if l.number l.place n) (place_among ls n)
 
-abbrev pub local_names : List Local → List Mark
-local_names ls = map (λ (l : Local). variable_name l.place) ls
+abbrev pub local_candidates : List Local → List Mark
+local_candidates ls = map (λ (l : Local). variable_candidate l.place) ls
 
-abbrev pub local_edges : List Local → List Edge
-local_edges ls = flat_map (λ (l : Local). falls_unless l.takes (OfVariable l.place)) ls
+abbrev pub local_edges : List Local → List Implication
+local_edges ls = flat_map (λ (l : Local). rule_out_unless l.accepts (OfVariable l.place)) ls
 
 -- the declared parameters of a method; none for the form `String[] args`
-abbrev pub params_of : NumberedParams → List NumberedParam
-params_of Words = []
-params_of (Params ws) = ws
+abbrev pub declared_params : NumberedParams → List NumberedParam
+declared_params MainArgs = []
+declared_params (Params ws) = ws

@@ -4,8 +4,8 @@ use Rattle.std.specs.Option.{option_or}
 use Rattle.ti_base.specs.declared.place.Place.{Place}
 use Rattle.ti_lang.specs.Program.Classes.{NumberedParam}
 
-abbrev pub place_in : List (Option Place) → ℕ → Option Place
-place_in places number = unwrap_or (slice_get places number) None
+abbrev pub listed_place : List (Option Place) → ℕ → Option Place
+listed_place places number = unwrap_or (slice_get places number) None
 
 -- parameters are the variables from number 0 on
 abbrev pub places_of_params : List NumberedParam → List (Option Place)
@@ -17,4 +17,4 @@ place_if number at n = if number == n then Some at else None
 
 -- each entry is the place that was there, or else the one that is found
 abbrev pub AreAdded : List (Option Place) → List (Option Place) → (ℕ → Option Place) → Type 0
-AreAdded old new found = (number : ℕ) → place_in new number ≡ option_or (place_in old number) (found number)
+AreAdded old new found = (number : ℕ) → listed_place new number ≡ option_or (listed_place old number) (found number)

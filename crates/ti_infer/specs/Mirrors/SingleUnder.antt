@@ -3,9 +3,9 @@ use Rattle.std.specs.Prelude.{ℕ, Bool, true, false, not, ◌&&◌, Option}
 use Rattle.ti_lang.specs.Program.Types.{Declaration, Typed, Foreach}
 use Rattle.ti_lang.specs.Program.Expressions.{NumberedExp, NumberedExps, NumberedRange, NumberedRanges}
 use Rattle.ti_lang.specs.Program.Expressions as x
-use Rattle.ti_lang.specs.Program.Classes.{NumberedMethod, NumberedProgram}
+use Rattle.ti_lang.specs.Program.Classes.{NumberedMethod, ProgramView}
 use Rattle.ti_lang.specs.Typing.Kinds.{is_local, is_point}
-use Rattle.ti_lang.specs.Typing.TextTypes.{type_in_text}
+use Rattle.ti_lang.specs.Typing.TextTypes.{syntactic_type}
 use Rattle.ti_lang.specs.Typing.Called.{member_called}
 use Rattle.ti_lang.specs.Typing.Singleness.{tells_of_domain}
 use Rattle.ti_blame.specs.Marks.{Marks}
@@ -16,7 +16,7 @@ abbrev pub variable_under : Marks → NumberedMethod → (ℕ → Bool) → ℕ 
 variable_under marks m singles number (Typed is_single type) = marks_variable marks m number
 variable_under marks m singles number Foreach = singles number
 
-module _ (program : NumberedProgram) (this : Option ℕ) (test : ℕ → Declaration → Bool) where
+module _ (program : ProgramView) (this : Option ℕ) (test : ℕ → Declaration → Bool) where
   abbrev mutual
     pub single_under : NumberedExp → Bool
     single_under (x.Int at n) = true
@@ -29,7 +29,7 @@ module _ (program : NumberedProgram) (this : Option ℕ) (test : ℕ → Declara
     single_under (x.Unary at op a) = single_under a
     single_under (x.Binary at op a b) = single_under a && single_under b
     single_under (x.Cast at to a) = not (is_local to.type) && single_under a
-    single_under (x.Index at a xs) = is_point (type_in_text program this a) && (single_under a && all_under xs)
+    single_under (x.Index at a xs) = is_point (syntactic_type program this a) && (single_under a && all_under xs)
     single_under (x.Member at a name args) = tells_of_domain (member_called program this a name) && (single_under a && all_under args)
     single_under e = false
 

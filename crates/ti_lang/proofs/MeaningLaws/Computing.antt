@@ -11,23 +11,23 @@ use Rattle.ti_lang.specs.Typing.Called.{member_called}
 use Rattle.ti_lang.specs.Typing.Kinds.{is_point}
 use Rattle.ti_lang.specs.Meaning.Held.{Held, Plain}
 use Rattle.ti_base.specs.declared.value.Value.TheVariants as v
-use Rattle.ti_lang.specs.Meaning.Asking.{Request, Gives, Asks, Fails, Asking, ◌>>=◌, followed, gives}
-use Rattle.ti_lang.specs.Meaning.Operators.{operated, settled}
+use Rattle.ti_lang.specs.Meaning.Comp.{Request, Gives, Asks, Fails, Comp, ◌>>=◌, bind_result, gives}
+use Rattle.ti_lang.specs.Meaning.Operators.{apply_binary, short_circuit}
 use Rattle.ti_lang.specs.Meaning.Scoping.{Env, type_of}
-use Rattle.ti_lang.specs.Meaning.Parts.{Field}
+use Rattle.ti_lang.specs.Meaning.CellRefs.{Field}
 use Rattle.ti_lang.specs.Meaning.Evaluation.{eval, eval_all, eval_numbers, eval_range, eval_ranges, unless_settled}
 use Rattle.ti_lang.proofs.MeaningLaws.Silent.{Silent, silent_guarded, operated_silent, converted_silent, kept_silent, gives_same, rest_same, fails_gives, asks_gives, asks_fails}
 use Rattle.ti_lang.proofs.MeaningLaws.Short.{Short, fetched_short, indexed_short, member_short}
 
 -- It gives a value or a fault at once and uses no answer, or it asks for an action, and behind each answer to that it is such a
 -- computation again.
-pub data Computes {A : Type 0} : Asking A → Type 0 where
-  value : {m : Asking A} (a : A) → ((rs : List Answer) → m rs ≡ Gives a rs) → Computes m
-  fault : {m : Asking A} (kind : FaultKind) (at : Place) → ((rs : List Answer) → m rs ≡ Fails kind at) → Computes m
-  asks : {m : Asking A} (q : Request) → m [] ≡ Asks q → ((r : Answer) → Computes (λ rs. m (r ∷ rs))) → Computes m
+pub data Computes {A : Type 0} : Comp A → Type 0 where
+  value : {m : Comp A} (a : A) → ((rs : List Answer) → m rs ≡ Gives a rs) → Computes m
+  fault : {m : Comp A} (kind : FaultKind) (at : Place) → ((rs : List Answer) → m rs ≡ Fails kind at) → Computes m
+  asks : {m : Comp A} (q : Request) → m [] ≡ Asks q → ((r : Answer) → Computes (λ rs. m (r ∷ rs))) → Computes m
 
 -- where it has used all its answers it gives the same if there are more
-pub extended : {A : Type 0} (m : Asking A) → Computes m → (rs : List Answer) (a : A) → m rs ≡ Gives a [] → (more : List Answer) → m (rs ++ more) ≡ Gives a more
+pub extended : {A : Type 0} (m : Comp A) → Computes m → (rs : List Answer) (a : A) → m rs ≡ Gives a [] → (more : List Answer) → m (rs ++ more) ≡ Gives a more
 extended m (value b e) rs a z more =
     let none : rs ≡ [] = rest_same b a rs [] (sym (e rs) ∙ z) in
     let same : b ≡ a = gives_same b a rs [] (sym (e rs) ∙ z) in
@@ -37,13 +37,13 @@ extended m (asks q e f) [] a z more = absurd (asks_gives a [] q (sym e ∙ z))
 extended m (asks q e f) (r ∷ rs) a z more = extended (λ ss. m (r ∷ ss)) (f r) rs a z more
 
 -- on no answers none are left
-pub none_left : {A : Type 0} (m : Asking A) → Computes m → (a : A) (rest : List Answer) → m [] ≡ Gives a rest → rest ≡ []
+pub none_left : {A : Type 0} (m : Comp A) → Computes m → (a : A) (rest : List Answer) → m [] ≡ Gives a rest → rest ≡ []
 none_left m (value b e) a rest z = sym (rest_same b a [] rest (sym (e []) ∙ z))
 none_left m (fault kind at e) a rest z = absurd (fails_gives a rest kind at (sym (e []) ∙ z))
 none_left m (asks q e f) a rest z = absurd (asks_gives a rest q (sym e ∙ z))
 
 -- the answer to what was asked last is used
-pub used_up : {A : Type 0} (m : Asking A) → Computes m → (rs : List Answer) (q : Request) → m rs ≡ Asks q → (r : Answer) (a : A) (rest : List Answer) → m (rs ++ r ∷ []) ≡ Gives a rest → rest ≡ []
+pub used_up : {A : Type 0} (m : Comp A) → Computes m → (rs : List Answer) (q : Request) → m rs ≡ Asks q → (r : Answer) (a : A) (rest : List Answer) → m (rs ++ r ∷ []) ≡ Gives a rest → rest ≡ []
 used_up m (value b e) rs q z r a rest y = absurd (asks_gives b rs q (sym z ∙ e rs))
 used_up m (fault kind at e) rs q z r a rest y = absurd (asks_fails kind at q (sym z ∙ e rs))
 used_up m (asks p e f) [] q z r a rest y = none_left (λ ss. m (r ∷ ss)) (f r) a rest y
@@ -51,30 +51,30 @@ used_up m (asks p e f) (s ∷ rs) q z r a rest y = used_up (λ ss. m (s ∷ ss))
 
 -- ---- how they are put together
 
-same_computes : {A : Type 0} (m n : Asking A) → ((rs : List Answer) → m rs ≡ n rs) → Computes m → Computes n
+same_computes : {A : Type 0} (m n : Comp A) → ((rs : List Answer) → m rs ≡ n rs) → Computes m → Computes n
 same_computes m n k (value a e) = value a (λ rs. sym (k rs) ∙ e rs)
 same_computes m n k (fault kind at e) = fault kind at (λ rs. sym (k rs) ∙ e rs)
 same_computes m n k (asks q e f) = asks q (sym (k []) ∙ e) (λ r. same_computes (λ rs. m (r ∷ rs)) (λ rs. n (r ∷ rs)) (λ rs. k (r ∷ rs)) (f r))
 
-pub computes_then : {A B : Type 0} (m : Asking A) (k : A → Asking B) → Computes m → ((a : A) → Computes (k a)) → Computes (m >>= k)
-computes_then m k (value a e) f = same_computes (k a) (m >>= k) (λ rs. sym (ap (λ g. followed g k) (e rs))) (f a)
-computes_then m k (fault kind at e) f = fault kind at (λ rs. ap (λ g. followed g k) (e rs))
-computes_then m k (asks q e g) f = asks q (ap (λ g. followed g k) e) (λ r. computes_then (λ rs. m (r ∷ rs)) k (g r) f)
+pub computes_then : {A B : Type 0} (m : Comp A) (k : A → Comp B) → Computes m → ((a : A) → Computes (k a)) → Computes (m >>= k)
+computes_then m k (value a e) f = same_computes (k a) (m >>= k) (λ rs. sym (ap (λ g. bind_result g k) (e rs))) (f a)
+computes_then m k (fault kind at e) f = fault kind at (λ rs. ap (λ g. bind_result g k) (e rs))
+computes_then m k (asks q e g) f = asks q (ap (λ g. bind_result g k) e) (λ r. computes_then (λ rs. m (r ∷ rs)) k (g r) f)
 
 pub computes_value : {A : Type 0} (a : A) → Computes (gives a)
 computes_value a = value a (λ rs. refl)
 
-pub computes_silent : {A : Type 0} (m : Asking A) → Silent m → Computes m
+pub computes_silent : {A : Type 0} (m : Comp A) → Silent m → Computes m
 computes_silent m (inl x) = value x.0 x.1
 computes_silent m (inr x) = fault x.0 x.1 x.2
 
-pub computes_short : {A : Type 0} (m : Asking A) → Short m → Computes m
+pub computes_short : {A : Type 0} (m : Comp A) → Short m → Computes m
 computes_short m (inl x) = computes_silent m x
 computes_short m (inr x) = asks x.0 x.2 (λ r. value (x.1 r) (x.3 r))
 
 -- ---- expressions
 
-right_computes : (o : Option Held) (m : Asking Held) → Computes m → Computes (unless_settled o m)
+right_computes : (o : Option Held) (m : Comp Held) → Computes m → Computes (unless_settled o m)
 right_computes (Some h) m c = computes_value h
 right_computes None m c = c
 
@@ -87,7 +87,7 @@ module _ (env : Env) where
     eval_computes (e.Unary at o x) = computes_then _ _ (eval_computes x) (λ h. computes_value _)
     eval_computes (e.Binary at o x y) =
         computes_then _ _ (eval_computes x)
-        (λ h. right_computes (settled o h) (eval env y >>= λ k. operated at o h k) (computes_then _ _ (eval_computes y) (λ k. computes_silent _ (operated_silent at o h k))))
+        (λ h. right_computes (short_circuit o h) (eval env y >>= λ k. apply_binary at o h k) (computes_then _ _ (eval_computes y) (λ k. computes_silent _ (operated_silent at o h k))))
     eval_computes (e.Cast at to x) =
         computes_then _ _ (eval_computes x) (λ h. computes_then _ _ (computes_silent _ (converted_silent at to.type h)) (λ k. computes_silent _ (kept_silent env.number at to.type k)))
     eval_computes (e.Select at x name) = computes_then _ _ (eval_computes x) (λ h. computes_short _ (fetched_short at _ (Field h _ _)))

@@ -4,13 +4,13 @@ use Rattle.ti_base.specs.declared.place.Place.{Place}
 use Rattle.ti_base.specs.declared.fault.FaultKind.{FaultKind}
 use Rattle.ti_base.specs.declared.fault.FaultKind.TheVariants.{Fuel}
 use Rattle.ti_base.specs.declared.entry.Answer.{Answer}
-use Rattle.ti_lang.specs.Meaning.Asking.{Request, Got, Gives, Asks, Fails}
-use Rattle.ti_lang.specs.Meaning.Processes.{Work, Frame, Wait, Process}
+use Rattle.ti_lang.specs.Meaning.Comp.{Request, CompResult, Gives, Asks, Fails}
+use Rattle.ti_lang.specs.Meaning.Processes.{ContItem, Frame, Wait, Process}
 use Rattle.ti_lang.specs.Meaning.Scoping.{env_of}
 use Rattle.ti_lang.specs.Meaning.Moves.{Move, Goes, Turns, Breaks, Continues, Calls, Returns, Meets, Deletes}
-use Rattle.ti_lang.specs.Meaning.Performing.{performed}
+use Rattle.ti_lang.specs.Meaning.Performing.{exec_item}
 use Rattle.ti_lang.specs.Meaning.Jumps.{has_mark}
-use Rattle.ti_lang.specs.Meaning.Steps.{Step, To, At, Ends, Faults, ticks, asks, answered, most_frames, valued, moves, works, runs, steps, step}
+use Rattle.ti_lang.specs.Meaning.Steps.{Step, To, At, Ends, Faults, ticks, asks, add_answer, most_frames, step_of_result, moves, works, runs, steps, step}
 use Rattle.ti_lang.specs.Meaning.NextStep.{Reaches, here, later, After, none, more}
 
 -- behind the step the process has spent no less, and behind an answer more
@@ -34,7 +34,7 @@ jump_pays : (p : Process) (test : Bool) (x y : Process) → p.spent ≤ x.spent 
 jump_pays p true x y h g = h
 jump_pays p false x y h g = g
 
-moves_pay : (p : Process) (f : Frame) (fs : List Frame) (left : List Work) (move : Move) → Pays p (moves p f fs left move)
+moves_pay : (p : Process) (f : Frame) (fs : List Frame) (left : List ContItem) (move : Move) → Pays p (moves p f fs left move)
 moves_pay p f fs left (Goes variables new) = omega arith
 moves_pay p f fs left (Turns at variables new) = ticks_pay p at _ (omega arith)
 moves_pay p f fs left Breaks = jump_pays p (has_mark left) _ _ (omega arith) (omega arith)
@@ -44,13 +44,13 @@ moves_pay p f fs left (Returns value) = omega arith
 moves_pay p f fs left (Meets wait given behind) = asks_pay p _ _ (λ r. refl)
 moves_pay p f fs left (Deletes at region) = asks_pay p _ _ (λ r. refl)
 
-works_pay : (p : Process) (f : Frame) (fs : List Frame) (ws : List Work) → Pays p (works p f fs ws)
+works_pay : (p : Process) (f : Frame) (fs : List Frame) (ws : List ContItem) → Pays p (works p f fs ws)
 works_pay p f fs [] = moves_pay p f fs [] (Returns None)
-works_pay p f fs (x ∷ left) = by_got (performed (env_of p f left) x p.answers)
+works_pay p f fs (x ∷ left) = by_got (exec_item (env_of p f left) x p.answers)
   where
-    by_got : (got : Got Move) → Pays p (valued p got (moves p f fs left))
+    by_got : (got : CompResult Move) → Pays p (step_of_result p got (moves p f fs left))
     by_got (Gives move rest) = moves_pay p f fs left move
-    by_got (Asks request) = asks_pay p request (answered p) (λ r. refl)
+    by_got (Asks request) = asks_pay p request (add_answer p) (λ r. refl)
     by_got (Fails kind at) = tt
 
 runs_pay : (p : Process) (fs : List Frame) → Pays p (runs p fs)

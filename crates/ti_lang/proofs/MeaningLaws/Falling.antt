@@ -9,23 +9,23 @@ use Rattle.ti_lang.specs.Program.Expressions.{NumberedExp, NumberedExps}
 use Rattle.ti_lang.specs.Program.Expressions as e
 use Rattle.ti_lang.specs.Program.Statements.{NumberedInit, NumberedPrint, NumberedStm, MaybeNumbered, NoStm, SomeStm, NumberedStms, Nil, Cons, numbered_stms}
 use Rattle.ti_lang.specs.Program.Statements as s
-use Rattle.ti_lang.specs.Program.Classes.{NumberedMethod, NumberedProgram}
+use Rattle.ti_lang.specs.Program.Classes.{NumberedMethod, ProgramView}
 use Rattle.ti_lang.specs.Program.Scope.{this_of}
 use Rattle.ti_lang.specs.Typing.BuiltIn.{BuiltIn, Copy, Exchange, Delete}
-use Rattle.ti_lang.specs.Typing.TextTypes.{type_in_text}
+use Rattle.ti_lang.specs.Typing.TextTypes.{syntactic_type}
 use Rattle.ti_lang.specs.Typing.Called.{method_behind, member_called}
 use Rattle.ti_lang.specs.Meaning.Held.{Held, truth_of}
-use Rattle.ti_lang.specs.Meaning.Asking.{Reference, Asking, Got, Gives, Asks, Fails, followed, gives, guarded}
+use Rattle.ti_lang.specs.Meaning.Comp.{Reference, Comp, CompResult, Gives, Asks, Fails, bind_result, gives, guard}
 use Rattle.ti_lang.specs.Meaning.Evaluation.{eval}
 use Rattle.ti_lang.specs.Meaning.Makers.{new_object, new_grid}
-use Rattle.ti_lang.specs.Meaning.Processes.{Variable, Receiver, Nowhere, Declared, Assigned, Updated, While, Foreach, Work, Do, End, Before, Behind, Receive, CopyAll, TakeAll}
+use Rattle.ti_lang.specs.Meaning.Processes.{Variable, Receiver, Nowhere, Declared, Assigned, Updated, While, Foreach, ContItem, Do, End, Before, Behind, Receive, CopyAll, TakeAll}
 use Rattle.ti_lang.specs.Meaning.Scoping.{Env}
 use Rattle.ti_lang.specs.Meaning.Copies.{copies}
 use Rattle.ti_lang.specs.Meaning.Collectives.{broadcasts, exchanges, deletes}
 use Rattle.ti_lang.specs.Meaning.Calls.{Call, call_of, called, calling}
 use Rattle.ti_lang.specs.Meaning.Moves.{Move, Goes, Turns, Breaks, Continues, Calls, Returns, Meets, Deletes, receives}
 use Rattle.ti_lang.specs.Meaning.Statements.{made_first, valued_or_called, initialized, member_alone, alone, printed, one_more, declared_as, maybe_do, returns, statement}
-use Rattle.ti_lang.specs.Meaning.Performing.{condition, performed}
+use Rattle.ti_lang.specs.Meaning.Performing.{condition, exec_item}
 use Rattle.ti_lang.proofs.MeaningLaws.Sizes.{size, size_maybe, sizes, weight_of, weigh, need, Fits, MethodsFit, OneFits, at_fits, instance_fits, weigh_append, fits_append, weigh_before, fits_before}
 
 -- the move leaves less than k, and b more where it costs a tick
@@ -40,17 +40,17 @@ MoveFalls b k (Meets wait given behind) = Unit {0}
 MoveFalls b k (Deletes at region) = Unit {0}
 
 -- Q of what a computation gives
-abbrev pub Giving : {A : Type 0} → (A → Type 0) → Got A → Type 0
+abbrev pub Giving : {A : Type 0} → (A → Type 0) → CompResult A → Type 0
 Giving Q (Gives a rest) = Q a
 Giving Q (Asks request) = Unit {0}
 Giving Q (Fails kind at) = Unit {0}
 
-pub then_giving : {A B : Type 0} (Q : B → Type 0) (m : Got A) (go : A → Asking B) → ((a : A) (rest : List Answer) → Giving Q (go a rest)) → Giving Q (followed m go)
+pub then_giving : {A B : Type 0} (Q : B → Type 0) (m : CompResult A) (go : A → Comp B) → ((a : A) (rest : List Answer) → Giving Q (go a rest)) → Giving Q (bind_result m go)
 then_giving Q (Gives a rest) go h = h a rest
 then_giving Q (Asks request) go h = tt
 then_giving Q (Fails kind at) go h = tt
 
-pub guarded_giving : {A : Type 0} (Q : A → Type 0) (test : Bool) (kind : FaultKind) (at : Place) (a : A) (rest : List Answer) → Q a → Giving Q (guarded test kind at a rest)
+pub guarded_giving : {A : Type 0} (Q : A → Type 0) (test : Bool) (kind : FaultKind) (at : Place) (a : A) (rest : List Answer) → Q a → Giving Q (guard test kind at a rest)
 guarded_giving Q true kind at a rest h = h
 guarded_giving Q false kind at a rest h = tt
 
@@ -66,7 +66,7 @@ falls_more b k n (Returns value) h = h
 falls_more b k n (Meets wait given behind) h = h
 falls_more b k n (Deletes at region) h = h
 
-giving_more : (b k n : ℕ) (got : Got Move) → Giving (MoveFalls b k) got → Giving (MoveFalls b (k + n)) got
+giving_more : (b k n : ℕ) (got : CompResult Move) → Giving (MoveFalls b k) got → Giving (MoveFalls b (k + n)) got
 giving_more b k n (Gives move rest) h = falls_more b k n move h
 giving_more b k n (Asks request) h = h
 giving_more b k n (Fails kind at) h = h
@@ -93,7 +93,7 @@ by_method : (b : ℕ) (at : Place) (object : Option NumberedExp) (args : Numbere
 by_method b at object args None h = tt
 by_method b at object args (Some m) h = h
 
-behind_fits : (b : ℕ) (p : NumberedProgram) (t : ValueType) (name : ℕ) → MethodsFit b p → OneFits b (method_behind p t name)
+behind_fits : (b : ℕ) (p : ProgramView) (t : ValueType) (name : ℕ) → MethodsFit b p → OneFits b (method_behind p t name)
 behind_fits b p (Class c is_local) name f = instance_fits b p c name f
 behind_fits b p _ name f = tt
 
@@ -101,7 +101,7 @@ pub called_fits : (b : ℕ) (env : Env) (x : NumberedExp) → MethodsFit b env.p
 called_fits b env (e.Call at method args) f = by_method b at None args (slice_get env.program.methods method) (at_fits b env.program.methods method f)
 called_fits b env (e.OwnCall at method args) f = by_method b at _ args (slice_get env.program.methods method) (at_fits b env.program.methods method f)
 called_fits b env (e.Member at x name args) f =
-    let t = type_in_text env.program (this_of env.method) x in
+    let t = syntactic_type env.program (this_of env.method) x in
     by_method b at (Some x) args (method_behind env.program t name) (behind_fits b env.program t name f)
 called_fits b env _ f = tt
 
@@ -111,7 +111,7 @@ module _ (b : ℕ) (k : ℕ) (some : 0 < k) where
   goes_falls : (variables : List Variable) → MoveFalls b k (Goes variables [])
   goes_falls variables = (some, tt)
 
-  receives_falls : (env : Env) (receiver : Receiver) (right : Asking Held) (rest : List Answer) → Giving (MoveFalls b k) (receives env receiver right rest)
+  receives_falls : (env : Env) (receiver : Receiver) (right : Comp Held) (rest : List Answer) → Giving (MoveFalls b k) (receives env receiver right rest)
   receives_falls env receiver right rest = search (then_giving, goes_falls)
 
   calling_falls : (env : Env) (receiver : Receiver) (c : Call) (rest : List Answer) → sizes (numbered_stms c.method.body) + 3 ≤ b → Giving (MoveFalls b k) (calling env receiver c rest)
@@ -126,7 +126,7 @@ module _ (b : ℕ) (k : ℕ) (some : 0 < k) where
   deletes_falls : (env : Env) (at : Place) (x : NumberedExp) (rest : List Answer) → Giving (MoveFalls b k) (deletes env at x rest)
   deletes_falls env at x rest = search then_giving
 
-  made_falls : (env : Env) (receiver : Receiver) (new : Asking Held) (rest : List Answer) → Giving (MoveFalls b k) (made_first env receiver new rest)
+  made_falls : (env : Env) (receiver : Receiver) (new : Comp Held) (rest : List Answer) → Giving (MoveFalls b k) (made_first env receiver new rest)
   made_falls env receiver new rest = search (then_giving, goes_falls)
 
   value_falls : (env : Env) (receiver : Receiver) (x : NumberedExp) (o : Option Call) (rest : List Answer) → CallFits b o → Giving (MoveFalls b k) (valued_or_called env receiver x o rest)
@@ -158,7 +158,7 @@ copy_falls b variables at to from points = (omega arith, (omega arith, tt))
 copies_falls : (b : ℕ) (env : Env) (at : Place) (x : NumberedExp) (args : NumberedExps) (rest : List Answer) → Giving (MoveFalls b 2) (copies env at x args rest)
 copies_falls b env at x args rest = search (then_giving, copy_falls) depth 14
 
-member_falls : (b : ℕ) (env : Env) (at : Place) (x : NumberedExp) (args : NumberedExps) (other : Asking Move) (o : Option BuiltIn) (rest : List Answer)
+member_falls : (b : ℕ) (env : Env) (at : Place) (x : NumberedExp) (args : NumberedExps) (other : Comp Move) (o : Option BuiltIn) (rest : List Answer)
     → Giving (MoveFalls b 2) (other rest) → Giving (MoveFalls b 2) (member_alone env at x args other o rest)
 member_falls b env at x args other (Some Copy) rest h = copies_falls b env at x args rest
 member_falls b env at x args other (Some Exchange) rest h = exchanges_falls b 2 (omega arith) env at x args rest
@@ -174,7 +174,7 @@ alone_falls b env x None rest f = receives_falls b 2 (omega arith) env Nowhere (
 -- ---- statements
 
 -- the branch that is chosen weighs less than both
-chosen_falls : (b n : ℕ) (test : Bool) (x y : List Work) → weigh x < n → weigh y < n → Fits b x → Fits b y → (weigh (if test then x else y) < n) × Fits b (if test then x else y)
+chosen_falls : (b n : ℕ) (test : Bool) (x y : List ContItem) → weigh x < n → weigh y < n → Fits b x → Fits b y → (weigh (if test then x else y) < n) × Fits b (if test then x else y)
 chosen_falls b n true x y h g p q = (h, p)
 chosen_falls b n false x y h g p q = (g, q)
 
@@ -210,7 +210,7 @@ statement_falls b env (s.Return at value) rest f h = returns_falls b 1 (omega ar
 
 -- ---- other work
 
-pub work_falls : (b : ℕ) (env : Env) (w : Work) (rest : List Answer) → MethodsFit b env.program → need w ≤ b → Giving (MoveFalls b (weight_of w + length rest)) (performed env w rest)
+pub work_falls : (b : ℕ) (env : Env) (w : ContItem) (rest : List Answer) → MethodsFit b env.program → need w ≤ b → Giving (MoveFalls b (weight_of w + length rest)) (exec_item env w rest)
 work_falls b env (Do x) rest f h = giving_more b (size x) (length rest) (statement env x rest) (statement_falls b env x rest f h)
 work_falls b env (End x) rest f h = (omega arith, tt)
 work_falls b env (Before (While at c update body)) rest f h =

@@ -6,10 +6,10 @@ use Rattle.ti_lang.specs.Program.Types.{ValueType, Declaration, Typed, Foreach}
 use Rattle.ti_lang.specs.Program.Types as t
 use Rattle.ti_lang.specs.Program.Expressions.{NumberedExp}
 use Rattle.ti_lang.specs.Program.Expressions as e
-use Rattle.ti_lang.specs.Program.Classes.{NumberedProgram}
+use Rattle.ti_lang.specs.Program.Classes.{ProgramView}
 use Rattle.ti_lang.specs.Typing.Kinds.{is_point, class_of_type}
 use Rattle.ti_lang.specs.Typing.BuiltIn.{BuiltIn, Size, Min, Max, Contains, Domain, Restrict, Translate, Slice, Copy, Exchange, Delete, built_in}
-use Rattle.ti_lang.specs.Typing.TextTypes.{used_type, joined_type, product_type, operator_type, field_seen, element_seen, sliced, built_in_type, member_seen, type_at}
+use Rattle.ti_lang.specs.Typing.TextTypes.{used_type, joined_type, product_type, operator_type, static_field_type, static_element_type, slice_type, built_in_type, static_member_type, type_at}
 
 -- the type without the dimensions of a point or a domain
 abbrev flat : ValueType → ValueType
@@ -108,7 +108,7 @@ operator_flat op.Remainder x y = joined_flat x y
 
 -- ---- parts and members
 
-field_flat : (p : NumberedProgram) (name : ℕ) (x : ValueType) → field_seen p name x ≡ field_seen p name (flat x)
+field_flat : (p : ProgramView) (name : ℕ) (x : ValueType) → static_field_type p name x ≡ static_field_type p name (flat x)
 field_flat p name t.Int = refl
 field_flat p name t.Long = refl
 field_flat p name t.Boolean = refl
@@ -121,7 +121,7 @@ field_flat p name (t.Grid element n is_local) = refl
 field_flat p name t.Null = refl
 field_flat p name t.Void = refl
 
-element_flat : (x : ValueType) → element_seen x ≡ element_seen (flat x)
+element_flat : (x : ValueType) → static_element_type x ≡ static_element_type (flat x)
 element_flat t.Int = refl
 element_flat t.Long = refl
 element_flat t.Boolean = refl
@@ -134,7 +134,7 @@ element_flat (t.Grid element n is_local) = refl
 element_flat t.Null = refl
 element_flat t.Void = refl
 
-sliced_flat : (x : ValueType) → flat (sliced x) ≡ flat (sliced (flat x))
+sliced_flat : (x : ValueType) → flat (slice_type x) ≡ flat (slice_type (flat x))
 sliced_flat t.Int = refl
 sliced_flat t.Long = refl
 sliced_flat t.Boolean = refl
@@ -161,7 +161,7 @@ built_in_flat (Some Exchange) x = refl
 built_in_flat (Some Delete) x = refl
 built_in_flat None x = refl
 
-member_flat : (p : NumberedProgram) (name : ℕ) (x : ValueType) → flat (member_seen p name x) ≡ flat (member_seen p name (flat x))
+member_flat : (p : ProgramView) (name : ℕ) (x : ValueType) → flat (static_member_type p name x) ≡ flat (static_member_type p name (flat x))
 member_flat p name t.Int = built_in_flat (built_in p name) t.Int
 member_flat p name t.Long = built_in_flat (built_in p name) t.Long
 member_flat p name t.Boolean = built_in_flat (built_in p name) t.Boolean
@@ -180,7 +180,7 @@ used_flat dims other number Foreach = refl
 
 -- ---- expressions
 
-module _ (p : NumberedProgram) (this : Option ℕ) (dims other : ℕ → ℕ) where
+module _ (p : ProgramView) (this : Option ℕ) (dims other : ℕ → ℕ) where
   type_flat : (x : NumberedExp) → flat (type_at p this dims x) ≡ flat (type_at p this other x)
   type_flat (e.Int at n) = refl
   type_flat (e.Long at n) = refl
@@ -203,11 +203,11 @@ module _ (p : NumberedProgram) (this : Option ℕ) (dims other : ℕ → ℕ) wh
       ∙ sym (operator_flat o (type_at p this other x) (type_at p this other y))
   type_flat (e.Cast at to x) = refl
   type_flat (e.Select at x name) =
-      ap flat (field_flat p name (type_at p this dims x) ∙ ap (field_seen p name) (type_flat x) ∙ sym (field_flat p name (type_at p this other x)))
+      ap flat (field_flat p name (type_at p this dims x) ∙ ap (static_field_type p name) (type_flat x) ∙ sym (field_flat p name (type_at p this other x)))
   type_flat (e.Member at x name args) =
-      member_flat p name (type_at p this dims x) ∙ ap (λ a. flat (member_seen p name a)) (type_flat x) ∙ sym (member_flat p name (type_at p this other x))
+      member_flat p name (type_at p this dims x) ∙ ap (λ a. flat (static_member_type p name a)) (type_flat x) ∙ sym (member_flat p name (type_at p this other x))
   type_flat (e.Index at x parts) =
-      ap flat (element_flat (type_at p this dims x) ∙ ap element_seen (type_flat x) ∙ sym (element_flat (type_at p this other x)))
+      ap flat (element_flat (type_at p this dims x) ∙ ap static_element_type (type_flat x) ∙ sym (element_flat (type_at p this other x)))
 
 -- ---- forms
 
@@ -237,11 +237,11 @@ class_flat (t.Grid element n is_local) = refl
 class_flat t.Null = refl
 class_flat t.Void = refl
 
-pub point_told : (p : NumberedProgram) (this : Option ℕ) (dims other : ℕ → ℕ) (x : NumberedExp) → is_point (type_at p this dims x) ≡ is_point (type_at p this other x)
+pub point_told : (p : ProgramView) (this : Option ℕ) (dims other : ℕ → ℕ) (x : NumberedExp) → is_point (type_at p this dims x) ≡ is_point (type_at p this other x)
 point_told p this dims other x = point_flat (type_at p this dims x) ∙ ap is_point (type_flat p this dims other x) ∙ sym (point_flat (type_at p this other x))
 
-pub class_told : (p : NumberedProgram) (this : Option ℕ) (dims other : ℕ → ℕ) (x : NumberedExp) → class_of_type (type_at p this dims x) ≡ class_of_type (type_at p this other x)
+pub class_told : (p : ProgramView) (this : Option ℕ) (dims other : ℕ → ℕ) (x : NumberedExp) → class_of_type (type_at p this dims x) ≡ class_of_type (type_at p this other x)
 class_told p this dims other x = class_flat (type_at p this dims x) ∙ ap class_of_type (type_flat p this dims other x) ∙ sym (class_flat (type_at p this other x))
 
-pub element_told : (p : NumberedProgram) (this : Option ℕ) (dims other : ℕ → ℕ) (x : NumberedExp) → element_seen (type_at p this dims x) ≡ element_seen (type_at p this other x)
-element_told p this dims other x = element_flat (type_at p this dims x) ∙ ap element_seen (type_flat p this dims other x) ∙ sym (element_flat (type_at p this other x))
+pub element_told : (p : ProgramView) (this : Option ℕ) (dims other : ℕ → ℕ) (x : NumberedExp) → static_element_type (type_at p this dims x) ≡ static_element_type (type_at p this other x)
+element_told p this dims other x = element_flat (type_at p this dims x) ∙ ap static_element_type (type_flat p this dims other x) ∙ sym (element_flat (type_at p this other x))

@@ -14,12 +14,12 @@ use Rattle.ti_base.specs.declared.action.Action.TheVariants as act
 use Rattle.ti_base.specs.declared.entry.Answer.{Answer}
 use Rattle.ti_base.specs.Points.{IsDim, IsPoint, moved_back}
 use Rattle.ti_base.specs.PointSets.{same_number}
-use Rattle.ti_base.specs.Ranges.{Range, is_empty_range, both, shifted, unused, natural}
-use Rattle.ti_base.specs.Rects.{empty_rect, is_empty, of_ranges, translated, without, first_range, second_range, third_range}
+use Rattle.ti_base.specs.Ranges.{Range, is_empty_range, meet_ranges, shift_range, unused_range, natural}
+use Rattle.ti_base.specs.Rects.{empty_rect, is_empty, of_ranges, translate_rect, without, first_range, second_range, third_range}
 use Rattle.ti_base.specs.Cells.{Grid, whole_grid, cell_of, view, suits, view_fault, AgreeUnused, IsOneToOne}
-use Rattle.ti_lang.specs.Program.Classes.{NumberedProgram}
+use Rattle.ti_lang.specs.Program.Classes.{ProgramView}
 use Rattle.ti_lang.specs.Meaning.Histories.{History, is_making}
-use Rattle.ti_lang.specs.Meaning.HeapOf.{new_id, view_id, is_grid, grid_made, grid_of}
+use Rattle.ti_lang.specs.Meaning.HeapOf.{new_id, view_id, is_grid, grid_made, grid_of_id}
 use Rattle.ti_base.specs.Forms.{is_dim}
 use Rattle.ti_lang.specs.Meaning.HeapAnswers.{Answers, possible_if, views, makes, places, heap_answer, IsAnswered, none, more}
 use Rattle.ti_lang.proofs.MeaningLaws.Dims.{dims_are}
@@ -52,17 +52,17 @@ of_ranges_dim d a b c = by (is_empty_range a || is_empty_range b || is_empty_ran
 
 without_dim : (k : ℕ) (r : Rect) → (without k r).dim ≡ r.dim - 1
 without_dim k r =
-    let x = of_ranges (r.dim - 1) (second_range r) (third_range r) unused in
-    let y = of_ranges (r.dim - 1) (first_range r) (third_range r) unused in
-    let z = of_ranges (r.dim - 1) (first_range r) (second_range r) unused in
-    either_dim (k == 1) x (if k == 2 then y else z) (r.dim - 1) (of_ranges_dim (r.dim - 1) (second_range r) (third_range r) unused)
-    (either_dim (k == 2) y z (r.dim - 1) (of_ranges_dim (r.dim - 1) (first_range r) (third_range r) unused) (of_ranges_dim (r.dim - 1) (first_range r) (second_range r) unused))
+    let x = of_ranges (r.dim - 1) (second_range r) (third_range r) unused_range in
+    let y = of_ranges (r.dim - 1) (first_range r) (third_range r) unused_range in
+    let z = of_ranges (r.dim - 1) (first_range r) (second_range r) unused_range in
+    either_dim (k == 1) x (if k == 2 then y else z) (r.dim - 1) (of_ranges_dim (r.dim - 1) (second_range r) (third_range r) unused_range)
+    (either_dim (k == 2) y z (r.dim - 1) (of_ranges_dim (r.dim - 1) (first_range r) (third_range r) unused_range) (of_ranges_dim (r.dim - 1) (first_range r) (second_range r) unused_range))
 
-translated_dim : (r : Rect) (p : Point) → (translated r p).dim ≡ r.dim
+translated_dim : (r : Rect) (p : Point) → (translate_rect r p).dim ≡ r.dim
 translated_dim r p =
-    let a = shifted p.x1 (first_range r) in
-    let b = shifted p.x2 (second_range r) in
-    let c = shifted p.x3 (third_range r) in
+    let a = shift_range p.x1 (first_range r) in
+    let b = shift_range p.x2 (second_range r) in
+    let c = shift_range p.x3 (third_range r) in
     either_dim (is_empty r) r (of_ranges r.dim a b c) r.dim refl (of_ranges_dim r.dim a b c)
 
 -- ---- points
@@ -106,7 +106,7 @@ put_in_dim false false j p = refl
 
 view_sound : (how : ViewHow) (g : Grid) → IsSound g → suits how g.domain ≡ true → IsSound (view how g)
 view_sound (Restrict r) g s e =
-    let d = of_ranges_dim g.domain.dim (both (first_range g.domain) (first_range r)) (both (second_range g.domain) (second_range r)) (both (third_range g.domain) (third_range r)) in
+    let d = of_ranges_dim g.domain.dim (meet_ranges (first_range g.domain) (first_range r)) (meet_ranges (second_range g.domain) (second_range r)) (meet_ranges (third_range g.domain) (third_range r)) in
     (subst IsDim (sym d) s.0, λ p q a b c same. s.1 p q (a ∙ d) (b ∙ d) (subst (λ n. AgreeUnused n p q) d c) same)
 view_sound (Translate by) g s e =
     let d = translated_dim g.domain by in (
@@ -133,15 +133,15 @@ view_sound (Slice k j) g s e =
 
 -- ---- every grid of an answered history
 
-made_sound : (program : NumberedProgram) (h : History) (i : ℕ) (id : Id) (a : Action) (r : Answer) (g : Grid) → heap_answer program h i a ≡ Answers r
-    → ((viewed : Id) (f : Grid) → grid_of viewed h ≡ Some f → IsSound f) → grid_made id a (λ viewed. grid_of viewed h) ≡ Some g → IsSound g
+made_sound : (program : ProgramView) (h : History) (i : ℕ) (id : Id) (a : Action) (r : Answer) (g : Grid) → heap_answer program h i a ≡ Answers r
+    → ((viewed : Id) (f : Grid) → grid_of_id viewed h ≡ Some f → IsSound f) → grid_made id a (λ viewed. grid_of_id viewed h) ≡ Some g → IsSound g
 made_sound program h i id (act.NewGrid element domain region) r g e earlier m =
     let t = possible_then (is_dim domain.dim) (places region h (makes program h i (act.NewGrid element domain region) (v.Grid (Some (new_id i region h))))) r e in
     let same : whole_grid id element domain ≡ g = cc in
     subst IsSound same (dims_are domain.dim t.0, λ p q a b c k. k)
 made_sound program h i id (act.MakeView viewed how) r g e earlier m =
     let made = makes program h i (act.MakeView viewed how) (v.Grid (Some (view_id i viewed h))) in
-    let s = some_then (grid_of viewed h) (λ k. possible_if (suits how k.domain) (views (view_fault how k.domain) made)) r e in
+    let s = some_then (grid_of_id viewed h) (λ k. possible_if (suits how k.domain) (views (view_fault how k.domain) made)) r e in
     let t = possible_then (suits how s.0.domain) (views (view_fault how s.0.domain) made) r s.2 in
     let same : Some (view how s.0) ≡ Some g = sym (ap (option_map (view how)) s.1) ∙ m in
     let inner : view how s.0 ≡ g = cc in
@@ -159,19 +159,19 @@ made_sound program h i id (act.Take who) r g e earlier m = cc
 made_sound program h i id act.End r g e earlier m = cc
 made_sound program h i id (act.Fault kind) r g e earlier m = cc
 
-sound : (program : NumberedProgram) (h : History) → IsAnswered program h → (id : Id) (g : Grid) → grid_of id h ≡ Some g → IsSound g
+sound : (program : ProgramView) (h : History) → IsAnswered program h → (id : Id) (g : Grid) → grid_of_id id h ≡ Some g → IsSound g
 sound program h none id g m = cc
 sound program h (more {h = earlier} {e = e} a said) id g m = by (sound program earlier a) (is_making e.act && is_grid id e.answer) m
   where
-    by : ((viewed : Id) (f : Grid) → grid_of viewed earlier ≡ Some f → IsSound f)
-        → (t : Bool) → (if t then grid_made id e.act (λ viewed. grid_of viewed earlier) else grid_of id earlier) ≡ Some g → IsSound g
+    by : ((viewed : Id) (f : Grid) → grid_of_id viewed earlier ≡ Some f → IsSound f)
+        → (t : Bool) → (if t then grid_made id e.act (λ viewed. grid_of_id viewed earlier) else grid_of_id id earlier) ≡ Some g → IsSound g
     by before true k = made_sound program earlier e.proc id e.act e.answer g said before k
     by before false k = before id g k
 
 agree : (d : ℕ) (p q : Point) → IsPoint p → IsPoint q → p.dim ≡ d → q.dim ≡ d → AgreeUnused d p q
 agree d p q a b e f = (λ l. a.second (omega arith) ∙ sym (b.second (omega arith)), λ l. a.third (omega arith) ∙ sym (b.third (omega arith)))
 
-pub cells_differ : (program : NumberedProgram) (h : History) (id : Id) (g : Grid) (p q : Point) → IsAnswered program h → grid_of id h ≡ Some g
+pub cells_differ : (program : ProgramView) (h : History) (id : Id) (g : Grid) (p q : Point) → IsAnswered program h → grid_of_id id h ≡ Some g
     → IsPoint p → IsPoint q → p.dim ≡ g.domain.dim → q.dim ≡ g.domain.dim → cell_of g p ≡ cell_of g q → p ≡ q
 cells_differ program h id g p q a m x y e f same =
     let s = sound program h a id g m in

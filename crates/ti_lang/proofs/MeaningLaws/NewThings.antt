@@ -11,10 +11,10 @@ use Rattle.ti_base.specs.declared.entry.Answer.{Answer}
 use Rattle.ti_base.specs.declared.entry.Answer.TheVariants.{Done, Val}
 use Rattle.ti_base.specs.declared.entry.Entry.{Entry}
 use Rattle.ti_base.specs.Cells.{Cell, Field, Element, same_id, zero_value, Grid}
-use Rattle.ti_lang.specs.Program.Classes.{NumberedProgram}
+use Rattle.ti_lang.specs.Program.Classes.{ProgramView}
 use Rattle.ti_lang.specs.Meaning.Zeros.{zeros_of_class}
 use Rattle.ti_lang.specs.Meaning.Histories.{History, is_making}
-use Rattle.ti_lang.specs.Meaning.HeapOf.{is_object, is_grid, made_by, IsMade, class_made, class_of, grid_made, grid_of, written_by, written_to, or_else, last_written, zero_of, cell_value}
+use Rattle.ti_lang.specs.Meaning.HeapOf.{is_object, is_grid, made_by, IsMade, class_made, class_of_object, grid_made, grid_of_id, written_by, written_to, or_else, last_written, zero_of, cell_value}
 use Rattle.ti_lang.specs.Meaning.HeapAnswers.{IsAnswered}
 use Rattle.ti_lang.proofs.MeaningLaws.Things.{made_once}
 
@@ -60,20 +60,20 @@ grid_made_by a id Done m e = cc
 
 -- ---- what has a class, and what has a map, was made
 
-pub class_then : (id : Id) (h : History) (c : ℕ) → class_of id h ≡ Some c → IsMade id h
+pub class_then : (id : Id) (h : History) (c : ℕ) → class_of_object id h ≡ Some c → IsMade id h
 class_then id [] c e = cc
 class_then id (x ∷ h) c e = by (is_making x.act && is_object id x.answer) refl (class_then id h c) e
   where
-    by : (t : Bool) → (is_making x.act && is_object id x.answer) ≡ t → (class_of id h ≡ Some c → IsMade id h) → cond t (class_made x.act) (class_of id h) ≡ Some c → IsMade id (x ∷ h)
+    by : (t : Bool) → (is_making x.act && is_object id x.answer) ≡ t → (class_of_object id h ≡ Some c → IsMade id h) → cond t (class_made x.act) (class_of_object id h) ≡ Some c → IsMade id (x ∷ h)
     by true k go f = let b = both_true (is_making x.act) (is_object id x.answer) k in inl (object_made x.act id x.answer b.0 b.1)
     by false k go f = inr (go f)
 
-pub grid_then : (id : Id) (h : History) (g : Grid) → grid_of id h ≡ Some g → IsMade id h
+pub grid_then : (id : Id) (h : History) (g : Grid) → grid_of_id id h ≡ Some g → IsMade id h
 grid_then id [] g e = cc
 grid_then id (x ∷ h) g e = by (is_making x.act && is_grid id x.answer) refl (grid_then id h g) e
   where
-    by : (t : Bool) → (is_making x.act && is_grid id x.answer) ≡ t → (grid_of id h ≡ Some g → IsMade id h)
-        → cond t (grid_made id x.act (λ viewed. grid_of viewed h)) (grid_of id h) ≡ Some g → IsMade id (x ∷ h)
+    by : (t : Bool) → (is_making x.act && is_grid id x.answer) ≡ t → (grid_of_id id h ≡ Some g → IsMade id h)
+        → cond t (grid_made id x.act (λ viewed. grid_of_id viewed h)) (grid_of_id id h) ≡ Some g → IsMade id (x ∷ h)
     by true k go f = let b = both_true (is_making x.act) (is_grid id x.answer) k in inl (grid_made_by x.act id x.answer b.0 b.1)
     by false k go f = inr (go f)
 
@@ -83,20 +83,20 @@ not_again : (test : Bool) {A : Type 0} (a b : A) → (test ≡ true → ⊥) →
 not_again true a b h = absurd (h refl)
 not_again false a b h = refl
 
-class_stays : (program : NumberedProgram) (h : History) (e : Entry) (id : Id) (c : ℕ) → IsAnswered program (e ∷ h) → class_of id h ≡ Some c → class_of id (e ∷ h) ≡ class_of id h
+class_stays : (program : ProgramView) (h : History) (e : Entry) (id : Id) (c : ℕ) → IsAnswered program (e ∷ h) → class_of_object id h ≡ Some c → class_of_object id (e ∷ h) ≡ class_of_object id h
 class_stays program h e id c a k =
-    not_again (is_making e.act && is_object id e.answer) (class_made e.act) (class_of id h) (λ t.
+    not_again (is_making e.act && is_object id e.answer) (class_made e.act) (class_of_object id h) (λ t.
     let b = both_true (is_making e.act) (is_object id e.answer) t in
     made_once program h e id a (object_made e.act id e.answer b.0 b.1) (class_then id h c k))
 
-grid_stays : (program : NumberedProgram) (h : History) (e : Entry) (id : Id) (g : Grid) → IsAnswered program (e ∷ h) → grid_of id h ≡ Some g → grid_of id (e ∷ h) ≡ grid_of id h
+grid_stays : (program : ProgramView) (h : History) (e : Entry) (id : Id) (g : Grid) → IsAnswered program (e ∷ h) → grid_of_id id h ≡ Some g → grid_of_id id (e ∷ h) ≡ grid_of_id id h
 grid_stays program h e id g a k =
-    not_again (is_making e.act && is_grid id e.answer) (grid_made id e.act (λ viewed. grid_of viewed h)) (grid_of id h) (λ t.
+    not_again (is_making e.act && is_grid id e.answer) (grid_made id e.act (λ viewed. grid_of_id viewed h)) (grid_of_id id h) (λ t.
     let b = both_true (is_making e.act) (is_grid id e.answer) t in
     made_once program h e id a (grid_made_by e.act id e.answer b.0 b.1) (grid_then id h g k))
 
 -- a cell with a zero lies in a thing that was made
-field_class : (program : NumberedProgram) (field : ℕ) (o : Option ℕ) (zero : Value)
+field_class : (program : ProgramView) (field : ℕ) (o : Option ℕ) (zero : Value)
     → option_and_then (λ zeros. option_map zero_value (slice_get zeros field)) (option_and_then (zeros_of_class program) o) ≡ Some zero → (c : ℕ) × (o ≡ Some c)
 field_class program field None zero e = cc
 field_class program field (Some c) zero e = (c, refl)
@@ -105,13 +105,13 @@ element_grid : (o : Option Grid) (zero : Value) → option_map (λ (g : Grid). z
 element_grid None zero e = cc
 element_grid (Some g) zero e = (g, refl)
 
-zero_stays : (program : NumberedProgram) (h : History) (e : Entry) (cell : Cell) (zero : Value) → IsAnswered program (e ∷ h) → zero_of program cell h ≡ Some zero
+zero_stays : (program : ProgramView) (h : History) (e : Entry) (cell : Cell) (zero : Value) → IsAnswered program (e ∷ h) → zero_of program cell h ≡ Some zero
     → zero_of program cell (e ∷ h) ≡ zero_of program cell h
 zero_stays program h e (Field obj field) zero a k =
-    let c = field_class program field (class_of obj h) zero k in
+    let c = field_class program field (class_of_object obj h) zero k in
     ap (λ o. option_and_then (λ zeros. option_map zero_value (slice_get zeros field)) (option_and_then (zeros_of_class program) o)) (class_stays program h e obj c.0 a c.1)
 zero_stays program h e (Element block at) zero a k =
-    let g = element_grid (grid_of block h) zero k in
+    let g = element_grid (grid_of_id block h) zero k in
     ap (λ o. option_map (λ (x : Grid). zero_value x.zero) o) (grid_stays program h e block g.0 a g.1)
 
 none_written : (a : Action) (h : History) → is_making a ≡ true → written_by a h ≡ None
@@ -130,7 +130,7 @@ none_written (act.Take who) h m = cc
 none_written act.End h m = cc
 none_written (act.Fault kind) h m = cc
 
-pub value_stays : (program : NumberedProgram) (h : History) (e : Entry) (cell : Cell) (zero : Value) → IsAnswered program (e ∷ h) → is_making e.act ≡ true
+pub value_stays : (program : ProgramView) (h : History) (e : Entry) (cell : Cell) (zero : Value) → IsAnswered program (e ∷ h) → is_making e.act ≡ true
     → zero_of program cell h ≡ Some zero → cell_value program cell (e ∷ h) ≡ cell_value program cell h
 value_stays program h e cell zero a m k =
     ap (λ o. option_map (λ zero. option_map_or (λ value. value) (last_written cell (e ∷ h)) zero) o) (zero_stays program h e cell zero a k)

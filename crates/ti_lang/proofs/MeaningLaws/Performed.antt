@@ -13,20 +13,20 @@ use Rattle.ti_lang.specs.Program.Statements as s
 use Rattle.ti_lang.specs.Program.Scope.{this_of}
 use Rattle.ti_lang.specs.Typing.BuiltIn.{BuiltIn, Copy, Exchange, Delete}
 use Rattle.ti_lang.specs.Typing.Called.{member_called}
-use Rattle.ti_lang.specs.Meaning.Held.{Held, nothing, plain_of}
-use Rattle.ti_lang.specs.Meaning.Asking.{Reference, Asking, ◌>>=◌, gives}
-use Rattle.ti_lang.specs.Meaning.Processes.{Variable, Receiver, Nowhere, Declared, Assigned, Updated, Loop, While, Foreach, Work, Do, End, Before, Behind, Receive, CopyAll, TakeAll}
+use Rattle.ti_lang.specs.Meaning.Held.{Held, no_value, plain_of}
+use Rattle.ti_lang.specs.Meaning.Comp.{Reference, Comp, ◌>>=◌, gives}
+use Rattle.ti_lang.specs.Meaning.Processes.{Variable, Receiver, Nowhere, Declared, Assigned, Updated, Loop, While, Foreach, ContItem, Do, End, Before, Behind, Receive, CopyAll, TakeAll}
 use Rattle.ti_lang.specs.Meaning.Scoping.{Env, with_new}
-use Rattle.ti_lang.specs.Meaning.Parts.{Field, Element, domain_asked}
+use Rattle.ti_lang.specs.Meaning.CellRefs.{Field, Element, domain_asked}
 use Rattle.ti_lang.specs.Meaning.Evaluation.{eval}
 use Rattle.ti_lang.specs.Meaning.Targets.{Target, InVariable, InPart, located, held_in, stored, into}
 use Rattle.ti_lang.specs.Meaning.Moves.{Move, receives}
-use Rattle.ti_lang.specs.Meaning.Calls.{Call, called, bound, maybe_eval, maybe_needed, calling}
+use Rattle.ti_lang.specs.Meaning.Calls.{Call, called, bind_params, maybe_eval, maybe_needed, calling}
 use Rattle.ti_lang.specs.Meaning.Makers.{region_for, spread, new_object, new_grid}
 use Rattle.ti_lang.specs.Meaning.Copies.{first_type, copies, copied, taken}
 use Rattle.ti_lang.specs.Meaning.Collectives.{broadcasts, exchanges, deletes}
 use Rattle.ti_lang.specs.Meaning.Statements.{declared_as, one_more, valued_or_called, made_first, initialized, member_alone, alone, prints, printed, returns, statement}
-use Rattle.ti_lang.specs.Meaning.Performing.{condition, before_turn, performed}
+use Rattle.ti_lang.specs.Meaning.Performing.{condition, before_turn, exec_item}
 use Rattle.ti_lang.proofs.MeaningLaws.Silent.{silent_guarded, silent_needed, converted_silent, operated_silent}
 use Rattle.ti_lang.proofs.MeaningLaws.Short.{asked_once, fetched_short}
 use Rattle.ti_lang.proofs.MeaningLaws.Computing.{Computes, computes_then, computes_value, computes_silent, computes_short, eval_computes, all_compute, numbers_compute, ranges_compute}
@@ -50,7 +50,7 @@ module _ (env : Env) where
   stored_computes at (InPart (Element grid through index)) h =
       computes_then _ _ (computes_silent _ (silent_needed at through grid)) (λ r. computes_then _ _ (computes_short _ (asked_once _)) (λ done. computes_value _))
 
-  pub into_computes : (r : Receiver) (right : Asking Held) → Computes right → Computes (into env r right)
+  pub into_computes : (r : Receiver) (right : Comp Held) → Computes right → Computes (into env r right)
   into_computes Nowhere right c = computes_then right _ c (λ h. computes_value _)
   into_computes (Declared at x) right c = computes_then right _ c (λ h. computes_then _ _ (computes_silent _ (converted_silent at _ h)) (λ k. computes_value _))
   into_computes (Assigned at target) right c =
@@ -62,12 +62,12 @@ module _ (env : Env) where
       (λ h. computes_then _ _ (computes_silent _ (operated_silent at op old h))
       (λ new. computes_then _ _ (computes_silent _ (converted_silent at _ new)) (λ k. stored_computes at place k)))))
 
-  pub receives_computes : (r : Receiver) (right : Asking Held) → Computes right → Computes (receives env r right)
+  pub receives_computes : (r : Receiver) (right : Comp Held) → Computes right → Computes (receives env r right)
   receives_computes r right c = computes_then _ _ (into_computes r right c) (λ vs. computes_value _)
 
   -- ---- calls
 
-  bound_computes : (ps : List VariableUse) (xs : NumberedExps) (found : List Variable) → Computes (bound env ps xs found)
+  bound_computes : (ps : List VariableUse) (xs : NumberedExps) (found : List Variable) → Computes (bind_params env ps xs found)
   bound_computes [] xs found = computes_value _
   bound_computes (p ∷ ps) e.NoExp found = computes_value _
   bound_computes (p ∷ ps) (e.MoreExp x xs) found =
@@ -107,7 +107,7 @@ module _ (env : Env) where
       computes_then _ _ (eval_computes env x)
       (λ h. computes_then _ _ (all_compute env args)
       (λ hs. computes_then _ _ (computes_silent _ (silent_needed at _ h))
-      (λ to. computes_then _ _ (computes_silent _ (silent_needed at (first_type env args) (slice_index_or hs 0 nothing)))
+      (λ to. computes_then _ _ (computes_silent _ (silent_needed at (first_type env args) (slice_index_or hs 0 no_value)))
       (λ from. computes_then (domain_asked at to) _ (computes_short _ (asked_once _)) (λ d. computes_then (domain_asked at from) _ (computes_short _ (asked_once _)) (λ f. computes_value _))))))
 
   copied_computes : (at : Place) (to from : Reference) (points : List Point) → Computes (copied env at to from points)
@@ -144,7 +144,7 @@ module _ (env : Env) where
   right_computes r x None = receives_computes r (eval env x) (eval_computes env x)
   right_computes r x (Some c) = calling_computes r c
 
-  made_computes : (r : Receiver) (new : Asking Held) → Computes new → Computes (made_first env r new)
+  made_computes : (r : Receiver) (new : Comp Held) → Computes new → Computes (made_first env r new)
   made_computes r new c = computes_then new _ c (λ h. receives_computes r (gives h) (computes_value h))
 
   initial_computes : (r : Receiver) (value : NumberedInit) → Computes (initialized env r value)
@@ -154,7 +154,7 @@ module _ (env : Env) where
   initial_computes r (s.NewGrid at region element dims_at dims) = made_computes r (new_grid env at region element.type dims_at dims) (grid_made at region element.type dims_at dims)
   initial_computes r (s.Broadcast at x root) = broadcast_computes r at x root
 
-  member_computes : (at : Place) (x : NumberedExp) (args : NumberedExps) (other : Asking Move) → Computes other → (o : Option BuiltIn) → Computes (member_alone env at x args other o)
+  member_computes : (at : Place) (x : NumberedExp) (args : NumberedExps) (other : Comp Move) → Computes other → (o : Option BuiltIn) → Computes (member_alone env at x args other o)
   member_computes at x args other c (Some Copy) = copies_compute at x args
   member_computes at x args other c (Some Exchange) = exchanges_compute at x args
   member_computes at x args other c (Some Delete) = deletes_compute at x
@@ -204,7 +204,7 @@ module _ (env : Env) where
   turn_computes (Foreach at variable domain [] body) = computes_value _
   turn_computes (Foreach at variable domain (p ∷ ps) body) = computes_value _
 
-  pub work_computes : (w : Work) → Computes (performed env w)
+  pub work_computes : (w : ContItem) → Computes (exec_item env w)
   work_computes (Do x) = statement_computes x
   work_computes (End x) = computes_value _
   work_computes (Before loop) = turn_computes loop

@@ -32,26 +32,26 @@ use Rattle.ti_lang.specs.Typing.Kinds.{is_point}
 use Rattle.ti_lang.specs.Typing.BuiltIn.{BuiltIn, Size, Min, Max, Contains, Domain, Restrict, Translate, Slice, Copy, Exchange, Delete}
 use Rattle.ti_lang.specs.Typing.Declared.{result_type}
 use Rattle.ti_lang.specs.Typing.Called.{member_called}
-use Rattle.ti_lang.specs.Meaning.Held.{Held, Plain, Dm, nothing, int_of, point_of, rect_of, thing_of, plain_of}
-use Rattle.ti_lang.specs.Meaning.Asking.{Wanted, Request, Reference, request, request_through, ToBeDone, ValueOf, NewThing, Asking, ◌>>=◌, Got, Gives, Asks, Fails, followed, gives, guarded, found_or, asked, needed}
+use Rattle.ti_lang.specs.Meaning.Held.{Held, Plain, Dm, no_value, int_of, point_of, rect_of, referent_of, plain_of}
+use Rattle.ti_lang.specs.Meaning.Comp.{Wanted, Request, Reference, request, request_through, ToBeDone, ValueOf, NewThing, Comp, ◌>>=◌, CompResult, Gives, Asks, Fails, bind_result, gives, guard, found_or, asked, needed}
 use Rattle.ti_lang.specs.Meaning.Conversions.{to_domain, converted, of_domains}
 use Rattle.ti_lang.specs.Meaning.Operands.{Operands, Wholes, Points, Rects, Domains, operands}
-use Rattle.ti_lang.specs.Meaning.Operators.{added, subtracted, multiplied, divided, equal, operated, settled}
+use Rattle.ti_lang.specs.Meaning.Operators.{add_values, subtract_values, multiply_values, divide_values, equal, apply_binary, short_circuit}
 use Rattle.ti_lang.specs.Meaning.Literals as literal
-use Rattle.ti_lang.specs.Meaning.Processes.{Variable, Receiver, Nowhere, Declared, Assigned, Updated, While, Foreach, Work, Do, End, Before, Behind, Receive, CopyAll, TakeAll, Frame, Wait, Process}
+use Rattle.ti_lang.specs.Meaning.Processes.{Variable, Receiver, Nowhere, Declared, Assigned, Updated, While, Foreach, ContItem, Do, End, Before, Behind, Receive, CopyAll, TakeAll, Frame, Wait, Process}
 use Rattle.ti_lang.specs.Meaning.Scoping.{Env, env_of, type_of, declared_type, field_selected}
-use Rattle.ti_lang.specs.Meaning.Parts.{Part, Field, Element, fetched, domain_asked, domain_of, viewed, coordinate, indexed}
-use Rattle.ti_lang.specs.Meaning.MemberForms.{sized, member}
+use Rattle.ti_lang.specs.Meaning.CellRefs.{Part, Field, Element, fetched, domain_asked, domain_of, viewed, coordinate, indexed}
+use Rattle.ti_lang.specs.Meaning.MemberForms.{domain_size, member}
 use Rattle.ti_lang.specs.Meaning.Evaluation.{unless_settled, eval, eval_all, eval_numbers, eval_range, eval_ranges}
 use Rattle.ti_lang.specs.Meaning.Targets.{Target, InVariable, InPart, located, held_in, stored, into}
 use Rattle.ti_lang.specs.Meaning.Moves.{Move, Goes, Turns, Breaks, Continues, Calls, Returns, Meets, Deletes, receives}
-use Rattle.ti_lang.specs.Meaning.Calls.{Call, called, bound, maybe_eval, maybe_needed, parameters_of, calling}
+use Rattle.ti_lang.specs.Meaning.Calls.{Call, called, bind_params, maybe_eval, maybe_needed, parameters_of, calling}
 use Rattle.ti_lang.specs.Meaning.Makers.{region_for, spread, new_object, new_grid}
 use Rattle.ti_lang.specs.Meaning.Copies.{first_type, copies, copied, taken}
 use Rattle.ti_lang.specs.Meaning.Collectives.{deletes, root_among, root_deposit, broadcasts, exchanges}
 use Rattle.ti_lang.specs.Meaning.Statements.{valued_or_called, made_first, initialized, member_alone, alone, prints, printed, returns, one_more, declared_as, statement}
-use Rattle.ti_lang.specs.Meaning.Performing.{condition, performed}
-use Rattle.ti_lang.specs.Meaning.Steps.{Step, At, most_frames, valued, moves, works, runs, steps, step}
+use Rattle.ti_lang.specs.Meaning.Performing.{condition, exec_item}
+use Rattle.ti_lang.specs.Meaning.Steps.{Step, At, most_frames, step_of_result, moves, works, runs, steps, step}
 use Rattle.ti_lang.specs.Meaning.Histories.{is_end, is_fault}
 
 -- the fact holds of each kind of request that work makes by itself; of a value that is taken, where the process that gave it is one of these
@@ -78,18 +78,18 @@ pub record EachKind (Q : Request → Type 0) : Type 0 where
   pub depart : (at : Place) (wanted : Wanted) → Q (request at act.Depart wanted)
 
 -- the fact of what a computation asks
-abbrev pub Of : {A : Type 0} → (Request → Type 0) → Got A → Type 0
+abbrev pub Of : {A : Type 0} → (Request → Type 0) → CompResult A → Type 0
 Of Q (Gives a rest) = Unit {0}
 Of Q (Asks request) = Q request
 Of Q (Fails kind at) = Unit {0}
 
 -- the process whose value is taken first is one of these
-abbrev pub FirstTaken : (ℕ → Type 0) → Work → Type 0
+abbrev pub FirstTaken : (ℕ → Type 0) → ContItem → Type 0
 FirstTaken T (TakeAll at grid []) = Unit {0}
 FirstTaken T (TakeAll at grid (i ∷ is)) = T i
 FirstTaken T w = Unit {0}
 
-pub any_first : (w : Work) → FirstTaken Anyone w
+pub any_first : (w : ContItem) → FirstTaken Anyone w
 any_first (TakeAll at grid []) = tt
 any_first (TakeAll at grid (i ∷ is)) = tt
 any_first _ = tt
@@ -100,12 +100,12 @@ OfStep Q (At request go) = Q request
 OfStep Q _ = Unit {0}
 
 module _ (T : ℕ → Type 0) (Q : Request → Type 0) (each : Each T Q) where
-  then_asks : {A B : Type 0} (m : Got A) (go : A → Asking B) → Of Q m → ((a : A) (rest : List Answer) → Of Q (go a rest)) → Of Q (followed m go)
+  then_asks : {A B : Type 0} (m : CompResult A) (go : A → Comp B) → Of Q m → ((a : A) (rest : List Answer) → Of Q (go a rest)) → Of Q (bind_result m go)
   then_asks (Gives a rest) go h k = k a rest
   then_asks (Asks request) go h k = h
   then_asks (Fails kind at) go h k = tt
 
-  guarded_asks : {A : Type 0} (test : Bool) (kind : FaultKind) (at : Place) (a : A) (rest : List Answer) → Of Q (guarded test kind at a rest)
+  guarded_asks : {A : Type 0} (test : Bool) (kind : FaultKind) (at : Place) (a : A) (rest : List Answer) → Of Q (guard test kind at a rest)
   guarded_asks true kind at a rest = tt
   guarded_asks false kind at a rest = tt
 
@@ -118,7 +118,7 @@ module _ (T : ℕ → Type 0) (Q : Request → Type 0) (each : Each T Q) where
   asked_asks q (r ∷ rest) h = tt
 
   needed_asks : (at : Place) (type : ValueType) (h : Held) (rest : List Answer) → Of Q (needed at type h rest)
-  needed_asks at type h rest = then_asks (found_or NullRef at (thing_of h) rest) _ (found_asks NullRef at (thing_of h) rest) (λ id r. tt)
+  needed_asks at type h rest = then_asks (found_or NullRef at (referent_of h) rest) _ (found_asks NullRef at (referent_of h) rest) (λ id r. tt)
 
   -- ---- operators
 
@@ -134,21 +134,21 @@ module _ (T : ℕ → Type 0) (Q : Request → Type 0) (each : Each T Q) where
   of_domains_asks both at x y rest =
       then_asks (to_domain at x rest) _ (to_domain_asks at x rest) (λ d r. then_asks (to_domain at y r) _ (to_domain_asks at y r) (λ k u. guarded_asks _ _ at _ u))
 
-  added_asks : (at : Place) (x y : Held) (o : Operands) (rest : List Answer) → Of Q (added at x y o rest)
+  added_asks : (at : Place) (x y : Held) (o : Operands) (rest : List Answer) → Of Q (add_values at x y o rest)
   added_asks at x y (Wholes w a b) rest = tt
   added_asks at x y (Points p q) rest = tt
   added_asks at x y (Rects r s) rest = of_domains_asks union at x y rest
   added_asks at x y Domains rest = of_domains_asks union at x y rest
   added_asks at x y _ rest = tt
 
-  subtracted_asks : (at : Place) (x y : Held) (o : Operands) (rest : List Answer) → Of Q (subtracted at x y o rest)
+  subtracted_asks : (at : Place) (x y : Held) (o : Operands) (rest : List Answer) → Of Q (subtract_values at x y o rest)
   subtracted_asks at x y (Wholes w a b) rest = tt
   subtracted_asks at x y (Points p q) rest = tt
   subtracted_asks at x y (Rects r s) rest = of_domains_asks minus at x y rest
   subtracted_asks at x y Domains rest = of_domains_asks minus at x y rest
   subtracted_asks at x y _ rest = tt
 
-  multiplied_asks : (at : Place) (x y : Held) (o : Operands) (rest : List Answer) → Of Q (multiplied at x y o rest)
+  multiplied_asks : (at : Place) (x y : Held) (o : Operands) (rest : List Answer) → Of Q (multiply_values at x y o rest)
   multiplied_asks at x y (Wholes w a b) rest = tt
   multiplied_asks at x y (Rects p q) rest = tt
   multiplied_asks at x y Domains rest = of_domains_asks meet at x y rest
@@ -159,11 +159,11 @@ module _ (T : ℕ → Type 0) (Q : Request → Type 0) (each : Each T Q) where
       then_asks (to_domain at x rest) _ (to_domain_asks at x rest) (λ d r. then_asks (to_domain at y r) _ (to_domain_asks at y r) (λ k u. tt))
   equal_asks at x y _ rest = tt
 
-  divided_asks : (result : Width → ℤ → ℤ → ℤ) (at : Place) (o : Operands) (rest : List Answer) → Of Q (divided result at o rest)
+  divided_asks : (result : Width → ℤ → ℤ → ℤ) (at : Place) (o : Operands) (rest : List Answer) → Of Q (divide_values result at o rest)
   divided_asks result at (Wholes w a b) rest = guarded_asks _ _ at _ rest
   divided_asks result at _ rest = tt
 
-  operated_asks : (at : Place) (o : BinaryOperator) (x y : Held) (rest : List Answer) → Of Q (operated at o x y rest)
+  operated_asks : (at : Place) (o : BinaryOperator) (x y : Held) (rest : List Answer) → Of Q (apply_binary at o x y rest)
   operated_asks at op.Add x y rest = added_asks at x y (operands x y) rest
   operated_asks at op.Subtract x y rest = subtracted_asks at x y (operands x y) rest
   operated_asks at op.Multiply x y rest = multiplied_asks at x y (operands x y) rest
@@ -200,7 +200,7 @@ module _ (T : ℕ → Type 0) (Q : Request → Type 0) (each : Each T Q) where
   indexed_asks true at type through h indices rest = coordinate_asks at (point_of h) (slice_index_or indices 0 (pos 0)) rest
   indexed_asks false at type through h indices rest = fetched_asks at type (Element h through (literal.point_of_numbers indices)) rest
 
-  sized_asks : (at : Place) (h : Held) (rest : List Answer) → Of Q (sized at h rest)
+  sized_asks : (at : Place) (h : Held) (rest : List Answer) → Of Q (domain_size at h rest)
   sized_asks at (Plain (v.Rc r)) rest = guarded_asks _ _ at _ rest
   sized_asks at (Dm dim points) rest = tt
   sized_asks at _ rest = tt
@@ -211,16 +211,16 @@ module _ (T : ℕ → Type 0) (Q : Request → Type 0) (each : Each T Q) where
   member_asks at type (Some Max) through h args rest = guarded_asks _ _ at _ rest
   member_asks at type (Some Contains) through h args rest = tt
   member_asks at type (Some Domain) through h args rest = domain_of_asks at through h rest
-  member_asks at type (Some Restrict) through h args rest = viewed_asks at type (how.Restrict (rect_of (slice_index_or args 0 nothing))) through h rest
-  member_asks at type (Some Translate) through h args rest = viewed_asks at type (how.Translate (point_of (slice_index_or args 0 nothing))) through h rest
+  member_asks at type (Some Restrict) through h args rest = viewed_asks at type (how.Restrict (rect_of (slice_index_or args 0 no_value))) through h rest
+  member_asks at type (Some Translate) through h args rest = viewed_asks at type (how.Translate (point_of (slice_index_or args 0 no_value))) through h rest
   member_asks at type (Some Slice) through h args rest =
-      viewed_asks at type (how.Slice (int_of (slice_index_or args 0 nothing)) (int_of (slice_index_or args 1 nothing))) through h rest
+      viewed_asks at type (how.Slice (int_of (slice_index_or args 0 no_value)) (int_of (slice_index_or args 1 no_value))) through h rest
   member_asks at type _ through h args rest = tt
 
   -- ---- expressions
 
-  right_asks : (at : Place) (o : BinaryOperator) (x : Held) (right : Asking Held) (result : Option Held) (rest : List Answer) → ((u : List Answer) → Of Q (right u))
-      → Of Q (unless_settled result (λ u. followed (right u) (λ y. operated at o x y)) rest)
+  right_asks : (at : Place) (o : BinaryOperator) (x : Held) (right : Comp Held) (result : Option Held) (rest : List Answer) → ((u : List Answer) → Of Q (right u))
+      → Of Q (unless_settled result (λ u. bind_result (right u) (λ y. apply_binary at o x y)) rest)
   right_asks at o x right (Some result) rest h = tt
   right_asks at o x right None rest h = then_asks (right rest) _ (h rest) (λ y u. operated_asks at o x y u)
 
@@ -240,7 +240,7 @@ module _ (T : ℕ → Type 0) (Q : Request → Type 0) (each : Each T Q) where
     eval_asks env (e.Rect at ranges) rest = then_asks (eval_ranges env ranges rest) _ (ranges_ask env ranges rest) (λ b u. guarded_asks _ _ at _ u)
     eval_asks env (e.Unary at o x) rest = then_asks (eval env x rest) _ (eval_asks env x rest) (λ h u. tt)
     eval_asks env (e.Binary at o x y) rest =
-        then_asks (eval env x rest) _ (eval_asks env x rest) (λ h u. right_asks at o h (eval env y) (settled o h) u (eval_asks env y))
+        then_asks (eval env x rest) _ (eval_asks env x rest) (λ h u. right_asks at o h (eval env y) (short_circuit o h) u (eval_asks env y))
     eval_asks env (e.Cast at to x) rest =
         then_asks (eval env x rest) _ (eval_asks env x rest) (λ h u. then_asks (converted at to.type h u) _ (converted_asks at to.type h u) (λ k w. guarded_asks _ _ at _ w))
     eval_asks env (e.Select at x name) rest = then_asks (eval env x rest) _ (eval_asks env x rest) (λ h u.
@@ -294,7 +294,7 @@ module _ (T : ℕ → Type 0) (Q : Request → Type 0) (each : Each T Q) where
   stored_asks env at (InPart (Element grid through index)) h rest =
       then_asks (needed at through grid rest) _ (needed_asks at through grid rest) (λ r u. then_asks (asked _ u) _ (asked_asks _ u (each.put_elem r at index _)) (λ d w. tt))
 
-  into_asks : (env : Env) (receiver : Receiver) (right : Asking Held) (rest : List Answer) → ((u : List Answer) → Of Q (right u)) → Of Q (into env receiver right rest)
+  into_asks : (env : Env) (receiver : Receiver) (right : Comp Held) (rest : List Answer) → ((u : List Answer) → Of Q (right u)) → Of Q (into env receiver right rest)
   into_asks env Nowhere right rest k = then_asks (right rest) _ (k rest) (λ h u. tt)
   into_asks env (Declared at variable) right rest k =
       then_asks (right rest) _ (k rest) (λ h u. then_asks (converted at (declared_type variable.declared) h u) _ (converted_asks at (declared_type variable.declared) h u) (λ d w. tt))
@@ -304,15 +304,15 @@ module _ (T : ℕ → Type 0) (Q : Request → Type 0) (each : Each T Q) where
   into_asks env (Updated at o target) right rest k =
       then_asks (located env target rest) _ (located_asks env target rest) (λ place u.
       then_asks (held_in env (place_of_numbered target) (type_of env target) place u) _ (held_asks env (place_of_numbered target) (type_of env target) place u) (λ old w.
-      then_asks (right w) _ (k w) (λ h z. then_asks (operated at o old h z) _ (operated_asks at o old h z) (λ new y.
+      then_asks (right w) _ (k w) (λ h z. then_asks (apply_binary at o old h z) _ (operated_asks at o old h z) (λ new y.
       then_asks (converted at (type_of env target) new y) _ (converted_asks at (type_of env target) new y) (λ d q. stored_asks env at place d q)))))
 
-  receives_asks : (env : Env) (receiver : Receiver) (right : Asking Held) (rest : List Answer) → ((u : List Answer) → Of Q (right u)) → Of Q (receives env receiver right rest)
+  receives_asks : (env : Env) (receiver : Receiver) (right : Comp Held) (rest : List Answer) → ((u : List Answer) → Of Q (right u)) → Of Q (receives env receiver right rest)
   receives_asks env receiver right rest k = then_asks (into env receiver right rest) _ (into_asks env receiver right rest k) (λ variables u. tt)
 
   -- ---- calls and makers
 
-  bound_asks : (env : Env) (ps : List VariableUse) (xs : NumberedExps) (found : List Variable) (rest : List Answer) → Of Q (bound env ps xs found rest)
+  bound_asks : (env : Env) (ps : List VariableUse) (xs : NumberedExps) (found : List Variable) (rest : List Answer) → Of Q (bind_params env ps xs found rest)
   bound_asks env (p ∷ ps) (e.MoreExp x xs) found rest =
       then_asks (eval env x rest) _ (eval_asks env x rest) (λ h u.
       then_asks (converted (place_of_numbered x) (declared_type p.declared) h u) _ (converted_asks (place_of_numbered x) (declared_type p.declared) h u) (λ k w. bound_asks env ps xs _ w))
@@ -330,7 +330,7 @@ module _ (T : ℕ → Type 0) (Q : Request → Type 0) (each : Each T Q) where
   calling_asks : (env : Env) (receiver : Receiver) (c : Call) (rest : List Answer) → Of Q (calling env receiver c rest)
   calling_asks env receiver c rest =
       then_asks (maybe_eval env c.object rest) _ (maybe_eval_asks env c.object rest) (λ object u.
-      then_asks (bound env (parameters_of c.method.params) c.args [] u) _ (bound_asks env (parameters_of c.method.params) c.args [] u) (λ parameters w.
+      then_asks (bind_params env (parameters_of c.method.params) c.args [] u) _ (bound_asks env (parameters_of c.method.params) c.args [] u) (λ parameters w.
       then_asks (maybe_needed c.place object w) _ (maybe_needed_asks c.place object w) (λ this z. tt)))
 
   region_asks : (env : Env) (o : Option NumberedExp) (rest : List Answer) → Of Q (region_for env o rest)
@@ -356,7 +356,7 @@ module _ (T : ℕ → Type 0) (Q : Request → Type 0) (each : Each T Q) where
   copies_asks env at x args rest =
       then_asks (eval env x rest) _ (eval_asks env x rest) (λ h u. then_asks (eval_all env args u) _ (all_ask env args u) (λ hs w.
       then_asks (needed at (type_of env x) h w) _ (needed_asks at (type_of env x) h w) (λ to z.
-      then_asks (needed at (first_type env args) (slice_index_or hs 0 nothing) z) _ (needed_asks at (first_type env args) (slice_index_or hs 0 nothing) z) (λ from y.
+      then_asks (needed at (first_type env args) (slice_index_or hs 0 no_value) z) _ (needed_asks at (first_type env args) (slice_index_or hs 0 no_value) z) (λ from y.
       then_asks (domain_asked at to y) _ (domain_asked_asks at to y) (λ d q. then_asks (domain_asked at from q) _ (domain_asked_asks at from q) (λ k n. tt))))))
 
   copied_asks : (env : Env) (at : Place) (to from : Reference) (points : List Point) (rest : List Answer) → Of Q (copied env at to from points rest)
@@ -394,7 +394,7 @@ module _ (T : ℕ → Type 0) (Q : Request → Type 0) (each : Each T Q) where
   value_asks env receiver x None rest = receives_asks env receiver (eval env x) rest (eval_asks env x)
   value_asks env receiver x (Some c) rest = calling_asks env receiver c rest
 
-  made_asks : (env : Env) (receiver : Receiver) (new : Asking Held) (rest : List Answer) → Of Q (new rest) → Of Q (made_first env receiver new rest)
+  made_asks : (env : Env) (receiver : Receiver) (new : Comp Held) (rest : List Answer) → Of Q (new rest) → Of Q (made_first env receiver new rest)
   made_asks env receiver new rest k = then_asks (new rest) _ k (λ h u. receives_asks env receiver (gives h) u (λ w. tt))
 
   initialized_asks : (env : Env) (receiver : Receiver) (value : NumberedInit) (rest : List Answer) → Of Q (initialized env receiver value rest)
@@ -405,7 +405,7 @@ module _ (T : ℕ → Type 0) (Q : Request → Type 0) (each : Each T Q) where
       made_asks env receiver (new_grid env at region element.type dims_at dims) rest (grid_asks env at region element.type dims_at dims rest)
   initialized_asks env receiver (s.Broadcast at x p) rest = broadcasts_asks env receiver at x p rest
 
-  member_alone_asks : (env : Env) (at : Place) (x : NumberedExp) (args : NumberedExps) (other : Asking Move) (o : Option BuiltIn) (rest : List Answer)
+  member_alone_asks : (env : Env) (at : Place) (x : NumberedExp) (args : NumberedExps) (other : Comp Move) (o : Option BuiltIn) (rest : List Answer)
       → Of Q (other rest) → Of Q (member_alone env at x args other o rest)
   member_alone_asks env at x args other (Some Copy) rest h = copies_asks env at x args rest
   member_alone_asks env at x args other (Some Exchange) rest h = exchanges_asks env at x args rest
@@ -450,7 +450,7 @@ module _ (T : ℕ → Type 0) (Q : Request → Type 0) (each : Each T Q) where
   condition_asks env None rest = tt
   condition_asks env (Some c) rest = eval_asks env c rest
 
-  pub performed_asks : (env : Env) (w : Work) (rest : List Answer) → FirstTaken T w → Of Q (performed env w rest)
+  pub performed_asks : (env : Env) (w : ContItem) (rest : List Answer) → FirstTaken T w → Of Q (exec_item env w rest)
   performed_asks env (Do x) rest first = statement_asks env x rest
   performed_asks env (End x) rest first = tt
   performed_asks env (Before (While at c update body)) rest first = then_asks (condition env c rest) _ (condition_asks env c rest) (λ h u. tt)
@@ -468,7 +468,7 @@ module _ (Q : Request → Type 0) (each : EachKind Q) where
   if_step true x y h k = h
   if_step false x y h k = k
 
-  moves_ask : (p : Process) (f : Frame) (fs : List Frame) (left : List Work) (move : Move) → OfStep Q (moves p f fs left move)
+  moves_ask : (p : Process) (f : Frame) (fs : List Frame) (left : List ContItem) (move : Move) → OfStep Q (moves p f fs left move)
   moves_ask p f fs left (Goes variables new) = tt
   moves_ask p f fs left (Turns at variables new) = if_step (nat_lt p.spent p.setting.fuel) _ _ tt tt
   moves_ask p f fs left Breaks = tt
@@ -479,14 +479,14 @@ module _ (Q : Request → Type 0) (each : EachKind Q) where
   moves_ask p f fs left (Meets wait given behind) = if_step (nat_lt p.spent p.setting.fuel) _ _ (each.arrive wait.place wait.kind wait.arg given) tt
   moves_ask p f fs left (Deletes at region) = if_step (nat_lt p.spent p.setting.fuel) _ _ (each.arrive at _ _ _) tt
 
-  valued_asks : (p : Process) (got : Got Move) (go : Move → Step) → Of Q got → ((move : Move) → OfStep Q (go move)) → OfStep Q (valued p got go)
+  valued_asks : (p : Process) (got : CompResult Move) (go : Move → Step) → Of Q got → ((move : Move) → OfStep Q (go move)) → OfStep Q (step_of_result p got go)
   valued_asks p (Gives move rest) go h k = k move
   valued_asks p (Asks request) go h k = if_step (nat_lt p.spent p.setting.fuel) _ _ h tt
   valued_asks p (Fails kind at) go h k = tt
 
-  works_ask : (p : Process) (f : Frame) (fs : List Frame) (ws : List Work) → OfStep Q (works p f fs ws)
+  works_ask : (p : Process) (f : Frame) (fs : List Frame) (ws : List ContItem) → OfStep Q (works p f fs ws)
   works_ask p f fs [] = tt
-  works_ask p f fs (w ∷ left) = valued_asks p (performed (env_of p f left) w p.answers) (moves p f fs left)
+  works_ask p f fs (w ∷ left) = valued_asks p (exec_item (env_of p f left) w p.answers) (moves p f fs left)
       (performed_asks Anyone Q each.alone (env_of p f left) w p.answers (any_first w)) (moves_ask p f fs left)
 
   steps_ask : (p : Process) (wait : Option Wait) → OfStep Q (steps p wait)

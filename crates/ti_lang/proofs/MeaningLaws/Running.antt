@@ -8,27 +8,27 @@ use Rattle.ti_base.specs.declared.entry.Answer.{Answer}
 use Rattle.ti_base.specs.declared.entry.Entry.{Entry}
 use Rattle.ti_base.specs.declared.entry.Next.{Next}
 use Rattle.ti_base.specs.declared.entry.Next.TheVariants as next
-use Rattle.ti_lang.specs.Program.Classes.{NumberedProgram}
-use Rattle.ti_lang.specs.Meaning.Processes.{Setting, Process}
+use Rattle.ti_lang.specs.Program.Classes.{ProgramView}
+use Rattle.ti_lang.specs.Meaning.Processes.{RunConfig, Process}
 use Rattle.ti_lang.specs.Meaning.Steps.{Step, To, At, Ends, Faults as FaultsAt, step}
-use Rattle.ti_lang.specs.Meaning.NextStep.{IsNext, After, more, none, shown}
+use Rattle.ti_lang.specs.Meaning.NextStep.{IsNext, After, more, none, step_label}
 use Rattle.ti_lang.specs.Meaning.Histories.{History, history_of}
 use Rattle.ti_lang.specs.Meaning.HeapAnswers.{Outcome, Answers, Faults, Impossible, heap_answer, IsAnswered}
 use Rattle.ti_lang.specs.Meaning.HeapAnswers as heap
-use Rattle.ti_lang.specs.Meaning.Runs.{World, entry_with, entry_of, CanTake, IsRun, IsSolo, IsComplete}
+use Rattle.ti_lang.specs.Meaning.Runs.{ProcAfter, entry_with, entry_of, CanTake, IsRun, IsSolo, IsComplete}
 use Rattle.ti_lang.specs.Meaning.Runs as r
 use Rattle.ti_lang.proofs.MeaningLaws.Steps.{some_same, none_some, next_same, settles_at, after_same}
 
 pub some_entry : (d e : Entry) → Some d ≡ Some e → d ≡ e
 some_entry d e h = cc
 
-pub entry_same : (s : Setting) (es : List Entry) (i : ℕ) (d e : Entry) → CanTake s es i d → CanTake s es i e → d ≡ e
+pub entry_same : (s : RunConfig) (es : List Entry) (i : ℕ) (d e : Entry) → CanTake s es i d → CanTake s es i e → d ≡ e
 entry_same s es i d e x y =
     let same : x.process ≡ y.process = after_same _ _ _ _ x.world y.world in
     let next : x.next ≡ y.next = next_same y.process _ _ (subst (λ p. IsNext p x.next) same x.is_next) y.is_next in
     some_entry d e (sym x.entry ∙ ap (entry_of s es i) next ∙ y.entry)
 
-pub world_same : (s : Setting) (es : List Entry) (i : ℕ) (p q : Process) → World s es i p → World s es i q → p ≡ q
+pub world_same : (s : RunConfig) (es : List Entry) (i : ℕ) (p q : Process) → ProcAfter s es i p → ProcAfter s es i q → p ≡ q
 world_same s es i p q x y = after_same _ _ _ _ x y
 
 -- ---- how a process goes on
@@ -37,7 +37,7 @@ world_same s es i p q x y = after_same _ _ _ _ x y
 pub goes_on : (p : Process) (at : Place) (a : Action) (r : Answer) → IsNext p (next.Act at a) → (q : Process) × After p (r ∷ []) q
 goes_on p at a r n = by (step n.0) refl n.1.stands
   where
-    by : (s : Step) → step n.0 ≡ s → shown s ≡ Some (next.Act at a) → (q : Process) × After p (r ∷ []) q
+    by : (s : Step) → step n.0 ≡ s → step_label s ≡ Some (next.Act at a) → (q : Process) × After p (r ∷ []) q
     by (To q) e z = absurd (none_some _ z)
     by (At request go) e z = (go r, more n.1.reaches e none)
     by (Ends place) e z = absurd (let c : next.End place ≡ next.Act at a = some_same _ _ z in cc)
@@ -72,7 +72,7 @@ front (c ∷ bs) b (x ∷ xs) ys e = by (front bs b xs ys (same_tail c x _ _ e))
     by (inl k) = inl (both_same x c xs _ (sym (same_head c x _ _ e)) k)
     by (inr k) = inr (k.0, both_same c x bs _ (same_head c x _ _ e) k.1)
 
-front_run : (s : Setting) (es all : List Entry) → IsRun s all → (rest : List Entry) → all ≡ es ++ rest → IsRun s es
+front_run : (s : RunConfig) (es all : List Entry) → IsRun s all → (rest : List Entry) → all ≡ es ++ rest → IsRun s es
 front_run s [] all run rest e = r.none
 front_run s (x ∷ es) all r.none rest e = absurd (none_more x (es ++ rest) e)
 front_run s (x ∷ es) all (r.more {es = before} {e = last} run take z) rest e = by (λ zs k. front_run s (x ∷ es) before run zs k) (front before last (x ∷ es) rest (sym z ∙ e))
@@ -81,21 +81,21 @@ front_run s (x ∷ es) all (r.more {es = before} {e = last} run take z) rest e =
     by earlier (inl k) = r.more run take k
     by earlier (inr k) = earlier k.0 k.1
 
-pub fronts : (s : Setting) (es rest : List Entry) → IsRun s (es ++ rest) → IsRun s es
+pub fronts : (s : RunConfig) (es rest : List Entry) → IsRun s (es ++ rest) → IsRun s es
 fronts s es rest run = front_run s es (es ++ rest) run rest refl
 
 -- ---- answers
 
 -- the entry says what the history before it gives
-abbrev IsSaid : NumberedProgram → History → Entry → Type 0
+abbrev IsSaid : ProgramView → History → Entry → Type 0
 IsSaid program h e = heap_answer program h e.proc e.act ≡ Answers e.answer
 
-said_with : (program : NumberedProgram) (h : History) (i : ℕ) (at : Place) (a : Action) (o : Outcome) (e : Entry) → heap_answer program h i a ≡ o → entry_with i at a o ≡ Some e → IsSaid program h e
+said_with : (program : ProgramView) (h : History) (i : ℕ) (at : Place) (a : Action) (o : Outcome) (e : Entry) → heap_answer program h i a ≡ o → entry_with i at a o ≡ Some e → IsSaid program h e
 said_with program h i at a (Answers answer) e k m = subst (IsSaid program h) (some_entry _ e m) k
 said_with program h i at a (Faults kind) e k m = subst (IsSaid program h) (some_entry _ e m) refl
 said_with program h i at a Impossible e k m = cc
 
-said : (s : Setting) (es : List Entry) (i : ℕ) (n : Next) (e : Entry) → entry_of s es i n ≡ Some e → IsSaid s.program (history_of es) e
+said : (s : RunConfig) (es : List Entry) (i : ℕ) (n : Next) (e : Entry) → entry_of s es i n ≡ Some e → IsSaid s.program (history_of es) e
 said s es i (next.Act at a) e m = said_with s.program (history_of es) i at a (heap_answer s.program (history_of es) i a) e refl m
 said s es i (next.End at) e m = subst (IsSaid s.program (history_of es)) (some_entry _ e m) refl
 said s es i (next.Fault kind at) e m = subst (IsSaid s.program (history_of es)) (some_entry _ e m) refl
@@ -103,7 +103,7 @@ said s es i (next.Fault kind at) e m = subst (IsSaid s.program (history_of es)) 
 pub history_grows : (es : List Entry) (e : Entry) → history_of (es ++ e ∷ []) ≡ e ∷ history_of es
 history_grows es e = reverse-append es (e ∷ [])
 
-pub run_answered : (s : Setting) (es : List Entry) → IsRun s es → IsAnswered s.program (history_of es)
+pub run_answered : (s : RunConfig) (es : List Entry) → IsRun s es → IsAnswered s.program (history_of es)
 run_answered s es r.none = heap.none
 run_answered s all (r.more {es = es} {i = i} {e = e} run take z) =
     subst (λ x. IsAnswered s.program (history_of x)) (sym z)
@@ -117,12 +117,12 @@ taker_with i at a (Answers answer) e m = sym (ap (λ (x : Entry). x.proc) (some_
 taker_with i at a (Faults kind) e m = sym (ap (λ (x : Entry). x.proc) (some_entry _ e m))
 taker_with i at a Impossible e m = cc
 
-taker_of : (s : Setting) (es : List Entry) (i : ℕ) (n : Next) (e : Entry) → entry_of s es i n ≡ Some e → e.proc ≡ i
+taker_of : (s : RunConfig) (es : List Entry) (i : ℕ) (n : Next) (e : Entry) → entry_of s es i n ≡ Some e → e.proc ≡ i
 taker_of s es i (next.Act at a) e m = taker_with i at a (heap_answer s.program (history_of es) i a) e m
 taker_of s es i (next.End at) e m = sym (ap (λ (x : Entry). x.proc) (some_entry _ e m))
 taker_of s es i (next.Fault kind at) e m = sym (ap (λ (x : Entry). x.proc) (some_entry _ e m))
 
-pub taker : (s : Setting) (es : List Entry) (i : ℕ) (e : Entry) → CanTake s es i e → e.proc ≡ i
+pub taker : (s : RunConfig) (es : List Entry) (i : ℕ) (e : Entry) → CanTake s es i e → e.proc ≡ i
 taker s es i e take = taker_of s es i take.next e take.entry
 
 same_first : (x y : ℕ) (xs ys : List ℕ) → x ∷ xs ≡ y ∷ ys → x ≡ y
@@ -148,7 +148,7 @@ procs_of es = map (λ (x : Entry). x.proc) es
 procs_more : (es : List Entry) (e : Entry) → procs_of (es ++ e ∷ []) ≡ procs_of es ++ e.proc ∷ []
 procs_more es e = map-append (λ (x : Entry). x.proc) es (e ∷ [])
 
-pub decided : (s : Setting) (es ds : List Entry) → IsRun s es → IsRun s ds → procs_of es ≡ procs_of ds → es ≡ ds
+pub decided : (s : RunConfig) (es ds : List Entry) → IsRun s es → IsRun s ds → procs_of es ≡ procs_of ds → es ≡ ds
 decided s es ds r.none r.none h = refl
 decided s es ds r.none (r.more {es = b} {e = y} run take z) h = absurd (none_end (procs_of b) y.proc (h ∙ ap procs_of z ∙ procs_more b y))
 decided s es ds (r.more {es = a} {e = x} run take z) r.none h = absurd (none_end (procs_of a) x.proc (sym h ∙ ap procs_of z ∙ procs_more a x))
@@ -162,7 +162,7 @@ decided s es ds (r.more {es = a} {i = i} {e = x} run take z) (r.more {es = b} {i
 
 -- ---- one solo run
 
-pub solo_run : (s : Setting) (es : List Entry) → IsSolo s es → IsRun s es
+pub solo_run : (s : RunConfig) (es : List Entry) → IsSolo s es → IsRun s es
 solo_run s es r.none = r.none
 solo_run s es (r.more w t l z) = r.more (solo_run s _ w) t z
 
@@ -170,7 +170,7 @@ length_more : (es all : List Entry) (e : Entry) → all ≡ es ++ e ∷ [] → l
 length_more es all e z = ap (λ (l : List Entry). length l) z ∙ length-append es (e ∷ [])
 
 -- two solo runs of as many entries are one
-solo_same : (s : Setting) (es ds : List Entry) → IsSolo s es → IsSolo s ds → length es ≡ length ds → es ≡ ds
+solo_same : (s : RunConfig) (es ds : List Entry) → IsSolo s es → IsSolo s ds → length es ≡ length ds → es ≡ ds
 solo_same s es ds r.none r.none h = refl
 solo_same s es ds r.none (r.more {es = b} {e = y} run took least w) h = absurd (omega (arith, h, length_more b ds y w))
 solo_same s es ds (r.more {es = a} {e = x} run take first z) r.none h = absurd (omega (arith, h, length_more a es x z))
@@ -186,12 +186,12 @@ solo_same s es ds (r.more {es = a} {i = i} {e = x} run take first z) (r.more {es
     z ∙ ap (λ es. es ++ x ∷ []) before ∙ ap (λ d. b ++ d ∷ []) last ∙ sym w
 
 -- nobody can take an entry after a complete run
-nobody_goes_on : (s : Setting) (es : List Entry) (i : ℕ) (e : Entry) → IsComplete s es → CanTake s es i e → ⊥
+nobody_goes_on : (s : RunConfig) (es : List Entry) (i : ℕ) (e : Entry) → IsComplete s es → CanTake s es i e → ⊥
 nobody_goes_on s es i e (inl fault) take = let c : true ≡ false = sym fault ∙ take.goes_on in cc
 nobody_goes_on s es i e (inr ended) take = let c : true ≡ false = sym (ended i take.within) ∙ take.unended in cc
 
 -- a solo run is no longer than a complete one
-no_longer : (s : Setting) (es ds : List Entry) → IsSolo s es → IsComplete s es → IsSolo s ds → length es ≤ length ds → es ≡ ds
+no_longer : (s : RunConfig) (es ds : List Entry) → IsSolo s es → IsComplete s es → IsSolo s ds → length es ≤ length ds → es ≡ ds
 no_longer s es ds run whole r.none h = solo_same s es [] run r.none (omega (arith, h))
 no_longer s es ds run whole (r.more {es = b} {i = j} {e = y} ran took least w) h =
     elim (cases_lt (length b) (length es)) [
@@ -199,7 +199,7 @@ no_longer s es ds run whole (r.more {es = b} {i = j} {e = y} ran took least w) h
       | inr within ↦ absurd (nobody_goes_on s es j y whole (subst (λ es. CanTake s es j y) (sym (no_longer s es b run whole ran within)) took))
     ]
 
-pub solo_only : (s : Setting) (es ds : List Entry) → IsSolo s es → IsComplete s es → IsSolo s ds → IsComplete s ds → es ≡ ds
+pub solo_only : (s : RunConfig) (es ds : List Entry) → IsSolo s es → IsComplete s es → IsSolo s ds → IsComplete s ds → es ≡ ds
 solo_only s es ds run whole ran other =
     elim (cases_lt (length ds) (length es)) [
       | inl longer ↦ sym (no_longer s ds es ran other run (omega arith))

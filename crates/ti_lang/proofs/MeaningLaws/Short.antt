@@ -11,18 +11,18 @@ use Rattle.ti_lang.specs.Program.Types.{ValueType}
 use Rattle.ti_lang.specs.Typing.BuiltIn as b
 use Rattle.ti_lang.specs.Typing.BuiltIn.{BuiltIn}
 use Rattle.ti_lang.specs.Meaning.Held.{Held, Plain, Dm, point_of}
-use Rattle.ti_lang.specs.Meaning.Asking.{Request, Reference, Gives, Asks, Asking, ◌>>=◌, followed, gives, found_or, asked, needed, told}
+use Rattle.ti_lang.specs.Meaning.Comp.{Request, Reference, Gives, Asks, Comp, ◌>>=◌, bind_result, gives, found_or, asked, needed, told}
 use Rattle.ti_lang.specs.Meaning.Literals.{point_of_numbers}
-use Rattle.ti_lang.specs.Meaning.Parts.{Part, Field, Element, fetched, domain_of, viewed, coordinate, indexed}
-use Rattle.ti_lang.specs.Meaning.MemberForms.{sized, member}
+use Rattle.ti_lang.specs.Meaning.CellRefs.{Part, Field, Element, fetched, domain_of, viewed, coordinate, indexed}
+use Rattle.ti_lang.specs.Meaning.MemberForms.{domain_size, member}
 use Rattle.ti_lang.proofs.MeaningLaws.Silent.{Silent, silent_value, silent_guarded, silent_found, silent_needed, silent_then, silent_leaves, rest_same, asks_gives}
 
 -- it asks for one action, whose answer it uses
-abbrev pub AsksOnce : {A : Type 0} → Asking A → Type 0
+abbrev pub AsksOnce : {A : Type 0} → Comp A → Type 0
 AsksOnce {A} m = (q : Request) × (f : Answer → A) × (m [] ≡ Asks q) × ((r : Answer) (rs : List Answer) → m (r ∷ rs) ≡ Gives (f r) rs)
 
 -- it asks for one action or for none
-abbrev pub Short : {A : Type 0} → Asking A → Type 0
+abbrev pub Short : {A : Type 0} → Comp A → Type 0
 Short m = Silent m ⊎ AsksOnce m
 
 pub asked_once : (q : Request) → Short (asked q)
@@ -31,22 +31,22 @@ asked_once q = inr (q, (λ r. told r), refl, (λ r rs. refl))
 -- ---- how they are put together
 
 -- behind one that asks for nothing
-pub short_after : {A B : Type 0} (m : Asking A) (k : A → Asking B) → Silent m → ((a : A) → Short (k a)) → Short (m >>= k)
+pub short_after : {A B : Type 0} (m : Comp A) (k : A → Comp B) → Silent m → ((a : A) → Short (k a)) → Short (m >>= k)
 short_after {A} {B} m k (inl x) f = by (f x.0)
   where
     by : Short (k x.0) → Short (m >>= k)
-    by (inl (inl y)) = inl (inl (y.0, λ rs. ap (λ g. followed g k) (x.1 rs) ∙ y.1 rs))
-    by (inl (inr y)) = inl (inr (y.0, y.1, λ rs. ap (λ g. followed g k) (x.1 rs) ∙ y.2 rs))
-    by (inr y) = inr (y.0, y.1, ap (λ g. followed g k) (x.1 []) ∙ y.2, λ r rs. ap (λ g. followed g k) (x.1 (r ∷ rs)) ∙ y.3 r rs)
-short_after m k (inr x) f = inl (inr (x.0, x.1, λ rs. ap (λ g. followed g k) (x.2 rs)))
+    by (inl (inl y)) = inl (inl (y.0, λ rs. ap (λ g. bind_result g k) (x.1 rs) ∙ y.1 rs))
+    by (inl (inr y)) = inl (inr (y.0, y.1, λ rs. ap (λ g. bind_result g k) (x.1 rs) ∙ y.2 rs))
+    by (inr y) = inr (y.0, y.1, ap (λ g. bind_result g k) (x.1 []) ∙ y.2, λ r rs. ap (λ g. bind_result g k) (x.1 (r ∷ rs)) ∙ y.3 r rs)
+short_after m k (inr x) f = inl (inr (x.0, x.1, λ rs. ap (λ g. bind_result g k) (x.2 rs)))
 
 -- with its result made into another
-pub short_then : {A B : Type 0} (m : Asking A) (f : A → B) → Short m → Short (m >>= λ a. gives (f a))
+pub short_then : {A B : Type 0} (m : Comp A) (f : A → B) → Short m → Short (m >>= λ a. gives (f a))
 short_then m f (inl x) = inl (silent_then m (λ a. gives (f a)) x (λ a. silent_value (f a)))
-short_then m f (inr x) = inr (x.0, (λ r. f (x.1 r)), ap (λ g. followed g (λ a. gives (f a))) x.2, λ r rs. ap (λ g. followed g (λ a. gives (f a))) (x.3 r rs))
+short_then m f (inr x) = inr (x.0, (λ r. f (x.1 r)), ap (λ g. bind_result g (λ a. gives (f a))) x.2, λ r rs. ap (λ g. bind_result g (λ a. gives (f a))) (x.3 r rs))
 
 -- behind a reference that is needed
-pub needed_then : {B : Type 0} (at : Place) (type : ValueType) (h : Held) (k : Reference → Asking B) → ((r : Reference) → Short (k r)) → Short (needed at type h >>= k)
+pub needed_then : {B : Type 0} (at : Place) (type : ValueType) (h : Held) (k : Reference → Comp B) → ((r : Reference) → Short (k r)) → Short (needed at type h >>= k)
 needed_then at type h k f = short_after (needed at type h) k (silent_needed at type h) f
 
 -- ---- cells, domains, views, members
@@ -68,7 +68,7 @@ pub indexed_short : (is_point : Bool) (at : Place) (type through : ValueType) (h
 indexed_short true at type through h indices = inl (silent_coordinate at (point_of h) (slice_index_or indices 0 (pos 0)))
 indexed_short false at type through h indices = fetched_short at type (Element h through (point_of_numbers indices))
 
-sized_silent : (at : Place) (h : Held) → Silent (sized at h)
+sized_silent : (at : Place) (h : Held) → Silent (domain_size at h)
 sized_silent at (Plain (v.Rc r)) = silent_guarded _ _ at _
 sized_silent at (Dm dim points) = silent_value _
 sized_silent at h = silent_value _
@@ -87,7 +87,7 @@ member_short at type o through h hs = inl (silent_value _)
 -- ---- what is left of the answers
 
 -- no more than there was
-pub short_less : {A : Type 0} (m : Asking A) (rs : List Answer) (a : A) (rest : List Answer) → Short m → m rs ≡ Gives a rest → length rest ≤ length rs
+pub short_less : {A : Type 0} (m : Comp A) (rs : List Answer) (a : A) (rest : List Answer) → Short m → m rs ≡ Gives a rest → length rest ≤ length rs
 short_less m rs a rest (inl x) e =
     let same = silent_leaves m rs a rest x e in
     omega (arith, ap (λ (l : List Answer). length l) same)

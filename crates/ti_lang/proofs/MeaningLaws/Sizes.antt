@@ -2,10 +2,10 @@
 use Rattle.std.proofs.Common.{◌≡◌, ℕ, zero, suc, ◌+◌, ◌≤◌, Option, Some, None, List, [], ◌∷◌, ◌++◌, slice_get, find, Bool, true, false, cond, ◌&&◌, ◌==◌, if◌then◌else◌, arith}
 use Rattle.ti_lang.specs.Program.Statements.{NumberedStm, MaybeNumbered, NoStm, SomeStm, NumberedStms, Nil, Cons, numbered_stms}
 use Rattle.ti_lang.specs.Program.Statements as s
-use Rattle.ti_lang.specs.Program.Classes.{NumberedMethod, NumberedProgram}
+use Rattle.ti_lang.specs.Program.Classes.{NumberedMethod, ProgramView}
 use Rattle.ti_lang.specs.Members.{only_if}
 use Rattle.ti_lang.specs.Typing.Declared.{instance_method}
-use Rattle.ti_lang.specs.Meaning.Processes.{Loop, While, Foreach, Work, Do, End, Before, Behind, Receive, CopyAll, TakeAll, Frame, all_before}
+use Rattle.ti_lang.specs.Meaning.Processes.{Loop, While, Foreach, ContItem, Do, End, Before, Behind, Receive, CopyAll, TakeAll, Frame, all_before}
 
 abbrev mutual
   pub size : NumberedStm → ℕ
@@ -36,7 +36,7 @@ update_size (While at c update body) = size_maybe update
 update_size (Foreach at variable domain points body) = 0
 
 -- what a piece of work weighs
-abbrev pub weight_of : Work → ℕ
+abbrev pub weight_of : ContItem → ℕ
 weight_of (Do x) = size x
 weight_of (End x) = 1
 weight_of (Before loop) = 1
@@ -45,7 +45,7 @@ weight_of (Receive receiver held) = 1
 weight_of (CopyAll at to from points) = 1
 weight_of (TakeAll at grid procs) = 1
 
-abbrev pub weigh : List Work → ℕ
+abbrev pub weigh : List ContItem → ℕ
 weigh [] = 0
 weigh (w ∷ ws) = weight_of w + weigh ws
 
@@ -54,13 +54,13 @@ weigh_all [] = 0
 weigh_all (f ∷ fs) = weigh f.left + weigh_all fs + 2
 
 -- how much the turns of its loops may bring back
-abbrev pub need : Work → ℕ
+abbrev pub need : ContItem → ℕ
 need (Do x) = size x
 need (Before loop) = loop_size loop
 need (Behind loop) = loop_size loop
 need _ = 0
 
-abbrev pub needs : List Work → ℕ
+abbrev pub needs : List ContItem → ℕ
 needs [] = 0
 needs (w ∷ ws) = need w + needs ws
 
@@ -69,7 +69,7 @@ needs_all [] = 0
 needs_all (f ∷ fs) = needs f.left + needs_all fs
 
 -- no piece needs more than b
-abbrev pub Fits : ℕ → List Work → Type 0
+abbrev pub Fits : ℕ → List ContItem → Type 0
 Fits b [] = Unit {0}
 Fits b (w ∷ ws) = (need w ≤ b) × Fits b ws
 
@@ -85,7 +85,7 @@ abbrev pub AllFit : ℕ → List NumberedMethod → Type 0
 AllFit b [] = Unit {0}
 AllFit b (m ∷ ms) = (method_size m ≤ b) × AllFit b ms
 
-abbrev pub MethodsFit : ℕ → NumberedProgram → Type 0
+abbrev pub MethodsFit : ℕ → ProgramView → Type 0
 MethodsFit b program = AllFit b program.methods
 
 -- nor is this one, if there is one
@@ -93,7 +93,7 @@ abbrev pub OneFits : ℕ → Option NumberedMethod → Type 0
 OneFits b None = Unit {0}
 OneFits b (Some m) = method_size m ≤ b
 
-pub fits_needs : (b : ℕ) (ws : List Work) → needs ws ≤ b → Fits b ws
+pub fits_needs : (b : ℕ) (ws : List ContItem) → needs ws ≤ b → Fits b ws
 fits_needs b [] h = tt
 fits_needs b (w ∷ ws) h = (omega arith, fits_needs b ws (omega arith))
 
@@ -131,24 +131,24 @@ only_fits b test (Some m) h = by_test (test m)
     by_test true = h
     by_test false = tt
 
-pub instance_fits : (b : ℕ) (program : NumberedProgram) (class name : ℕ) → MethodsFit b program → OneFits b (instance_method program class name)
+pub instance_fits : (b : ℕ) (program : ProgramView) (class name : ℕ) → MethodsFit b program → OneFits b (instance_method program class name)
 unfolding instance_method
 instance_fits b program class name f = only_fits b _ (find (λ (m : NumberedMethod). (m.class == class) && (m.name == name)) program.methods) (found_fits b _ program.methods f)
 
 -- ---- lists of work
 
-pub weigh_append : (xs ys : List Work) → weigh (xs ++ ys) ≡ weigh xs + weigh ys
+pub weigh_append : (xs ys : List ContItem) → weigh (xs ++ ys) ≡ weigh xs + weigh ys
 weigh_append [] ys = omega arith
 weigh_append (x ∷ xs) ys = omega (arith, weigh_append xs ys)
 
-pub fits_append : (b : ℕ) (xs ys : List Work) → Fits b xs → Fits b ys → Fits b (xs ++ ys)
+pub fits_append : (b : ℕ) (xs ys : List ContItem) → Fits b xs → Fits b ys → Fits b (xs ++ ys)
 fits_append b [] ys f g = g
 fits_append b (x ∷ xs) ys f g = (f.0, fits_append b xs ys f.1 g)
 
-pub weigh_before : (ss : NumberedStms) (ws : List Work) → weigh (all_before ss ws) ≡ sizes ss + weigh ws
+pub weigh_before : (ss : NumberedStms) (ws : List ContItem) → weigh (all_before ss ws) ≡ sizes ss + weigh ws
 weigh_before Nil ws = omega arith
 weigh_before (Cons x ss) ws = omega (arith, weigh_before ss ws)
 
-pub fits_before : (b : ℕ) (ss : NumberedStms) (ws : List Work) → sizes ss ≤ b → Fits b ws → Fits b (all_before ss ws)
+pub fits_before : (b : ℕ) (ss : NumberedStms) (ws : List ContItem) → sizes ss ≤ b → Fits b ws → Fits b (all_before ss ws)
 fits_before b Nil ws h f = f
 fits_before b (Cons x ss) ws h f = (omega arith, fits_before b ss ws (omega arith) f)

@@ -10,15 +10,15 @@ use Rattle.ti_lang.specs.Program.Types.{ValueType, Declaration, Typed, Foreach}
 use Rattle.ti_lang.specs.Program.Types as t
 use Rattle.ti_lang.specs.Program.Expressions.{NumberedExp, NumberedExps, NumberedRange, NumberedRanges}
 use Rattle.ti_lang.specs.Program.Expressions as e
-use Rattle.ti_lang.specs.Program.Classes.{NumberedMethod, NumberedProgram}
+use Rattle.ti_lang.specs.Program.Classes.{NumberedMethod, ProgramView}
 use Rattle.ti_lang.specs.Program.Scope.{ScopeContents}
 use Rattle.ti_lang.specs.Typing.Fits.{casts}
 use Rattle.ti_lang.specs.Typing.Kinds.{where_true, is_void, is_whole, as_global, read_through, dim_of_type}
 use Rattle.ti_lang.specs.Typing.Operators.{whole_type, truth_type, point_type, rect_type, domain_type, binary_type, unary_type}
 use Rattle.ti_lang.specs.Typing.BuiltIn.{BuiltIn, Size, Min, Max, Contains, Domain, Restrict, Translate, Slice, Copy, Exchange, Delete, built_in, member_type}
-use Rattle.ti_lang.specs.Typing.Expressions.{is_int, both, joined, one, all_ints, point_literal, range_of_points, rect_literal, index_type, select_type, called, member_given, member, range_count, known, operand, operands, bound, bounds, typed}
+use Rattle.ti_lang.specs.Typing.Expressions.{is_int, and_then_both, append_both, one, all_ints, point_literal, range_of_points, rect_literal, index_type, select_type, called, member_given, member, range_count, type_result, operand, operands, bound_types, bounds, expr_type}
 use Rattle.ti_lang.specs.Typing.Declared.{declared_type, field_type, named_field_type, instance_method, result_type}
-use Rattle.ti_lang.specs.Typing.TextTypes.{IsDimOf, AreDims, IsRangeDims, AreRangesDims, used_type, how_many, joined_type, product_type, operator_type, field_seen, element_seen, built_in_type, member_seen, type_at, dims_of_range, dims_of_ranges}
+use Rattle.ti_lang.specs.Typing.TextTypes.{IsDimOf, AreDims, IsRangeDims, AreRangesDims, used_type, how_many, joined_type, product_type, operator_type, static_field_type, static_element_type, built_in_type, static_member_type, type_at, dims_of_range, dims_of_ranges}
 use Rattle.ti_lang.proofs.MeaningLaws.NewThings.{both_true}
 
 some_same : {A : Type 0} (a b : A) → ◌≡◌ {A = Option A} (Some a) (Some b) → a ≡ b
@@ -146,7 +146,7 @@ pub record Paired {A B C : Type 0} (o : Option A) (p : Option B) (f : A → B �
   pub right_is : p ≡ Some right
   pub next : f left right ≡ Some c
 
-paired : {A B C : Type 0} (o : Option A) (p : Option B) (f : A → B → Option C) (c : C) → both o p f ≡ Some c → Paired o p f c
+paired : {A B C : Type 0} (o : Option A) (p : Option B) (f : A → B → Option C) (c : C) → and_then_both o p f ≡ Some c → Paired o p f c
 paired None p f c h = no_some c h
 paired (Some a) None f c h = no_some c h
 paired (Some a) (Some b) f c h = record { left = a; right = b; left_is = refl; right_is = refl; next = h }
@@ -165,14 +165,14 @@ operand_some false o u h = only_some _ o u h
 
 -- ---- parts and members
 
-index_agrees : (u : ValueType) (ts : List ValueType) (ty : ValueType) → index_type u ts ≡ Some ty → element_seen u ≡ ty
+index_agrees : (u : ValueType) (ts : List ValueType) (ty : ValueType) → index_type u ts ≡ Some ty → static_element_type u ≡ ty
 index_agrees (t.Pt n) (t.Int ∷ []) ty h = some_same _ _ h
 index_agrees (t.Pt n) ts ty h = no_some ty h
 index_agrees (t.Grid x n l) (t.Pt m ∷ []) ty h = where_some (n == m) _ ty h
 index_agrees (t.Grid x n l) ts ty h = where_some (all_ints ts && (length ts == n)) _ ty h
 index_agrees u ts ty h = no_some ty h
 
-select_agrees : (program : NumberedProgram) (name : ℕ) (u ty : ValueType) → select_type program u name ≡ Some ty → field_seen program name u ≡ ty
+select_agrees : (program : ProgramView) (name : ℕ) (u ty : ValueType) → select_type program u name ≡ Some ty → static_field_type program name u ≡ ty
 select_agrees program name (t.Class c l) ty h = map_some (read_through l) (named_field_type program c name) t.Void ty h
 select_agrees program name u ty h = no_some ty h
 
@@ -201,7 +201,7 @@ call_agrees o None ty h = no_some ty h
 call_agrees None (Some ts) ty h = no_some ty h
 call_agrees (Some m) (Some ts) ty h = where_some _ _ ty h
 
-member_agrees : (program : NumberedProgram) (name : ℕ) (u : ValueType) (ts : List ValueType) (ty : ValueType) → (member_given program u name ts).type ≡ Some ty → member_seen program name u ≡ ty
+member_agrees : (program : ProgramView) (name : ℕ) (u : ValueType) (ts : List ValueType) (ty : ValueType) → (member_given program u name ts).type ≡ Some ty → static_member_type program name u ≡ ty
 member_agrees program name (t.Class c l) ts ty h = call_agrees (instance_method program c name) (Some ts) ty h
 member_agrees program name t.Int ts ty h = given_agrees (built_in program name) _ ts ty h
 member_agrees program name t.Long ts ty h = given_agrees (built_in program name) _ ts ty h
@@ -221,15 +221,15 @@ one_length None ts h = no_some ts h
 one_length (Some u) ts h = ap length (sym (some_same _ _ h))
 
 joined_length : (o p : Option (List ValueType)) (ts : List ValueType) (n m : ℕ) → ((us : List ValueType) → o ≡ Some us → length us ≡ n)
-    → ((us : List ValueType) → p ≡ Some us → length us ≡ m) → joined o p ≡ Some ts → length ts ≡ n + m
+    → ((us : List ValueType) → p ≡ Some us → length us ≡ m) → append_both o p ≡ Some ts → length ts ≡ n + m
 joined_length None p ts n m f g h = no_some ts h
 joined_length (Some us) None ts n m f g h = no_some ts h
 joined_length (Some us) (Some ws) ts n m f g h = omega (arith, ap length (some_same (us ++ ws) ts h), length-append us ws, f us refl, g ws refl)
 
-pub how_many_is : (program : NumberedProgram) (s : ScopeContents) (xs : NumberedExps) (ts : List ValueType) → operands program s xs ≡ Some ts → length ts ≡ how_many xs
+pub how_many_is : (program : ProgramView) (s : ScopeContents) (xs : NumberedExps) (ts : List ValueType) → operands program s xs ≡ Some ts → length ts ≡ how_many xs
 how_many_is program s e.NoExp ts h = ap length (sym (some_same _ _ h))
 how_many_is program s (e.MoreExp x xs) ts h =
-    omega (arith, joined_length (one (operand (known program s x))) (operands program s xs) ts 1 (how_many xs) (one_length (operand (known program s x))) (how_many_is program s xs) h)
+    omega (arith, joined_length (one (operand (type_result program s x))) (operands program s xs) ts 1 (how_many xs) (one_length (operand (type_result program s x))) (how_many_is program s xs) h)
 
 point_agrees : (ts : List ValueType) (ty : ValueType) (n : ℕ) → length ts ≡ n → point_literal ts ≡ Some ty → t.Pt n ≡ ty
 point_agrees ts ty n z h = ap t.Pt (sym z) ∙ where_some (all_ints ts) _ ty h
@@ -243,7 +243,7 @@ int_only u b h = absurd (wrong h)
     wrong : false ≡ true → ⊥
     wrong h = cc
 
-low_int : (o : Option ValueType) (p : Option (List ValueType)) (ts : List ValueType) → joined (one o) p ≡ Some ts → all_ints ts ≡ true → o ≡ Some t.Int
+low_int : (o : Option ValueType) (p : Option (List ValueType)) (ts : List ValueType) → append_both (one o) p ≡ Some ts → all_ints ts ≡ true → o ≡ Some t.Int
 low_int None p ts h z = no_some ts h
 low_int (Some u) None ts h z = no_some ts h
 low_int (Some u) (Some ws) ts h z = ap Some (int_only u (all_ints ws) (subst (λ x. all_ints x ≡ true) (sym (some_same (u ∷ ws) ts h)) z))
@@ -257,13 +257,13 @@ by_first : (u : ValueType) (ws : List ValueType) (ty : ValueType) → range_of_p
 by_first (t.Pt n) ws ty h = record { dim = n; is = refl; gives = where_some _ _ ty h }
 by_first u ws ty h = no_some ty h
 
-low_point : (o : Option ValueType) (p : Option (List ValueType)) (ts : List ValueType) (ty : ValueType) → joined (one o) p ≡ Some ts → range_of_points ts ≡ Some ty → LowPoint o ty
+low_point : (o : Option ValueType) (p : Option (List ValueType)) (ts : List ValueType) (ty : ValueType) → append_both (one o) p ≡ Some ts → range_of_points ts ≡ Some ty → LowPoint o ty
 low_point None p ts ty h z = no_some ts h
 low_point (Some u) None ts ty h z = no_some ts h
 low_point (Some u) (Some ws) ts ty h z = by_first u ws ty (subst (λ x. range_of_points x ≡ Some ty) (sym (some_same (u ∷ ws) ts h)) z)
 
 -- the first of three comes before the other two
-flat : (o : Option ValueType) (p q : Option (List ValueType)) (ts : List ValueType) → joined (joined (one o) p) q ≡ Some ts → joined (one o) (joined p q) ≡ Some ts
+flat : (o : Option ValueType) (p q : Option (List ValueType)) (ts : List ValueType) → append_both (append_both (one o) p) q ≡ Some ts → append_both (one o) (append_both p q) ≡ Some ts
 flat None p q ts h = h
 flat (Some u) None q ts h = h
 flat (Some u) (Some ps) None ts h = h
@@ -283,21 +283,21 @@ pub record Split (o p : Option (List ValueType)) (ts : List ValueType) : Type 0 
   pub back_is : p ≡ Some back
   pub whole : front ++ back ≡ ts
 
-split : (o p : Option (List ValueType)) (ts : List ValueType) → joined o p ≡ Some ts → Split o p ts
+split : (o p : Option (List ValueType)) (ts : List ValueType) → append_both o p ≡ Some ts → Split o p ts
 split None p ts h = no_some ts h
 split (Some us) None ts h = no_some ts h
 split (Some us) (Some ws) ts h = record { front = us; back = ws; front_is = refl; back_is = refl; whole = some_same (us ++ ws) ts h }
 
 -- ---- expressions
 
-module _ (program : NumberedProgram) (s : ScopeContents) (dims : ℕ → ℕ) where
+module _ (program : ProgramView) (s : ScopeContents) (dims : ℕ → ℕ) where
   variable_agrees : (number : ℕ) (d : Declaration) → IsDimOf s dims number d → (ty : ValueType) → declared_type s number d ≡ Some ty → used_type dims number d ≡ ty
   variable_agrees number (Typed is_single type) k ty h = some_same _ _ h
   variable_agrees number Foreach k ty h = sym (k ty h)
 
-  operand_of : (x : NumberedExp) → ((ty : ValueType) → typed program s x ≡ Some ty → type_at program s.this_class dims x ≡ ty)
-      → (u : ValueType) → operand (known program s x) ≡ Some u → type_at program s.this_class dims x ≡ u
-  operand_of x f u h = f u (operand_some (known program s x).is_call (known program s x).type u h)
+  operand_of : (x : NumberedExp) → ((ty : ValueType) → expr_type program s x ≡ Some ty → type_at program s.this_class dims x ≡ ty)
+      → (u : ValueType) → operand (type_result program s x) ≡ Some u → type_at program s.this_class dims x ≡ u
+  operand_of x f u h = f u (operand_some (type_result program s x).is_call (type_result program s x).type u h)
 
   rect_agrees : (rs : NumberedRanges) (ts : List ValueType) (ty : ValueType)
       → (all_ints ts ≡ true → dims_of_ranges program s.this_class dims rs ≡ range_count rs)
@@ -309,7 +309,7 @@ module _ (program : NumberedProgram) (s : ScopeContents) (dims : ℕ → ℕ) wh
   rect_agrees rs ts ty f g false false e d h = no_some ty h
 
   mutual
-    pub agrees : (x : NumberedExp) → AreDims s dims x → (ty : ValueType) → typed program s x ≡ Some ty → type_at program s.this_class dims x ≡ ty
+    pub agrees : (x : NumberedExp) → AreDims s dims x → (ty : ValueType) → expr_type program s x ≡ Some ty → type_at program s.this_class dims x ≡ ty
     agrees (e.Int at n) are ty h = some_same _ _ h
     agrees (e.Long at n) are ty h = some_same _ _ h
     agrees (e.Truth at b) are ty h = some_same _ _ h
@@ -328,63 +328,63 @@ module _ (program : NumberedProgram) (s : ScopeContents) (dims : ℕ → ℕ) wh
         let k = stepped (bounds program s ranges) (rect_literal (range_count ranges)) ty h in
         rect_agrees ranges k.first ty (ranges_ints ranges are k.first k.is) (ranges_points ranges are k.first ty k.is) (all_ints k.first) (range_count ranges == 1) refl refl k.next
     agrees (e.Unary at o x) are ty h =
-        let k = stepped (operand (known program s x)) (unary_type o) ty h in
+        let k = stepped (operand (type_result program s x)) (unary_type o) ty h in
         operand_of x (agrees x are) k.first k.is ∙ unary_agrees o k.first ty k.next
     agrees (e.Binary at o x y) are ty h =
-        let k = paired (operand (known program s x)) (operand (known program s y)) (binary_type o) ty h in
+        let k = paired (operand (type_result program s x)) (operand (type_result program s y)) (binary_type o) ty h in
         ap (λ u. operator_type o u (type_at program s.this_class dims y)) (operand_of x (agrees x are.0) k.left k.left_is)
         ∙ (ap (λ u. operator_type o k.left u) (operand_of y (agrees y are.1) k.right k.right_is)
         ∙ binary_agrees o k.left k.right ty k.next)
     agrees (e.Cast at to x) are ty h =
-        let k = stepped (operand (known program s x)) (λ u. where_true (casts to.type u) to.type) ty h in where_some _ to.type ty k.next
+        let k = stepped (operand (type_result program s x)) (λ u. where_true (casts to.type u) to.type) ty h in where_some _ to.type ty k.next
     agrees (e.Select at x name) are ty h =
-        let k = stepped (operand (known program s x)) (λ u. select_type program u name) ty h in
-        ap (field_seen program name) (operand_of x (agrees x are) k.first k.is) ∙ select_agrees program name k.first ty k.next
-    agrees (e.Member at x name args) are ty h = by_operands (operand (known program s x)) (operands program s args) (operand_of x (agrees x are)) h
+        let k = stepped (operand (type_result program s x)) (λ u. select_type program u name) ty h in
+        ap (static_field_type program name) (operand_of x (agrees x are) k.first k.is) ∙ select_agrees program name k.first ty k.next
+    agrees (e.Member at x name args) are ty h = by_operands (operand (type_result program s x)) (operands program s args) (operand_of x (agrees x are)) h
       where
         by_operands : (o : Option ValueType) (ts : Option (List ValueType))
             → ((u : ValueType) → o ≡ Some u → type_at program s.this_class dims x ≡ u) → (member program o name ts).type ≡ Some ty
-            → member_seen program name (type_at program s.this_class dims x) ≡ ty
+            → static_member_type program name (type_at program s.this_class dims x) ≡ ty
         by_operands None ts f h = no_some ty h
         by_operands (Some u) None f h = no_some ty h
-        by_operands (Some u) (Some ts) f h = ap (member_seen program name) (f u refl) ∙ member_agrees program name u ts ty h
+        by_operands (Some u) (Some ts) f h = ap (static_member_type program name) (f u refl) ∙ member_agrees program name u ts ty h
     agrees (e.Index at x parts) are ty h =
-        let k = paired (operand (known program s x)) (operands program s parts) index_type ty h in
-        ap element_seen (operand_of x (agrees x are) k.left k.left_is) ∙ index_agrees k.left k.right ty k.next
+        let k = paired (operand (type_result program s x)) (operands program s parts) index_type ty h in
+        ap static_element_type (operand_of x (agrees x are) k.left k.left_is) ∙ index_agrees k.left k.right ty k.next
 
-    range_ints : (r : NumberedRange) → IsRangeDims s dims r → (ts : List ValueType) → bound program s r ≡ Some ts → all_ints ts ≡ true
+    range_ints : (r : NumberedRange) → IsRangeDims s dims r → (ts : List ValueType) → bound_types program s r ≡ Some ts → all_ints ts ≡ true
         → dims_of_range program s.this_class dims r ≡ 1
     range_ints (e.Plain low high) are ts h z =
-        ap dim_of_type (operand_of low (agrees low are) t.Int (low_int (operand (known program s low)) (one (operand (known program s high))) ts h z))
+        ap dim_of_type (operand_of low (agrees low are) t.Int (low_int (operand (type_result program s low)) (one (operand (type_result program s high))) ts h z))
     range_ints (e.Stepped low high step) are ts h z =
-        ap dim_of_type (operand_of low (agrees low are) t.Int (low_int (operand (known program s low)) (joined (one (operand (known program s high))) (one (operand (known program s step)))) ts
-        (flat (operand (known program s low)) (one (operand (known program s high))) (one (operand (known program s step))) ts h) z))
+        ap dim_of_type (operand_of low (agrees low are) t.Int (low_int (operand (type_result program s low)) (append_both (one (operand (type_result program s high))) (one (operand (type_result program s step)))) ts
+        (flat (operand (type_result program s low)) (one (operand (type_result program s high))) (one (operand (type_result program s step))) ts h) z))
 
     ranges_ints : (rs : NumberedRanges) → AreRangesDims s dims rs → (ts : List ValueType) → bounds program s rs ≡ Some ts → all_ints ts
         ≡ true → dims_of_ranges program s.this_class dims rs ≡ range_count rs
     ranges_ints e.NoRange are ts h z = refl
     ranges_ints (e.MoreRange r e.NoRange) are ts h z =
-        let k = split (bound program s r) (Some []) ts h in
+        let k = split (bound_types program s r) (Some []) ts h in
         let m = ints_split k.front k.back (subst (λ x. all_ints x ≡ true) (sym k.whole) z) in
         range_ints r are.0 k.front k.front_is m.0
     ranges_ints (e.MoreRange r (e.MoreRange q rs)) are ts h z = refl
 
-    range_points : (r : NumberedRange) → IsRangeDims s dims r → (ts : List ValueType) (ty : ValueType) → bound program s r ≡ Some ts
+    range_points : (r : NumberedRange) → IsRangeDims s dims r → (ts : List ValueType) (ty : ValueType) → bound_types program s r ≡ Some ts
         → range_of_points ts ≡ Some ty → t.Rc (dims_of_range program s.this_class dims r) ≡ ty
     range_points (e.Plain low high) are ts ty h z =
-        let k = low_point (operand (known program s low)) (one (operand (known program s high))) ts ty h z in
+        let k = low_point (operand (type_result program s low)) (one (operand (type_result program s high))) ts ty h z in
         ap (λ u. t.Rc (dim_of_type u)) (operand_of low (agrees low are) (t.Pt k.dim) k.is) ∙ k.gives
     range_points (e.Stepped low high step) are ts ty h z =
-        let k = low_point (operand (known program s low)) (joined (one (operand (known program s high)))
-        (one (operand (known program s step)))) ts ty (flat (operand (known program s low)) (one (operand (known program s high)))
-        (one (operand (known program s step))) ts h) z in
+        let k = low_point (operand (type_result program s low)) (append_both (one (operand (type_result program s high)))
+        (one (operand (type_result program s step)))) ts ty (flat (operand (type_result program s low)) (one (operand (type_result program s high)))
+        (one (operand (type_result program s step))) ts h) z in
         ap (λ u. t.Rc (dim_of_type u)) (operand_of low (agrees low are) (t.Pt k.dim) k.is) ∙ k.gives
 
     ranges_points : (rs : NumberedRanges) → AreRangesDims s dims rs → (ts : List ValueType) (ty : ValueType) → bounds program s rs ≡ Some ts
         → range_count rs ≡ 1 → range_of_points ts ≡ Some ty → t.Rc (dims_of_ranges program s.this_class dims rs) ≡ ty
     ranges_points e.NoRange are ts ty h n z = absurd (omega (arith, n))
     ranges_points (e.MoreRange r e.NoRange) are ts ty h n z =
-        let k = split (bound program s r) (Some []) ts h in
+        let k = split (bound_types program s r) (Some []) ts h in
         let nil : [] ≡ k.back = some_same _ _ k.back_is in
         let same : k.front ≡ ts = sym (append-nil k.front) ∙ (ap (λ x. k.front ++ x) nil ∙ k.whole) in
         range_points r are.0 k.front ty k.front_is (subst (λ x. range_of_points x ≡ Some ty) (sym same) z)

@@ -12,10 +12,10 @@ use Rattle.ti_base.specs.declared.entry.Answer.{Answer}
 use Rattle.ti_base.specs.declared.entry.Answer.TheVariants.{Done, Val}
 use Rattle.ti_base.specs.declared.entry.Entry.{Entry}
 use Rattle.ti_base.specs.Cells.{suits, view_fault}
-use Rattle.ti_lang.specs.Program.Classes.{NumberedProgram}
+use Rattle.ti_lang.specs.Program.Classes.{ProgramView}
 use Rattle.ti_lang.specs.Meaning.Histories.{History, is_making, entries_of, things_made}
 use Rattle.ti_lang.specs.Meaning.Zeros.{zeros_of_class}
-use Rattle.ti_lang.specs.Meaning.HeapOf.{grid_of, new_id, view_id, made_by, IsMade}
+use Rattle.ti_lang.specs.Meaning.HeapOf.{grid_of_id, new_id, view_id, made_by, IsMade}
 use Rattle.ti_base.specs.Forms.{is_dim}
 use Rattle.ti_lang.specs.Meaning.HeapAnswers.{Outcome, Answers, where_some, possible_if, faults_if, views, makes, places, heap_answer, IsAnswered, none, more}
 
@@ -40,7 +40,7 @@ views_then (Some k) o r e = cc
 pub answer_same : (a b : Answer) → Answers a ≡ Answers b → a ≡ b
 answer_same a b e = cc
 
-pub made_value : (program : NumberedProgram) (h : History) (i : ℕ) (a : Action) (x : Value) (r : Answer) → makes program h i a x ≡ Answers r → Val x ≡ r
+pub made_value : (program : ProgramView) (h : History) (i : ℕ) (a : Action) (x : Value) (r : Answer) → makes program h i a x ≡ Answers r → Val x ≡ r
 made_value program h i a x r e = answer_same (Val x) r (fault_then _ _ _ r e)
 
 pub placed : (region : ℕ) (h : History) (o : Outcome) (r : Answer) → places region h o ≡ Answers r → o ≡ Answers r
@@ -72,7 +72,7 @@ object_next i h a x id r m n e g = next_from i h x id n (sym (ap (λ t. cond t (
 grid_next : (i : ℕ) (h : History) (a : Action) (x id : Id) (r : Answer) → is_making a ≡ true → IsNext i h x → Val (v.Grid (Some x)) ≡ r → made_by a r ≡ Some id → IsNext i h id
 grid_next i h a x id r m n e g = next_from i h x id n (sym (ap (λ t. cond t (Some x) None) m) ∙ ap (made_by a) e ∙ g)
 
-made_next : (program : NumberedProgram) (h : History) (i : ℕ) (a : Action) (r : Answer) (id : Id) → is_making a ≡ true → heap_answer program h i a ≡ Answers r
+made_next : (program : ProgramView) (h : History) (i : ℕ) (a : Action) (r : Answer) (id : Id) → is_making a ≡ true → heap_answer program h i a ≡ Answers r
     → made_by a r ≡ Some id → IsNext i h id
 made_next program h i (act.NewObj class region) r id m e g =
     let a = act.NewObj class region in
@@ -88,7 +88,7 @@ made_next program h i (act.MakeView viewed how) r id m e g =
     let a = act.MakeView viewed how in
     let x = view_id i viewed h in
     let made = makes program h i a (v.Grid (Some x)) in
-    let s = some_then (grid_of viewed h) (λ k. possible_if (suits how k.domain) (views (view_fault how k.domain) made)) r e in
+    let s = some_then (grid_of_id viewed h) (λ k. possible_if (suits how k.domain) (views (view_fault how k.domain) made)) r e in
     let t = possible_then (suits how s.0.domain) (views (view_fault how s.0.domain) made) r s.2 in
     grid_next i h a x id r refl (refl, refl) (made_value program h i a (v.Grid (Some x)) r (views_then (view_fault how s.0.domain) made r t.1)) g
 made_next program h i (act.GetField obj field) r id m e g = cc
@@ -121,7 +121,7 @@ things_more : (i : ℕ) (e : Entry) (h : History) → things_made i (e ∷ h) �
 things_more i e h = count_more (e.proc == i) e (entries_of i h)
 
 -- each made thing has a number below the next one of its maker
-numbered : (program : NumberedProgram) (h : History) (id : Id) → IsAnswered program h → IsMade id h → id.serial < things_made id.maker h
+numbered : (program : ProgramView) (h : History) (id : Id) → IsAnswered program h → IsMade id h → id.serial < things_made id.maker h
 numbered program h id none m = elim m [ ]
 numbered program h id (more {h = earlier} {e = e} a said) (inl g) =
     let mk = making e.act e.answer id g in
@@ -136,7 +136,7 @@ numbered program h id (more {h = earlier} {e = e} a said) (inr m) =
     let b = numbered program earlier id a m in
     omega (arith, things_more id.maker e earlier)
 
-pub made_once : (program : NumberedProgram) (h : History) (e : Entry) (id : Id) → IsAnswered program (e ∷ h) → made_by e.act e.answer ≡ Some id → IsMade id h → ⊥
+pub made_once : (program : ProgramView) (h : History) (e : Entry) (id : Id) → IsAnswered program (e ∷ h) → made_by e.act e.answer ≡ Some id → IsMade id h → ⊥
 made_once program h e id (more a said) g m =
     let n = made_next program h e.proc e.act e.answer id (making e.act e.answer id g) said g in
     let b = numbered program h id a m in

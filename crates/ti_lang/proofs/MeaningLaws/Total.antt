@@ -5,15 +5,15 @@ use Rattle.ti_base.specs.declared.fault.FaultKind.TheVariants.{Fuel}
 use Rattle.ti_base.specs.declared.entry.Next.{Next}
 use Rattle.ti_base.specs.declared.entry.Next.TheVariants as next
 use Rattle.ti_lang.specs.Meaning.Held.{Held}
-use Rattle.ti_lang.specs.Meaning.Asking.{Got, Gives, Asks, Fails}
+use Rattle.ti_lang.specs.Meaning.Comp.{CompResult, Gives, Asks, Fails}
 use Rattle.ti_lang.specs.Program.Statements.{numbered_stms}
-use Rattle.ti_lang.specs.Meaning.Processes.{Variable, Receiver, Work, Do, End, Before, Behind, Receive, CopyAll, TakeAll, Frame, Wait, Process, frame_of}
+use Rattle.ti_lang.specs.Meaning.Processes.{Variable, Receiver, ContItem, Do, End, Before, Behind, Receive, CopyAll, TakeAll, Frame, Wait, Process, frame_of}
 use Rattle.ti_lang.specs.Meaning.Scoping.{env_of}
 use Rattle.ti_lang.specs.Meaning.Moves.{Move, Goes, Turns, Breaks, Continues, Calls, Returns, Meets, Deletes}
-use Rattle.ti_lang.specs.Meaning.Performing.{performed}
-use Rattle.ti_lang.specs.Meaning.Steps.{Step, To, At, Ends, Faults, going, handed, ticks, most_frames, valued, moves, works, runs, steps, step}
+use Rattle.ti_lang.specs.Meaning.Performing.{exec_item}
+use Rattle.ti_lang.specs.Meaning.Steps.{Step, To, At, Ends, Faults, with_continuation, deliver, ticks, most_frames, step_of_result, moves, works, runs, steps, step}
 use Rattle.ti_lang.specs.Meaning.Jumps.{has_mark, from_mark, past_mark, variables_at_mark}
-use Rattle.ti_lang.specs.Meaning.NextStep.{here, later, shown, IsNext}
+use Rattle.ti_lang.specs.Meaning.NextStep.{here, later, step_label, IsNext}
 use Rattle.ti_lang.proofs.MeaningLaws.Sizes.{weight_of, weigh, weigh_all, needs_all, Fits, FitsAll, MethodsFit, fits_all_needs, most, fits_most, weigh_append, fits_append, weigh_before, fits_before}
 use Rattle.ti_lang.proofs.MeaningLaws.Falling as falling
 
@@ -57,27 +57,27 @@ tick_less f s b w v l h =
 
 -- ---- frames
 
-pub goes_falls : (b : ℕ) (p : Process) (f : Frame) (fs : List Frame) (variables : List Variable) (left : List Work)
-    → p.frames ≡ f ∷ fs → weigh left < weigh f.left + length p.answers → Fits b left → FitsAll b fs → MethodsFit b p.setting.program → Falls b p (To (going p f fs variables left))
+pub goes_falls : (b : ℕ) (p : Process) (f : Frame) (fs : List Frame) (variables : List Variable) (left : List ContItem)
+    → p.frames ≡ f ∷ fs → weigh left < weigh f.left + length p.answers → Fits b left → FitsAll b fs → MethodsFit b p.setting.program → Falls b p (To (with_continuation p f fs variables left))
 goes_falls b p f fs variables left e l x y m = (omega (arith, ap weigh_all e), ((x, y), m))
 
-handed_weight : (receiver : Receiver) (value : Option Held) (fs : List Frame) → weigh_all (handed receiver value fs) ≤ weigh_all fs + 1
+handed_weight : (receiver : Receiver) (value : Option Held) (fs : List Frame) → weigh_all (deliver receiver value fs) ≤ weigh_all fs + 1
 handed_weight receiver None fs = omega arith
 handed_weight receiver (Some h) [] = omega arith
 handed_weight receiver (Some h) (f ∷ fs) = omega arith
 
-handed_fits : (b : ℕ) (receiver : Receiver) (value : Option Held) (fs : List Frame) → FitsAll b fs → FitsAll b (handed receiver value fs)
+handed_fits : (b : ℕ) (receiver : Receiver) (value : Option Held) (fs : List Frame) → FitsAll b fs → FitsAll b (deliver receiver value fs)
 handed_fits b receiver None fs x = x
 handed_fits b receiver (Some h) [] x = x
 handed_fits b receiver (Some h) (f ∷ fs) x = ((omega arith, x.0), x.1)
 
-pub returns_fall : (b : ℕ) (p : Process) (f : Frame) (fs : List Frame) (left : List Work) (value : Option Held)
+pub returns_fall : (b : ℕ) (p : Process) (f : Frame) (fs : List Frame) (left : List ContItem) (value : Option Held)
     → p.frames ≡ f ∷ fs → FitsAll b fs → MethodsFit b p.setting.program → Falls b p (moves p f fs left (Returns value))
 returns_fall b p f fs left value e y m = (omega (arith, ap weigh_all e, handed_weight f.receiver value fs), (handed_fits b f.receiver value fs y, m))
 
 -- ---- jumps
 
-mark_weight : (ws : List Work) → weigh (from_mark ws) ≤ weigh ws
+mark_weight : (ws : List ContItem) → weigh (from_mark ws) ≤ weigh ws
 mark_weight [] = omega arith
 mark_weight (Do x ∷ ws) = omega (arith, mark_weight ws)
 mark_weight (End x ∷ ws) = omega (arith, mark_weight ws)
@@ -87,7 +87,7 @@ mark_weight (Receive receiver h ∷ ws) = omega (arith, mark_weight ws)
 mark_weight (CopyAll at to from points ∷ ws) = omega (arith, mark_weight ws)
 mark_weight (TakeAll at grid procs ∷ ws) = omega (arith, mark_weight ws)
 
-mark_fits : (b : ℕ) (ws : List Work) → Fits b ws → Fits b (from_mark ws)
+mark_fits : (b : ℕ) (ws : List ContItem) → Fits b ws → Fits b (from_mark ws)
 mark_fits b [] f = tt
 mark_fits b (Do x ∷ ws) f = mark_fits b ws f.1
 mark_fits b (End x ∷ ws) f = mark_fits b ws f.1
@@ -97,7 +97,7 @@ mark_fits b (Receive receiver h ∷ ws) f = mark_fits b ws f.1
 mark_fits b (CopyAll at to from points ∷ ws) f = mark_fits b ws f.1
 mark_fits b (TakeAll at grid procs ∷ ws) f = mark_fits b ws f.1
 
-past_weight : (ws : List Work) → weigh (past_mark ws) ≤ weigh ws
+past_weight : (ws : List ContItem) → weigh (past_mark ws) ≤ weigh ws
 past_weight [] = omega arith
 past_weight (Do x ∷ ws) = omega (arith, past_weight ws)
 past_weight (End x ∷ ws) = omega (arith, past_weight ws)
@@ -107,7 +107,7 @@ past_weight (Receive receiver h ∷ ws) = omega (arith, past_weight ws)
 past_weight (CopyAll at to from points ∷ ws) = omega (arith, past_weight ws)
 past_weight (TakeAll at grid procs ∷ ws) = omega (arith, past_weight ws)
 
-past_fits : (b : ℕ) (ws : List Work) → Fits b ws → Fits b (past_mark ws)
+past_fits : (b : ℕ) (ws : List ContItem) → Fits b ws → Fits b (past_mark ws)
 past_fits b [] f = tt
 past_fits b (Do x ∷ ws) f = past_fits b ws f.1
 past_fits b (End x ∷ ws) f = past_fits b ws f.1
@@ -119,7 +119,7 @@ past_fits b (TakeAll at grid procs ∷ ws) f = past_fits b ws f.1
 
 -- ---- moves
 
-pub moves_fall : (b : ℕ) (p : Process) (f : Frame) (fs : List Frame) (w : Work) (left : List Work) (move : Move)
+pub moves_fall : (b : ℕ) (p : Process) (f : Frame) (fs : List Frame) (w : ContItem) (left : List ContItem) (move : Move)
     → p.frames ≡ f ∷ fs → f.left ≡ w ∷ left → falling.MoveFalls b (weight_of w + length p.answers) move → Fits b left → FitsAll b fs
     → MethodsFit b p.setting.program → Falls b p (moves p f fs left move)
 moves_fall b p f fs w left (Goes variables new) e z h x y m =
@@ -150,17 +150,17 @@ moves_fall b p f fs w left (Returns value) e z h x y m = returns_fall b p f fs l
 moves_fall b p f fs w left (Meets wait given behind) e z h x y m = ticks_fall b p wait.place _ (λ t. tt)
 moves_fall b p f fs w left (Deletes at region) e z h x y m = ticks_fall b p at _ (λ t. tt)
 
-pub valued_falls : (b : ℕ) (p : Process) (k : ℕ) (got : Got Move) (go : Move → Step) → falling.Giving (falling.MoveFalls b k) got
-    → ((move : Move) → falling.MoveFalls b k move → Falls b p (go move)) → Falls b p (valued p got go)
+pub valued_falls : (b : ℕ) (p : Process) (k : ℕ) (got : CompResult Move) (go : Move → Step) → falling.Giving (falling.MoveFalls b k) got
+    → ((move : Move) → falling.MoveFalls b k move → Falls b p (go move)) → Falls b p (step_of_result p got go)
 valued_falls b p k (Gives move rest) go h f = f move h
 valued_falls b p k (Asks request) go h f = ticks_fall b p request.place _ (λ t. tt)
 valued_falls b p k (Fails kind at) go h f = tt
 
-works_fall : (b : ℕ) (p : Process) (f : Frame) (fs : List Frame) (ws : List Work) → p.frames ≡ f ∷ fs → f.left ≡ ws → Fits b ws
+works_fall : (b : ℕ) (p : Process) (f : Frame) (fs : List Frame) (ws : List ContItem) → p.frames ≡ f ∷ fs → f.left ≡ ws → Fits b ws
     → FitsAll b fs → MethodsFit b p.setting.program → Falls b p (works p f fs ws)
 works_fall b p f fs [] e z x y m = returns_fall b p f fs [] None e y m
 works_fall b p f fs (w ∷ left) e z x y m =
-    valued_falls b p (weight_of w + length p.answers) (performed (env_of p f left) w p.answers) (moves p f fs left) (falling.work_falls b (env_of p f left) w p.answers m x.0)
+    valued_falls b p (weight_of w + length p.answers) (exec_item (env_of p f left) w p.answers) (moves p f fs left) (falling.work_falls b (env_of p f left) w p.answers m x.0)
     (λ move h. moves_fall b p f fs w left move e z h x.1 y m)
 
 runs_fall : (b : ℕ) (p : Process) (fs : List Frame) → p.frames ≡ fs → FitsAll b fs → MethodsFit b p.setting.program → Falls b p (runs p fs)
@@ -182,8 +182,8 @@ lower a b k h g = omega arith
 settles_later : (p q : Process) → step p ≡ To q → (n : Next) × IsNext q n → (n : Next) × IsNext p n
 settles_later p q e x = (x.0, (x.1.0, record { reaches = later e x.1.1.reaches; stands = x.1.1.stands }))
 
-stands_here : (p : Process) (s : Step) (n : Next) → step p ≡ s → shown s ≡ Some n → (n : Next) × IsNext p n
-stands_here p s n e h = (n, (p, record { reaches = here; stands = subst (λ x. shown x ≡ Some n) (sym e) h }))
+stands_here : (p : Process) (s : Step) (n : Next) → step p ≡ s → step_label s ≡ Some n → (n : Next) × IsNext p n
+stands_here p s n e h = (n, (p, record { reaches = here; stands = subst (λ x. step_label x ≡ Some n) (sym e) h }))
 
 by_step : (b k : ℕ) (p : Process) → ((q : Process) → weight b q < k → Fitting b q → (n : Next) × IsNext q n) → (s : Step) → step p ≡ s → weight b p < suc k → Fitting b p → (n : Next) × IsNext p n
 by_step b k p go (To q) e l f =

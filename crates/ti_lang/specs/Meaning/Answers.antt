@@ -14,7 +14,7 @@ use Rattle.ti_base.specs.Rects.{IsRect}
 use Rattle.ti_base.specs.Cells.{named_by}
 use Rattle.ti_lang.specs.Program.Types.{ValueType}
 use Rattle.ti_lang.specs.Program.Types as t
-use Rattle.ti_lang.specs.Meaning.Asking.{Wanted, ToBeDone, ValueOf, NewThing, Request}
+use Rattle.ti_lang.specs.Meaning.Comp.{Wanted, ToBeDone, ValueOf, NewThing, Request}
 use Rattle.ti_lang.specs.Meaning.Processes.{Process}
 use Rattle.ti_lang.specs.Meaning.Steps.{At, step}
 use Rattle.ti_lang.specs.Meaning.NextStep.{Reaches}

@@ -5,11 +5,11 @@ use Rattle.ti_base.specs.declared.value.Id.{Id}
 use Rattle.ti_lang.specs.Program.Types.{VariableUse, Typed, Void}
 use Rattle.ti_lang.specs.Program.Expressions.{NumberedExp, NumberedExps, place_of_numbered}
 use Rattle.ti_lang.specs.Program.Expressions as e
-use Rattle.ti_lang.specs.Program.Classes.{NumberedMethod, NumberedParam, NumberedParams, Words, Params}
+use Rattle.ti_lang.specs.Program.Classes.{NumberedMethod, NumberedParam, NumberedParams, MainArgs, Params}
 use Rattle.ti_lang.specs.Program.Scope.{this_of}
 use Rattle.ti_lang.specs.Typing.Called.{called_method}
 use Rattle.ti_lang.specs.Meaning.Held.{Held}
-use Rattle.ti_lang.specs.Meaning.Asking.{Asking, ◌>>=◌, gives, needed}
+use Rattle.ti_lang.specs.Meaning.Comp.{Comp, ◌>>=◌, gives, needed}
 use Rattle.ti_lang.specs.Meaning.Conversions.{converted}
 use Rattle.ti_lang.specs.Meaning.Processes.{Variable, Receiver}
 use Rattle.ti_lang.specs.Meaning.Scoping.{Env, with_new, declared_type}
@@ -50,37 +50,37 @@ parameters_from number (p ∷ rest) =
 
 -- the parameters of a method; the `String[] x` of `main` is no variable
 abbrev pub parameters_of : NumberedParams → List VariableUse
-parameters_of Words = []
+parameters_of MainArgs = []
 parameters_of (Params params) = parameters_from 0 params
 
 -- the parameters bound to the values of their arguments, each converted to the parameter's type before the next is evaluated
-abbrev pub bound : Env → List VariableUse → NumberedExps → List Variable → Asking (List Variable)
-bound env (p ∷ ps) (e.MoreExp x xs) found = do
+abbrev pub bind_params : Env → List VariableUse → NumberedExps → List Variable → Comp (List Variable)
+bind_params env (p ∷ ps) (e.MoreExp x xs) found = do
   h ← eval env x
   k ← converted (place_of_numbered x) (declared_type p.declared) h
-  bound env ps xs (with_new p k found)
-bound env ps xs found = gives found
+  bind_params env ps xs (with_new p k found)
+bind_params env ps xs found = gives found
 
 -- ---- the call
 
 -- the value of an optional expression
-abbrev pub maybe_eval : Env → Option NumberedExp → Asking (Option Held)
+abbrev pub maybe_eval : Env → Option NumberedExp → Comp (Option Held)
 maybe_eval env None = gives None
 maybe_eval env (Some x) = do
   h ← eval env x
   gives (Some h)
 
 -- the object on which an instance method is called; a fault if it is `null`
-abbrev pub maybe_needed : Place → Option Held → Asking (Option Id)
+abbrev pub maybe_needed : Place → Option Held → Comp (Option Id)
 maybe_needed at None = gives None
 maybe_needed at (Some h) = do
   r ← needed at Void h
   gives (Some r.thing)
 
 -- evaluates the receiver and the arguments in order, and only then faults if the receiver is `null`
-abbrev pub calling : Env → Receiver → Call → Asking Move
+abbrev pub calling : Env → Receiver → Call → Comp Move
 calling env receiver c = do
   object ← maybe_eval env c.object
-  parameters ← bound env (parameters_of c.method.params) c.args []
+  parameters ← bind_params env (parameters_of c.method.params) c.args []
   this ← maybe_needed c.place object
   gives (Calls c.place c.method this parameters receiver)

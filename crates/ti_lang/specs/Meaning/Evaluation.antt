@@ -11,13 +11,13 @@ use Rattle.ti_lang.specs.Program.Expressions as e
 use Rattle.ti_lang.specs.Program.Scope.{this_of}
 use Rattle.ti_lang.specs.Typing.Kinds.{is_local, is_point}
 use Rattle.ti_lang.specs.Typing.Called.{member_called}
-use Rattle.ti_lang.specs.Meaning.Held.{Held, Plain, nothing, truth, thing_of}
-use Rattle.ti_lang.specs.Meaning.Asking.{Asking, ◌>>=◌, gives, guarded}
+use Rattle.ti_lang.specs.Meaning.Held.{Held, Plain, no_value, truth, referent_of}
+use Rattle.ti_lang.specs.Meaning.Comp.{Comp, ◌>>=◌, gives, guard}
 use Rattle.ti_lang.specs.Meaning.Literals as literal
 use Rattle.ti_lang.specs.Meaning.Conversions.{converted}
-use Rattle.ti_lang.specs.Meaning.Operators.{operated, settled, operated_alone}
+use Rattle.ti_lang.specs.Meaning.Operators.{apply_binary, short_circuit, operated_alone}
 use Rattle.ti_lang.specs.Meaning.Scoping.{Env, value_by, type_of, field_selected}
-use Rattle.ti_lang.specs.Meaning.Parts.{Field, fetched, indexed}
+use Rattle.ti_lang.specs.Meaning.CellRefs.{Field, fetched, indexed}
 use Rattle.ti_lang.specs.Meaning.MemberForms.{member}
 
 -- ---- casts
@@ -28,26 +28,26 @@ is_own number None = true
 is_own number (Some id) = id.owner == number
 
 -- a value of a local reference type must be `null` or in the process's own memory; otherwise a fault
-abbrev pub kept_local : ℕ → Place → ValueType → Held → Asking Held
-kept_local number at type h = guarded (not (is_local type) || is_own number (thing_of h)) NotLocal at h
+abbrev pub kept_local : ℕ → Place → ValueType → Held → Comp Held
+kept_local number at type h = guard (not (is_local type) || is_own number (referent_of h)) NotLocal at h
 
 -- ---- operators that may leave out their right operand
 
 -- the result if it is settled, and otherwise the other computation
-abbrev pub unless_settled : Option Held → Asking Held → Asking Held
+abbrev pub unless_settled : Option Held → Comp Held → Comp Held
 unless_settled (Some result) more = gives result
 unless_settled None more = more
 
 -- a binary operator after its left operand: the right one is evaluated only if the left one doesn't decide the result
-abbrev pub with_right : Place → BinaryOperator → Held → Asking Held → Asking Held
-with_right at op x right = unless_settled (settled op x) (right >>= λ y. operated at op x y)
+abbrev pub with_right : Place → BinaryOperator → Held → Comp Held → Comp Held
+with_right at op x right = unless_settled (short_circuit op x) (right >>= λ y. apply_binary at op x y)
 
 -- ---- expressions
 
 abbrev mutual
   -- the value of an expression; operands are evaluated from left to right; a call of a declared method is executed by
   -- `Statements`, and has no value here
-  pub eval : Env → NumberedExp → Asking Held
+  pub eval : Env → NumberedExp → Comp Held
   eval env (e.Int at n) = gives (Plain (v.Int n))
   eval env (e.Long at n) = gives (Plain (v.Long n))
   eval env (e.Truth at b) = gives (truth b)
@@ -85,11 +85,11 @@ abbrev mutual
     h ← eval env x
     indices ← eval_numbers env parts
     indexed (is_point (type_of env x)) at (type_of env (e.Index at x parts)) (type_of env x) h indices
-  eval env (e.Call at method args) = gives nothing
-  eval env (e.OwnCall at method args) = gives nothing
+  eval env (e.Call at method args) = gives no_value
+  eval env (e.OwnCall at method args) = gives no_value
 
   -- the values of expressions, evaluated in order
-  pub eval_all : Env → NumberedExps → Asking (List Held)
+  pub eval_all : Env → NumberedExps → Comp (List Held)
   eval_all env e.NoExp = gives []
   eval_all env (e.MoreExp x xs) = do
     h ← eval env x
@@ -97,7 +97,7 @@ abbrev mutual
     gives (h ∷ hs)
 
   -- the numbers that expressions evaluate to, or the coordinates of the points
-  pub eval_numbers : Env → NumberedExps → Asking (List ℤ)
+  pub eval_numbers : Env → NumberedExps → Comp (List ℤ)
   eval_numbers env e.NoExp = gives []
   eval_numbers env (e.MoreExp x xs) = do
     h ← eval env x
@@ -105,7 +105,7 @@ abbrev mutual
     gives (literal.numbers_in h ++ rest)
 
   -- the bounds of a range, of numbers or of points
-  pub eval_range : Env → NumberedRange → Asking literal.Bounds
+  pub eval_range : Env → NumberedRange → Comp literal.Bounds
   eval_range env (e.Plain low high) = do
     a ← eval env low
     b ← eval env high
@@ -117,9 +117,9 @@ abbrev mutual
     gives (literal.stepped_bounds a b c)
 
   -- the bounds of ranges, coordinate by coordinate
-  pub eval_ranges : Env → NumberedRanges → Asking literal.Bounds
+  pub eval_ranges : Env → NumberedRanges → Comp literal.Bounds
   eval_ranges env e.NoRange = gives literal.no_bounds
   eval_ranges env (e.MoreRange r rs) = do
     first ← eval_range env r
     rest ← eval_ranges env rs
-    gives (literal.joined first rest)
+    gives (literal.append_bounds first rest)

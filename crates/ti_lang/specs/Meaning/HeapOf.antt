@@ -13,7 +13,7 @@ use Rattle.ti_base.specs.declared.entry.Answer.TheVariants.{Val}
 use Rattle.ti_base.specs.declared.entry.Entry.{Entry}
 use Rattle.ti_base.specs.Rects.{points_of, size_of}
 use Rattle.ti_base.specs.Cells.{Cell, Field, Element, same_id, same_cell, zero_value, Grid, cell_of, whole_grid, view}
-use Rattle.ti_lang.specs.Program.Classes.{NumberedProgram}
+use Rattle.ti_lang.specs.Program.Classes.{ProgramView}
 use Rattle.ti_lang.specs.Meaning.Zeros.{zeros_of_class}
 use Rattle.ti_lang.specs.Meaning.Histories.{History, is_making, entries_of, things_made}
 use Rattle.ti_lang.specs.Meaning.RegionsOf.{is_gone}
@@ -57,13 +57,13 @@ class_made (act.NewObj class region) = Some class
 class_made a = None
 
 -- the class of an object, by the entry that created it; None if there is none
-abbrev pub class_of : Id → History → Option ℕ
-class_of obj [] = None
-class_of obj (e ∷ earlier) = if is_making e.act && is_object obj e.answer then class_made e.act else class_of obj earlier
+abbrev pub class_of_object : Id → History → Option ℕ
+class_of_object obj [] = None
+class_of_object obj (e ∷ earlier) = if is_making e.act && is_object obj e.answer then class_made e.act else class_of_object obj earlier
 
 -- the zeros of the fields of an object
-abbrev pub zeros_of : NumberedProgram → Id → History → Option (List Zero)
-zeros_of program obj h = option_and_then (zeros_of_class program) (class_of obj h)
+abbrev pub zeros_of : ProgramView → Id → History → Option (List Zero)
+zeros_of program obj h = option_and_then (zeros_of_class program) (class_of_object obj h)
 
 -- ---- grids
 
@@ -74,10 +74,10 @@ grid_made id (act.MakeView viewed how) earlier = option_map (view how) (earlier 
 grid_made id a earlier = None
 
 -- the grid of a name, which maps points to cells, by the entry that created it; None if there is none
-abbrev pub grid_of : Id → History → Option Grid
-grid_of id [] = None
-grid_of id (e ∷ earlier) =
-    if is_making e.act && is_grid id e.answer then grid_made id e.act (λ viewed. grid_of viewed earlier) else grid_of id earlier
+abbrev pub grid_of_id : Id → History → Option Grid
+grid_of_id id [] = None
+grid_of_id id (e ∷ earlier) =
+    if is_making e.act && is_grid id e.answer then grid_made id e.act (λ viewed. grid_of_id viewed earlier) else grid_of_id id earlier
 
 -- ---- cells
 
@@ -87,19 +87,19 @@ field_cells obj field [] = []
 field_cells obj field (zero ∷ zeros) = Field obj field ∷ field_cells obj (field + 1) zeros
 
 -- the cells that an action allocates: those of an object or of a new grid; a view has none of its own
-abbrev pub cells_made : NumberedProgram → Action → Answer → List Cell
+abbrev pub cells_made : ProgramView → Action → Answer → List Cell
 cells_made program (act.NewObj class region) (Val (v.Obj (Some id))) = option_map_or (field_cells id 0) (zeros_of_class program class) []
 cells_made program (act.NewGrid zero domain region) (Val (v.Grid (Some id))) = map (Element id) (points_of domain)
 cells_made program a answer = []
 
 -- all cells of the run; quantification over cells ranges over these
-abbrev pub cells_of : NumberedProgram → History → List Cell
+abbrev pub cells_of : ProgramView → History → List Cell
 cells_of program h = flat_map (λ (e : Entry). cells_made program e.act e.answer) h
 
 -- the cell that an action writes, and the value
 abbrev pub written_by : Action → History → Option (Cell × Value)
 written_by (act.PutField obj field value) h = Some (Field obj field, value)
-written_by (act.PutElem grid at value) h = option_map (λ (g : Grid). (cell_of g at, value)) (grid_of grid h)
+written_by (act.PutElem grid at value) h = option_map (λ (g : Grid). (cell_of g at, value)) (grid_of_id grid h)
 written_by a h = None
 
 -- the value written, if it was to this cell
@@ -118,18 +118,18 @@ last_written cell [] = None
 last_written cell (e ∷ earlier) = or_else (written_to cell (written_by e.act earlier)) (last_written cell earlier)
 
 -- the zero of a cell; None if its object or grid doesn't exist
-abbrev pub zero_of : NumberedProgram → Cell → History → Option Value
+abbrev pub zero_of : ProgramView → Cell → History → Option Value
 zero_of program (Field obj field) h = option_and_then (λ zeros. option_map zero_value (slice_get zeros field)) (zeros_of program obj h)
-zero_of program (Element block at) h = option_map (λ (g : Grid). zero_value g.zero) (grid_of block h)
+zero_of program (Element block at) h = option_map (λ (g : Grid). zero_value g.zero) (grid_of_id block h)
 
 -- the contents of a cell: the value last written to it, or else its zero; None if there is no such cell
-abbrev pub cell_value : NumberedProgram → Cell → History → Option Value
+abbrev pub cell_value : ProgramView → Cell → History → Option Value
 cell_value program cell h = option_map (λ zero. option_map_or (λ value. value) (last_written cell h) zero) (zero_of program cell h)
 
 -- ---- cost
 
 -- the cells that an action is charged: 1 for an object and each of its fields, 1 for a new grid and each element, 1 for a view
-abbrev pub cost_of_making : NumberedProgram → Action → ℕ
+abbrev pub cost_of_making : ProgramView → Action → ℕ
 cost_of_making program (act.NewObj class region) = 1 + option_map_or (λ zeros. length zeros) (zeros_of_class program class) 0
 cost_of_making program (act.NewGrid zero domain region) = 1 + size_of domain
 cost_of_making program (act.MakeView grid how) = 1
@@ -142,7 +142,7 @@ region_made_in (Val (v.Grid (Some id))) = id.region
 region_made_in answer = 0
 
 -- the cells that process i is charged: those of all that it created outside of deleted regions
-abbrev pub cost_of : NumberedProgram → ℕ → History → ℕ
+abbrev pub cost_of : ProgramView → ℕ → History → ℕ
 cost_of program i h =
     sum_by (λ (e : Entry). if is_gone (region_made_in e.answer) h then 0 else cost_of_making program e.act) (entries_of i h)
 

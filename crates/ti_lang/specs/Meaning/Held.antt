@@ -18,8 +18,8 @@ pub data Held : Type 0 where
   Dm : (dim : ℕ) (points : List Point) → Held
 
 -- the placeholder if there is no value
-abbrev pub nothing : Held
-nothing = Plain (v.Bool false)
+abbrev pub no_value : Held
+no_value = Plain (v.Bool false)
 
 -- a boolean
 abbrev pub truth : Bool → Held
@@ -63,9 +63,9 @@ region_of (Plain (v.Region n)) = n
 region_of h = 0
 
 -- the object or grid that a reference refers to; None for `null`
-abbrev pub thing_of : Held → Option Id
-thing_of (Plain value) = named_by value
-thing_of (Dm dim points) = None
+abbrev pub referent_of : Held → Option Id
+referent_of (Plain value) = named_by value
+referent_of (Dm dim points) = None
 
 -- the value as it is stored in a cell or passed to an action
 abbrev pub plain_of : Held → Value
@@ -88,7 +88,7 @@ dim_of h = 1
 
 -- the value, if this is a valid number of dimensions; no program has a type with another
 abbrev pub where_dim : ℕ → Held → Held
-where_dim dim h = if is_dim dim then h else nothing
+where_dim dim h = if is_dim dim then h else no_value
 
 -- the zero of a type: what a new variable, field or element of the type holds
 abbrev pub zero_of : ValueType → Held
@@ -102,13 +102,13 @@ zero_of t.Region = Plain (v.Region 0)
 zero_of (t.Class class is_local) = Plain (v.Obj None)
 zero_of (t.Grid element dim is_local) = Plain (v.Grid None)
 zero_of t.Null = Plain (v.Obj None)
-zero_of t.Void = nothing
+zero_of t.Void = no_value
 
 -- converts a number or a reference to a type: an int to a long, a long to an int by truncation, `null` to the `null` of the type;
 -- other values are unchanged
 abbrev pub as_type : ValueType → Held → Held
 as_type t.Long (Plain (v.Int n)) = Plain (v.Long (to_long n))
 as_type t.Int (Plain (v.Long n)) = Plain (v.Int (to_int n))
-as_type (t.Class class is_local) h = Plain (v.Obj (thing_of h))
-as_type (t.Grid element dim is_local) h = Plain (v.Grid (thing_of h))
+as_type (t.Class class is_local) h = Plain (v.Obj (referent_of h))
+as_type (t.Grid element dim is_local) h = Plain (v.Grid (referent_of h))
 as_type type h = h

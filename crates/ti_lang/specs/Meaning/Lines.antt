@@ -7,7 +7,7 @@ use Rattle.ti_base.specs.declared.value.Value.TheVariants as v
 use Rattle.ti_base.specs.declared.action.Action.{Action}
 use Rattle.ti_base.specs.declared.action.Action.TheVariants as act
 use Rattle.ti_base.specs.declared.entry.Entry.{Entry}
-use Rattle.ti_lang.specs.Program.Classes.{NumberedProgram}
+use Rattle.ti_lang.specs.Program.Classes.{ProgramView}
 use Rattle.ti_lang.specs.Meaning.Literals.{coordinates_of}
 
 -- numbers in decimal, separated by `,`
@@ -42,5 +42,5 @@ line_of literals (act.Print literal value) = literal_text literals literal ++ pr
 line_of literals a = []
 
 -- the output of a run: the lines of its prints in the order of the entries
-abbrev pub lines_of : NumberedProgram → List Entry → List ℕ
+abbrev pub lines_of : ProgramView → List Entry → List ℕ
 lines_of program es = flat_map (λ e. line_of program.literals e.act) es

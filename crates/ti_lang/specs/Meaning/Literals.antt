@@ -6,10 +6,10 @@ use Rattle.ti_base.specs.declared.point.Point.{Point}
 use Rattle.ti_base.specs.declared.point.Rect.{Rect}
 use Rattle.ti_base.specs.declared.value.Value.TheVariants as v
 use Rattle.ti_base.specs.declared.fault.FaultKind.TheVariants.{BadStride}
-use Rattle.ti_base.specs.Rects.{made, empty_rect}
+use Rattle.ti_base.specs.Rects.{spanned_rect, empty_rect}
 use Rattle.ti_base.specs.Forms.{is_dim}
 use Rattle.ti_lang.specs.Meaning.Held.{Held, Plain, int_of, zero_point}
-use Rattle.ti_lang.specs.Meaning.Asking.{Asking, guarded}
+use Rattle.ti_lang.specs.Meaning.Comp.{Comp, guard}
 
 -- the coordinates of a point that are in use
 abbrev pub coordinates_of : Point → List ℤ
@@ -38,8 +38,8 @@ abbrev pub no_bounds : Bounds
 no_bounds = record { low = []; high = []; step = [] }
 
 -- the coordinates of the first bounds, then those of the second
-abbrev pub joined : Bounds → Bounds → Bounds
-joined a b = record { low = a.low ++ b.low; high = a.high ++ b.high; step = a.step ++ b.step }
+abbrev pub append_bounds : Bounds → Bounds → Bounds
+append_bounds a b = record { low = a.low ++ b.low; high = a.high ++ b.high; step = a.step ++ b.step }
 
 -- the bounds of `low:high`, with stride 1
 abbrev pub plain_bounds : Held → Held → Bounds
@@ -55,9 +55,9 @@ is_even b = is_dim (length b.low) && length b.high == length b.low && length b.s
 
 -- the rectangular domain within the bounds; if these aren't even, which doesn't occur in a program that breaks no rule, an empty one
 abbrev pub rect_of_bounds : Bounds → Rect
-rect_of_bounds b = if is_even b then made (point_of_numbers b.low) (point_of_numbers b.high) (point_of_numbers b.step) else empty_rect 1
+rect_of_bounds b = if is_even b then spanned_rect (point_of_numbers b.low) (point_of_numbers b.high) (point_of_numbers b.step) else empty_rect 1
 
 -- the rectangular domain within the bounds, or a fault if a stride is below 1
-abbrev pub rect_within : Place → Bounds → Asking Held
+abbrev pub rect_within : Place → Bounds → Comp Held
 rect_within at b =
-    guarded (list_all (int_le (pos 1)) b.step) BadStride at (Plain (v.Rc (rect_of_bounds b)))
+    guard (list_all (int_le (pos 1)) b.step) BadStride at (Plain (v.Rc (rect_of_bounds b)))

@@ -3,7 +3,7 @@ use Rattle.std.specs.Prelude.{◌≡◌, List, [], ◌∷◌, Option, None, Some
 use Rattle.ti_base.specs.declared.entry.Answer.{Answer}
 use Rattle.ti_base.specs.declared.entry.Next.{Next}
 use Rattle.ti_base.specs.declared.entry.Next.TheVariants as next
-use Rattle.ti_lang.specs.Meaning.Asking.{Request}
+use Rattle.ti_lang.specs.Meaning.Comp.{Request}
 use Rattle.ti_lang.specs.Meaning.Processes.{Process}
 use Rattle.ti_lang.specs.Meaning.Steps.{Step, To, At, Ends, Faults, step}
 
@@ -13,20 +13,20 @@ pub data Reaches : Process → Process → Type 0 where
   later : {p q r : Process} → step p ≡ To q → Reaches q r → Reaches p r
 
 -- the label of a step; None if it is silent
-abbrev pub shown : Step → Option Next
-shown (To p) = None
-shown (At request go) = Some (next.Act request.place request.action)
-shown (Ends place) = Some (next.End place)
-shown (Faults kind place) = Some (next.Fault kind place)
+abbrev pub step_label : Step → Option Next
+step_label (To p) = None
+step_label (At request go) = Some (next.Act request.place request.action)
+step_label (Ends place) = Some (next.End place)
+step_label (Faults kind place) = Some (next.Fault kind place)
 
 -- silent steps lead from p to q, whose step has the label n
-pub record Settles (p q : Process) (n : Next) : Type 0 where
+pub record RunsTo (p q : Process) (n : Next) : Type 0 where
   pub reaches : Reaches p q
-  pub stands : shown (step q) ≡ Some n
+  pub stands : step_label (step q) ≡ Some n
 
 -- what process p has next: the label of its first step that isn't silent
 abbrev pub IsNext : Process → Next → Type 0
-IsNext p n = (q : Process) × Settles p q n
+IsNext p n = (q : Process) × RunsTo p q n
 
 -- the third argument is the configuration of the first after its actions have received these answers, in order
 pub data After : Process → List Answer → Process → Type 0 where

@@ -5,9 +5,9 @@ use Rattle.ti_lang.specs.Program.Expressions.{NumberedExp}
 use Rattle.ti_lang.specs.Program.Statements.{NumberedStm, MaybeNumbered, NoStm, SomeStm, NumberedStms, Nil, Cons}
 use Rattle.ti_lang.specs.Program.Statements as s
 use Rattle.ti_lang.specs.Meaning.Held.{Held, truth, truth_of}
-use Rattle.ti_lang.specs.Meaning.Asking.{Asking, ◌>>=◌, gives}
-use Rattle.ti_lang.specs.Meaning.Processes.{Loop, While, Foreach, Work, Do, End, Before, Behind, Receive, CopyAll, TakeAll}
-use Rattle.ti_lang.specs.Meaning.Scoping.{Env, without}
+use Rattle.ti_lang.specs.Meaning.Comp.{Comp, ◌>>=◌, gives}
+use Rattle.ti_lang.specs.Meaning.Processes.{Loop, While, Foreach, ContItem, Do, End, Before, Behind, Receive, CopyAll, TakeAll}
+use Rattle.ti_lang.specs.Meaning.Scoping.{Env, without_variables}
 use Rattle.ti_lang.specs.Meaning.Evaluation.{eval}
 use Rattle.ti_lang.specs.Meaning.Copies.{copied, taken}
 use Rattle.ti_lang.specs.Meaning.Moves.{Move, Goes, Turns, goes_on, receives}
@@ -39,12 +39,12 @@ declared_in x = []
 -- ---- loops
 
 -- the value of a loop's condition; a missing one is true
-abbrev pub condition : Env → Option NumberedExp → Asking Held
+abbrev pub condition : Env → Option NumberedExp → Comp Held
 condition env None = gives (truth true)
 condition env (Some c) = eval env c
 
 -- a loop before its next iteration, which costs a tick once the condition is true or there is a next point
-abbrev pub before_turn : Env → Loop → Asking Move
+abbrev pub before_turn : Env → Loop → Comp Move
 before_turn env (While at c update body) = do
   h ← condition env c
   gives (if truth_of h then Turns at env.variables (Do body ∷ Behind (While at c update body) ∷ []) else Goes env.variables [])
@@ -53,24 +53,24 @@ before_turn env (Foreach at variable domain (p ∷ ps) body) =
     gives (Turns at env.variables (Do body ∷ Behind (Foreach at variable domain (p ∷ ps) body) ∷ []))
 
 -- the update that ends an iteration of a loop
-abbrev pub update_of : Loop → List Work
-update_of (While at c update body) = maybe_do update
-update_of (Foreach at variable domain points body) = []
+abbrev pub loop_update : Loop → List ContItem
+loop_update (While at c update body) = maybe_do update
+loop_update (Foreach at variable domain points body) = []
 
 -- the loop after an iteration: of a `foreach`, without the first point
-abbrev pub turned : Loop → Loop
-turned (While at c update body) = While at c update body
-turned (Foreach at variable domain [] body) = Foreach at variable domain [] body
-turned (Foreach at variable domain (p ∷ ps) body) = Foreach at variable domain ps body
+abbrev pub next_iteration : Loop → Loop
+next_iteration (While at c update body) = While at c update body
+next_iteration (Foreach at variable domain [] body) = Foreach at variable domain [] body
+next_iteration (Foreach at variable domain (p ∷ ps) body) = Foreach at variable domain ps body
 
 -- ---- all items
 
 -- the move of an item of work
-abbrev pub performed : Env → Work → Asking Move
-performed env (Do x) = statement env x
-performed env (End x) = gives (Goes (without (declared_in x) env.variables) [])
-performed env (Before loop) = before_turn env loop
-performed env (Behind loop) = gives (Goes env.variables (update_of loop ++ Before (turned loop) ∷ []))
-performed env (Receive receiver h) = receives env receiver (gives h)
-performed env (CopyAll at to from points) = copied env at to from points
-performed env (TakeAll at grid procs) = taken env at grid procs
+abbrev pub exec_item : Env → ContItem → Comp Move
+exec_item env (Do x) = statement env x
+exec_item env (End x) = gives (Goes (without_variables (declared_in x) env.variables) [])
+exec_item env (Before loop) = before_turn env loop
+exec_item env (Behind loop) = gives (Goes env.variables (loop_update loop ++ Before (next_iteration loop) ∷ []))
+exec_item env (Receive receiver h) = receives env receiver (gives h)
+exec_item env (CopyAll at to from points) = copied env at to from points
+exec_item env (TakeAll at grid procs) = taken env at grid procs

@@ -10,13 +10,13 @@ use Rattle.ti_syntax.specs.declared.tree.exprs.BinaryOperator.{BinaryOperator}
 use Rattle.ti_lang.specs.Program.Types.{VariableUse}
 use Rattle.ti_lang.specs.Program.Expressions.{NumberedExp}
 use Rattle.ti_lang.specs.Program.Statements.{NumberedStm, MaybeNumbered, NumberedStms, Nil, Cons, numbered_stms}
-use Rattle.ti_lang.specs.Program.Classes.{NumberedMethod, NumberedProgram}
+use Rattle.ti_lang.specs.Program.Classes.{NumberedMethod, ProgramView}
 use Rattle.ti_lang.specs.Meaning.Held.{Held}
-use Rattle.ti_lang.specs.Meaning.Asking.{Wanted, Reference}
+use Rattle.ti_lang.specs.Meaning.Comp.{Wanted, Reference}
 
 -- what all processes of a run share: the program, the number of processes, and the fuel of each, in ticks
-pub record Setting : Type 0 where
-  pub program : NumberedProgram
+pub record RunConfig : Type 0 where
+  pub program : ProgramView
   pub procs : ℕ
   pub fuel : ℕ
 
@@ -41,21 +41,21 @@ pub data Loop : Type 0 where
   Foreach : (at : Place) (variable : ℕ) (domain : NumberedExp) (points : List Point) (body : NumberedStm) → Loop
 
 -- an item of a continuation: work still to be done
-pub data Work : Type 0 where
+pub data ContItem : Type 0 where
   -- executes a statement
-  Do : (s : NumberedStm) → Work
+  Do : (s : NumberedStm) → ContItem
   -- the end of a block or a `for`: the variables that it declared go out of scope
-  End : (s : NumberedStm) → Work
+  End : (s : NumberedStm) → ContItem
   -- a loop before its next iteration
-  Before : (loop : Loop) → Work
+  Before : (loop : Loop) → ContItem
   -- the end of an iteration of a loop; while the iteration is in progress, this is the mark that `continue` and `break` refer to
-  Behind : (loop : Loop) → Work
+  Behind : (loop : Loop) → ContItem
   -- stores the value of a call or a collective in its receiver
-  Receive : (receiver : Receiver) (held : Held) → Work
+  Receive : (receiver : Receiver) (held : Held) → ContItem
   -- a copy between grids, with the points that are left
-  CopyAll : (at : Place) (to from : Reference) (points : List Point) → Work
+  CopyAll : (at : Place) (to from : Reference) (points : List Point) → ContItem
   -- an exchange after its departure, with the processes whose values are still to be stored in the grid
-  TakeAll : (at : Place) (grid : Reference) (procs : List ℕ) → Work
+  TakeAll : (at : Place) (grid : Reference) (procs : List ℕ) → ContItem
 
 -- a frame, which is a call in progress: its method, the object that `this` is, the variables in scope, the newest first, its
 -- continuation, and where the caller stores its result
@@ -64,7 +64,7 @@ pub record Frame : Type 0 where
   pub this : Option Id
   pub variables : List Variable
   -- the continuation: the work that is left, in order
-  pub left : List Work
+  pub left : List ContItem
   pub receiver : Receiver
 
 -- ---- processes
@@ -80,7 +80,7 @@ pub record Wait : Type 0 where
 
 -- the configuration of one process of a run
 pub record Process : Type 0 where
-  pub setting : Setting
+  pub setting : RunConfig
   -- its number, from 0
   pub number : ℕ
   -- the number of ticks that it has spent
@@ -93,7 +93,7 @@ pub record Process : Type 0 where
   pub answers : List Answer
 
 -- a continuation preceded by the statements of a list, in order
-abbrev pub all_before : NumberedStms → List Work → List Work
+abbrev pub all_before : NumberedStms → List ContItem → List ContItem
 all_before Nil left = left
 all_before (Cons s rest) left = Do s ∷ all_before rest left
 
@@ -103,12 +103,12 @@ frame_of method this variables receiver =
     record { method = method; this = this; variables = variables; left = all_before (numbered_stms method.body) []; receiver = receiver }
 
 -- the frames with which a run begins: a call of `main`
-abbrev pub first_frames : NumberedProgram → List Frame
+abbrev pub first_frames : ProgramView → List Frame
 first_frames program =
     option_map_or (λ (main : NumberedMethod). frame_of main None [] Nowhere ∷ []) (slice_get program.methods program.main) []
 
 -- the initial configuration of process i
-abbrev pub begin : Setting → ℕ → Process
+abbrev pub begin : RunConfig → ℕ → Process
 begin s i = record {
   setting = s;
   number = i;

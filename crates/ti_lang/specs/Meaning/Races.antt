@@ -7,7 +7,7 @@ use Rattle.ti_base.specs.declared.action.Action.TheVariants as act
 use Rattle.ti_base.specs.declared.entry.Entry.{Entry}
 use Rattle.ti_base.specs.Cells.{Cell, Field, same_cell, Grid, cell_of}
 use Rattle.ti_lang.specs.Meaning.Histories.{History, history_of, departures}
-use Rattle.ti_lang.specs.Meaning.HeapOf.{grid_of}
+use Rattle.ti_lang.specs.Meaning.HeapOf.{grid_of_id}
 
 -- ---- accesses
 
@@ -21,8 +21,8 @@ is_put a = false
 abbrev pub cell_used : Action → History → Option Cell
 cell_used (act.GetField obj field) h = Some (Field obj field)
 cell_used (act.PutField obj field value) h = Some (Field obj field)
-cell_used (act.GetElem grid at) h = option_map (λ (g : Grid). cell_of g at) (grid_of grid h)
-cell_used (act.PutElem grid at value) h = option_map (λ (g : Grid). cell_of g at) (grid_of grid h)
+cell_used (act.GetElem grid at) h = option_map (λ (g : Grid). cell_of g at) (grid_of_id grid h)
+cell_used (act.PutElem grid at value) h = option_map (λ (g : Grid). cell_of g at) (grid_of_id grid h)
 cell_used a h = None
 
 -- the phase of process i: the number of collectives that it has left
@@ -44,14 +44,14 @@ access_of e h =
     (cell_used e.act h)
 
 -- the list preceded by the contents of the option, if there are any
-abbrev pub added : {A : Type 0} → Option A → List A → List A
-added None xs = xs
-added (Some x) xs = x ∷ xs
+abbrev pub prepend_option : {A : Type 0} → Option A → List A → List A
+prepend_option None xs = xs
+prepend_option (Some x) xs = x ∷ xs
 
 -- the accesses of a history, the latest first
 abbrev pub accesses : History → List Access
 accesses [] = []
-accesses (e ∷ earlier) = added (access_of e earlier) (accesses earlier)
+accesses (e ∷ earlier) = prepend_option (access_of e earlier) (accesses earlier)
 
 -- ---- races
 

@@ -20,7 +20,7 @@ pub record Arrival : Type 0 where
 
 -- the arrival in an action; None if it is none
 abbrev pub arrival_in : Action → Option Arrival
-arrival_in (act.Arrive kind arg given) = Some (record { kind = kind; arg = arg; deposit = given })
+arrival_in (act.Arrive kind arg deposit_from) = Some (record { kind = kind; arg = arg; deposit = deposit_from })
 arrival_in a = None
 
 -- the round of the last arrival of process i, in which it waits unless it has left it; 0 if it hasn't arrived yet
@@ -45,8 +45,8 @@ value_in (deposit.One value) = Some value
 value_in d = None
 
 -- the value that process `who` deposited in the round that process i reached last
-abbrev pub given : ℕ → ℕ → History → Option Value
-given i who h = option_and_then (λ (a : Arrival). value_in a.deposit) (arrival_at who (round_of i h) h)
+abbrev pub deposit_from : ℕ → ℕ → History → Option Value
+deposit_from i who h = option_and_then (λ (a : Arrival). value_in a.deposit) (arrival_at who (round_of i h) h)
 
 -- some process has left this round
 abbrev pub was_left : ℕ → History → Bool
@@ -57,7 +57,7 @@ was_left round (e ∷ earlier) = is_departure e.act && round_of e.proc earlier =
 
 -- the arrival is at the creation of a region
 abbrev pub makes_region : Action → Bool
-makes_region (act.Arrive coll.MakeRegion arg given) = true
+makes_region (act.Arrive coll.MakeRegion arg deposit_from) = true
 makes_region a = false
 
 -- the number of rounds that create a region, among those that process i has reached
@@ -81,7 +81,7 @@ is_positive_count d = false
 
 -- the action is an arrival with a count above 0
 abbrev pub counts_some : Action → Bool
-counts_some (act.Arrive kind arg given) = is_positive_count given
+counts_some (act.Arrive kind arg deposit_from) = is_positive_count deposit_from
 counts_some a = false
 
 -- some process arrived at this round with a count above 0

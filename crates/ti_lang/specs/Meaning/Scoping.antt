@@ -5,13 +5,13 @@ use Rattle.ti_base.specs.declared.value.Id.{Id}
 use Rattle.ti_lang.specs.Program.Types.{ValueType, Declaration, Typed, Foreach, VariableUse}
 use Rattle.ti_lang.specs.Program.Types as t
 use Rattle.ti_lang.specs.Program.Expressions.{NumberedExp}
-use Rattle.ti_lang.specs.Program.Classes.{NumberedMethod, NumberedProgram}
+use Rattle.ti_lang.specs.Program.Classes.{NumberedMethod, ProgramView}
 use Rattle.ti_lang.specs.Program.Scope.{this_of}
 use Rattle.ti_lang.specs.Typing.Kinds.{same_truth, same_type, class_of_type}
 use Rattle.ti_lang.specs.Typing.Declared.{field_numbered}
-use Rattle.ti_lang.specs.Typing.TextTypes.{type_at, type_in_text}
-use Rattle.ti_lang.specs.Meaning.Held.{Held, nothing, zero_of}
-use Rattle.ti_lang.specs.Meaning.Processes.{Variable, Work, Frame, Process}
+use Rattle.ti_lang.specs.Typing.TextTypes.{type_at, syntactic_type}
+use Rattle.ti_lang.specs.Meaning.Held.{Held, no_value, zero_of}
+use Rattle.ti_lang.specs.Meaning.Processes.{Variable, ContItem, Frame, Process}
 use Rattle.ti_lang.specs.Meaning.Turns.{Turn, turns_at, point_at, dims_at}
 
 -- what an expression depends on in its process and its frame
@@ -19,7 +19,7 @@ pub record Env : Type 0 where
   -- the number of the process, and how many processes there are
   pub number : ℕ
   pub procs : ℕ
-  pub program : NumberedProgram
+  pub program : ProgramView
   pub method : NumberedMethod
   pub this : Option Id
   pub variables : List Variable
@@ -28,7 +28,7 @@ pub record Env : Type 0 where
   pub dims : ℕ → ℕ
 
 -- the environment of an item of work, after which `left` is the rest of the continuation
-abbrev pub env_of : Process → Frame → List Work → Env
+abbrev pub env_of : Process → Frame → List ContItem → Env
 env_of p f left = record {
   number = p.number;
   procs = p.setting.procs;
@@ -60,7 +60,7 @@ declared_type Foreach = t.Void
 -- the zero of the declared type
 abbrev pub zero_declared : Declaration → Held
 zero_declared (Typed is_single type) = zero_of type
-zero_declared Foreach = nothing
+zero_declared Foreach = no_value
 
 -- the value of a variable; a program uses no variable out of scope, and one would have the zero of its type
 abbrev pub find_variable : VariableUse → List Variable → Held
@@ -77,8 +77,8 @@ with_changed x held [] = []
 with_changed x held (w ∷ ws) = if same_variable x w.named then record w { held = held } ∷ ws else w ∷ with_changed x held ws
 
 -- the variables without these
-abbrev pub without : List VariableUse → List Variable → List Variable
-without xs ws = filter (λ w. not (list_any (λ x. same_variable x w.named) xs)) ws
+abbrev pub without_variables : List VariableUse → List Variable → List Variable
+without_variables xs ws = filter (λ w. not (list_any (λ x. same_variable x w.named) xs)) ws
 
 -- the value of a variable with this declaration; that of a foreach is the point of its loop's iteration
 abbrev pub value_by : Declaration → Env → VariableUse → Held
@@ -89,7 +89,7 @@ value_by Foreach env x = point_at x.number env.turns
 
 -- the static type of an expression, where the dimensions of foreach variables aren't known
 abbrev pub type_of : Env → NumberedExp → ValueType
-type_of env x = type_in_text env.program (this_of env.method) x
+type_of env x = syntactic_type env.program (this_of env.method) x
 
 -- the static type of an expression, with the dimensions of foreach variables; only a broadcast needs them, for its value
 abbrev pub type_here : Env → NumberedExp → ValueType

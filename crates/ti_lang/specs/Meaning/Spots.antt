@@ -17,7 +17,7 @@ use Rattle.ti_base.specs.Forms.{is_rect, is_view}
 use Rattle.ti_base.specs.Cells.{same_id, Grid, whole_grid, view, suits, view_fault}
 use Rattle.ti_lang.specs.Meaning.Histories.{History, history_of}
 use Rattle.ti_lang.specs.Meaning.HeapOf.{is_object, is_grid, most_cells}
-use Rattle.ti_lang.specs.Meaning.Races.{is_put, phase_of, added}
+use Rattle.ti_lang.specs.Meaning.Races.{is_put, phase_of, prepend_option}
 
 -- ---- the location of an access
 
@@ -138,7 +138,7 @@ use_of e h =
 -- the accesses of a history, the latest first
 abbrev pub uses : History → List Use
 uses [] = []
-uses (e ∷ earlier) = added (use_of e earlier) (uses earlier)
+uses (e ∷ earlier) = prepend_option (use_of e earlier) (uses earlier)
 
 -- two accesses conflict: of different processes, in the same phase, to the same location, at least one of them a write
 abbrev pub clash : Use → Use → Bool

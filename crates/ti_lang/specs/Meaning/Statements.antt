@@ -17,9 +17,9 @@ use Rattle.ti_lang.specs.Typing.BuiltIn.{BuiltIn, Copy, Exchange, Delete}
 use Rattle.ti_lang.specs.Typing.Declared.{result_type}
 use Rattle.ti_lang.specs.Typing.Called.{member_called}
 use Rattle.ti_lang.specs.Meaning.Held.{Held, truth_of, plain_of, points_in}
-use Rattle.ti_lang.specs.Meaning.Asking.{ToBeDone, request, Asking, ◌>>=◌, gives, asked}
+use Rattle.ti_lang.specs.Meaning.Comp.{ToBeDone, request, Comp, ◌>>=◌, gives, asked}
 use Rattle.ti_lang.specs.Meaning.Conversions.{converted}
-use Rattle.ti_lang.specs.Meaning.Processes.{Receiver, Nowhere, Declared, Assigned, Updated, While, Foreach, Work, Do, End, Before, all_before}
+use Rattle.ti_lang.specs.Meaning.Processes.{Receiver, Nowhere, Declared, Assigned, Updated, While, Foreach, ContItem, Do, End, Before, all_before}
 use Rattle.ti_lang.specs.Meaning.Scoping.{Env}
 use Rattle.ti_lang.specs.Meaning.Evaluation.{eval}
 use Rattle.ti_lang.specs.Meaning.Makers.{new_object, new_grid}
@@ -31,18 +31,18 @@ use Rattle.ti_lang.specs.Meaning.Moves.{Move, Goes, Breaks, Continues, Returns, 
 -- ---- right sides
 
 -- a right side: a call is made before the receiver is evaluated; the value of any other expression is stored there
-abbrev pub valued_or_called : Env → Receiver → NumberedExp → Option Call → Asking Move
+abbrev pub valued_or_called : Env → Receiver → NumberedExp → Option Call → Comp Move
 valued_or_called env receiver x None = receives env receiver (eval env x)
 valued_or_called env receiver x (Some c) = calling env receiver c
 
 -- creates an object or grid first, and then stores it in the receiver
-abbrev pub made_first : Env → Receiver → Asking Held → Asking Move
+abbrev pub made_first : Env → Receiver → Comp Held → Comp Move
 made_first env receiver new = do
   h ← new
   receives env receiver (gives h)
 
 -- the right side of a declaration or an assignment
-abbrev pub initialized : Env → Receiver → NumberedInit → Asking Move
+abbrev pub initialized : Env → Receiver → NumberedInit → Comp Move
 initialized env receiver (s.Value x) = valued_or_called env receiver x (called env x)
 initialized env receiver (s.NewRegion at) = makes_region receiver at
 initialized env receiver (s.NewObject at region class) = made_first env receiver (new_object env at region class)
@@ -62,14 +62,14 @@ one_more Decrement = op.Subtract
 -- ---- expression statements
 
 -- a built-in member as a statement: `copy`, `exchange` and `delete` have no value; the value of any other is dropped
-abbrev pub member_alone : Env → Place → NumberedExp → NumberedExps → Asking Move → Option BuiltIn → Asking Move
+abbrev pub member_alone : Env → Place → NumberedExp → NumberedExps → Comp Move → Option BuiltIn → Comp Move
 member_alone env at x args other (Some Copy) = copies env at x args
 member_alone env at x args other (Some Exchange) = exchanges env at x args
 member_alone env at x args other (Some Delete) = deletes env at x
 member_alone env at x args other _ = other
 
 -- an expression statement: a call, or a built-in member
-abbrev pub alone : Env → NumberedExp → Option Call → Asking Move
+abbrev pub alone : Env → NumberedExp → Option Call → Comp Move
 alone env x (Some c) = calling env Nowhere c
 alone env (e.Member at x name args) None =
     member_alone env at x args (receives env Nowhere (eval env (e.Member at x name args)))
@@ -79,13 +79,13 @@ alone env x None = receives env Nowhere (eval env x)
 -- ---- prints
 
 -- prints a line: a literal, if there is one, and a value, if there is one
-abbrev pub prints : Env → Place → Option ℕ → Option Value → Asking Move
+abbrev pub prints : Env → Place → Option ℕ → Option Value → Comp Move
 prints env at literal value = do
   done ← asked (request at (act.Print literal value) ToBeDone)
   goes_on env
 
 -- a print: evaluates its value first
-abbrev pub printed : Env → Place → NumberedPrint → Asking Move
+abbrev pub printed : Env → Place → NumberedPrint → Comp Move
 printed env at s.Nothing = prints env at None None
 printed env at (s.Text literal) = prints env at (Some literal) None
 printed env at (s.Expression x) = do
@@ -98,12 +98,12 @@ printed env at (s.TextAndExpression literal x) = do
 -- ---- statements
 
 -- the work of an optional statement
-abbrev pub maybe_do : MaybeNumbered → List Work
+abbrev pub maybe_do : MaybeNumbered → List ContItem
 maybe_do NoStm = []
 maybe_do (SomeStm x) = Do x ∷ []
 
 -- a `return`; its value is converted to the result type of the method
-abbrev pub returns : Env → Place → Option NumberedExp → Asking Move
+abbrev pub returns : Env → Place → Option NumberedExp → Comp Move
 returns env at None = gives (Returns None)
 returns env at (Some x) = do
   h ← eval env x
@@ -111,7 +111,7 @@ returns env at (Some x) = do
   gives (Returns (Some k))
 
 -- the move of a statement
-abbrev pub statement : Env → NumberedStm → Asking Move
+abbrev pub statement : Env → NumberedStm → Comp Move
 statement env s.Empty = goes_on env
 statement env (s.Declare at type variable value) = initialized env (Declared at (declared_as type variable)) value
 statement env (s.Assign at target value) = initialized env (Assigned at target) value

@@ -29,7 +29,7 @@ use Rattle.ti_lang.specs.declared.program.classes.Params.TheVariants as params
 use Rattle.ti_lang.specs.declared.program.classes.ResultType.{ResultType}
 use Rattle.ti_lang.specs.declared.program.classes.ResultType.TheVariants as result
 use Rattle.ti_lang.specs.declared.program.classes.Method.{Method}
-use Rattle.ti_lang.specs.declared.program.classes.Parts.{Parts}
+use Rattle.ti_lang.specs.declared.program.classes.ProgramData.{ProgramData}
 use Rattle.ti_syntax.specs.Trees.Views.{maybe_of, grid_of}
 use Rattle.ti_lang.specs.Program.Types.{ValueType, NumberedType, Declaration, VariableUse}
 use Rattle.ti_lang.specs.Program.Types as types
@@ -37,7 +37,7 @@ use Rattle.ti_lang.specs.Program.Expressions.{NumberedExp, NumberedExps, Numbere
 use Rattle.ti_lang.specs.Program.Expressions as x
 use Rattle.ti_lang.specs.Program.Statements.{NumberedDims, NumberedInit, NumberedPrint, NumberedStm, MaybeNumbered, NumberedStms}
 use Rattle.ti_lang.specs.Program.Statements as s
-use Rattle.ti_lang.specs.Program.Classes.{NumberedField, NumberedClass, NumberedParam, NumberedParams, NumberedResult, NumberedMethod, NumberedProgram}
+use Rattle.ti_lang.specs.Program.Classes.{NumberedField, NumberedClass, NumberedParam, NumberedParams, NumberedResult, NumberedMethod, ProgramView}
 use Rattle.ti_lang.specs.Program.Classes as c
 
 -- ---- types
@@ -72,7 +72,7 @@ abbrev mutual
   pub expression_of : Expr → NumberedExp
   expression_of (e.Int at n) = x.Int at n
   expression_of (e.Long at n) = x.Long at n
-  expression_of (e.Truth at b) = x.Truth at b
+  expression_of (e.Bool at b) = x.Truth at b
   expression_of (e.Null at) = x.Null at
   expression_of (e.This at) = x.This at
   expression_of (e.Variable at v) = x.Variable at (variable_of v)
@@ -175,7 +175,7 @@ abbrev pub numbered_param_of : Param → NumberedParam
 numbered_param_of p = record { place = p.place; ty = type_use_of p.ty }
 
 abbrev pub numbered_params_of : Params → NumberedParams
-numbered_params_of params.Words = c.Words
+numbered_params_of params.MainArgs = c.MainArgs
 numbered_params_of (params.Typed v) = c.Params (map numbered_param_of v.items)
 
 abbrev pub numbered_result_of : ResultType → NumberedResult
@@ -195,7 +195,7 @@ numbered_method_of m = record {
   end = m.end;
 }
 
-abbrev pub program_of : Parts → NumberedProgram
+abbrev pub program_of : ProgramData → ProgramView
 program_of p = record {
   classes = map numbered_class_of p.classes.items;
   methods = map numbered_method_of p.methods.items;

@@ -4,12 +4,12 @@ use Rattle.ti_lang.specs.Program.Types.{ValueType, Pt, Rc, Dm, Class, Grid}
 
 -- the type with each number of dimensions, also in element types, replaced by 1: two types agree in it if they differ in nothing but
 -- these numbers
-abbrev pub one_dim : ValueType → ValueType
-one_dim (Pt n) = Pt 1
-one_dim (Rc n) = Rc 1
-one_dim (Dm n) = Dm 1
-one_dim (Grid t n local) = Grid (one_dim t) 1 local
-one_dim t = t
+abbrev pub erase_dims : ValueType → ValueType
+erase_dims (Pt n) = Pt 1
+erase_dims (Rc n) = Rc 1
+erase_dims (Dm n) = Dm 1
+erase_dims (Grid t n local) = Grid (erase_dims t) 1 local
+erase_dims t = t
 
 -- the type with the reference itself made local
 abbrev pub as_local : ValueType → ValueType

@@ -1,7 +1,7 @@
 -- The built-in members of domains, grids and regions, and their types.
 use Rattle.std.specs.Prelude.{ℕ, ◌-◌, Bool, false, not, ◌&&◌, ◌||◌, ◌==◌, nat_lt, if◌then◌else◌, List, [], ◌∷◌, Option, Some, None, slice_get, option_and_then, bytes_eq, codes}
 use Rattle.ti_lang.specs.Program.Types.{ValueType, Int, Boolean, Pt, Rc, Dm, Region, Grid, Void}
-use Rattle.ti_lang.specs.Program.Classes.{NumberedProgram}
+use Rattle.ti_lang.specs.Program.Classes.{ProgramView}
 use Rattle.ti_lang.specs.Typing.Kinds.{where_true, same_type, is_local}
 use Rattle.ti_lang.specs.Typing.Fits.{fits}
 
@@ -20,8 +20,8 @@ pub data BuiltIn : Type 0 where
   Delete : BuiltIn
 
 -- the built-in member of this name
-abbrev pub spelled : List ℕ → Option BuiltIn
-spelled name =
+abbrev pub built_in_named : List ℕ → Option BuiltIn
+built_in_named name =
     if bytes_eq name (codes "size") then Some Size else
     if bytes_eq name (codes "min") then Some Min else
     if bytes_eq name (codes "max") then Some Max else
@@ -35,8 +35,8 @@ spelled name =
     if bytes_eq name (codes "delete") then Some Delete else None
 
 -- the built-in member whose name has this number in the program
-unfoldable pub built_in : NumberedProgram → ℕ → Option BuiltIn
-built_in p name = option_and_then spelled (slice_get p.names name)
+unfoldable pub built_in : ProgramView → ℕ → Option BuiltIn
+built_in p name = option_and_then built_in_named (slice_get p.names name)
 
 -- both are grids, with the same element type and dimension, local or not
 abbrev pub same_grids : ValueType → ValueType → Bool

@@ -6,7 +6,7 @@ use Rattle.ti_syntax.specs.declared.tree.classes.Modifier.{Modifier}
 use Rattle.ti_lang.specs.Members.{only_if, is_static_word}
 use Rattle.ti_lang.specs.Program.Types.{ValueType, Declaration, Typed, Foreach, VariableUse}
 use Rattle.ti_lang.specs.Program.Types as ty
-use Rattle.ti_lang.specs.Program.Classes.{NumberedField, NumberedClass, NumberedParam, NumberedResult, NumberedMethod, NumberedProgram}
+use Rattle.ti_lang.specs.Program.Classes.{NumberedField, NumberedClass, NumberedParam, NumberedResult, NumberedMethod, ProgramView}
 use Rattle.ti_lang.specs.Program.Classes as c
 use Rattle.ti_lang.specs.Program.Scope.{ScopeVariable, ScopeContents}
 
@@ -28,20 +28,20 @@ variable_type s v = declared_type s v.number v.declared
 -- ---- fields
 
 -- the fields of a class; none if there is no such class
-abbrev pub fields_of_class : NumberedProgram → ℕ → List NumberedField
+abbrev pub fields_of_class : ProgramView → ℕ → List NumberedField
 fields_of_class p class = option_map_or (λ (c : NumberedClass). c.fields) (slice_get p.classes class) []
 
 -- the type of the field of this number
-abbrev pub field_type : NumberedProgram → ℕ → ℕ → Option ValueType
+abbrev pub field_type : ProgramView → ℕ → ℕ → Option ValueType
 field_type p class field = option_map (λ (f : NumberedField). f.ty.type) (slice_get (fields_of_class p class) field)
 
 -- the type of the first field of this name
-unfoldable pub named_field_type : NumberedProgram → ℕ → ℕ → Option ValueType
+unfoldable pub named_field_type : ProgramView → ℕ → ℕ → Option ValueType
 named_field_type p class name =
     option_map (λ (f : NumberedField). f.ty.type) (find (λ (f : NumberedField). f.name == name) (fields_of_class p class))
 
 -- the number, within its class, of the first field of this name
-abbrev pub field_numbered : NumberedProgram → ℕ → ℕ → Option ℕ
+abbrev pub field_numbered : ProgramView → ℕ → ℕ → Option ℕ
 field_numbered p name class = position (λ (f : NumberedField). f.name == name) (fields_of_class p class)
 
 -- ---- methods
@@ -51,7 +51,7 @@ abbrev pub is_static_method : NumberedMethod → Bool
 is_static_method m = list_any (λ (x : Modifier). is_static_word x.word) m.modifiers
 
 -- the first method of this name in a class, if that is an instance method
-unfoldable pub instance_method : NumberedProgram → ℕ → ℕ → Option NumberedMethod
+unfoldable pub instance_method : ProgramView → ℕ → ℕ → Option NumberedMethod
 instance_method p class name = only_if (λ (m : NumberedMethod). not (is_static_method m))
     (find (λ (m : NumberedMethod). (m.class == class) && (m.name == name)) p.methods)
 

@@ -5,7 +5,7 @@ use Rattle.ti_lang.specs.Program.Expressions.{NumberedExp}
 use Rattle.ti_lang.specs.Program.Expressions as x
 use Rattle.ti_lang.specs.Program.Statements.{NumberedInit, NumberedStm, MaybeNumbered, NumberedStms, numbered_stms}
 use Rattle.ti_lang.specs.Program.Statements as st
-use Rattle.ti_lang.specs.Program.Classes.{NumberedMethod, NumberedProgram}
+use Rattle.ti_lang.specs.Program.Classes.{NumberedMethod, ProgramView}
 use Rattle.ti_lang.specs.Program.Scope.{this_of}
 use Rattle.ti_lang.specs.Typing.BuiltIn.{BuiltIn, Exchange, Delete}
 use Rattle.ti_lang.specs.Typing.Called.{called_method, member_called}
@@ -20,17 +20,17 @@ is_collective (Some Delete) = true
 is_collective _ = false
 
 -- the expression is a call of a collective built-in member
-abbrev pub is_collective_call : NumberedProgram → Option ℕ → NumberedExp → Bool
+abbrev pub is_collective_call : ProgramView → Option ℕ → NumberedExp → Bool
 is_collective_call program this (x.Member at a name args) = is_collective (member_called program this a name)
 is_collective_call program this e = false
 
 -- an expression that is a statement or a right side performs a collective or calls a method declared single
-abbrev pub acts : NumberedProgram → Option ℕ → NumberedExp → Bool
+abbrev pub acts : ProgramView → Option ℕ → NumberedExp → Bool
 acts program this e =
     option_map_or (λ (m : NumberedMethod). m.is_single) (called_method program this e) false || is_collective_call program this e
 
 -- a right side performs a collective, as a broadcast and a new region do, or calls a method declared single
-abbrev pub initial_acts : NumberedProgram → Option ℕ → NumberedInit → Bool
+abbrev pub initial_acts : ProgramView → Option ℕ → NumberedInit → Bool
 initial_acts program this (st.Value e) = acts program this e
 initial_acts program this (st.NewRegion at) = true
 initial_acts program this (st.NewObject at region class) = false
@@ -52,8 +52,8 @@ pub record Doings : Type 0 where
   pub jumps : Bool
 
 -- no effects
-abbrev pub nothing : Doings
-nothing = record { acts = false; returns = false; jumps = false }
+abbrev pub no_effects : Doings
+no_effects = record { acts = false; returns = false; jumps = false }
 
 -- the summary that acts if the test holds
 abbrev pub acting : Bool → Doings
@@ -67,7 +67,7 @@ together a b = record { acts = a.acts || b.acts; returns = a.returns || b.return
 abbrev pub kept_in_loop : Doings → Doings
 kept_in_loop a = record a { jumps = false }
 
-module _ (program : NumberedProgram) (this : Option ℕ) where
+module _ (program : ProgramView) (this : Option ℕ) where
   abbrev mutual
     -- the summary of a statement in a method with `this` of a class, or with none; it depends on no scope
     pub doings : NumberedStm → Doings
@@ -84,29 +84,29 @@ module _ (program : NumberedProgram) (this : Option ℕ) where
     doings (st.For at first c update body) =
         together (doings_of_maybe first) (kept_in_loop (together (doings_of_maybe update) (doings body)))
     doings (st.Foreach at variable domain body) = kept_in_loop (doings body)
-    doings (st.Break at) = record nothing { jumps = true }
-    doings (st.Continue at) = record nothing { jumps = true }
-    doings (st.Return at value) = record nothing { returns = true }
-    doings x = nothing
+    doings (st.Break at) = record no_effects { jumps = true }
+    doings (st.Continue at) = record no_effects { jumps = true }
+    doings (st.Return at value) = record no_effects { returns = true }
+    doings x = no_effects
 
     -- the summary of an optional statement
     pub doings_of_maybe : MaybeNumbered → Doings
-    doings_of_maybe st.NoStm = nothing
+    doings_of_maybe st.NoStm = no_effects
     doings_of_maybe (st.SomeStm x) = doings x
 
     -- the summary of a list of statements
     pub doings_of_all : NumberedStms → Doings
-    doings_of_all st.Nil = nothing
+    doings_of_all st.Nil = no_effects
     doings_of_all (st.Cons x rest) = together (doings x) (doings_of_all rest)
 
 -- the summary of the body of a method
-abbrev pub doings_of_method : NumberedProgram → NumberedMethod → Doings
+abbrev pub doings_of_method : ProgramView → NumberedMethod → Doings
 doings_of_method program m = doings_of_all program (this_of m) (numbered_stms m.body)
 
 -- ---- global effects
 
 -- a `return` has a global effect if its method has a single result or a statement that acts
-abbrev pub return_acts : NumberedProgram → NumberedMethod → Bool
+abbrev pub return_acts : ProgramView → NumberedMethod → Bool
 return_acts program m = has_single_result m || (doings_of_method program m).acts
 
 -- a jump has a global effect if its loop, with this summary of body and update, acts or has a `return` with a global effect

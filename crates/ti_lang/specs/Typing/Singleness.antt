@@ -6,11 +6,11 @@ use Rattle.ti_lang.specs.Program.Expressions.{NumberedExp, NumberedExps, Numbere
 use Rattle.ti_lang.specs.Program.Expressions as x
 use Rattle.ti_lang.specs.Program.Statements.{NumberedInit}
 use Rattle.ti_lang.specs.Program.Statements as st
-use Rattle.ti_lang.specs.Program.Classes.{NumberedResult, NumberedMethod, NumberedProgram}
+use Rattle.ti_lang.specs.Program.Classes.{NumberedResult, NumberedMethod, ProgramView}
 use Rattle.ti_lang.specs.Program.Classes as c
 use Rattle.ti_lang.specs.Typing.Kinds.{is_local, is_point}
 use Rattle.ti_lang.specs.Typing.BuiltIn.{BuiltIn, Size, Min, Max, Contains}
-use Rattle.ti_lang.specs.Typing.TextTypes.{type_in_text}
+use Rattle.ti_lang.specs.Typing.TextTypes.{syntactic_type}
 use Rattle.ti_lang.specs.Typing.Called.{called_method, member_called}
 
 -- ---- variables and members
@@ -30,7 +30,7 @@ tells_of_domain _ = false
 
 -- ---- expressions
 
-module _ (program : NumberedProgram) (this : Option ℕ) (singles : ℕ → Bool) where
+module _ (program : ProgramView) (this : Option ℕ) (singles : ℕ → Bool) where
   abbrev mutual
     -- an operand, or an expression that is no call of a declared method, is single, given which foreach variables are
     pub is_single_part : NumberedExp → Bool
@@ -46,7 +46,7 @@ module _ (program : NumberedProgram) (this : Option ℕ) (singles : ℕ → Bool
     -- a cast to a local reference isn't single
     is_single_part (x.Cast at to a) = not (is_local to.type) && is_single_part a
     -- of the index expressions, a coordinate of a point can be single, and an element of a grid can't
-    is_single_part (x.Index at a xs) = is_point (type_in_text program this a) && (is_single_part a && are_single xs)
+    is_single_part (x.Index at a xs) = is_point (syntactic_type program this a) && (is_single_part a && are_single xs)
     is_single_part (x.Member at a name args) = tells_of_domain (member_called program this a name) && (is_single_part a && are_single args)
     -- a field, `this`, `null` and the process's own number aren't single, nor is a call inside an expression
     is_single_part e = false
@@ -78,7 +78,7 @@ abbrev pub has_single_result : NumberedMethod → Bool
 has_single_result m = single_result m.result
 
 -- an expression that is a whole right side: a call of a method with a single result is single
-abbrev pub is_single : NumberedProgram → Option ℕ → (ℕ → Bool) → NumberedExp → Bool
+abbrev pub is_single : ProgramView → Option ℕ → (ℕ → Bool) → NumberedExp → Bool
 is_single program this singles e = option_map_or has_single_result (called_method program this e) (is_single_part program this singles e)
 
 -- a value of this type is single after a broadcast; a reference isn't
@@ -91,9 +91,9 @@ is_single_sent (Rc n) = true
 is_single_sent _ = false
 
 -- the right side of a declaration or an assignment is single
-abbrev pub is_single_initial : NumberedProgram → Option ℕ → (ℕ → Bool) → NumberedInit → Bool
+abbrev pub is_single_initial : ProgramView → Option ℕ → (ℕ → Bool) → NumberedInit → Bool
 is_single_initial program this singles (st.Value e) = is_single program this singles e
 is_single_initial program this singles (st.NewRegion at) = true
 is_single_initial program this singles (st.NewObject at region class) = false
 is_single_initial program this singles (st.NewGrid at region element dims_at dims) = false
-is_single_initial program this singles (st.Broadcast at e root) = is_single_sent (type_in_text program this e)
+is_single_initial program this singles (st.Broadcast at e root) = is_single_sent (syntactic_type program this e)

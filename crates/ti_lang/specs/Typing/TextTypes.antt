@@ -8,7 +8,7 @@ use Rattle.ti_lang.specs.Program.Types.{ValueType, Declaration, Typed, Foreach}
 use Rattle.ti_lang.specs.Program.Types as t
 use Rattle.ti_lang.specs.Program.Expressions.{NumberedExp, NumberedExps, NumberedRange, NumberedRanges}
 use Rattle.ti_lang.specs.Program.Expressions as e
-use Rattle.ti_lang.specs.Program.Classes.{NumberedProgram}
+use Rattle.ti_lang.specs.Program.Classes.{ProgramView}
 use Rattle.ti_lang.specs.Program.Scope.{ScopeContents}
 use Rattle.ti_lang.specs.Typing.Kinds.{read_through, as_global, dim_of_type}
 use Rattle.ti_lang.specs.Typing.BuiltIn.{BuiltIn, Size, Min, Max, Contains, Domain, Restrict, Translate, Slice, built_in}
@@ -53,20 +53,20 @@ operator_type o x y = t.Boolean
 -- ---- parts and members
 
 -- the type of the field of this name, read from an object; global if the reference is
-abbrev pub field_seen : NumberedProgram → ℕ → ValueType → ValueType
-field_seen program name (t.Class class is_local) = option_map_or (read_through is_local) (named_field_type program class name) t.Void
-field_seen program name type = t.Void
+abbrev pub static_field_type : ProgramView → ℕ → ValueType → ValueType
+static_field_type program name (t.Class class is_local) = option_map_or (read_through is_local) (named_field_type program class name) t.Void
+static_field_type program name type = t.Void
 
 -- the type of an index expression: a coordinate of a point, or an element of a grid, global if the reference is
-abbrev pub element_seen : ValueType → ValueType
-element_seen (t.Pt n) = t.Int
-element_seen (t.Grid element n is_local) = read_through is_local element
-element_seen type = t.Void
+abbrev pub static_element_type : ValueType → ValueType
+static_element_type (t.Pt n) = t.Int
+static_element_type (t.Grid element n is_local) = read_through is_local element
+static_element_type type = t.Void
 
 -- the type of a slice of a grid, which has one dimension less
-abbrev pub sliced : ValueType → ValueType
-sliced (t.Grid element n is_local) = t.Grid element (n - 1) is_local
-sliced type = type
+abbrev pub slice_type : ValueType → ValueType
+slice_type (t.Grid element n is_local) = t.Grid element (n - 1) is_local
+slice_type type = type
 
 -- the type of a built-in member, from the type of its receiver
 abbrev pub built_in_type : Option BuiltIn → ValueType → ValueType
@@ -77,13 +77,13 @@ built_in_type (Some Contains) x = t.Boolean
 built_in_type (Some Domain) x = t.Rc (dim_of_type x)
 built_in_type (Some Restrict) x = x
 built_in_type (Some Translate) x = x
-built_in_type (Some Slice) x = sliced x
+built_in_type (Some Slice) x = slice_type x
 built_in_type _ x = t.Void
 
 -- the type of `x.f(..)`: on an object of a method, on any other value of a built-in member
-abbrev pub member_seen : NumberedProgram → ℕ → ValueType → ValueType
-member_seen program name (t.Class class is_local) = option_map_or result_type (instance_method program class name) t.Void
-member_seen program name x = built_in_type (built_in program name) x
+abbrev pub static_member_type : ProgramView → ℕ → ValueType → ValueType
+static_member_type program name (t.Class class is_local) = option_map_or result_type (instance_method program class name) t.Void
+static_member_type program name x = built_in_type (built_in program name) x
 
 -- ---- expressions
 
@@ -92,7 +92,7 @@ abbrev pub how_many : NumberedExps → ℕ
 how_many e.NoExp = 0
 how_many (e.MoreExp x xs) = how_many xs + 1
 
-module _ (program : NumberedProgram) (this : Option ℕ) (dims : ℕ → ℕ) where
+module _ (program : ProgramView) (this : Option ℕ) (dims : ℕ → ℕ) where
   abbrev mutual
     -- the type of an expression in a method with `this` of a class, or with none, given the dimensions of foreach variables
     pub type_at : NumberedExp → ValueType
@@ -112,9 +112,9 @@ module _ (program : NumberedProgram) (this : Option ℕ) (dims : ℕ → ℕ) wh
     type_at (e.Unary at o x) = type_at x
     type_at (e.Binary at o x y) = operator_type o (type_at x) (type_at y)
     type_at (e.Cast at to x) = to.type
-    type_at (e.Select at x name) = field_seen program name (type_at x)
-    type_at (e.Member at x name args) = member_seen program name (type_at x)
-    type_at (e.Index at x parts) = element_seen (type_at x)
+    type_at (e.Select at x name) = static_field_type program name (type_at x)
+    type_at (e.Member at x name args) = static_member_type program name (type_at x)
+    type_at (e.Index at x parts) = static_element_type (type_at x)
 
     -- the dimensions of a range: one for a range of numbers, those of the points for a range of points
     pub dims_of_range : NumberedRange → ℕ
@@ -128,8 +128,8 @@ module _ (program : NumberedProgram) (this : Option ℕ) (dims : ℕ → ℕ) wh
 
 -- The static type of an expression independently of its scope. The dimensions of foreach variables aren't known here and are taken to
 -- be 1: no class, field, element type or form of a node depends on them.
-abbrev pub type_in_text : NumberedProgram → Option ℕ → NumberedExp → ValueType
-type_in_text program this x = type_at program this (λ number. 1) x
+abbrev pub syntactic_type : ProgramView → Option ℕ → NumberedExp → ValueType
+syntactic_type program this x = type_at program this (λ number. 1) x
 
 -- if a foreach variable is in scope, `dims` gives its number of dimensions there
 abbrev pub IsDimOf : ScopeContents → (ℕ → ℕ) → ℕ → Declaration → Type 0

@@ -5,12 +5,12 @@ ghost use Rattle.ti_base.specs.declared.action.Action.{Action};
 ghost use Rattle.ti_base.specs.declared.entry.Answer.{Answer};
 ghost use Rattle.ti_base.specs.declared.entry.Next.{Next};
 ghost use Rattle.ti_base.specs.declared.entry.Next.TheVariants as next;
-ghost use Rattle.ti_lang.specs.Meaning.Processes.{Setting, Process, Work, begin};
+ghost use Rattle.ti_lang.specs.Meaning.Processes.{RunConfig, Process, ContItem, begin};
 ghost use Rattle.ti_lang.specs.Meaning.NextStep.{IsNext, After};
-ghost use Rattle.ti_lang.specs.Meaning.Asking.{Request, Gives, Asks};
+ghost use Rattle.ti_lang.specs.Meaning.Comp.{Request, Gives, Asks};
 ghost use Rattle.ti_lang.specs.Meaning.Scoping.{Env};
 ghost use Rattle.ti_lang.specs.Meaning.Moves.{Move};
-ghost use Rattle.ti_lang.specs.Meaning.Performing.{performed};
+ghost use Rattle.ti_lang.specs.Meaning.Performing.{exec_item};
 ghost use Rattle.ti_lang.specs.Meaning.Steps.{At, most_frames, step};
 ghost use Rattle.ti_lang.specs.Meaning.Histories.{is_end, is_fault};
 
@@ -43,14 +43,14 @@ pub fn goes_on()
 /// Each item of work consumes its answers in order: if it yields a move after consuming them all, it yields the same move if more
 /// follow, which it leaves over; and it consumes the answer to its last request before it yields a move.
 pub fn answers_in_order()
-    ensures no_further { (env : Env) (w : Work) (rs more : List Answer) (move : Move) → performed env w rs ≡ Gives move []
-        → performed env w (rs ++ more) ≡ Gives move more }
-    ensures used_up { (env : Env) (w : Work) (rs rest : List Answer) (q : Request) (r : Answer) (move : Move) → performed env w rs ≡ Asks q
-        → performed env w (rs ++ r ∷ []) ≡ Gives move rest → rest ≡ [] }
+    ensures no_further { (env : Env) (w : ContItem) (rs more : List Answer) (move : Move) → exec_item env w rs ≡ Gives move []
+        → exec_item env w (rs ++ more) ≡ Gives move more }
+    ensures used_up { (env : Env) (w : ContItem) (rs rest : List Answer) (q : Request) (r : Answer) (move : Move) → exec_item env w rs ≡ Asks q
+        → exec_item env w (rs ++ r ∷ []) ≡ Gives move rest → rest ≡ [] }
 {}
 
 /// Whatever answers a process receives, it spends at most its fuel and has at most `most_frames` frames.
 pub fn within_limits()
-    ensures { (s : Setting) (i : ℕ) (rs : List Answer) (p : Process) → After (begin s i) rs p
+    ensures { (s : RunConfig) (i : ℕ) (rs : List Answer) (p : Process) → After (begin s i) rs p
         → (p.spent ≤ s.fuel) × (length p.frames ≤ most_frames) }
 {}

@@ -5,7 +5,7 @@ ghost use Rattle.ti_syntax.specs.Trees.Views.{grid_of, maybe_of};
 ghost use Rattle.ti_lang.specs.Mirrors.Copies.{AreSame};
 ghost use Rattle.ti_lang.specs.Program.Views as view;
 
-use super::classes::{Class, Field, Method, Param, Params, Parts, ResultType};
+use super::classes::{Class, Field, Method, Param, Params, ProgramData, ResultType};
 use super::exprs::{Expr, Range};
 use super::stmts::{Dims, Init, Printed, Stmt};
 use super::types::{Declared, Ty, TypeUse, Variable};
@@ -15,7 +15,7 @@ use ti_syntax::Spelled;
 use ti_syntax::tree::Brackets;
 
 /// Types that can be copied deeply.
-pub trait Copied: Drop {
+pub trait TryClone: Drop {
     /// When two values are equal as trees, wherever they are allocated.
     ghost same: { Self → Self → Type 0 };
 
@@ -25,17 +25,17 @@ pub trait Copied: Drop {
 }
 
 /// Deep copies of all elements.
-pub fn copy_all<T: Copied>(alloc: Global, xs: &[T]) -> Result<Vec<T>, Memory>
-    ensures { IfOk result (λ v. AreSame T.same v.items xs.now) }
+pub fn copy_all<T: TryClone>(alloc: Global, items: &[T]) -> Result<Vec<T>, Memory>
+    ensures { IfOk result (λ v. AreSame T.same v.items items.now) }
 {
     let mut found = Vec::new(alloc);
-    for x in xs {
+    for x in items {
         found.push(x.copy(alloc)?)?;
     }
     Ok(found)
 }
 
-impl Copied for Spelled {
+impl TryClone for Spelled {
     ghost same = { λ a b. a ≡ b };
 
     fn copy(&self, alloc: Global) -> Result<Spelled, Memory> {
@@ -43,7 +43,7 @@ impl Copied for Spelled {
     }
 }
 
-impl Copied for Brackets {
+impl TryClone for Brackets {
     ghost same = { λ a b. grid_of a ≡ grid_of b };
 
     fn copy(&self, alloc: Global) -> Result<Brackets, Memory> {
@@ -120,11 +120,11 @@ impl Variable {
 }
 
 #[cycle(copy_expr)]
-fn copy_exprs(alloc: Global, xs: &[Expr]) -> Result<Vec<Expr>, Memory>
-    ensures { IfOk result (λ v. map view.expression_of v.items ≡ map view.expression_of xs.now) }
+fn copy_exprs(alloc: Global, exprs: &[Expr]) -> Result<Vec<Expr>, Memory>
+    ensures { IfOk result (λ v. map view.expression_of v.items ≡ map view.expression_of exprs.now) }
 {
     let mut found = Vec::new(alloc);
-    for x in xs {
+    for x in exprs {
         found.push(x.copy(alloc)?)?;
     }
     Ok(found)
@@ -142,10 +142,10 @@ fn copy_ranges(alloc: Global, ranges: &[Range]) -> Result<Vec<Range>, Memory>
 }
 
 #[cycle(copy_expr)]
-fn copy_boxed(alloc: Global, x: &Expr) -> Result<Box<Expr>, Memory>
-    ensures { IfOk result (λ y. view.expression_of y.value ≡ view.expression_of x.now) }
+fn copy_boxed(alloc: Global, expr: &Expr) -> Result<Box<Expr>, Memory>
+    ensures { IfOk result (λ y. view.expression_of y.value ≡ view.expression_of expr.now) }
 {
-    Ok(Box::new(alloc, x.copy(alloc)?)?)
+    Ok(Box::new(alloc, expr.copy(alloc)?)?)
 }
 
 impl Range {
@@ -177,7 +177,7 @@ impl Expr {
         match self {
             Expr::Int(place, number) => Ok(Expr::Int(*place, *number)),
             Expr::Long(place, number) => Ok(Expr::Long(*place, *number)),
-            Expr::Truth(place, truth) => Ok(Expr::Truth(*place, *truth)),
+            Expr::Bool(place, truth) => Ok(Expr::Bool(*place, *truth)),
             Expr::Null(place) => Ok(Expr::Null(*place)),
             Expr::This(place) => Ok(Expr::This(*place)),
             Expr::Variable(place, variable) => Ok(Expr::Variable(*place, variable.copy(alloc)?)),
@@ -262,11 +262,11 @@ impl Expr {
     }
 }
 
-fn copy_maybe(alloc: Global, x: &Option<Expr>) -> Result<Option<Expr>, Memory>
-    ensures { IfOk result (λ y. maybe_of view.expression_of y ≡ maybe_of view.expression_of x.now) }
+fn copy_maybe(alloc: Global, expr: &Option<Expr>) -> Result<Option<Expr>, Memory>
+    ensures { IfOk result (λ y. maybe_of view.expression_of y ≡ maybe_of view.expression_of expr.now) }
 {
-    match x {
-        Some(x) => Ok(Some(x.copy(alloc)?)),
+    match expr {
+        Some(expr) => Ok(Some(expr.copy(alloc)?)),
         None => Ok(None),
     }
 }
@@ -336,21 +336,21 @@ impl Printed {
 }
 
 #[cycle(copy_stmt)]
-fn copy_stmts(alloc: Global, xs: &[Stmt]) -> Result<Vec<Stmt>, Memory>
-    ensures { IfOk result (λ v. map view.statement_of v.items ≡ map view.statement_of xs.now) }
+fn copy_stmts(alloc: Global, stmts: &[Stmt]) -> Result<Vec<Stmt>, Memory>
+    ensures { IfOk result (λ v. map view.statement_of v.items ≡ map view.statement_of stmts.now) }
 {
     let mut found = Vec::new(alloc);
-    for x in xs {
+    for x in stmts {
         found.push(x.copy(alloc)?)?;
     }
     Ok(found)
 }
 
 #[cycle(copy_stmt)]
-fn copy_inner(alloc: Global, x: &Stmt) -> Result<Box<Stmt>, Memory>
-    ensures { IfOk result (λ y. view.statement_of y.value ≡ view.statement_of x.now) }
+fn copy_inner(alloc: Global, stmt: &Stmt) -> Result<Box<Stmt>, Memory>
+    ensures { IfOk result (λ y. view.statement_of y.value ≡ view.statement_of stmt.now) }
 {
-    Ok(Box::new(alloc, x.copy(alloc)?)?)
+    Ok(Box::new(alloc, stmt.copy(alloc)?)?)
 }
 
 impl Stmt {
@@ -477,7 +477,7 @@ impl Stmt {
     }
 }
 
-impl Copied for Field {
+impl TryClone for Field {
     ghost same = { λ a b. view.numbered_field_of a ≡ view.numbered_field_of b };
 
     fn copy(&self, alloc: Global) -> Result<Field, Memory> {
@@ -489,7 +489,7 @@ impl Copied for Field {
     }
 }
 
-impl Copied for Class {
+impl TryClone for Class {
     ghost same = { λ a b. view.numbered_class_of a ≡ view.numbered_class_of b };
 
     #[tactic(auto, using(crate::proofs::Copies::copies))]
@@ -501,7 +501,7 @@ impl Copied for Class {
     }
 }
 
-impl Copied for Param {
+impl TryClone for Param {
     ghost same = { λ a b. view.numbered_param_of a ≡ view.numbered_param_of b };
 
     fn copy(&self, alloc: Global) -> Result<Param, Memory> {
@@ -518,7 +518,7 @@ impl Params {
         ensures { IfOk result (λ p. view.numbered_params_of p ≡ view.numbered_params_of self.now) }
     {
         match self {
-            Params::Words => Ok(Params::Words),
+            Params::MainArgs => Ok(Params::MainArgs),
             Params::Typed(params) => Ok(Params::Typed(copy_all(alloc, params)?)),
         }
     }
@@ -535,7 +535,7 @@ impl ResultType {
     }
 }
 
-impl Copied for Method {
+impl TryClone for Method {
     ghost same = { λ a b. view.numbered_method_of a ≡ view.numbered_method_of b };
 
     fn copy(&self, alloc: Global) -> Result<Method, Memory> {
@@ -553,16 +553,16 @@ impl Copied for Method {
     }
 }
 
-impl Parts {
+impl ProgramData {
     /// A deep copy.
     #[tactic(auto, using(crate::proofs::Copies::copies))]
-    pub fn copy(&self, alloc: Global) -> Result<Parts, Memory>
+    pub fn copy(&self, alloc: Global) -> Result<ProgramData, Memory>
         ensures { IfOk result (λ p. view.program_of p ≡ view.program_of self.now) }
     {
         let classes = copy_all(alloc, &self.classes)?;
         let methods = copy_all(alloc, &self.methods)?;
         let names = copy_all(alloc, &self.names)?;
         let literals = copy_all(alloc, &self.literals)?;
-        Parts::of(alloc, classes, methods, self.main, names, literals)
+        ProgramData::of(alloc, classes, methods, self.main, names, literals)
     }
 }

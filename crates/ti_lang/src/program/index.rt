@@ -11,11 +11,11 @@ use ti_base::Memory;
 
 /// A table from a class number and a name number to the number of the first declaration; later ones are ignored.
 #[derive(Drop)]
-pub struct Firsts {
+pub struct MemberIndex {
     map: IndexMap<(usize, u32), usize>,
 }
 
-impl Model for Firsts {
+impl Model for MemberIndex {
     ghost use Rattle.std.specs.Prelude.{List, ℕ};
 
     ghost Value = { List ((ℕ × ℕ) × ℕ) };
@@ -23,11 +23,11 @@ impl Model for Firsts {
     ghost view = { λ s. s.map.entries };
 }
 
-impl Firsts {
-    fn new(alloc: Global) -> Firsts
+impl MemberIndex {
+    fn new(alloc: Global) -> MemberIndex
         ensures { result ≡ [] }
     {
-        Firsts {
+        MemberIndex {
             map: IndexMap::new(alloc),
         }
     }
@@ -65,10 +65,10 @@ impl Firsts {
 }
 
 /// The table of the fields of these classes, which are numbered from 0; fields are numbered within their class.
-pub fn first_fields(alloc: Global, classes: &[Class]) -> Result<Firsts, Memory>
+pub fn first_fields(alloc: Global, classes: &[Class]) -> Result<MemberIndex, Memory>
     ensures { IfOk result (λ f. f ≡ with_firsts [] (field_rows 0 classes.now)) }
 {
-    let mut found = Firsts::new(alloc);
+    let mut found = MemberIndex::new(alloc);
     for i in 0..classes.len() {
         found.add_fields(i, &classes[i].fields)?;
     }
@@ -76,10 +76,10 @@ pub fn first_fields(alloc: Global, classes: &[Class]) -> Result<Firsts, Memory>
 }
 
 /// The table of these methods, which are numbered from 0.
-pub fn first_methods(alloc: Global, methods: &[Method]) -> Result<Firsts, Memory>
+pub fn first_methods(alloc: Global, methods: &[Method]) -> Result<MemberIndex, Memory>
     ensures { IfOk result (λ f. f ≡ with_firsts [] (method_rows 0 methods.now)) }
 {
-    let mut found = Firsts::new(alloc);
+    let mut found = MemberIndex::new(alloc);
     for i in 0..methods.len() {
         let method = &methods[i];
         found.add(method.class as usize, method.name, i)?;

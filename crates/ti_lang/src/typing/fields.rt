@@ -4,20 +4,20 @@ ghost use Rattle.std.specs.Prelude.{◌≡◌};
 ghost use Rattle.std.specs.Option.{option_and_then};
 ghost use Rattle.ti_lang.specs.Program.Views.{program_of, value_type_of};
 ghost use Rattle.ti_lang.specs.Typing.Kinds.{class_of_type};
-ghost use Rattle.ti_lang.specs.Typing.Seen.{seen};
+ghost use Rattle.ti_lang.specs.Typing.TyRef.{ty_view};
 ghost use Rattle.ti_lang.specs.Typing.Declared.{field_numbered as field_numbered_spec};
 ghost use Rattle.ti_lang.specs.Meaning.Zeros.{zero_of_type};
 
-use super::seen::Seen;
-use crate::program::{Parts, Ty};
+use super::ty_ref::TyRef;
+use crate::program::{ProgramData, Ty};
 use ti_base::Zero;
 
-/// The number, within its class, of the field that `x.f` selects if `x` has type `t`, by the number of the name; None if there is none.
-pub fn field_number(program: &Parts, t: Seen, name: u32) -> Option<usize>
-    ensures { result ≡ option_and_then (field_numbered_spec (program_of program.now) name) (class_of_type (seen t.entry)) }
+/// The number, within its class, of the field that `x.f` selects if `x` has type `ty`, by the number of the name; None if there is none.
+pub fn field_number(program: &ProgramData, ty: TyRef, name: u32) -> Option<usize>
+    ensures { result ≡ option_and_then (field_numbered_spec (program_of program.now) name) (class_of_type (ty_view ty.entry)) }
 {
-    match t {
-        Seen::Class { class, local: _ } => program.first_field(class, name),
+    match ty {
+        TyRef::Class { class, local: _ } => program.first_field(class, name),
         _ => None,
     }
 }

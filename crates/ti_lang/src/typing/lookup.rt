@@ -10,13 +10,15 @@ ghost use Rattle.ti_lang.specs.Typing.Kinds.{as_global};
 ghost use Rattle.ti_lang.specs.Typing.Declared.{in_scope, variable_type, fields_of_class, field_type, named_field_type, is_static_method, instance_method};
 ghost use Rattle.ti_lang.specs.Typing.Expressions.{select_type};
 ghost use Rattle.ti_lang.specs.Typing.Called.{method_behind};
-ghost use Rattle.ti_lang.specs.Typing.Seen.{seen};
+ghost use Rattle.ti_lang.specs.Typing.TyRef.{ty_view};
 
-use super::seen::Seen;
-use crate::program::{Class, Declared, Field, InScope, Method, Parts, Scope, Variable, has_static};
+use super::ty_ref::TyRef;
+use crate::program::{
+    Class, Declared, Field, InScope, Method, ProgramData, Scope, Variable, has_static,
+};
 
 /// The variable in scope of this number.
-fn scoped<'a>(scope: &'a Scope, number: u32) -> Option<&'a InScope>
+fn find_in_scope<'a>(scope: &'a Scope, number: u32) -> Option<&'a InScope>
     ensures { option_map (λ v. in_scope_of v.now) result ≡ in_scope (contents_of scope.now) number }
 {
     for v in &scope.variables {
@@ -28,24 +30,24 @@ fn scoped<'a>(scope: &'a Scope, number: u32) -> Option<&'a InScope>
 }
 
 /// The type of a variable: the declared one; for a foreach variable, that in the scope, and None if it isn't in scope.
-pub fn variable_type<'a>(scope: &'a Scope, v: &'a Variable) -> Option<Seen<'a>>
-    ensures { option_map seen result ≡ variable_type (contents_of scope.now) (variable_of v.now) }
+pub fn variable_type<'a>(scope: &'a Scope, variable: &'a Variable) -> Option<TyRef<'a>>
+    ensures { option_map ty_view result ≡ variable_type (contents_of scope.now) (variable_of variable.now) }
 {
-    match &v.declared {
-        Declared::Typed { single: _, ty } => Some(Seen::of(ty, false)),
-        Declared::Foreach => match scoped(scope, v.number) {
-            Some(v) => Some(Seen::of(&v.ty, false)),
+    match &variable.declared {
+        Declared::Typed { single: _, ty } => Some(TyRef::of(ty, false)),
+        Declared::Foreach => match find_in_scope(scope, variable.number) {
+            Some(variable) => Some(TyRef::of(&variable.ty, false)),
             None => None,
         },
     }
 }
 
 /// The type of `this`, which is a global reference; None if there is no `this`.
-pub fn this_type<'a>(this: Option<u32>) -> Option<Seen<'a>>
-    ensures { option_map seen result ≡ option_map (λ c. ClassType c false) this }
+pub fn this_type<'a>(this: Option<u32>) -> Option<TyRef<'a>>
+    ensures { option_map ty_view result ≡ option_map (λ c. ClassType c false) this }
 {
     match this {
-        Some(class) => Some(Seen::Class {
+        Some(class) => Some(TyRef::Class {
             class,
             local: false,
         }),
@@ -65,7 +67,7 @@ fn class_at(classes: &[Class], number: usize) -> Option<&Class>
 }
 
 /// The fields of a class; none if there is no such class.
-fn fields_of(program: &Parts, class: u32) -> &[Field]
+fn fields_of(program: &ProgramData, class: u32) -> &[Field]
     ensures { map numbered_field_of result.now ≡ fields_of_class (program_of program.now) class }
 {
     match class_at(&program.classes, class as usize) {
@@ -86,7 +88,7 @@ fn field_at(fields: &[Field], number: usize) -> Option<&Field>
 }
 
 /// The first field of this name in a class.
-fn field_named(program: &Parts, class: u32, name: u32) -> Option<&Field>
+fn field_named(program: &ProgramData, class: u32, name: u32) -> Option<&Field>
     ensures { option_map (λ f. numbered_field_of f.now) result ≡ find (λ (f : NumberedField). f.name == name)
         (fields_of_class (program_of program.now) class) }
 {
@@ -97,18 +99,22 @@ fn field_named(program: &Parts, class: u32, name: u32) -> Option<&Field>
 }
 
 /// The declared type of a field, by the number of its class and its own.
-pub fn field_type<'a>(program: &'a Parts, class: u32, field: u32) -> Option<Seen<'a>>
-    ensures { option_map seen result ≡ field_type (program_of program.now) class field }
+pub fn field_type<'a>(program: &'a ProgramData, class: u32, field: u32) -> Option<TyRef<'a>>
+    ensures { option_map ty_view result ≡ field_type (program_of program.now) class field }
 {
     match field_at(fields_of(program, class), field as usize) {
-        Some(field) => Some(Seen::of(&field.ty.ty, false)),
+        Some(field) => Some(TyRef::of(&field.ty.ty, false)),
         None => None,
     }
 }
 
 /// The type of a field of `this`, by its number; it is global, since `this` is a global reference.
-pub fn own_field_type<'a>(program: &'a Parts, this: Option<u32>, field: u32) -> Option<Seen<'a>>
-    ensures { option_map seen result ≡ option_map as_global (option_and_then (λ c. field_type (program_of program.now) c field) this) }
+pub fn own_field_type<'a>(
+    program: &'a ProgramData,
+    this: Option<u32>,
+    field: u32,
+) -> Option<TyRef<'a>>
+    ensures { option_map ty_view result ≡ option_map as_global (option_and_then (λ c. field_type (program_of program.now) c field) this) }
 {
     match this {
         Some(class) => match field_type(program, class, field) {
@@ -121,21 +127,25 @@ pub fn own_field_type<'a>(program: &'a Parts, this: Option<u32>, field: u32) -> 
 
 /// The declared type of the first field of this name in a class.
 #[tactic(auto, unfolding(crate::specs::Typing::Declared::named_field_type))]
-pub fn named_field_type<'a>(program: &'a Parts, class: u32, name: u32) -> Option<Seen<'a>>
-    ensures { option_map seen result ≡ named_field_type (program_of program.now) class name }
+pub fn named_field_type<'a>(program: &'a ProgramData, class: u32, name: u32) -> Option<TyRef<'a>>
+    ensures { option_map ty_view result ≡ named_field_type (program_of program.now) class name }
 {
     match field_named(program, class, name) {
-        Some(field) => Some(Seen::of(&field.ty.ty, false)),
+        Some(field) => Some(TyRef::of(&field.ty.ty, false)),
         None => None,
     }
 }
 
 /// The type of `x.f`, from the type of `x`; None if `x` isn't an object of a class with this field.
-pub fn select_type<'a>(program: &'a Parts, t: Seen<'a>, name: u32) -> Option<Seen<'a>>
-    ensures { option_map seen result ≡ select_type (program_of program.now) (seen t.entry) name }
+pub fn select_type<'a>(
+    program: &'a ProgramData,
+    receiver: TyRef<'a>,
+    name: u32,
+) -> Option<TyRef<'a>>
+    ensures { option_map ty_view result ≡ select_type (program_of program.now) (ty_view receiver.entry) name }
 {
-    match t {
-        Seen::Class { class, local } => match named_field_type(program, class, name) {
+    match receiver {
+        TyRef::Class { class, local } => match named_field_type(program, class, name) {
             Some(ty) => Some(ty.read_through(local)),
             None => None,
         },
@@ -155,14 +165,14 @@ fn method_at(methods: &[Method], number: usize) -> Option<&Method>
 }
 
 /// The method of this number.
-pub fn method(program: &Parts, number: u32) -> Option<&Method>
+pub fn method(program: &ProgramData, number: u32) -> Option<&Method>
     ensures { option_map (λ m. numbered_method_of m.now) result ≡ slice_get (program_of program.now).methods number }
 {
     method_at(&program.methods, number as usize)
 }
 
 /// The first method of this name in a class.
-fn method_named(program: &Parts, class: u32, name: u32) -> Option<&Method>
+fn method_named(program: &ProgramData, class: u32, name: u32) -> Option<&Method>
     ensures { option_map (λ m. numbered_method_of m.now) result ≡ find (λ (m : NumberedMethod). (m.class == class) && (m.name == name))
         (program_of program.now).methods }
 {
@@ -172,37 +182,45 @@ fn method_named(program: &Parts, class: u32, name: u32) -> Option<&Method>
     }
 }
 
-fn is_instance(m: &Method) -> bool
-    ensures { result ≡ not (is_static_method (numbered_method_of m.now)) }
+fn is_instance(candidate: &Method) -> bool
+    ensures { result ≡ not (is_static_method (numbered_method_of candidate.now)) }
 {
-    !has_static(&m.modifiers)
+    !has_static(&candidate.modifiers)
 }
 
 /// The method, if it is an instance method.
-fn only_instance(m: Option<&Method>) -> Option<&Method>
-    ensures { option_map (λ m. numbered_method_of m.now) result ≡ only_if (λ (m : NumberedMethod). not (is_static_method m))
-        (option_map (λ m. numbered_method_of m.now) m.entry) }
+fn only_instance(found: Option<&Method>) -> Option<&Method>
+    ensures { option_map (λ found. numbered_method_of found.now) result ≡ only_if (λ (found : NumberedMethod). not (is_static_method found))
+        (option_map (λ found. numbered_method_of found.now) found.entry) }
 {
-    match m {
-        Some(m) => if is_instance(m) { Some(m) } else { None },
+    match found {
+        Some(found) => if is_instance(found) {
+            Some(found)
+        } else {
+            None
+        },
         None => None,
     }
 }
 
 /// The first method of this name in a class, if that is an instance method.
 #[tactic(auto, unfolding(crate::specs::Typing::Declared::instance_method))]
-pub fn instance_method(program: &Parts, class: u32, name: u32) -> Option<&Method>
+pub fn instance_method(program: &ProgramData, class: u32, name: u32) -> Option<&Method>
     ensures { option_map (λ m. numbered_method_of m.now) result ≡ instance_method (program_of program.now) class name }
 {
     only_instance(method_named(program, class, name))
 }
 
-/// The instance method of this name on a receiver of type `t`; None if that is no object.
-pub fn method_behind<'a>(program: &'a Parts, t: Seen<'a>, name: u32) -> Option<&'a Method>
-    ensures { option_map (λ m. numbered_method_of m.now) result ≡ method_behind (program_of program.now) (seen t.entry) name }
+/// The instance method of this name on a receiver of type `receiver`; None if that is no object.
+pub fn method_behind<'a>(
+    program: &'a ProgramData,
+    receiver: TyRef<'a>,
+    name: u32,
+) -> Option<&'a Method>
+    ensures { option_map (λ m. numbered_method_of m.now) result ≡ method_behind (program_of program.now) (ty_view receiver.entry) name }
 {
-    match t {
-        Seen::Class { class, local: _ } => instance_method(program, class, name),
+    match receiver {
+        TyRef::Class { class, local: _ } => instance_method(program, class, name),
         _ => None,
     }
 }

@@ -2,10 +2,10 @@
 ghost use Rattle.std.specs.Prelude.{◌≡◌, bytes_eq};
 ghost use Rattle.std.specs.Option.{option_map};
 ghost use Rattle.ti_lang.specs.Program.Views.{program_of};
-ghost use Rattle.ti_lang.specs.Typing.BuiltIn.{spelled, built_in};
-ghost use Rattle.ti_lang.specs.Typing.Seen.{built_in_of};
+ghost use Rattle.ti_lang.specs.Typing.BuiltIn.{built_in_named, built_in};
+ghost use Rattle.ti_lang.specs.Typing.TyRef.{built_in_of};
 
-use crate::program::Parts;
+use crate::program::ProgramData;
 use ti_syntax::Spelled;
 
 /// A built-in member.
@@ -31,8 +31,8 @@ fn is_spelled(name: &Spelled, text: &[u8]) -> bool
 }
 
 /// The built-in member of this name.
-fn spelled(name: &Spelled) -> Option<BuiltIn>
-    ensures { option_map built_in_of result ≡ spelled name.now }
+fn built_in_named(name: &Spelled) -> Option<BuiltIn>
+    ensures { option_map built_in_of result ≡ built_in_named name.now }
 {
     if is_spelled(name, b"size") {
         Some(BuiltIn::Size)
@@ -63,12 +63,12 @@ fn spelled(name: &Spelled) -> Option<BuiltIn>
 
 /// The built-in member whose name has this number in the program.
 #[tactic(auto, unfolding(crate::specs::Typing::BuiltIn::built_in), using(crate::proofs::Names::name_lookups))]
-pub fn built_in(program: &Parts, name: u32) -> Option<BuiltIn>
+pub fn built_in(program: &ProgramData, name: u32) -> Option<BuiltIn>
     ensures { option_map built_in_of result ≡ built_in (program_of program.now) name }
 {
     let number = name as usize;
     if number < program.names.len() {
-        spelled(&program.names[number])
+        built_in_named(&program.names[number])
     } else {
         None
     }

@@ -6,17 +6,17 @@ ghost use Rattle.ti_lang.specs.Program.Expressions.{numbered_exps, numbered_rang
 ghost use Rattle.ti_lang.specs.Program.Views.{program_of, expression_of, bound_of, variable_of, numbered_method_of};
 ghost use Rattle.ti_lang.specs.Typing.Kinds.{dim_of_type};
 ghost use Rattle.ti_lang.specs.Typing.Declared.{result_type};
-ghost use Rattle.ti_lang.specs.Typing.Seen.{seen, built_in_of};
+ghost use Rattle.ti_lang.specs.Typing.TyRef.{ty_view, built_in_of};
 ghost use Rattle.ti_lang.specs.Mirrors.ListedDims.{dims_in};
-ghost use Rattle.ti_lang.specs.Typing.TextTypes.{used_type, joined_type, product_type, operator_type, field_seen, element_seen, sliced, how_many, built_in_type, member_seen, dims_of_range, dims_of_ranges, type_at, type_in_text};
+ghost use Rattle.ti_lang.specs.Typing.TextTypes.{used_type, joined_type, product_type, operator_type, static_field_type, static_element_type, slice_type, how_many, built_in_type, static_member_type, dims_of_range, dims_of_ranges, type_at, syntactic_type};
 ghost use Rattle.ti_lang.specs.Typing.Called.{called_method, member_called};
 
 use super::lookup::{
     instance_method, method, method_behind, named_field_type, own_field_type, this_type,
 };
 use super::members::{BuiltIn, built_in};
-use super::seen::Seen;
-use crate::program::{Declared, Expr, Method, Parts, Range, ResultType, Variable};
+use super::ty_ref::TyRef;
+use crate::program::{Declared, Expr, Method, ProgramData, Range, ResultType, Variable};
 use ti_syntax::tree::BinaryOperator;
 
 // ---- names
@@ -42,65 +42,65 @@ fn dims_among(dims: &[ForeachDims], variable: u32) -> usize
 }
 
 // The type of a variable: the declared one; that of a foreach variable is a point.
-fn used_type<'p>(variable: &'p Variable, dims: &[ForeachDims]) -> Seen<'p>
-    ensures { seen result ≡ used_type (dims_in (reverse dims.now)) (variable_of variable.now).number (variable_of variable.now).declared }
+fn used_type<'p>(variable: &'p Variable, dims: &[ForeachDims]) -> TyRef<'p>
+    ensures { ty_view result ≡ used_type (dims_in (reverse dims.now)) (variable_of variable.now).number (variable_of variable.now).declared }
 {
     match &variable.declared {
-        Declared::Typed { single: _, ty } => Seen::of(ty, false),
-        Declared::Foreach => Seen::Pt(dims_among(dims, variable.number)),
+        Declared::Typed { single: _, ty } => TyRef::of(ty, false),
+        Declared::Foreach => TyRef::Pt(dims_among(dims, variable.number)),
     }
 }
 
 // The type, or `Void` if there is none.
-fn or_void<'p>(t: Option<Seen<'p>>) -> Seen<'p>
-    ensures { seen result ≡ unwrap_or (option_map seen t.entry) Void }
+fn or_void<'p>(ty: Option<TyRef<'p>>) -> TyRef<'p>
+    ensures { ty_view result ≡ unwrap_or (option_map ty_view ty.entry) Void }
 {
-    match t {
-        Some(t) => t,
-        None => Seen::Void,
+    match ty {
+        Some(ty) => ty,
+        None => TyRef::Void,
     }
 }
 
 // The result type of a method; `Void` if there is none.
-fn result_of<'p>(m: Option<&'p Method>) -> Seen<'p>
-    ensures { seen result ≡ option_map_or result_type (option_map (λ m. numbered_method_of m.now) m.entry) Void }
+fn result_of<'p>(callee: Option<&'p Method>) -> TyRef<'p>
+    ensures { ty_view result ≡ option_map_or result_type (option_map (λ callee. numbered_method_of callee.now) callee.entry) Void }
 {
-    match m {
-        Some(m) => match &m.result {
-            ResultType::Void => Seen::Void,
-            ResultType::Typed(t) => Seen::of(&t.ty, false),
+    match callee {
+        Some(callee) => match &callee.result {
+            ResultType::Void => TyRef::Void,
+            ResultType::Typed(t) => TyRef::of(&t.ty, false),
         },
-        None => Seen::Void,
+        None => TyRef::Void,
     }
 }
 
 // ---- operators
 
 // The common type of two operands: an int with a long is a long, a rectangular domain with any domain is a domain.
-fn joined<'p>(x: Seen<'p>, y: Seen<'p>) -> Seen<'p>
-    ensures { seen result ≡ joined_type (seen x.entry) (seen y.entry) }
+fn common_type<'p>(left: TyRef<'p>, right: TyRef<'p>) -> TyRef<'p>
+    ensures { ty_view result ≡ joined_type (ty_view left.entry) (ty_view right.entry) }
 {
-    match (x, y) {
-        (Seen::Int, Seen::Long) => Seen::Long,
-        (Seen::Rc(n), _) => Seen::Dm(n),
-        _ => x,
+    match (left, right) {
+        (TyRef::Int, TyRef::Long) => TyRef::Long,
+        (TyRef::Rc(n), _) => TyRef::Dm(n),
+        _ => left,
     }
 }
 
 // The type of a product: the intersection of two rectangular domains is rectangular.
-fn product<'p>(x: Seen<'p>, y: Seen<'p>) -> Seen<'p>
-    ensures { seen result ≡ product_type (seen x.entry) (seen y.entry) }
+fn product<'p>(left: TyRef<'p>, right: TyRef<'p>) -> TyRef<'p>
+    ensures { ty_view result ≡ product_type (ty_view left.entry) (ty_view right.entry) }
 {
-    match (x, y) {
-        (Seen::Rc(n), Seen::Rc(_)) => Seen::Rc(n),
-        _ => joined(x, y),
+    match (left, right) {
+        (TyRef::Rc(n), TyRef::Rc(_)) => TyRef::Rc(n),
+        _ => common_type(left, right),
     }
 }
 
 /// The result type of an operator on operands of these types, without checking them: of a shift, the type of its left operand; of a
 /// comparison, boolean.
-pub fn operator_type<'p>(operator: BinaryOperator, x: Seen<'p>, y: Seen<'p>) -> Seen<'p>
-    ensures { seen result ≡ operator_type operator (seen x.entry) (seen y.entry) }
+pub fn operator_type<'p>(operator: BinaryOperator, left: TyRef<'p>, right: TyRef<'p>) -> TyRef<'p>
+    ensures { ty_view result ≡ operator_type operator (ty_view left.entry) (ty_view right.entry) }
 {
     match operator {
         BinaryOperator::Add
@@ -109,110 +109,110 @@ pub fn operator_type<'p>(operator: BinaryOperator, x: Seen<'p>, y: Seen<'p>) -> 
         | BinaryOperator::Remainder
         | BinaryOperator::And
         | BinaryOperator::Or
-        | BinaryOperator::Xor => joined(x, y),
-        BinaryOperator::Multiply => product(x, y),
+        | BinaryOperator::Xor => common_type(left, right),
+        BinaryOperator::Multiply => product(left, right),
         BinaryOperator::ShiftLeft
         | BinaryOperator::ShiftRight
-        | BinaryOperator::UnsignedShiftRight => x,
-        _ => Seen::Bool,
+        | BinaryOperator::UnsignedShiftRight => left,
+        _ => TyRef::Bool,
     }
 }
 
 // ---- parts and members
 
 /// The type of `x.f`, from the type of `x`: that of the field of this name, global if the reference is; `Void` if there is no such field.
-pub fn field_seen<'p>(program: &'p Parts, name: u32, t: Seen<'p>) -> Seen<'p>
-    ensures { seen result ≡ field_seen (program_of program.now) name (seen t.entry) }
+pub fn static_field_type<'p>(program: &'p ProgramData, name: u32, receiver: TyRef<'p>) -> TyRef<'p>
+    ensures { ty_view result ≡ static_field_type (program_of program.now) name (ty_view receiver.entry) }
 {
-    match t {
-        Seen::Class { class, local } => match named_field_type(program, class, name) {
+    match receiver {
+        TyRef::Class { class, local } => match named_field_type(program, class, name) {
             Some(ty) => ty.read_through(local),
-            None => Seen::Void,
+            None => TyRef::Void,
         },
-        _ => Seen::Void,
+        _ => TyRef::Void,
     }
 }
 
 /// The type of `x[..]`, from the type of `x`: a coordinate of a point, or an element of a grid, global if the reference is.
-pub fn element_seen<'p>(t: Seen<'p>) -> Seen<'p>
-    ensures { seen result ≡ element_seen (seen t.entry) }
+pub fn static_element_type<'p>(ty: TyRef<'p>) -> TyRef<'p>
+    ensures { ty_view result ≡ static_element_type (ty_view ty.entry) }
 {
-    match t {
-        Seen::Pt(_) => Seen::Int,
-        Seen::Grid {
+    match ty {
+        TyRef::Pt(_) => TyRef::Int,
+        TyRef::Grid {
             elem,
             any_dim,
             dim: _,
             local,
-        } => Seen::of(elem, any_dim).read_through(local),
-        _ => Seen::Void,
+        } => TyRef::of(elem, any_dim).read_through(local),
+        _ => TyRef::Void,
     }
 }
 
 // The type of a slice of a grid, which has one dimension less.
-fn sliced<'p>(t: Seen<'p>) -> Seen<'p>
-    ensures { seen result ≡ sliced (seen t.entry) }
+fn slice_type<'p>(ty: TyRef<'p>) -> TyRef<'p>
+    ensures { ty_view result ≡ slice_type (ty_view ty.entry) }
 {
-    match t {
-        Seen::Grid {
+    match ty {
+        TyRef::Grid {
             elem,
             any_dim,
             dim,
             local,
-        } => Seen::Grid {
+        } => TyRef::Grid {
             elem,
             any_dim,
             dim: dim.saturating_sub(1),
             local,
         },
-        _ => t,
+        _ => ty,
     }
 }
 
 /// The number of dimensions of a type; 1 if it has none.
-pub fn dims_of(t: Seen) -> usize
-    ensures { result ≡ dim_of_type (seen t.entry) }
+pub fn dims_of(ty: TyRef) -> usize
+    ensures { result ≡ dim_of_type (ty_view ty.entry) }
 {
-    match t {
-        Seen::Pt(n) | Seen::Rc(n) | Seen::Dm(n) => n,
-        Seen::Grid { dim, .. } => dim,
+    match ty {
+        TyRef::Pt(n) | TyRef::Rc(n) | TyRef::Dm(n) => n,
+        TyRef::Grid { dim, .. } => dim,
         _ => 1,
     }
 }
 
 // The type of a built-in member, from the type of its receiver.
-fn member_gives<'p>(b: BuiltIn, t: Seen<'p>) -> Seen<'p>
-    ensures { seen result ≡ built_in_type (Some (built_in_of b)) (seen t.entry) }
+fn member_gives<'p>(member: BuiltIn, receiver: TyRef<'p>) -> TyRef<'p>
+    ensures { ty_view result ≡ built_in_type (Some (built_in_of member)) (ty_view receiver.entry) }
 {
-    match b {
-        BuiltIn::Size => Seen::Int,
-        BuiltIn::Min | BuiltIn::Max => Seen::Pt(dims_of(t)),
-        BuiltIn::Contains => Seen::Bool,
-        BuiltIn::Domain => Seen::Rc(dims_of(t)),
-        BuiltIn::Restrict | BuiltIn::Translate => t,
-        BuiltIn::Slice => sliced(t),
-        BuiltIn::Copy | BuiltIn::Exchange | BuiltIn::Delete => Seen::Void,
+    match member {
+        BuiltIn::Size => TyRef::Int,
+        BuiltIn::Min | BuiltIn::Max => TyRef::Pt(dims_of(receiver)),
+        BuiltIn::Contains => TyRef::Bool,
+        BuiltIn::Domain => TyRef::Rc(dims_of(receiver)),
+        BuiltIn::Restrict | BuiltIn::Translate => receiver,
+        BuiltIn::Slice => slice_type(receiver),
+        BuiltIn::Copy | BuiltIn::Exchange | BuiltIn::Delete => TyRef::Void,
     }
 }
 
 // The type of a built-in member, from the type of its receiver; `Void` if there is no member.
-fn built_in_type<'p>(b: Option<BuiltIn>, t: Seen<'p>) -> Seen<'p>
-    ensures { seen result ≡ built_in_type (option_map built_in_of b) (seen t.entry) }
+fn built_in_type<'p>(member: Option<BuiltIn>, receiver: TyRef<'p>) -> TyRef<'p>
+    ensures { ty_view result ≡ built_in_type (option_map built_in_of member) (ty_view receiver.entry) }
 {
-    match b {
-        Some(b) => member_gives(b, t),
-        None => Seen::Void,
+    match member {
+        Some(member) => member_gives(member, receiver),
+        None => TyRef::Void,
     }
 }
 
 /// The type of `x.f(..)`, from the type of `x`: on an object of a method, on any other value of a built-in member; `Void` if there is
 /// none.
-pub fn member_seen<'p>(program: &'p Parts, name: u32, t: Seen<'p>) -> Seen<'p>
-    ensures { seen result ≡ member_seen (program_of program.now) name (seen t.entry) }
+pub fn static_member_type<'p>(program: &'p ProgramData, name: u32, receiver: TyRef<'p>) -> TyRef<'p>
+    ensures { ty_view result ≡ static_member_type (program_of program.now) name (ty_view receiver.entry) }
 {
-    match t {
-        Seen::Class { class, local: _ } => result_of(instance_method(program, class, name)),
-        _ => built_in_type(built_in(program, name), t),
+    match receiver {
+        TyRef::Class { class, local: _ } => result_of(instance_method(program, class, name)),
+        _ => built_in_type(built_in(program, name), receiver),
     }
 }
 
@@ -220,20 +220,25 @@ pub fn member_seen<'p>(program: &'p Parts, name: u32, t: Seen<'p>) -> Seen<'p>
 
 // The number of expressions.
 #[tactic(auto, using(crate::proofs::RangeDims::many_arguments))]
-fn how_many(xs: &[Expr]) -> usize
-    ensures { result ≡ how_many (numbered_exps (map expression_of xs.now)) }
+fn how_many(exprs: &[Expr]) -> usize
+    ensures { result ≡ how_many (numbered_exps (map expression_of exprs.now)) }
 {
-    xs.len()
+    exprs.len()
 }
 
 // The dimensions of a range: one for a range of numbers, those of the points for a range of points.
 #[cycle(text)]
-fn dims_of_range(program: &Parts, this: Option<u32>, dims: &[ForeachDims], range: &Range) -> usize
+fn dims_of_range(
+    program: &ProgramData,
+    this: Option<u32>,
+    dims: &[ForeachDims],
+    range: &Range,
+) -> usize
     ensures { result ≡ dims_of_range (program_of program.now) this (dims_in (reverse dims.now)) (bound_of range.now) }
 {
     match range {
-        Range::Plain { low, .. } => dims_of(type_over(program, this, dims, low)),
-        Range::Stepped { low, .. } => dims_of(type_over(program, this, dims, low)),
+        Range::Plain { low, .. } => dims_of(syntactic_type_with(program, this, dims, low)),
+        Range::Stepped { low, .. } => dims_of(syntactic_type_with(program, this, dims, low)),
     }
 }
 
@@ -241,7 +246,7 @@ fn dims_of_range(program: &Parts, this: Option<u32>, dims: &[ForeachDims], range
 #[cycle(text)]
 #[tactic(auto, using(crate::proofs::RangeDims::range_dims))]
 fn dims_of_ranges(
-    program: &Parts,
+    program: &ProgramData,
     this: Option<u32>,
     dims: &[ForeachDims],
     ranges: &[Range],
@@ -261,70 +266,84 @@ fn dims_of_ranges(
 /// rule is broken.
 #[cycle(text)]
 #[tactic(auto, using(crate::proofs::ProgramBridges::program_bridges))]
-pub fn type_over<'p>(
-    program: &'p Parts,
+pub fn syntactic_type_with<'p>(
+    program: &'p ProgramData,
     this: Option<u32>,
     dims: &[ForeachDims],
-    e: &'p Expr,
-) -> Seen<'p>
-    ensures { seen result ≡ type_at (program_of program.now) this (dims_in (reverse dims.now)) (expression_of e.now) }
+    expr: &'p Expr,
+) -> TyRef<'p>
+    ensures { ty_view result ≡ type_at (program_of program.now) this (dims_in (reverse dims.now)) (expression_of expr.now) }
 {
-    match e {
-        Expr::Int(_, _) => Seen::Int,
-        Expr::Long(_, _) => Seen::Long,
-        Expr::Truth(_, _) => Seen::Bool,
-        Expr::Null(_) => Seen::Null,
+    match expr {
+        Expr::Int(_, _) => TyRef::Int,
+        Expr::Long(_, _) => TyRef::Long,
+        Expr::Bool(_, _) => TyRef::Bool,
+        Expr::Null(_) => TyRef::Null,
         Expr::This(_) => or_void(this_type(this)),
         Expr::Variable(_, variable) => used_type(variable, dims),
         Expr::OwnField(_, field) => or_void(own_field_type(program, this, *field)),
         Expr::Call { method: number, .. } => result_of(method(program, *number)),
         Expr::OwnCall { method: number, .. } => result_of(method(program, *number)),
-        Expr::ThisProc(_) => Seen::Int,
-        Expr::NumProcs(_) => Seen::Int,
-        Expr::Point(_, parts) => Seen::Pt(how_many(parts)),
-        Expr::Rect(_, ranges) => Seen::Rc(dims_of_ranges(program, this, dims, ranges)),
-        Expr::Unary { operand, .. } => type_over(program, this, dims, operand),
+        Expr::ThisProc(_) => TyRef::Int,
+        Expr::NumProcs(_) => TyRef::Int,
+        Expr::Point(_, parts) => TyRef::Pt(how_many(parts)),
+        Expr::Rect(_, ranges) => TyRef::Rc(dims_of_ranges(program, this, dims, ranges)),
+        Expr::Unary { operand, .. } => syntactic_type_with(program, this, dims, operand),
         Expr::Binary {
             operator,
             left,
             right,
             ..
         } => {
-            let first = type_over(program, this, dims, left);
-            let second = type_over(program, this, dims, right);
+            let first = syntactic_type_with(program, this, dims, left);
+            let second = syntactic_type_with(program, this, dims, right);
             operator_type(*operator, first, second)
         }
-        Expr::Cast { to, .. } => Seen::of(&to.ty, false),
+        Expr::Cast { to, .. } => TyRef::of(&to.ty, false),
         Expr::Select { receiver, name, .. } => {
-            field_seen(program, *name, type_over(program, this, dims, receiver))
+            static_field_type(
+                program,
+                *name,
+                syntactic_type_with(program, this, dims, receiver),
+            )
         }
         Expr::Member { receiver, name, .. } => {
-            member_seen(program, *name, type_over(program, this, dims, receiver))
+            static_member_type(
+                program,
+                *name,
+                syntactic_type_with(program, this, dims, receiver),
+            )
         }
-        Expr::Index { receiver, .. } => element_seen(type_over(program, this, dims, receiver)),
+        Expr::Index { receiver, .. } => static_element_type(syntactic_type_with(
+            program, this, dims, receiver,
+        )),
     }
 }
 
 /// The static type of an expression, with foreach variables taken as points of one dimension: no class, field, element type or form of
 /// a node depends on their dimensions.
-pub fn type_in_text<'p>(program: &'p Parts, this: Option<u32>, e: &'p Expr) -> Seen<'p>
-    ensures { seen result ≡ type_in_text (program_of program.now) this (expression_of e.now) }
+pub fn syntactic_type<'p>(program: &'p ProgramData, this: Option<u32>, expr: &'p Expr) -> TyRef<'p>
+    ensures { ty_view result ≡ syntactic_type (program_of program.now) this (expression_of expr.now) }
 {
-    type_over(program, this, &[], e)
+    syntactic_type_with(program, this, &[], expr)
 }
 
 // ---- calls
 
 /// The declared method that an expression calls; None if it calls none. `x.f(..)` calls one only if `x` is an object.
 #[tactic(auto, using(crate::proofs::ProgramBridges::program_bridges))]
-pub fn called_method<'p>(program: &'p Parts, this: Option<u32>, e: &'p Expr) -> Option<&'p Method>
-    ensures { option_map (λ m. numbered_method_of m.now) result ≡ called_method (program_of program.now) this (expression_of e.now) }
+pub fn called_method<'p>(
+    program: &'p ProgramData,
+    this: Option<u32>,
+    expr: &'p Expr,
+) -> Option<&'p Method>
+    ensures { option_map (λ m. numbered_method_of m.now) result ≡ called_method (program_of program.now) this (expression_of expr.now) }
 {
-    match e {
+    match expr {
         Expr::Call { method: number, .. } => method(program, *number),
         Expr::OwnCall { method: number, .. } => method(program, *number),
         Expr::Member { receiver, name, .. } => {
-            method_behind(program, type_in_text(program, this, receiver), *name)
+            method_behind(program, syntactic_type(program, this, receiver), *name)
         }
         _ => None,
     }
@@ -332,14 +351,14 @@ pub fn called_method<'p>(program: &'p Parts, this: Option<u32>, e: &'p Expr) -> 
 
 /// The built-in member that a name denotes on a receiver; None on an object.
 pub fn member_called(
-    program: &Parts,
+    program: &ProgramData,
     this: Option<u32>,
     receiver: &Expr,
     name: u32,
 ) -> Option<BuiltIn>
     ensures { option_map built_in_of result ≡ member_called (program_of program.now) this (expression_of receiver.now) name }
 {
-    if type_in_text(program, this, receiver).is_object() {
+    if syntactic_type(program, this, receiver).is_object() {
         None
     } else {
         built_in(program, name)

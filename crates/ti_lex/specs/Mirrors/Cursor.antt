@@ -2,14 +2,14 @@
 use Rattle.std.specs.Prelude.{ℕ, ◌+◌, List, drop}
 
 -- a source, and the offset of its next byte
-pub record Spot : Type 0 where
+pub record CursorView : Type 0 where
   pub text : List ℕ
   pub at : ℕ
 
 -- the bytes that aren't read yet
-abbrev pub rest : Spot → List ℕ
+abbrev pub rest : CursorView → List ℕ
 rest spot = drop spot.at spot.text
 
 -- the cursor n bytes further on
-abbrev pub moved : ℕ → Spot → Spot
-moved n spot = record spot { at = spot.at + n }
+abbrev pub skip_bytes : ℕ → CursorView → CursorView
+skip_bytes n spot = record spot { at = spot.at + n }

@@ -10,17 +10,17 @@ use Rattle.std.specs.Map.{lookup}
 use Rattle.ti_syntax.specs.declared.token.TokenKind.{TokenKind}
 use Rattle.ti_syntax.specs.declared.token.TokenKind.TheVariants as k
 use Rattle.ti_syntax.specs.Tokenizing.{Piece, Space, Lexeme, Flaw, StrayByte, OpenComment, OpenString, WrongNumber, is_blank, begins_name, is_name_byte, is_long_letter, first_passes, is_plain, escaped}
-use Rattle.ti_lex.specs.declared.class.Class.{Class}
-use Rattle.ti_lex.specs.declared.class.Class.TheVariants as c
+use Rattle.ti_lex.specs.declared.byte_class.ByteClass.{ByteClass}
+use Rattle.ti_lex.specs.declared.byte_class.ByteClass.TheVariants as c
 
 -- a lexical element and the offset of its end, or a lexical error and the offset of the byte that is reported
 pub data Reading : Type 0 where
-  Takes : (piece : Piece) (end : ℕ) → Reading
-  Refuses : (flaw : Flaw) (fault : ℕ) → Reading
+  Matches : (piece : Piece) (end : ℕ) → Reading
+  Rejects : (flaw : Flaw) (fault : ℕ) → Reading
 
 -- the class of a byte: which lexical elements it can begin
-abbrev pub class_of : ℕ → Class
-class_of b =
+abbrev pub class_of_byte : ℕ → ByteClass
+class_of_byte b =
     if is_blank b then c.Blank
     else (if begins_name b then c.Letter
     else (if is_ascii_digit b then c.Digit
@@ -29,8 +29,8 @@ class_of b =
     else c.Other))))
 
 -- the reserved words
-unfoldable pub reserved : List (List ℕ × TokenKind)
-reserved =
+unfoldable pub reserved_words : List (List ℕ × TokenKind)
+reserved_words =
     (codes "boolean", k.KeywordBoolean) ∷
     (codes "break", k.KeywordBreak) ∷
     (codes "broadcast", k.KeywordBroadcast) ∷
@@ -69,12 +69,12 @@ reserved =
 
 -- the token kind of an identifier: a reserved word, or a name
 abbrev pub kind_of_word : List ℕ → TokenKind
-kind_of_word word = unwrap_or (lookup (bytes_eq word) reserved) (k.Name word)
+kind_of_word word = unwrap_or (lookup (bytes_eq word) reserved_words) (k.Name word)
 
 -- the name or reserved word: all bytes that can continue it
 abbrev pub word : ℕ → List ℕ → Reading
 word at l =
-    let size = prefix_len is_name_byte l in Takes (Lexeme (kind_of_word (take size l))) (at + size)
+    let size = prefix_len is_name_byte l in Matches (Lexeme (kind_of_word (take size l))) (at + size)
 
 -- the number of dimensions, if a dimension begins the list
 abbrev pub dimension : List ℕ → Option ℕ
@@ -113,20 +113,20 @@ abbrev pub is_number : Bool → ℕ → ℕ → ℕ → Bool
 is_number leads_with_zero size most value = not (leads_with_zero && not (size == 1)) && nat_le value most
 
 -- the literal with these digits, and a suffix if `long`; an error if it isn't valid
-abbrev pub number_of : ℕ → Bool → ℕ → ℕ → Bool → Reading
-number_of at leads_with_zero size value long =
-    if is_number leads_with_zero size (most_of long) value then Takes (Lexeme (kind_of_number long value)) (at + size + letters long)
-    else Refuses WrongNumber at
+abbrev pub number_reading : ℕ → Bool → ℕ → ℕ → Bool → Reading
+number_reading at leads_with_zero size value long =
+    if is_number leads_with_zero size (most_of long) value then Matches (Lexeme (kind_of_number long value)) (at + size + letters long)
+    else Rejects WrongNumber at
 
 -- the digits at the start, with their suffix
 abbrev pub digits : ℕ → List ℕ → Reading
 digits at l =
-    let size = prefix_len is_ascii_digit l in number_of at (first_passes (λ b. b == 48) l) size (value_from 0 l)
+    let size = prefix_len is_ascii_digit l in number_reading at (first_passes (λ b. b == 48) l) size (value_from 0 l)
     (first_passes is_long_letter (drop size l))
 
 -- the dimension or the number literal at the start
 abbrev pub number : ℕ → List ℕ → Reading
-number at l = option_map_or (λ n. Takes (Lexeme (k.Dim n)) (at + 2)) (dimension l) (digits at l)
+number at l = option_map_or (λ n. Matches (Lexeme (k.Dim n)) (at + 2)) (dimension l) (digits at l)
 
 -- the next part of a string: an item with its value, the closing quote, or an error
 pub data Item : Type 0 where
@@ -153,25 +153,25 @@ item (b ∷ l) =
 -- the rest of a string that begins at `quote`, after items with value `bytes`
 abbrev mutual
   pub string_from : ℕ → List ℕ → ℕ → List ℕ → Reading
-  string_from quote bytes at [] = Refuses OpenString quote
+  string_from quote bytes at [] = Rejects OpenString quote
   string_from quote bytes at (b ∷ l) =
-      if b == 34 then Takes (Lexeme (k.Str bytes)) (at + 1)
+      if b == 34 then Matches (Lexeme (k.Str bytes)) (at + 1)
       else (if b == 92 then escape_from quote bytes at l
       else (if is_plain b then string_from quote (bytes ++ b ∷ []) (at + 1) l
-      else (if b == 10 || b == 13 then Refuses OpenString quote
-      else Refuses StrayByte at)))
+      else (if b == 10 || b == 13 then Rejects OpenString quote
+      else Rejects StrayByte at)))
 
   pub escape_from : ℕ → List ℕ → ℕ → List ℕ → Reading
-  escape_from quote bytes at [] = Refuses StrayByte at
+  escape_from quote bytes at [] = Rejects StrayByte at
   escape_from quote bytes at (b ∷ l) =
       if is_some (escaped b) then string_from quote (bytes ++ unwrap_or (escaped b) 0 ∷ []) (at + 2) l
-      else Refuses StrayByte at
+      else Rejects StrayByte at
 
 -- the rest of a comment that begins at `slash`; `star` says whether the byte before it is a `*` of the comment
 abbrev pub comment_from : ℕ → Bool → ℕ → List ℕ → Reading
-comment_from slash star at [] = Refuses OpenComment slash
+comment_from slash star at [] = Rejects OpenComment slash
 comment_from slash star at (b ∷ l) =
-    if star && b == 47 then Takes Space (at + 1) else comment_from slash (b == 42) (at + 1) l
+    if star && b == 47 then Matches Space (at + 1) else comment_from slash (b == 42) (at + 1) l
 
 -- the operators and punctuation marks of one byte
 abbrev pub first_signs : List (ℕ × TokenKind)
@@ -226,15 +226,15 @@ longer_sign _ b = None
 
 -- the longest operator that extends this one
 abbrev pub sign_from : TokenKind → ℕ → List ℕ → Reading
-sign_from kind at [] = Takes (Lexeme kind) at
+sign_from kind at [] = Matches (Lexeme kind) at
 sign_from kind at (b ∷ l) =
     if is_some (longer_sign kind b) then sign_from (unwrap_or (longer_sign kind b) kind) (at + 1) l
-    else Takes (Lexeme kind) at
+    else Matches (Lexeme kind) at
 
 -- the operator or punctuation mark at the start
 abbrev pub sign : ℕ → List ℕ → Reading
-sign at [] = Refuses StrayByte at
-sign at (b ∷ l) = option_map_or (λ kind. sign_from kind (at + 1) l) (first_sign b) (Refuses StrayByte at)
+sign at [] = Rejects StrayByte at
+sign at (b ∷ l) = option_map_or (λ kind. sign_from kind (at + 1) l) (first_sign b) (Rejects StrayByte at)
 
 -- the number of bytes left in the line
 abbrev pub line_left : List ℕ → ℕ
@@ -243,13 +243,13 @@ line_left l = prefix_len (λ b. not (b == 10)) l
 -- a comment or an operator that begins with a slash
 abbrev pub slash : ℕ → List ℕ → Reading
 slash at l =
-    if first_passes (λ b. b == 47) (drop 1 l) then Takes Space (at + line_left l)
+    if first_passes (λ b. b == 47) (drop 1 l) then Matches Space (at + line_left l)
     else (if first_passes (λ b. b == 42) (drop 1 l) then comment_from at false (at + 2) (drop 1 (drop 1 l))
     else sign at l)
 
 -- the lexical element at the start, by the class of its first byte
-abbrev pub first_by : Class → ℕ → List ℕ → Reading
-first_by c.Blank at l = Takes Space (at + 1)
+abbrev pub first_by : ByteClass → ℕ → List ℕ → Reading
+first_by c.Blank at l = Matches Space (at + 1)
 first_by c.Letter at l = word at l
 first_by c.Digit at l = number at l
 first_by c.Quote at l = string_from at [] (at + 1) (drop 1 l)
@@ -258,5 +258,5 @@ first_by c.Other at l = sign at l
 
 -- the lexical element at the start
 unfoldable pub first : ℕ → List ℕ → Reading
-first at [] = Refuses StrayByte at
-first at (b ∷ l) = first_by (class_of b) at (b ∷ l)
+first at [] = Rejects StrayByte at
+first at (b ∷ l) = first_by (class_of_byte b) at (b ∷ l)

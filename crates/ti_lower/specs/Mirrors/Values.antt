@@ -12,7 +12,7 @@ use Rattle.ti_lang.specs.Typing.BuiltIn.{BuiltIn, Copy, Exchange, Delete}
 use Rattle.ti_lang.specs.Typing.Called.{called_method, member_called}
 use Rattle.ti_lang.specs.Typing.Kinds.{is_void, element_of}
 use Rattle.ti_lang.specs.Typing.Declared.{result_type}
-use Rattle.ti_lang.specs.Typing.TextTypes.{type_in_text, how_many}
+use Rattle.ti_lang.specs.Typing.TextTypes.{syntactic_type, how_many}
 use Rattle.ti_lang.specs.Meaning.Calls.{Call, call_by, parameters_of}
 use Rattle.ti_lang.specs.Meaning.Processes.{Receiver, Nowhere, Declared, Assigned, Updated}
 use Rattle.ti_lang.specs.Meaning.Scoping.{declared_type}
@@ -22,16 +22,16 @@ use Rattle.ti_code.specs.declared.instr.Instr.TheVariants as i
 use Rattle.ti_code.specs.declared.instr.Operation.{Operation}
 use Rattle.ti_code.specs.declared.instr.Operation.TheVariants as o
 use Rattle.ti_lower_expr.specs.Slots.{has_this}
-use Rattle.ti_lower_expr.specs.declared.kinds.Kind.{Kind}
-use Rattle.ti_lower_expr.specs.declared.kinds.Kind.TheVariants.{Numbers}
-use Rattle.ti_lower_expr.specs.declared.kinds.Known.{Known}
-use Rattle.ti_lower_expr.specs.declared.kinds.Known.TheVariants as known
+use Rattle.ti_lower_expr.specs.declared.kinds.OperandClass.{OperandClass}
+use Rattle.ti_lower_expr.specs.declared.kinds.OperandClass.TheVariants.{Numbers}
+use Rattle.ti_lower_expr.specs.declared.kinds.StaticRepr.{StaticRepr}
+use Rattle.ti_lower_expr.specs.declared.kinds.StaticRepr.TheVariants as known
 use Rattle.ti_lower_expr.specs.Knowing.{known_of, operated_known}
-use Rattle.ti_lower_expr.specs.Coding.{code_of, conversion, loaded, own, kind_in}
+use Rattle.ti_lower_expr.specs.Coding.{code_of, conversion, load_variable, load_this, kind_in}
 use Rattle.ti_lower.specs.Calling.{number_called}
-use Rattle.ti_lower.specs.Receivers.{TargetKind, InSlot, InField, InElement, written_slot, kept, store_code, held_known, updating, kind_of_target}
-use Rattle.ti_lower.specs.Laying.{as_element, first_code, elements_code, copied_code, taken_code, grids_code, team_code, gives_nothing}
-use Rattle.ti_lower.specs.Mirrors.Positions.{Where, Source, Computed, Kept, one_waits}
+use Rattle.ti_lower.specs.Receivers.{TargetKind, InSlot, InField, InElement, written_slot, keep_code, store_code, held_known, updating, kind_of_target}
+use Rattle.ti_lower.specs.StmtCode.{as_element, first_code, elements_code, copied_code, taken_code, grids_code, team_code, gives_nothing}
+use Rattle.ti_lower.specs.Mirrors.Positions.{Where, Source, Computed, Kept, with_temporary}
 
 -- ---- expressions
 
@@ -50,60 +50,60 @@ source_on w (Kept k) code = code ++ i.Load k ∷ []
 
 abbrev pub place_on : Where → NumberedExp → List Instr → List Instr
 place_on w (e.Variable q x) code = code
-place_on w (e.OwnField q field) code = code ++ own (has_this w.names) ∷ []
+place_on w (e.OwnField q field) code = code ++ load_this (has_this w.names) ∷ []
 place_on w (e.Select q x name) code = value_on w x code
 place_on w (e.Index q x parts) code = values_on w parts (value_on w x code) ++ i.MakePt (how_many parts) ∷ []
 place_on w other code = code ++ i.Const (v.Bool false) ∷ []
 
 -- The top operand is stored in a target.
-abbrev pub stored_on : Where → Place → ValueType → Known → TargetKind → List Instr → List Instr
+abbrev pub stored_on : Where → Place → ValueType → StaticRepr → TargetKind → List Instr → List Instr
 stored_on w p type k target code = code ++ conversion p type k ++ store_code w.names p target
 
 -- A right side, and an operator on it and the operand below it.
 abbrev pub operated_on : Where → Place → Operation → Source → List Instr → List Instr
 operated_on w p name right code = source_on w right code ++ i.Operate name p ∷ []
 
-abbrev pub update_on : Where → Place → Place → Operation → Known → ValueType → TargetKind → Source → List Instr → List Instr
+abbrev pub update_on : Where → Place → Place → Operation → StaticRepr → ValueType → TargetKind → Source → List Instr → List Instr
 update_on w p q name k type (InSlot x) right code =
-    stored_on w p type k (InSlot x) (operated_on w p name right (code ++ loaded (written_slot x w.names) x ∷ []))
+    stored_on w p type k (InSlot x) (operated_on w p name right (code ++ load_variable (written_slot x w.names) x ∷ []))
 update_on w p q name k type (InField field) right code =
     stored_on w p type k (InField field) (operated_on w p name right (code ++ i.Dup ∷ i.GetField field q ∷ []))
 update_on w p q name k type InElement right code =
-    operated_on (one_waits w) p name right (code ++ i.Keep (length w.names) ∷ i.Dup ∷ i.Load (length w.names) ∷ i.GetElem q ∷ [])
+    operated_on (with_temporary w) p name right (code ++ i.Keep (length w.names) ∷ i.Dup ∷ i.Load (length w.names) ∷ i.GetElem q ∷ [])
     ++ conversion p type k
     ++ i.Keep (length w.names + 1) ∷ i.Load (length w.names) ∷ i.Load (length w.names + 1) ∷ i.PutElem p ∷ i.Trim (length w.names) ∷ []
 
 -- ---- stores
 
 -- The top operand is stored in a new variable.
-abbrev pub declared_on : Where → Place → ValueType → Known → List Instr → List Instr
+abbrev pub declared_on : Where → Place → ValueType → StaticRepr → List Instr → List Instr
 declared_on w p type k code = code ++ conversion p type k ++ i.Keep (length w.names) ∷ []
 
 -- A right side is stored in the target of an assignment.
-abbrev pub assigned_on : Where → Place → NumberedExp → Known → Source → List Instr → List Instr
+abbrev pub assigned_on : Where → Place → NumberedExp → StaticRepr → Source → List Instr → List Instr
 assigned_on w p target k right code =
-    stored_on w p (type_in_text w.program w.this target) k (kind_of_target w.program w.this target)
+    stored_on w p (syntactic_type w.program w.this target) k (kind_of_target w.program w.this target)
     (source_on w right (place_on w target code))
 
-abbrev pub into_on : Where → Receiver → Kind → Known → Source → List Instr → List Instr
+abbrev pub into_on : Where → Receiver → OperandClass → StaticRepr → Source → List Instr → List Instr
 into_on w Nowhere kind k right code = source_on w right code ++ i.Pop ∷ []
 into_on w (Declared p x) kind k right code = declared_on w p (declared_type x.declared) k (source_on w right code)
 into_on w (Assigned p target) kind k right code = assigned_on w p target k right code
 into_on w (Updated p op target) kind k right code =
     update_on w p (place_of_numbered target) (updating w.program w.this op target kind)
-    (operated_known op (held_known (kind_of_target w.program w.this target)) k) (type_in_text w.program w.this target)
+    (operated_known op (held_known (kind_of_target w.program w.this target)) k) (syntactic_type w.program w.this target)
     (kind_of_target w.program w.this target) right (place_on w target code)
 
-abbrev pub waiting_on : Where → Receiver → Kind → Known → List Instr → List Instr
-waiting_on w r kind k code =
-    into_on (one_waits w) r kind k (Kept (length w.names)) (code ++ i.Keep (length w.names) ∷ []) ++ i.Trim (length w.names) ∷ []
+abbrev pub spill_on : Where → Receiver → OperandClass → StaticRepr → List Instr → List Instr
+spill_on w r kind k code =
+    into_on (with_temporary w) r kind k (Kept (length w.names)) (code ++ i.Keep (length w.names) ∷ []) ++ i.Trim (length w.names) ∷ []
 
-abbrev pub late_on : Where → Receiver → Kind → Known → List Instr → List Instr
-late_on w Nowhere kind k code = code ++ i.Pop ∷ []
-late_on w (Declared p x) kind k code = declared_on w p (declared_type x.declared) k code
-late_on w (Assigned p (e.Variable q x)) kind k code =
-    code ++ conversion p (type_in_text w.program w.this (e.Variable q x)) k ++ kept (written_slot x w.names) ∷ []
-late_on w r kind k code = waiting_on w r kind k code
+abbrev pub store_result_on : Where → Receiver → OperandClass → StaticRepr → List Instr → List Instr
+store_result_on w Nowhere kind k code = code ++ i.Pop ∷ []
+store_result_on w (Declared p x) kind k code = declared_on w p (declared_type x.declared) k code
+store_result_on w (Assigned p (e.Variable q x)) kind k code =
+    code ++ conversion p (syntactic_type w.program w.this (e.Variable q x)) k ++ keep_code (written_slot x w.names) ∷ []
+store_result_on w r kind k code = spill_on w r kind k code
 
 -- ---- calls
 
@@ -125,7 +125,7 @@ call_on w k c code = args_on w (parameters_of c.method.params) c.args (object_on
 
 abbrev pub valued_on : Where → Receiver → NumberedExp → Option Call → List Instr → List Instr
 valued_on w r x None code = into_on w r (kind_in w.program w.this x) (known_of w.program w.this x) (Computed x) code
-valued_on w r x (Some c) code = late_on w r (kind_in w.program w.this x) known.Other (call_on w (number_called w.program w.this x) c code)
+valued_on w r x (Some c) code = store_result_on w r (kind_in w.program w.this x) known.Other (call_on w (number_called w.program w.this x) c code)
 
 abbrev pub region_on : Where → Option NumberedExp → List Instr → List Instr
 region_on w None code = code ++ i.Const (v.Region 0) ∷ []
@@ -145,11 +145,11 @@ root_on w p x code =
 
 abbrev pub init_on : Where → Receiver → NumberedInit → List Instr → List Instr
 init_on w r (s.Value x) code = valued_on w r x (call_by x (called_method w.program w.this x)) code
-init_on w r (s.NewRegion p) code = late_on w r Numbers known.Other (code ++ i.Arrive coll.MakeRegion p ∷ i.Depart p ∷ [])
-init_on w r (s.NewObject p region class) code = late_on w r Numbers known.Other (region_on w region code ++ i.NewObj class p ∷ [])
+init_on w r (s.NewRegion p) code = store_result_on w r Numbers known.Other (code ++ i.Arrive coll.MakeRegion p ∷ i.Depart p ∷ [])
+init_on w r (s.NewObject p region class) code = store_result_on w r Numbers known.Other (region_on w region code ++ i.NewObj class p ∷ [])
 init_on w r (s.NewGrid p region element q dims) code =
-    late_on w r Numbers known.Other (spread_on w q dims (region_on w region code) ++ i.NewGrid (zero_of_type element.type) p ∷ [])
-init_on w r (s.Broadcast p x root) code = late_on w r (kind_in w.program w.this x) known.Other (root_on w p x (value_on w root code))
+    store_result_on w r Numbers known.Other (spread_on w q dims (region_on w region code) ++ i.NewGrid (zero_of_type element.type) p ∷ [])
+init_on w r (s.Broadcast p x root) code = store_result_on w r (kind_in w.program w.this x) known.Other (root_on w p x (value_on w root code))
 
 -- ---- expression statements
 
@@ -170,7 +170,7 @@ copy_on w p x args code =
 abbrev pub exchange_on : Where → Place → NumberedExp → NumberedExps → List Instr → List Instr
 exchange_on w p x args code =
     elements_on p (length w.names) (taken_code p (length w.names))
-    (both_on w x args code ++ as_element (element_of (type_in_text w.program w.this x)) ++ team_code p (length w.names))
+    (both_on w x args code ++ as_element (element_of (syntactic_type w.program w.this x)) ++ team_code p (length w.names))
 
 abbrev pub form_on : Where → Option BuiltIn → Place → NumberedExp → NumberedExps → NumberedExp → List Instr → List Instr
 form_on w (Some Copy) p x args whole code = copy_on w p x args code

@@ -14,36 +14,36 @@ use Rattle.ti_lang.specs.Program.Expressions.{NumberedExp, NumberedExps, Numbere
 use Rattle.ti_lang.specs.Program.Expressions as n
 use Rattle.ti_lang.specs.Program.Statements.{NumberedDims, NumberedInit, NumberedPrint, NumberedStm, MaybeNumbered, NumberedStms}
 use Rattle.ti_lang.specs.Program.Statements as m
-use Rattle.ti_lang.specs.Program.Classes.{NumberedField, NumberedClass, NumberedParam, NumberedParams, NumberedResult, NumberedMethod, NumberedProgram}
+use Rattle.ti_lang.specs.Program.Classes.{NumberedField, NumberedClass, NumberedParam, NumberedParams, NumberedResult, NumberedMethod, ProgramView}
 use Rattle.ti_lang.specs.Program.Classes as p
 use Rattle.ti_lang.specs.Members.{class_named, fields_in, OwnMethod, methods_of, is_single, is_static_method, names_of, name_number}
-use Rattle.ti_lang.specs.Scopes.{numbered_type, Site, declares, literals_in, literals_of_text, past, past_maybe, behind, behind_maybe, method_site, body_site, variable_named, own_field_named, own_method_named, static_method_named, class_before_dot}
+use Rattle.ti_lang.specs.Scopes.{numbered_type, Site, declares, literals_in, literals_of_text, past, past_maybe, site_after, behind_maybe, method_site, body_site, variable_named, own_field_named, own_method_named, static_method_named, class_before_dot}
 use Rattle.ti_rules.specs.MainForm.{main_method}
 
 -- ---- expressions
 
-abbrev pub named : Place → Option VariableUse → Option ℕ → NumberedExp
-named at (Some v) field = n.Variable at v
-named at None (Some field) = n.OwnField at field
-named at None None = n.Null at
+abbrev pub name_expr : Place → Option VariableUse → Option ℕ → NumberedExp
+name_expr at (Some v) field = n.Variable at v
+name_expr at None (Some field) = n.OwnField at field
+name_expr at None None = n.Null at
 
 -- a call of a method of the enclosing class
-abbrev pub called : TextTree → Place → Option ℕ → NumberedExps → NumberedExp
-called text at None args = n.Null at
-called text at (Some method) args = if is_static_method text method then n.Call at method args else n.OwnCall at method args
+abbrev pub method_call : TextTree → Place → Option ℕ → NumberedExps → NumberedExp
+method_call text at None args = n.Null at
+method_call text at (Some method) args = if is_static_method text method then n.Call at method args else n.OwnCall at method args
 
 -- a static call by class name
-abbrev pub class_called : Place → Option ℕ → NumberedExps → NumberedExp
-class_called at None args = n.Null at
-class_called at (Some method) args = n.Call at method args
+abbrev pub static_call : Place → Option ℕ → NumberedExps → NumberedExp
+static_call at None args = n.Null at
+static_call at (Some method) args = n.Call at method args
 
-abbrev pub selected : Site → Place → Option ℕ → NumberedExp → List ℕ → NumberedExp
-selected site at None x name = n.Select at x (name_number site.text name)
-selected site at (Some class) x name = n.Null at
+abbrev pub select_expr : Site → Place → Option ℕ → NumberedExp → List ℕ → NumberedExp
+select_expr site at None x name = n.Select at x (name_number site.text name)
+select_expr site at (Some class) x name = n.Null at
 
-abbrev pub member_called : Site → Place → Option ℕ → NumberedExp → List ℕ → NumberedExps → NumberedExp
-member_called site at None x name args = n.Member at x (name_number site.text name) args
-member_called site at (Some class) x name args = class_called at (static_method_named site class name) args
+abbrev pub member_call : Site → Place → Option ℕ → NumberedExp → List ℕ → NumberedExps → NumberedExp
+member_call site at None x name args = n.Member at x (name_number site.text name) args
+member_call site at (Some class) x name args = static_call at (static_method_named site class name) args
 
 abbrev mutual
   pub number_exp : Site → Exp → NumberedExp
@@ -52,8 +52,8 @@ abbrev mutual
   number_exp site (t.Truth at b) = n.Truth at b
   number_exp site (t.Null at) = n.Null at
   number_exp site (t.This at) = n.This at
-  number_exp site (t.Name at name) = named at (variable_named site name) (own_field_named site name)
-  number_exp site (t.Call at name args) = called site.text at (own_method_named site name) (number_exps site args)
+  number_exp site (t.Name at name) = name_expr at (variable_named site name) (own_field_named site name)
+  number_exp site (t.Call at name args) = method_call site.text at (own_method_named site name) (number_exps site args)
   number_exp site (t.ThisProc at) = n.ThisProc at
   number_exp site (t.NumProcs at) = n.NumProcs at
   number_exp site (t.Point at parts) = n.Point at (number_exps site parts)
@@ -61,9 +61,9 @@ abbrev mutual
   number_exp site (t.Unary at op x) = n.Unary at op (number_exp site x)
   number_exp site (t.Binary at op x y) = n.Binary at op (number_exp site x) (number_exp site y)
   number_exp site (t.Cast at to x) = n.Cast at (numbered_type site.text to) (number_exp site x)
-  number_exp site (t.Select at x name) = selected site at (class_before_dot site x) (number_exp site x) name
+  number_exp site (t.Select at x name) = select_expr site at (class_before_dot site x) (number_exp site x) name
   number_exp site (t.Member at x name args) =
-      member_called site at (class_before_dot site x) (number_exp site x) name (number_exps site args)
+      member_call site at (class_before_dot site x) (number_exp site x) name (number_exps site args)
   number_exp site (t.Index at x parts) = n.Index at (number_exp site x) (number_exps site parts)
 
   pub number_exps : Site → Exps → NumberedExps
@@ -131,12 +131,12 @@ abbrev mutual
 
   pub number_stms : Site → Stms → NumberedStms
   number_stms site s.Nil = m.Nil
-  number_stms site (s.Cons x rest) = m.Cons (number_stm site x) (number_stms (behind site x) rest)
+  number_stms site (s.Cons x rest) = m.Cons (number_stm site x) (number_stms (site_after site x) rest)
 
 -- the statements of a list, each in the context that the ones before it leave
 abbrev pub number_list : Site → List Stm → List NumberedStm
 number_list site [] = []
-number_list site (x ∷ rest) = number_stm site x ∷ number_list (behind site x) rest
+number_list site (x ∷ rest) = number_stm site x ∷ number_list (site_after site x) rest
 
 -- ---- classes
 
@@ -163,7 +163,7 @@ abbrev pub number_param_list : TextTree → List ParamTree → List NumberedPara
 number_param_list text params = map (number_param text) params
 
 abbrev pub number_params : TextTree → ParamsTree → NumberedParams
-number_params text (c.Words at name) = p.Words
+number_params text (c.MainArgs at name) = p.MainArgs
 number_params text (c.Params params) = p.Params (number_param_list text params)
 
 abbrev pub number_method : Site → OwnMethod → NumberedMethod
@@ -184,7 +184,7 @@ number_methods text before [] = []
 number_methods text before (own ∷ rest) =
     number_method (method_site text own before) own ∷ number_methods text (before + length (literals_in (stms own.method.body))) rest
 
-abbrev pub number_program : TextTree → NumberedProgram
+abbrev pub number_program : TextTree → ProgramView
 number_program text = record {
   classes = number_classes text text;
   methods = number_methods text 0 (methods_of text);

@@ -16,24 +16,24 @@ use Rattle.ti_syntax.specs.Trees.Statements.{Stm, MaybeStm, NoStm, SomeStm}
 use Rattle.ti_syntax.specs.Trees.Classes.{ParamTree, MemberTree, TextTree}
 use Rattle.ti_syntax.specs.Trees.Views.{stm_of, type_of, param_of, member_of, class_of}
 use Rattle.ti_syntax.specs.Spelling.Operators.{modifier_of, class_modifier_of}
-use Rattle.ti_parse_expr.specs.declared.stop.Stop.{Stop}
-use Rattle.ti_parse_expr.specs.Mirrors.Input.{Outcome, Parser, Fails, ◌>>=◌, ◌>>◌, pure, expect}
+use Rattle.ti_parse_expr.specs.declared.parse_stop.ParseStop.{ParseStop}
+use Rattle.ti_parse_expr.specs.Mirrors.Input.{ParseOutcome, Parser, Fails, ◌>>=◌, ◌>>◌, pure, expect}
 use Rattle.ti_parse_expr.specs.Mirrors.Seen.{operand_of}
-use Rattle.ti_parse.specs.declared.simple.Begun.{Begun}
-use Rattle.ti_parse.specs.declared.simple.Begun.TheVariants as begun
+use Rattle.ti_parse.specs.declared.simple.NameStart.{NameStart}
+use Rattle.ti_parse.specs.declared.simple.NameStart.TheVariants as begun
 use Rattle.ti_parse.specs.declared.words.Modified.{Modified}
 use Rattle.ti_parse.specs.declared.words.Modified.TheVariants as modified
 use Rattle.ti_parse.specs.Mirrors.Parts as parts
 
 -- the modifiers of a class or a member, by token
-abbrev pub word_of : Modified → TokenKind → Option ModifierWord
-word_of modified.Class = class_modifier_of
-word_of modified.Member = modifier_of
+abbrev pub modifier_word_of : Modified → TokenKind → Option ModifierWord
+modifier_word_of modified.Class = class_modifier_of
+modifier_word_of modified.Member = modifier_of
 
 -- the model of the start of a statement
-abbrev pub begun_of : Begun → parts.Begun
-begun_of (begun.Declares ty) = parts.Declares (type_of ty)
-begun_of (begun.Starts o) = parts.Starts (operand_of o)
+abbrev pub name_start_of : NameStart → parts.NameStart
+name_start_of (begun.DeclaredType ty) = parts.DeclaredType (type_of ty)
+name_start_of (begun.PostfixStart o) = parts.PostfixStart (operand_of o)
 
 abbrev pub boxed_stm : Box Stmt Global → Stm
 boxed_stm b = stm_of b.value
@@ -49,9 +49,9 @@ abbrev pub before_semicolon : {A : Type 0} → Parser A → Parser A
 before_semicolon p = (do x ← p; expect k.Semicolon; pure x)
 
 -- the result is this value if the token is consumed, else the error
-abbrev pub Keeps : {A : Type 0} → A → Outcome (Unit {0}) → Result A Stop → List Token → Type 0
-Keeps read out (Ok a) new = (a ≡ read) × (out ≡ Ok (tt, new))
-Keeps read out (Err e) new = Fails out e new
+abbrev pub ReturnsAfter : {A : Type 0} → A → ParseOutcome (Unit {0}) → Result A ParseStop → List Token → Type 0
+ReturnsAfter read out (Ok a) new = (a ≡ read) × (out ≡ Ok (tt, new))
+ReturnsAfter read out (Err e) new = Fails out e new
 
 -- ---- lists
 

@@ -1,4 +1,4 @@
--- For proofs only: the model of parsing statements. Loops have fuel `turns`.
+-- For proofs only: the model of parsing statements. Loops have fuel `fuel`.
 use Rattle.std.specs.Prelude.{ℕ, zero, suc, Bool, true, false, if◌then◌else◌, List, [], ◌∷◌, ◌++◌, Ok, Err, codes}
 use Rattle.ti_base.specs.declared.place.Place.{Place}
 use Rattle.ti_syntax.specs.declared.token.TokenKind.{TokenKind}
@@ -8,9 +8,9 @@ use Rattle.ti_syntax.specs.Trees.Statements.{Stm}
 use Rattle.ti_syntax.specs.Trees.Statements as s
 use Rattle.ti_syntax.specs.Spelling.Statements.{starts}
 use Rattle.ti_parse_expr.specs.declared.parse.Form.TheVariants as form
-use Rattle.ti_parse_expr.specs.Mirrors.Input.{Parser, Over, Spent, ◌>>=◌, ◌>>◌, pure, refuse, peek, here, kind, sees, expect, expect_word, any_name, take_token}
-use Rattle.ti_parse.specs.Mirrors.Way.{Way}
-use Rattle.ti_parse.specs.Mirrors.Parts.{Begun, Declares, Starts, begins_declaration, typed, declared, simple, begun, print, barrier, break_out, continue_on, return_from, condition, first, optional, update}
+use Rattle.ti_parse_expr.specs.Mirrors.Input.{Parser, Over, OutOfFuel, ◌>>=◌, ◌>>◌, pure, refuse, peek, next_place, kind, next_is, expect, expect_word, any_name, take_token}
+use Rattle.ti_parse.specs.Mirrors.ParserParams.{ParserParams}
+use Rattle.ti_parse.specs.Mirrors.Parts.{NameStart, DeclaredType, PostfixStart, begins_declaration, any_type, declared, expr_stmt, name_start, print, barrier, break_out, continue_on, return_from, condition, first, optional_expr, update}
 
 -- the tokens that begin compound statements
 abbrev pub is_compound : TokenKind → Bool
@@ -25,18 +25,18 @@ is_compound _ = false
 abbrev pub too_deep : {A : Type 0} → Parser A
 too_deep = λ i. Err (Over i)
 
-module _ (w : Way) (turns : ℕ) where
+module _ (w : ParserParams) (fuel : ℕ) where
   -- ---- the parts of compound statements, over a parser of nested statements
 
   module _ (stmt : Parser Stm) where
     -- an item that begins with a name, after its start
-    abbrev pub named_item : Begun → Parser Stm
-    named_item (Declares ty) = (do x ← declared w turns ty; expect k.Semicolon; pure x)
-    named_item (Starts o) = simple w turns o
+    abbrev pub named_item : NameStart → Parser Stm
+    named_item (DeclaredType ty) = (do x ← declared w fuel ty; expect k.Semicolon; pure x)
+    named_item (PostfixStart o) = expr_stmt w fuel o
 
     abbrev pub item_by : TokenKind → Parser Stm
-    item_by (k.Name name) = (do at ← here; take_token; x ← begun w turns at name; named_item x)
-    item_by kind = if begins_declaration kind then (do ty ← typed w turns; x ← declared w turns ty; expect k.Semicolon; pure x) else stmt
+    item_by (k.Name name) = (do at ← next_place; take_token; x ← name_start w fuel at name; named_item x)
+    item_by kind = if begins_declaration kind then (do ty ← any_type w fuel; x ← declared w fuel ty; expect k.Semicolon; pure x) else stmt
 
     -- an item: a declaration or a statement
     unfoldable pub item : Parser Stm
@@ -44,35 +44,35 @@ module _ (w : Way) (turns : ℕ) where
 
     -- all items up to a `}`, with fuel
     unfoldable pub items : ℕ → List Stm → Parser (List Stm)
-    items zero found = λ i. Err Spent
+    items zero found = λ i. Err OutOfFuel
     items (suc n) found = do
-      is_end ← (λ i. Ok (sees k.RightBrace i, i))
+      is_end ← (λ i. Ok (next_is k.RightBrace i, i))
       if is_end then pure found else (do x ← item; items n (found ++ x ∷ []))
 
     -- a block, after its `{`
     unfoldable pub block : Parser Stm
     block = do
-      xs ← items turns []
+      xs ← items fuel []
       expect k.RightBrace
       pure (s.block xs)
 
     -- an `if`, after its first branch
     abbrev pub conditional_behind : Place → Exp → Stm → Parser Stm
     conditional_behind at c x = do
-      has_else ← (λ i. Ok (sees k.KeywordElse i, i))
+      has_else ← (λ i. Ok (next_is k.KeywordElse i, i))
       if has_else then (do take_token; y ← stmt; pure (s.IfElse at c x y)) else pure (s.If at c x)
 
     -- an `if`, after its keyword
     unfoldable pub conditional : Place → Parser Stm
     conditional at = do
-      c ← condition w turns
+      c ← condition w fuel
       x ← stmt
       conditional_behind at c x
 
     -- a `while`, after its keyword
     unfoldable pub while_loop : Place → Parser Stm
     while_loop at = do
-      c ← condition w turns
+      c ← condition w fuel
       x ← stmt
       pure (s.While at c x)
 
@@ -80,11 +80,11 @@ module _ (w : Way) (turns : ℕ) where
     unfoldable pub for_loop : Place → Parser Stm
     for_loop at = do
       expect k.LeftParen
-      begin ← first w turns
+      begin ← first w fuel
       expect k.Semicolon
-      c ← optional w turns
+      c ← optional_expr w fuel
       expect k.Semicolon
-      change ← update w turns
+      change ← update w fuel
       expect k.RightParen
       x ← stmt
       pure (s.For at begin c change x)
@@ -93,7 +93,7 @@ module _ (w : Way) (turns : ℕ) where
     unfoldable pub foreach_loop : Place → Parser Stm
     foreach_loop at = do
       expect k.LeftParen
-      name_at ← here
+      name_at ← next_place
       name ← any_name
       expect_word (codes "in")
       domain ← w.full form.Whole
@@ -114,27 +114,27 @@ module _ (w : Way) (turns : ℕ) where
   -- a statement that isn't compound, by its first token
   abbrev pub small_by : TokenKind → Parser Stm
   small_by k.Semicolon = take_token >> pure s.Empty
-  small_by k.KeywordPrintln = print w turns
-  small_by k.KeywordSystem = print w turns
-  small_by k.KeywordTi = take_token >> barrier w turns
-  small_by k.KeywordBreak = break_out w turns
-  small_by k.KeywordContinue = continue_on w turns
-  small_by k.KeywordReturn = return_from w turns
-  small_by kind = if starts kind then w.operand >>= simple w turns else refuse
+  small_by k.KeywordPrintln = print w fuel
+  small_by k.KeywordSystem = print w fuel
+  small_by k.KeywordTi = take_token >> barrier w fuel
+  small_by k.KeywordBreak = break_out w fuel
+  small_by k.KeywordContinue = continue_on w fuel
+  small_by k.KeywordReturn = return_from w fuel
+  small_by kind = if starts kind then w.operand >>= expr_stmt w fuel else refuse
 
-  unfoldable pub small : Parser Stm
-  small = peek >>= small_by
+  unfoldable pub simple_stmt : Parser Stm
+  simple_stmt = peek >>= small_by
 
   -- a statement in which this many more levels of compound statements may be nested
   unfoldable pub stmt : ℕ → Parser Stm
   stmt zero = do
     is_deep ← (λ i. Ok (is_compound (kind i), i))
-    if is_deep then too_deep else small
+    if is_deep then too_deep else simple_stmt
   stmt (suc n) = do
     begin ← peek
-    at ← here
-    if is_compound begin then take_token >> compound (stmt n) at begin else small
+    at ← next_place
+    if is_compound begin then take_token >> compound (stmt n) at begin else simple_stmt
 
   -- the items of a method body, without its braces
   abbrev pub body : Parser (List Stm)
-  body = items (stmt w.levels) turns []
+  body = items (stmt w.levels) fuel []

@@ -16,11 +16,11 @@ ends_operand k.PlusPlus = true
 ends_operand _ = false
 
 -- a name, followed by a token that ends the expression
-abbrev pub names : TokenKind → TokenKind → Bool
-names (k.Name name) q = ends_operand q
-names _ q = false
+abbrev pub is_name_before_end : TokenKind → TokenKind → Bool
+is_name_before_end (k.Name name) q = ends_operand q
+is_name_before_end _ q = false
 
-abbrev pub is_name_alone : List Token → Bool
-is_name_alone [] = false
-is_name_alone (t ∷ []) = false
-is_name_alone (t ∷ u ∷ l) = names t.kind u.kind
+abbrev pub is_lone_name : List Token → Bool
+is_lone_name [] = false
+is_lone_name (t ∷ []) = false
+is_lone_name (t ∷ u ∷ l) = is_name_before_end t.kind u.kind

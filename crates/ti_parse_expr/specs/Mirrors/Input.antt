@@ -6,8 +6,8 @@ use Rattle.ti_syntax.specs.declared.token.Token.{Token}
 use Rattle.ti_syntax.specs.declared.token.TokenKind.{TokenKind}
 use Rattle.ti_syntax.specs.declared.token.TokenKind.TheVariants as k
 use Rattle.ti_syntax.specs.Tokens.{same_kind}
-use Rattle.ti_parse_expr.specs.declared.stop.Stop.{Stop}
-use Rattle.ti_parse_expr.specs.declared.stop.Stop.TheVariants as stop
+use Rattle.ti_parse_expr.specs.declared.parse_stop.ParseStop.{ParseStop}
+use Rattle.ti_parse_expr.specs.declared.parse_stop.ParseStop.TheVariants as stop
 
 -- ---- the next token; past the end it is End
 
@@ -19,9 +19,9 @@ abbrev pub place : List Token → Place
 place [] = record { line = 0; col = 0 }
 place (t ∷ ts) = t.place
 
-abbrev pub next : List Token → List Token
-next [] = []
-next (t ∷ ts) = ts
+abbrev pub after_next : List Token → List Token
+after_next [] = []
+after_next (t ∷ ts) = ts
 
 -- ---- parsers
 
@@ -30,15 +30,15 @@ next (t ∷ ts) = ts
 pub data Halt : Type 0 where
   At : List Token → Halt
   Over : List Token → Halt
-  Spent : Halt
+  OutOfFuel : Halt
 
-abbrev pub Outcome : Type 0 → Type 0
-Outcome A = Result (A × List Token) Halt
+abbrev pub ParseOutcome : Type 0 → Type 0
+ParseOutcome A = Result (A × List Token) Halt
 
 abbrev pub Parser : Type 0 → Type 0
-Parser A = List Token → Outcome A
+Parser A = List Token → ParseOutcome A
 
-abbrev pub and_then : {A B : Type 0} → Outcome A → (A → Parser B) → Outcome B
+abbrev pub and_then : {A B : Type 0} → ParseOutcome A → (A → Parser B) → ParseOutcome B
 and_then (Ok p) f = f p.0 p.1
 and_then (Err e) f = Err e
 
@@ -63,51 +63,51 @@ refuse = λ i. Err (At i)
 abbrev pub peek : Parser TokenKind
 peek = λ i. Ok (kind i, i)
 
-abbrev pub here : Parser Place
-here = λ i. Ok (place i, i)
+abbrev pub next_place : Parser Place
+next_place = λ i. Ok (place i, i)
 
 -- ---- consuming tokens
 
 abbrev pub take_token : Parser (Unit {0})
-take_token = λ i. Ok (tt, next i)
+take_token = λ i. Ok (tt, after_next i)
 
-abbrev pub sees : TokenKind → List Token → Bool
-sees wanted i = same_kind (kind i) wanted
+abbrev pub next_is : TokenKind → List Token → Bool
+next_is wanted i = same_kind (kind i) wanted
 
 abbrev pub expect : TokenKind → Parser (Unit {0})
-expect wanted i = if sees wanted i then take_token i else Err (At i)
+expect wanted i = if next_is wanted i then take_token i else Err (At i)
 
 -- whether the kind is this name
 abbrev pub spells : List ℕ → TokenKind → Bool
 spells word (k.Name name) = bytes_eq name word
 spells word _ = false
 
-abbrev pub sees_word : List ℕ → List Token → Bool
-sees_word word i = spells word (kind i)
+abbrev pub next_is_name : List ℕ → List Token → Bool
+next_is_name word i = spells word (kind i)
 
 abbrev pub expect_word : List ℕ → Parser (Unit {0})
-expect_word word i = if sees_word word i then take_token i else Err (At i)
+expect_word word i = if next_is_name word i then take_token i else Err (At i)
 
-abbrev pub named_by : TokenKind → Parser (List ℕ)
-named_by (k.Name name) = take_token >> pure name
-named_by _ = refuse
+abbrev pub name_of_kind : TokenKind → Parser (List ℕ)
+name_of_kind (k.Name name) = take_token >> pure name
+name_of_kind _ = refuse
 
 abbrev pub any_name : Parser (List ℕ)
-any_name = peek >>= named_by
+any_name = peek >>= name_of_kind
 
 -- ---- what parsing functions ensure: the model's outcome, or out of memory; after an error, the failing token is the next one
 
-abbrev pub Fails : {A : Type 0} → Outcome A → Stop → List Token → Type 0
+abbrev pub Fails : {A : Type 0} → ParseOutcome A → ParseStop → List Token → Type 0
 Fails outcome stop.Memory new = Unit {0}
 Fails outcome stop.Refused new = outcome ≡ Err (At new)
 Fails outcome stop.TooDeep new = outcome ≡ Err (Over new)
-Fails outcome stop.Spent new = outcome ≡ Err Spent
+Fails outcome stop.OutOfFuel new = outcome ≡ Err OutOfFuel
 
-abbrev pub Reads : {A : Type 0} → Outcome A → Result A Stop → List Token → Type 0
-Reads outcome (Ok a) new = outcome ≡ Ok (a, new)
-Reads outcome (Err e) new = Fails outcome e new
+abbrev pub Parses : {A : Type 0} → ParseOutcome A → Result A ParseStop → List Token → Type 0
+Parses outcome (Ok a) new = outcome ≡ Ok (a, new)
+Parses outcome (Err e) new = Fails outcome e new
 
 -- what a parsing function ensures whose value has another type in the model
-abbrev pub ReadsAs : {A B : Type 0} → (A → B) → Outcome B → Result A Stop → List Token → Type 0
-ReadsAs view outcome (Ok a) new = outcome ≡ Ok (view a, new)
-ReadsAs view outcome (Err e) new = Fails outcome e new
+abbrev pub ParsesAs : {A B : Type 0} → (A → B) → ParseOutcome B → Result A ParseStop → List Token → Type 0
+ParsesAs view outcome (Ok a) new = outcome ≡ Ok (view a, new)
+ParsesAs view outcome (Err e) new = Fails outcome e new

@@ -17,14 +17,14 @@ ends_expression _ = false
 
 -- The state after a token that isn't part of an arity: the number of arity tokens that follow, and the weight still available; None
 -- if the token is above the limit.
-abbrev pub weighed : Bool → ℕ → ℕ → Option (ℕ × ℕ)
-weighed true arity zero = None
-weighed true arity (suc left) = Some (arity, left)
-weighed false arity left = Some (arity, left)
+abbrev pub state_after : Bool → ℕ → ℕ → Option (ℕ × ℕ)
+state_after true arity zero = None
+state_after true arity (suc left) = Some (arity, left)
+state_after false arity left = Some (arity, left)
 
 abbrev pub onward : TokenKind → ℕ → ℕ → Option (ℕ × ℕ)
 onward kind (suc n) left = Some (n, left)
-onward kind zero left = weighed (counts kind) (arity_behind kind) left
+onward kind zero left = state_after (counts kind) (arity_behind kind) left
 
 -- the number of tokens to read, by the state after the next token
 abbrev pub reach_by : (ℕ → ℕ → ℕ) → Option (ℕ × ℕ) → ℕ

@@ -8,9 +8,9 @@ use Rattle.ti_syntax.specs.Trees.Types.{GridTree}
 use Rattle.ti_syntax.specs.Trees.Expressions.{Exp}
 use Rattle.ti_syntax.specs.Trees.Views.{grid_of, exp_of}
 use Rattle.ti_syntax.specs.Spelling.Expressions as e
-use Rattle.ti_parse_expr.specs.declared.operand.Ending.{Ending}
-use Rattle.ti_parse_expr.specs.declared.operand.Ending.TheVariants as ending
-use Rattle.ti_parse_expr.specs.declared.operand.Operand.{Operand}
+use Rattle.ti_parse_expr.specs.declared.postfix_expr.PostfixKind.{PostfixKind}
+use Rattle.ti_parse_expr.specs.declared.postfix_expr.PostfixKind.TheVariants as ending
+use Rattle.ti_parse_expr.specs.declared.postfix_expr.PostfixExpr.{PostfixExpr}
 
 abbrev pub grids_of : Vec Brackets Global → List GridTree
 grids_of v = map grid_of v.items
@@ -18,11 +18,11 @@ grids_of v = map grid_of v.items
 abbrev pub qualifiers_of : Vec Qualifier Global → List Qualifier
 qualifiers_of v = v.items
 
-abbrev pub ending_of : Ending → e.Ending
+abbrev pub ending_of : PostfixKind → e.Ending
 ending_of ending.Target = e.Target
 ending_of ending.Call = e.Call
 ending_of ending.Other = e.Other
 
 -- the model of an operand: its tree and its ending
-abbrev pub operand_of : Operand → Exp × e.Ending
-operand_of o = (exp_of o.expr, ending_of o.ending)
+abbrev pub operand_of : PostfixExpr → Exp × e.Ending
+operand_of o = (exp_of o.expr, ending_of o.kind)

@@ -8,19 +8,19 @@ use Rattle.ti_syntax.specs.declared.tree.types.Qualifier.{Qualifier}
 use Rattle.ti_syntax.specs.declared.tree.types.QualifierWord.{QualifierWord}
 use Rattle.ti_syntax.specs.Trees.Types.{GridTree, TypeTree}
 use Rattle.ti_syntax.specs.Spelling.Operators.{qualifier_of}
-use Rattle.ti_parse_expr.specs.Mirrors.Input.{Parser, Spent, ◌>>=◌, ◌>>◌, pure, refuse, peek, here, sees, expect, take_token}
+use Rattle.ti_parse_expr.specs.Mirrors.Input.{Parser, OutOfFuel, ◌>>=◌, ◌>>◌, pure, refuse, peek, next_place, next_is, expect, take_token}
 
 -- a number of dimensions, from 1 to 3
-abbrev pub dim_of : ℤ → Option ℕ
-dim_of (pos n) = if nat_le 1 n && nat_le n 3 then Some n else None
-dim_of (negsuc n) = None
+abbrev pub dim_from_int : ℤ → Option ℕ
+dim_from_int (pos n) = if nat_le 1 n && nat_le n 3 then Some n else None
+dim_from_int (negsuc n) = None
 
 abbrev pub dimension_if : Option ℕ → Parser ℕ
 dimension_if None = refuse
 dimension_if (Some n) = take_token >> pure n
 
 abbrev pub dimension_by : TokenKind → Parser ℕ
-dimension_by (k.Int n) = dimension_if (dim_of n)
+dimension_by (k.Int n) = dimension_if (dim_from_int n)
 dimension_by _ = refuse
 
 -- the number of an arity
@@ -36,12 +36,12 @@ arity = do
   pure n
 
 abbrev pub base_by : TokenKind → Parser Base
-base_by k.KeywordInt = (do at ← here; take_token; pure (b.Int at))
-base_by k.KeywordLong = (do at ← here; take_token; pure (b.Long at))
-base_by k.KeywordBoolean = (do at ← here; take_token; pure (b.Boolean at))
-base_by k.KeywordPoint = (do at ← here; take_token; n ← arity; pure (b.Point at n))
-base_by k.KeywordRectDomain = (do at ← here; take_token; n ← arity; pure (b.RectDomain at n))
-base_by (k.Name name) = (do at ← here; take_token; pure (b.Named at name))
+base_by k.KeywordInt = (do at ← next_place; take_token; pure (b.Int at))
+base_by k.KeywordLong = (do at ← next_place; take_token; pure (b.Long at))
+base_by k.KeywordBoolean = (do at ← next_place; take_token; pure (b.Boolean at))
+base_by k.KeywordPoint = (do at ← next_place; take_token; n ← arity; pure (b.Point at n))
+base_by k.KeywordRectDomain = (do at ← next_place; take_token; n ← arity; pure (b.RectDomain at n))
+base_by (k.Name name) = (do at ← next_place; take_token; pure (b.Named at name))
 base_by _ = refuse
 
 unfoldable pub base : Parser Base
@@ -49,15 +49,15 @@ base = peek >>= base_by
 
 abbrev pub qualifiers_if : (List Qualifier → Parser (List Qualifier)) → List Qualifier → Option QualifierWord → Parser (List Qualifier)
 qualifiers_if more found None = pure found
-qualifiers_if more found (Some word) = (do at ← here; take_token; more (found ++ record { word = word; place = at } ∷ []))
+qualifiers_if more found (Some word) = (do at ← next_place; take_token; more (found ++ record { word = word; place = at } ∷ []))
 
 -- all qualifiers that follow, with fuel
 unfoldable pub qualifiers : ℕ → List Qualifier → Parser (List Qualifier)
-qualifiers zero found = λ i. Err Spent
+qualifiers zero found = λ i. Err OutOfFuel
 qualifiers (suc n) found = (do kind ← peek; qualifiers_if (qualifiers n) found (qualifier_of kind))
 
 abbrev pub grid_dimension_by : TokenKind → Parser ℕ
-grid_dimension_by (k.Dim n) = dimension_if (dim_of (pos n))
+grid_dimension_by (k.Dim n) = dimension_if (dim_from_int (pos n))
 grid_dimension_by _ = refuse
 
 -- the number of dimensions of a grid
@@ -66,22 +66,22 @@ grid_dimension = peek >>= grid_dimension_by
 
 -- grid brackets with their qualifiers, after the `[`
 unfoldable pub grid : ℕ → Parser GridTree
-grid turns = do
+grid fuel = do
   n ← grid_dimension
   expect k.RightBracket
-  qs ← qualifiers turns []
+  qs ← qualifiers fuel []
   pure (record { dim = n; qualifiers = qs })
 
 -- at most n more grid brackets
 unfoldable pub grids : ℕ → ℕ → List GridTree → Parser (List GridTree)
-grids turns zero found = pure found
-grids turns (suc n) found = do
-  is_more ← (λ i. Ok (sees k.LeftBracket i, i))
-  if is_more then (do take_token; g ← grid turns; grids turns n (found ++ g ∷ [])) else pure found
+grids fuel zero found = pure found
+grids fuel (suc n) found = do
+  is_more ← (λ i. Ok (next_is k.LeftBracket i, i))
+  if is_more then (do take_token; g ← grid fuel; grids fuel n (found ++ g ∷ [])) else pure found
 
 -- the type of a field, after its base
 unfoldable pub field_type : ℕ → Base → Parser TypeTree
-field_type turns begin = do
-  qs ← qualifiers turns []
-  gs ← grids turns 3 []
+field_type fuel begin = do
+  qs ← qualifiers fuel []
+  gs ← grids fuel 3 []
   pure (record { base = begin; qualifiers = qs; grids = gs })

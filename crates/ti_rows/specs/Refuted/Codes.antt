@@ -6,9 +6,9 @@ use Rattle.ti_base.specs.declared.entry.Next.{Next}
 use Rattle.ti_base.specs.declared.entry.Next.TheVariants as next
 use Rattle.ti_code.specs.declared.instr.Instr.{Instr}
 use Rattle.ti_code.specs.declared.instr.Instr.TheVariants as i
-use Rattle.ti_code.specs.Effects.{Spot}
+use Rattle.ti_code.specs.Effects.{LocalState}
 use Rattle.ti_code.specs.Programs.{Code}
-use Rattle.ti_machine.specs.Standing.{CodeStanding}
+use Rattle.ti_machine.specs.ProcView.{ProcView}
 use Rattle.ti_rows.specs.Texts.{pl}
 
 -- bytecode with a method `main` only, which has these instructions
@@ -32,8 +32,8 @@ abbrev pub the_end : Next
 the_end = next.End (pl 1 74)
 
 -- the first of two processes of the bytecode, before its first answer
-abbrev pub standing : Code → CodeStanding
-standing code = record { code = code; procs = 2; fuel = 1000; number = 0; told = []; asks = false }
+abbrev pub standing_view : Code → ProcView
+standing_view code = record { code = code; procs = 2; fuel = 1000; number = 0; answers = []; asks = false }
 
 -- ---- expressions
 
@@ -42,5 +42,5 @@ abbrev pub pushes : ℕ → List Instr
 pushes n = i.Const (v.Int (pos n)) ∷ []
 
 -- the frame state before the first instruction, without slots and operands
-abbrev pub start : Spot
+abbrev pub start : LocalState
 start = record { at = 0; slots = []; stack = [] }

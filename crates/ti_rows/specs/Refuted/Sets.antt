@@ -15,12 +15,12 @@ abbrev pub two_coordinates : Point
 two_coordinates = record { dim = 1; x1 = pos 0; x2 = pos 3; x3 = pos 0 }
 
 -- three points in increasing order
-abbrev pub rising : List Point
-rising = on_line (pos 0) ∷ on_line (pos 1) ∷ on_line (pos 2) ∷ []
+abbrev pub rising_points : List Point
+rising_points = on_line (pos 0) ∷ on_line (pos 1) ∷ on_line (pos 2) ∷ []
 
 -- the same points in decreasing order
-abbrev pub falling : List Point
-falling = on_line (pos 2) ∷ on_line (pos 1) ∷ on_line (pos 0) ∷ []
+abbrev pub falling_points : List Point
+falling_points = on_line (pos 2) ∷ on_line (pos 1) ∷ on_line (pos 0) ∷ []
 
 -- only the second of them
 abbrev pub middle : List Point

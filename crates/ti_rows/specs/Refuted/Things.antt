@@ -11,8 +11,8 @@ use Rattle.ti_lang.specs.Program.Expressions as x
 use Rattle.ti_lang.specs.Program.Scope.{ScopeContents}
 use Rattle.ti_lang.specs.Typing.TextTypes.{type_at}
 use Rattle.ti_lang.specs.Program.Types.{ValueType}
-use Rattle.ti_lang.specs.Meaning.Processes.{Setting, Process, begin}
-use Rattle.ti_lang.specs.Meaning.Asking.{Asking, Gives, Asks, Request, request, ToBeDone}
+use Rattle.ti_lang.specs.Meaning.Processes.{RunConfig, Process, begin}
+use Rattle.ti_lang.specs.Meaning.Comp.{Comp, Gives, Asks, Request, request, ToBeDone}
 use Rattle.ti_lang.specs.Meaning.Steps.{Step, At}
 use Rattle.ti_lang.specs.Meaning.Races.{Access}
 use Rattle.ti_rules.specs.declared.rule.Rule.{Rule}
@@ -27,12 +27,12 @@ use Rattle.ti_rows.specs.Refuted.Programs.{object, one_barrier}
 -- ---- processes
 
 -- two processes that reach one barrier
-abbrev pub both : Setting
-both = by_two 1000 one_barrier
+abbrev pub two_at_barrier : RunConfig
+two_at_barrier = by_two 1000 one_barrier
 
 -- one of these processes before its first step
 abbrev pub fresh : ℕ → Process
-fresh i = begin both i
+fresh i = begin two_at_barrier i
 
 -- a step that requests the end of its process
 abbrev pub asks_for_its_end : Step
@@ -43,8 +43,8 @@ abbrev pub spent_too_much : Process
 spent_too_much = record (fresh 0) { spent = 1001 }
 
 -- a process that has ended
-abbrev pub ended : Process
-ended = record (fresh 0) { frames = [] }
+abbrev pub ended_process : Process
+ended_process = record (fresh 0) { frames = [] }
 
 -- ---- computations
 
@@ -53,11 +53,11 @@ abbrev pub a_departure : Request
 a_departure = request (pl 1 65) act.Depart ToBeDone
 
 -- counts its answers, however many there are
-abbrev pub counts_all : Asking ℕ
+abbrev pub counts_all : Comp ℕ
 counts_all rs = Gives (length rs) []
 
 -- makes one request, and leaves its answer unused
-abbrev pub leaves_its_answer : Asking ℕ
+abbrev pub leaves_its_answer : Comp ℕ
 leaves_its_answer [] = Asks a_departure
 leaves_its_answer (r ∷ rs) = Gives 0 (r ∷ rs)
 

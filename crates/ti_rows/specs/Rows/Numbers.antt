@@ -5,13 +5,13 @@ use Rattle.ti_syntax.specs.declared.tree.exprs.BinaryOperator.TheVariants as op
 use Rattle.ti_lang.specs.Program.Types as t
 use Rattle.ti_lang.specs.Program.Expressions as e
 use Rattle.ti_lang.specs.Program.Statements as s
-use Rattle.ti_lang.specs.Meaning.Processes.{Setting}
-use Rattle.ti_rows.specs.Texts.{pl, plain, var, alone}
+use Rattle.ti_lang.specs.Meaning.Processes.{RunConfig}
+use Rattle.ti_rows.specs.Texts.{pl, nonsingle_type, var, main_only_run}
 
 -- class Main { public static single void main(String[] args) { println(-2147483647 - 1); println((-2147483647 - 1) / -1);
 -- println((-2147483647 - 1) % -1); println(7 / -2); println(-7 % 2); } }
-abbrev pub sums_and_quotients : Setting
-sums_and_quotients = alone 1 100000 [] ((s.Print (pl 1 62) (s.Expression
+abbrev pub sums_and_quotients : RunConfig
+sums_and_quotients = main_only_run 1 100000 [] ((s.Print (pl 1 62) (s.Expression
     (e.Binary (pl 1 82) op.Subtract (e.Unary (pl 1 70) un.Minus (e.Int (pl 1 71) (pos 2147483647))) (e.Int (pl 1 84) (pos 1))))) ∷
     (s.Print (pl 1 88) (s.Expression (e.Binary (pl 1 114) op.Divide
     (e.Binary (pl 1 109) op.Subtract (e.Unary (pl 1 97) un.Minus (e.Int (pl 1 98) (pos 2147483647))) (e.Int (pl 1 111) (pos 1)))
@@ -26,12 +26,12 @@ sums_and_quotients = alone 1 100000 [] ((s.Print (pl 1 62) (s.Expression
 
 -- class Main { public static single void main(String[] args) { println(1 << 33); println(-8 >> 1); println(-8 >>> 28); int d = 0; if (d !=
 -- 0 && 10 / d > 1) println(1); else println(2); } }
-abbrev pub shifts : Setting
-shifts = alone 1 100000 [] ((s.Print (pl 1 62) (s.Expression (e.Binary (pl 1 72) op.ShiftLeft (e.Int (pl 1 70) (pos 1))
+abbrev pub shifts : RunConfig
+shifts = main_only_run 1 100000 [] ((s.Print (pl 1 62) (s.Expression (e.Binary (pl 1 72) op.ShiftLeft (e.Int (pl 1 70) (pos 1))
     (e.Int (pl 1 75) (pos 33))))) ∷ (s.Print (pl 1 80) (s.Expression
     (e.Binary (pl 1 91) op.ShiftRight (e.Unary (pl 1 88) un.Minus (e.Int (pl 1 89) (pos 8))) (e.Int (pl 1 94) (pos 1))))) ∷
     (s.Print (pl 1 98) (s.Expression (e.Binary (pl 1 109) op.UnsignedShiftRight (e.Unary (pl 1 106) un.Minus (e.Int (pl 1 107) (pos 8)))
-    (e.Int (pl 1 113) (pos 28))))) ∷ (s.Declare (pl 1 122) (plain t.Int) 0 (s.Value (e.Int (pl 1 126) (pos 0)))) ∷
+    (e.Int (pl 1 113) (pos 28))))) ∷ (s.Declare (pl 1 122) (nonsingle_type t.Int) 0 (s.Value (e.Int (pl 1 126) (pos 0)))) ∷
     (s.IfElse (pl 1 129) (e.Binary (pl 1 140) op.AndThen (e.Binary (pl 1 135) op.NotEqual (var (pl 1 133) 0 t.Int)
     (e.Int (pl 1 138) (pos 0))) (e.Binary (pl 1 150) op.Greater
     (e.Binary (pl 1 146) op.Divide (e.Int (pl 1 143) (pos 10)) (var (pl 1 148) 0 t.Int)) (e.Int (pl 1 152) (pos 1))))
@@ -40,8 +40,8 @@ shifts = alone 1 100000 [] ((s.Print (pl 1 62) (s.Expression (e.Binary (pl 1 72)
 
 -- class Main { public static single void main(String[] args) { println(true & false); println(true ^ true); println(6 & 3); println(6 ^ 3);
 -- println(6 | 3); println(~5); println(!true); println(5L & 3); println(-1 ^ 1); } }
-abbrev pub bits : Setting
-bits = alone 1 100000 [] ((s.Print (pl 1 62) (s.Expression (e.Binary (pl 1 75) op.And (e.Truth (pl 1 70) true)
+abbrev pub bits : RunConfig
+bits = main_only_run 1 100000 [] ((s.Print (pl 1 62) (s.Expression (e.Binary (pl 1 75) op.And (e.Truth (pl 1 70) true)
     (e.Truth (pl 1 77) false)))) ∷ (s.Print (pl 1 85) (s.Expression
     (e.Binary (pl 1 98) op.Xor (e.Truth (pl 1 93) true) (e.Truth (pl 1 100) true)))) ∷
     (s.Print (pl 1 107) (s.Expression (e.Binary (pl 1 117) op.And (e.Int (pl 1 115) (pos 6)) (e.Int (pl 1 119) (pos 3))))) ∷
@@ -55,11 +55,11 @@ bits = alone 1 100000 [] ((s.Print (pl 1 62) (s.Expression (e.Binary (pl 1 75) o
 
 -- class Main { public static single void main(String[] args) { long x = 2147483647; x = x + 1; println(x); println((int) x);
 -- println(-9223372036854775807L - 1L); println((-9223372036854775807L - 1L) / -1); } }
-abbrev pub long_sums : Setting
-long_sums = alone 1 100000 [] ((s.Declare (pl 1 67) (plain t.Long) 0 (s.Value (e.Int (pl 1 71) (pos 2147483647)))) ∷
+abbrev pub long_sums : RunConfig
+long_sums = main_only_run 1 100000 [] ((s.Declare (pl 1 67) (nonsingle_type t.Long) 0 (s.Value (e.Int (pl 1 71) (pos 2147483647)))) ∷
     (s.Assign (pl 1 85) (var (pl 1 83) 0 t.Long) (s.Value (e.Binary (pl 1 89) op.Add (var (pl 1 87) 0 t.Long)
     (e.Int (pl 1 91) (pos 1))))) ∷ (s.Print (pl 1 94) (s.Expression (var (pl 1 102) 0 t.Long))) ∷
-    (s.Print (pl 1 106) (s.Expression (e.Cast (pl 1 114) (plain t.Int) (var (pl 1 120) 0 t.Long)))) ∷
+    (s.Print (pl 1 106) (s.Expression (e.Cast (pl 1 114) (nonsingle_type t.Int) (var (pl 1 120) 0 t.Long)))) ∷
     (s.Print (pl 1 124) (s.Expression (e.Binary (pl 1 154) op.Subtract
     (e.Unary (pl 1 132) un.Minus (e.Long (pl 1 133) (pos 9223372036854775807))) (e.Long (pl 1 156) (pos 1))))) ∷
     (s.Print (pl 1 161) (s.Expression (e.Binary (pl 1 198) op.Divide
@@ -67,23 +67,23 @@ long_sums = alone 1 100000 [] ((s.Declare (pl 1 67) (plain t.Long) 0 (s.Value (e
     (e.Long (pl 1 194) (pos 1))) (e.Unary (pl 1 200) un.Minus (e.Int (pl 1 201) (pos 1)))))) ∷ []) (pl 1 205)
 
 -- class Main { public static single void main(String[] args) { println(1L << 33); println(1 << 33L); println(-8L >>> 60); } }
-abbrev pub long_shifts : Setting
-long_shifts = alone 1 100000 [] ((s.Print (pl 1 62) (s.Expression
+abbrev pub long_shifts : RunConfig
+long_shifts = main_only_run 1 100000 [] ((s.Print (pl 1 62) (s.Expression
     (e.Binary (pl 1 73) op.ShiftLeft (e.Long (pl 1 70) (pos 1)) (e.Int (pl 1 76) (pos 33))))) ∷
     (s.Print (pl 1 81) (s.Expression (e.Binary (pl 1 91) op.ShiftLeft (e.Int (pl 1 89) (pos 1)) (e.Long (pl 1 94) (pos 33))))) ∷
     (s.Print (pl 1 100) (s.Expression (e.Binary (pl 1 112) op.UnsignedShiftRight (e.Unary (pl 1 108) un.Minus (e.Long (pl 1 109) (pos 8)))
     (e.Int (pl 1 116) (pos 60))))) ∷ []) (pl 1 121)
 
 -- class Main { public static single void main(String[] args) { int x = 2147483647; x += 1L; println(x); } }
-abbrev pub an_update_narrows : Setting
-an_update_narrows = alone 1 100000 [] ((s.Declare (pl 1 66) (plain t.Int) 0 (s.Value (e.Int (pl 1 70) (pos 2147483647)))) ∷
+abbrev pub an_update_narrows : RunConfig
+an_update_narrows = main_only_run 1 100000 [] ((s.Declare (pl 1 66) (nonsingle_type t.Int) 0 (s.Value (e.Int (pl 1 70) (pos 2147483647)))) ∷
     (s.Update (pl 1 84) op.Add (var (pl 1 82) 0 t.Int) (e.Long (pl 1 87) (pos 1))) ∷
     (s.Print (pl 1 91) (s.Expression (var (pl 1 99) 0 t.Int))) ∷ []) (pl 1 103)
 
 -- class Main { public static single void main(String[] args) { int x = -7; println(x % 3); println(x / 2); println(x >>> 31);
 -- println(-9223372036854775807L - 2L); } }
-abbrev pub remainders : Setting
-remainders = alone 1 100000 [] ((s.Declare (pl 1 66) (plain t.Int) 0 (s.Value (e.Unary (pl 1 70) un.Minus (e.Int (pl 1 71) (pos 7))))) ∷
+abbrev pub remainders : RunConfig
+remainders = main_only_run 1 100000 [] ((s.Declare (pl 1 66) (nonsingle_type t.Int) 0 (s.Value (e.Unary (pl 1 70) un.Minus (e.Int (pl 1 71) (pos 7))))) ∷
     (s.Print (pl 1 74) (s.Expression (e.Binary (pl 1 84) op.Remainder (var (pl 1 82) 0 t.Int) (e.Int (pl 1 86) (pos 3))))) ∷
     (s.Print (pl 1 90) (s.Expression (e.Binary (pl 1 100) op.Divide (var (pl 1 98) 0 t.Int) (e.Int (pl 1 102) (pos 2))))) ∷
     (s.Print (pl 1 106) (s.Expression (e.Binary (pl 1 116) op.UnsignedShiftRight (var (pl 1 114) 0 t.Int) (e.Int (pl 1 120) (pos 31))))) ∷
@@ -91,22 +91,22 @@ remainders = alone 1 100000 [] ((s.Declare (pl 1 66) (plain t.Int) 0 (s.Value (e
     (e.Unary (pl 1 133) un.Minus (e.Long (pl 1 134) (pos 9223372036854775807))) (e.Long (pl 1 157) (pos 2))))) ∷ []) (pl 1 162)
 
 -- class Main { public static single void main(String[] args) { println(); } }
-abbrev pub an_empty_print : Setting
-an_empty_print = alone 1 100000 [] ((s.Print (pl 1 62) s.Nothing) ∷ []) (pl 1 73)
+abbrev pub an_empty_print : RunConfig
+an_empty_print = main_only_run 1 100000 [] ((s.Print (pl 1 62) s.Nothing) ∷ []) (pl 1 73)
 
 -- class Main { public static single void main(String[] args) { println("a\tb" + 3); } }
-abbrev pub a_literal_and_a_value : Setting
-a_literal_and_a_value = alone 1 100000 ((97 ∷ 9 ∷ 98 ∷ []) ∷ [])
+abbrev pub a_literal_and_a_value : RunConfig
+a_literal_and_a_value = main_only_run 1 100000 ((97 ∷ 9 ∷ 98 ∷ []) ∷ [])
     ((s.Print (pl 1 62) (s.TextAndExpression 0 (e.Int (pl 1 79) (pos 3)))) ∷ []) (pl 1 83)
 
 -- class Main { public static single void main(String[] args) { println("hi"); System.out.println(+3); } }
-abbrev pub a_literal_alone : Setting
-a_literal_alone = alone 1 100000 ((codes "hi") ∷ []) ((s.Print (pl 1 62) (s.Text 0)) ∷
+abbrev pub a_literal_alone : RunConfig
+a_literal_alone = main_only_run 1 100000 ((codes "hi") ∷ []) ((s.Print (pl 1 62) (s.Text 0)) ∷
     (s.Print (pl 1 88) (s.Expression (e.Unary (pl 1 96) un.Plus (e.Int (pl 1 97) (pos 3))))) ∷ []) (pl 1 101)
 
 -- class Main { public static single void main(String[] args) { int d = 0; println(d == 0 || 1 / d > 1); println(d != 0 || !(d > 1)); } }
-abbrev pub a_right_side_is_not_needed : Setting
-a_right_side_is_not_needed = alone 1 100000 [] ((s.Declare (pl 1 66) (plain t.Int) 0 (s.Value (e.Int (pl 1 70) (pos 0)))) ∷
+abbrev pub a_right_side_is_not_needed : RunConfig
+a_right_side_is_not_needed = main_only_run 1 100000 [] ((s.Declare (pl 1 66) (nonsingle_type t.Int) 0 (s.Value (e.Int (pl 1 70) (pos 0)))) ∷
     (s.Print (pl 1 73) (s.Expression (e.Binary (pl 1 88) op.OrElse
     (e.Binary (pl 1 83) op.Equal (var (pl 1 81) 0 t.Int) (e.Int (pl 1 86) (pos 0)))
     (e.Binary (pl 1 97) op.Greater (e.Binary (pl 1 93) op.Divide (e.Int (pl 1 91) (pos 1)) (var (pl 1 95) 0 t.Int))
@@ -115,11 +115,11 @@ a_right_side_is_not_needed = alone 1 100000 [] ((s.Declare (pl 1 66) (plain t.In
     (e.Unary (pl 1 121) un.Not (e.Binary (pl 1 125) op.Greater (var (pl 1 123) 0 t.Int) (e.Int (pl 1 127) (pos 1))))))) ∷ []) (pl 1 132)
 
 -- class Main { public static single void main(String[] args) { println(6 / Ti.thisProc()); } }
-abbrev pub a_zero_divisor : Setting
-a_zero_divisor = alone 2 100000 [] ((s.Print (pl 1 62) (s.Expression
+abbrev pub a_zero_divisor : RunConfig
+a_zero_divisor = main_only_run 2 100000 [] ((s.Print (pl 1 62) (s.Expression
     (e.Binary (pl 1 72) op.Divide (e.Int (pl 1 70) (pos 6)) (e.ThisProc (pl 1 74))))) ∷ []) (pl 1 90)
 
 -- class Main { public static single void main(String[] args) { int x = 3; x /= 0; } }
-abbrev pub an_update_by_zero : Setting
-an_update_by_zero = alone 1 100000 [] ((s.Declare (pl 1 66) (plain t.Int) 0 (s.Value (e.Int (pl 1 70) (pos 3)))) ∷
+abbrev pub an_update_by_zero : RunConfig
+an_update_by_zero = main_only_run 1 100000 [] ((s.Declare (pl 1 66) (nonsingle_type t.Int) 0 (s.Value (e.Int (pl 1 70) (pos 3)))) ∷
     (s.Update (pl 1 75) op.Divide (var (pl 1 73) 0 t.Int) (e.Int (pl 1 78) (pos 0))) ∷ []) (pl 1 81)

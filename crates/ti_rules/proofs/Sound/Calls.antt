@@ -3,7 +3,7 @@ use Rattle.std.proofs.Common.{◌≡◌, ℕ, suc, ◌==◌, Bool, true, false, 
 use Rattle.std.proofs.lemmas.Bool.Decides.{Decides-eqb}
 use Rattle.ti_base.specs.declared.place.Place.{Place}
 use Rattle.ti_lang.specs.Program.Types.{ValueType, Int, Long, Boolean, Pt, Rc, Dm, Region, Class, Grid, Null, Void}
-use Rattle.ti_lang.specs.Program.Classes.{NumberedParam, NumberedParams, Words, Params, NumberedMethod, NumberedProgram}
+use Rattle.ti_lang.specs.Program.Classes.{NumberedParam, NumberedParams, MainArgs, Params, NumberedMethod, ProgramView}
 use Rattle.ti_lang.specs.Typing.Kinds.{where_true, same_type, same_truth, is_local}
 use Rattle.ti_lang.specs.Typing.Fits.{fits}
 use Rattle.ti_lang.specs.Typing.BuiltIn.{BuiltIn, Slice, Copy, Exchange, built_in, same_grids, can_copy, can_exchange, member_type}
@@ -13,8 +13,8 @@ use Rattle.ti_rules.specs.declared.rule.Rule.{Rule}
 use Rattle.ti_rules.specs.declared.rule.Rule.TheVariants.{Y1, Y4, Y5, Q2, Q3}
 use Rattle.ti_rules.specs.declared.refusal.Refusal.{Refusal}
 use Rattle.ti_rules.specs.Refusals.{refused_if}
-use Rattle.ti_lang.specs.Typing.Alike.{one_dim, as_local}
-use Rattle.ti_rules.specs.Broken.Refused.{refused, mistaken, misfit}
+use Rattle.ti_lang.specs.Typing.Alike.{erase_dims, as_local}
+use Rattle.ti_rules.specs.Broken.Refused.{refusal_at, operand_refusal, misfit}
 use Rattle.ti_rules.specs.Broken.Calls.{has_member, arity, misfits, first_misfit, params_refusals, call_refusals, instance_refusals, copy_refusals, exchange_refusals, slice_refusals, argument_refusals, built_in_refusals, member_refusals}
 use Rattle.ti_rules.specs.Known.{IsThere}
 use Rattle.ti_rules.proofs.Sound.Refused.{nil_left, nil_right, not_refused, not_mistaken, no_misfit, there_is, where_there, and_left, and_right}
@@ -34,11 +34,11 @@ fit_all (at ∷ places) (t ∷ ts) (u ∷ us) same count e =
 equal_counts : (n m : ℕ) → n == m ≡ true → n ≡ m
 equal_counts n m e = (Decides-eqb n m).0 e
 
-test_of : (b : Bool) (xs : List Refusal) (rule : Rule) (at : Place) → (if b then xs else refused rule at) ≡ [] → b ≡ true
+test_of : (b : Bool) (xs : List Refusal) (rule : Rule) (at : Place) → (if b then xs else refusal_at rule at) ≡ [] → b ≡ true
 test_of true xs rule at e = refl
 test_of false xs rule at e = cc
 
-then_of : (b : Bool) (xs : List Refusal) (rule : Rule) (at : Place) → (if b then xs else refused rule at) ≡ [] → xs ≡ []
+then_of : (b : Bool) (xs : List Refusal) (rule : Rule) (at : Place) → (if b then xs else refusal_at rule at) ≡ [] → xs ≡ []
 then_of true xs rule at e = e
 then_of false xs rule at e = cc
 
@@ -47,7 +47,7 @@ no_words [] n same one e = omega (arith, same, one)
 no_words (at ∷ places) n same one e = cc
 
 pub takes_all : (at : Place) (places : List Place) (params : NumberedParams) (ts : List ValueType) → length places ≡ length ts → params_refusals at places params ts ≡ [] → takes params ts ≡ true
-takes_all at places Words ts same e =
+takes_all at places MainArgs ts same e =
     absurd (no_words places (length ts) same (equal_counts (length ts) 1 (test_of (length ts == 1) (first_misfit places) Y4 at e)) (then_of (length ts == 1) (first_misfit places) Y4 at e))
 takes_all at places (Params types) ts same e =
     let count : length ts ≡ length types = equal_counts (length ts) (length types) (test_of (length ts == length types) (misfits places ts (types_of types)) Y4 at e) in
@@ -77,9 +77,9 @@ copy_there at t [] count e = absurd (omega (arith, count))
 copy_there at t (u ∷ v ∷ ts) count e = absurd (omega (arith, count))
 copy_there at t (u ∷ []) count e = by (same_grids t u) (can_copy t u) e
   where
-    by : (a b : Bool) → (if a then refused_if (not b) Q2 at else mistaken at false (same_grids (one_dim t) (one_dim u))) ≡ [] → IsThere (where_true (a && b) Void)
+    by : (a b : Bool) → (if a then refused_if (not b) Q2 at else operand_refusal at false (same_grids (erase_dims t) (erase_dims u))) ≡ [] → IsThere (where_true (a && b) Void)
     by true b e = where_there b Void (unflip b (not_refused (not b) Q2 at e))
-    by false b e = absurd (true≢false (sym (not_mistaken at false (same_grids (one_dim t) (one_dim u)) e)))
+    by false b e = absurd (true≢false (sym (not_mistaken at false (same_grids (erase_dims t) (erase_dims u)) e)))
 
 -- what fits as a global reference
 global_too : (b local : Bool) → (((b && same_truth true false) || false) || (true && (b && same_truth false false))) || (false && true) ≡ true
@@ -110,10 +110,10 @@ exchange_there : (at : Place) (t : ValueType) (ts : List ValueType) → has_memb
 exchange_there at t [] has count e = absurd (omega (arith, count))
 exchange_there at t (u ∷ v ∷ ts) has count e = absurd (omega (arith, count))
 exchange_there at (Grid v n local) (u ∷ []) has count e =
-    let mistake = mistaken at (((n == 1) && fits u v) || ((n == 1) && fits (as_local u) v)) (can_exchange (one_dim (Grid v n local)) (one_dim u)) in
+    let mistake = operand_refusal at (((n == 1) && fits u v) || ((n == 1) && fits (as_local u) v)) (can_exchange (erase_dims (Grid v n local)) (erase_dims u)) in
     let global = not_refused (is_local v) Q3 at (nil_right mistake (refused_if (is_local v) Q3 at) e) in
     let taken = not_mistaken at (((n == 1) && fits u v) || ((n == 1) && fits (as_local u) v))
-    (can_exchange (one_dim (Grid v n local)) (one_dim u)) (nil_left mistake (refused_if (is_local v) Q3 at) e) in
+    (can_exchange (erase_dims (Grid v n local)) (erase_dims u)) (nil_left mistake (refused_if (is_local v) Q3 at) e) in
     where_there (((n == 1) && fits u v) && not (is_local v)) Void (by (n == 1) (fits u v) (fits (as_local u) v) (is_local v) global (not_local v u global) taken)
   where
     by : (a b c d : Bool) → d ≡ false → (c ≡ true → b ≡ true) → (a && b) || (a && c) ≡ true → (a && b) && not d ≡ true
@@ -134,7 +134,7 @@ slice_there at (Grid t n local) (u ∷ []) has count e = absurd (omega (arith, c
 slice_there at (Grid t n local) (u ∷ v ∷ w ∷ ts) has count e = absurd (omega (arith, count))
 slice_there at (Grid t n local) (u ∷ v ∷ []) has count e = by (nat_lt 1 n) refl e
   where
-    by : (b : Bool) → nat_lt 1 n ≡ b → (if b then mistaken at (is_int u && (is_int v && true)) false else refused Y5 at) ≡ [] → IsThere (member_type Slice (Grid t n local) (u ∷ v ∷ []))
+    by : (b : Bool) → nat_lt 1 n ≡ b → (if b then operand_refusal at (is_int u && (is_int v && true)) false else refusal_at Y5 at) ≡ [] → IsThere (member_type Slice (Grid t n local) (u ∷ v ∷ []))
     by false is e = cc
     by true is e =
         let ints = not_mistaken at (is_int u && (is_int v && true)) false e in
@@ -144,11 +144,11 @@ slice_there at (Grid t n local) (u ∷ v ∷ []) has count e = by (nat_lt 1 n) r
         subst (λ a. IsThere (member_type Slice (Grid t n local) (a ∷ v ∷ []))) (sym first) (subst (λ b. IsThere (member_type Slice (Grid t n local) (Int ∷ b ∷ []))) (sym second) there)
 slice_there at t ts has count e = cc
 
-unless_of : (b : Bool) (xs : List Refusal) (rule : Rule) (at : Place) → (if not b then refused rule at else xs) ≡ [] → b ≡ true
+unless_of : (b : Bool) (xs : List Refusal) (rule : Rule) (at : Place) → (if not b then refusal_at rule at else xs) ≡ [] → b ≡ true
 unless_of true xs rule at e = refl
 unless_of false xs rule at e = cc
 
-else_of : (b : Bool) (xs : List Refusal) (rule : Rule) (at : Place) → (if not b then refused rule at else xs) ≡ [] → xs ≡ []
+else_of : (b : Bool) (xs : List Refusal) (rule : Rule) (at : Place) → (if not b then refusal_at rule at else xs) ≡ [] → xs ≡ []
 else_of true xs rule at e = e
 else_of false xs rule at e = cc
 
@@ -156,18 +156,18 @@ arguments_there : (at : Place) (b : BuiltIn) (t : ValueType) (ts : List ValueTyp
 arguments_there at Slice t ts has count e = slice_there at t ts has count e
 arguments_there at Copy t ts has count e = copy_there at t ts count e
 arguments_there at Exchange t ts has count e = exchange_there at t ts has count e
-arguments_there at b t ts has count e = there_is (member_type b t ts) (not_mistaken at (is_some (member_type b t ts)) (is_some (member_type b (one_dim t) (map one_dim ts))) e)
+arguments_there at b t ts has count e = there_is (member_type b t ts) (not_mistaken at (is_some (member_type b t ts)) (is_some (member_type b (erase_dims t) (map erase_dims ts))) e)
 
 built_in_there : (at : Place) (b : Option BuiltIn) (t : ValueType) (ts : List ValueType) → built_in_refusals at b t ts ≡ [] → IsThere (option_and_then (λ (b : BuiltIn). member_type b t ts) b)
 built_in_there at None t ts e = cc
 built_in_there at (Some b) t ts e =
-    let rest = if not (length ts == arity b) then refused Y4 at else argument_refusals at b t ts in
+    let rest = if not (length ts == arity b) then refusal_at Y4 at else argument_refusals at b t ts in
     let others = else_of (has_member b t) rest Y1 at e in
     arguments_there at b t ts (unless_of (has_member b t) rest Y1 at e)
     (equal_counts (length ts) (arity b) (unless_of (length ts == arity b) (argument_refusals at b t ts) Y4 at others))
     (else_of (length ts == arity b) (argument_refusals at b t ts) Y4 at others)
 
-pub member_there : (p : NumberedProgram) (at : Place) (places : List Place) (name : ℕ) (t : ValueType) (ts : List ValueType) → length places ≡ length ts → member_refusals p at places name t ts ≡ []
+pub member_there : (p : ProgramView) (at : Place) (places : List Place) (name : ℕ) (t : ValueType) (ts : List ValueType) → length places ≡ length ts → member_refusals p at places name t ts ≡ []
     → IsThere (member_given p t name ts).type
 member_there p at places name (Class c local) ts same e = instance_there at places (instance_method p c name) ts same e
 member_there p at places name t ts same e = built_in_there at (built_in p name) t ts e

@@ -4,13 +4,13 @@ use Rattle.ti_base.specs.declared.place.Place.{Place}
 use Rattle.ti_lang.specs.Program.Types.{ValueType}
 use Rattle.ti_lang.specs.Typing.Kinds.{where_true, is_void}
 use Rattle.ti_lang.specs.Typing.Fits.{fits}
-use Rattle.ti_lang.specs.Typing.Expressions.{Typed, operand, both, joined, one}
+use Rattle.ti_lang.specs.Typing.Expressions.{ExprTyping, operand, and_then_both, append_both, one}
 use Rattle.ti_rules.specs.declared.rule.Rule.{Rule}
 use Rattle.ti_rules.specs.declared.rule.Rule.TheVariants.{Y2, Y5, Y6, Q1}
 use Rattle.ti_rules.specs.declared.refusal.Refusal.{Refusal}
 use Rattle.ti_rules.specs.Refusals.{refused_if}
-use Rattle.ti_lang.specs.Typing.Alike.{one_dim, as_local}
-use Rattle.ti_rules.specs.Broken.Refused.{refused, judged, both_judged, mistaken, misfit}
+use Rattle.ti_lang.specs.Typing.Alike.{erase_dims, as_local}
+use Rattle.ti_rules.specs.Broken.Refused.{refusal_at, judged, both_judged, operand_refusal, misfit}
 use Rattle.ti_rules.specs.Broken.Misplaced.{misplaced_at}
 use Rattle.ti_rules.specs.Known.{IsThere}
 
@@ -45,7 +45,7 @@ pub not_refused : (b : Bool) (rule : Rule) (at : Place) → refused_if b rule at
 not_refused true rule at e = cc
 not_refused false rule at e = refl
 
-pub not_mistaken : (at : Place) (taken otherwise : Bool) → mistaken at taken otherwise ≡ [] → taken ≡ true
+pub not_mistaken : (at : Place) (taken otherwise : Bool) → operand_refusal at taken otherwise ≡ [] → taken ≡ true
 not_mistaken at true otherwise e = refl
 not_mistaken at false otherwise e = cc
 
@@ -54,11 +54,11 @@ no_misfit at t u e = by (fits t u) refl
   where
     by : (b : Bool) → fits t u ≡ b → fits t u ≡ true
     by true is = is
-    by false is = absurd (some (if fits (one_dim t) (one_dim u) then Y5 else if fits (as_local t) u then Q1 else Y2)
-        (sym (ap (λ b. if b then [] else refused (if fits (one_dim t) (one_dim u) then Y5 else if fits (as_local t) u then Q1 else Y2) at)
+    by false is = absurd (some (if fits (erase_dims t) (erase_dims u) then Y5 else if fits (as_local t) u then Q1 else Y2)
+        (sym (ap (λ b. if b then [] else refusal_at (if fits (erase_dims t) (erase_dims u) then Y5 else if fits (as_local t) u then Q1 else Y2) at)
         is) ∙ e))
       where
-        some : (rule : Rule) → refused rule at ≡ [] → ⊥
+        some : (rule : Rule) → refusal_at rule at ≡ [] → ⊥
         some rule e = cc
 
 pub there_is : {A : Type 0} (o : Option A) → is_some o ≡ true → IsThere o
@@ -85,7 +85,7 @@ judged_there None rule give there e gives = cc there.1
 judged_there (Some a) rule give there e gives = gives a e
 
 pub both_there : {A B C : Type 0} (o : Option A) (q : Option B) (rule : A → B → List Refusal) (give : A → B → Option C) → IsThere o → IsThere q → both_judged o q rule ≡ []
-    → ((a : A) (b : B) → rule a b ≡ [] → IsThere (give a b)) → IsThere (both o q give)
+    → ((a : A) (b : B) → rule a b ≡ [] → IsThere (give a b)) → IsThere (and_then_both o q give)
 both_there None q rule give there other e gives = cc there.1
 both_there (Some a) None rule give there other e gives = cc other.1
 both_there (Some a) (Some b) rule give there other e gives = gives a b e
@@ -101,14 +101,14 @@ operand_is (Some t) false at there e = by (is_void t) refl
     by true is = absurd (true≢false (sym is ∙ not_refused (is_void t) Y6 at e))
     by false is = (t, ap (λ b. if not b then Some t else None) is)
 
-pub operand_there : (k : Typed) (at : Place) → IsThere k.type → misplaced_at at k ≡ [] → IsThere (operand k)
+pub operand_there : (k : ExprTyping) (at : Place) → IsThere k.type → misplaced_at at k ≡ [] → IsThere (operand k)
 operand_there k at there e = operand_is k.type k.is_call at there e
 
 pub one_there : {A : Type 0} (o : Option A) → IsThere o → IsThere (one o)
 one_there None there = cc there.1
 one_there (Some a) there = (a ∷ [], refl)
 
-pub joined_there : {A : Type 0} (o q : Option (List A)) → IsThere o → IsThere q → IsThere (joined o q)
+pub joined_there : {A : Type 0} (o q : Option (List A)) → IsThere o → IsThere q → IsThere (append_both o q)
 joined_there None q there other = cc there.1
 joined_there (Some xs) None there other = cc other.1
 joined_there (Some xs) (Some ys) there other = (xs ++ ys, refl)

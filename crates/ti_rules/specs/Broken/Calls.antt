@@ -2,7 +2,7 @@
 use Rattle.std.specs.Prelude.{ℕ, Bool, true, false, not, ◌&&◌, ◌||◌, ◌==◌, nat_lt, if◌then◌else◌, List, [], ◌∷◌, ◌++◌, map, length, Option, Some, None, is_some}
 use Rattle.ti_base.specs.declared.place.Place.{Place}
 use Rattle.ti_lang.specs.Program.Types.{ValueType, Rc, Region, Class, Grid}
-use Rattle.ti_lang.specs.Program.Classes.{NumberedParams, Words, Params, NumberedMethod, NumberedProgram}
+use Rattle.ti_lang.specs.Program.Classes.{NumberedParams, MainArgs, Params, NumberedMethod, ProgramView}
 use Rattle.ti_lang.specs.Typing.Kinds.{domain_dim}
 use Rattle.ti_lang.specs.Typing.Fits.{fits}
 use Rattle.ti_lang.specs.Typing.BuiltIn.{BuiltIn, Size, Min, Max, Contains, Domain, Restrict, Translate, Slice, Copy, Exchange, Delete, built_in, same_grids, has_local_elements, can_copy, can_exchange, member_type}
@@ -11,8 +11,8 @@ use Rattle.ti_lang.specs.Typing.Expressions.{all_ints}
 use Rattle.ti_rules.specs.declared.rule.Rule.TheVariants.{Y1, Y2, Y4, Y5, Q2, Q3}
 use Rattle.ti_rules.specs.declared.refusal.Refusal.{Refusal}
 use Rattle.ti_rules.specs.Refusals.{refused_if}
-use Rattle.ti_lang.specs.Typing.Alike.{one_dim, as_local}
-use Rattle.ti_rules.specs.Broken.Refused.{refused, mistaken, misfit}
+use Rattle.ti_lang.specs.Typing.Alike.{erase_dims, as_local}
+use Rattle.ti_rules.specs.Broken.Refused.{refusal_at, operand_refusal, misfit}
 
 -- ---- declared methods
 
@@ -24,12 +24,12 @@ misfits _ _ _ = []
 -- the error of the first argument, whatever its type
 abbrev pub first_misfit : List Place → List Refusal
 first_misfit [] = []
-first_misfit (at ∷ places) = refused Y2 at
+first_misfit (at ∷ places) = refusal_at Y2 at
 
 -- a wrong number of arguments breaks Y4; the `String[] x` of `main` counts as one parameter, which no value fits
 abbrev pub params_refusals : Place → List Place → NumberedParams → List ValueType → List Refusal
-params_refusals at places Words ts = if length ts == 1 then first_misfit places else refused Y4 at
-params_refusals at places (Params params) ts = if length ts == length params then misfits places ts (types_of params) else refused Y4 at
+params_refusals at places MainArgs ts = if length ts == 1 then first_misfit places else refusal_at Y4 at
+params_refusals at places (Params params) ts = if length ts == length params then misfits places ts (types_of params) else refusal_at Y4 at
 
 -- the errors of a call of the method, at its name, with arguments of these types at these positions
 abbrev pub call_refusals : Place → List Place → Option NumberedMethod → List ValueType → List Refusal
@@ -38,7 +38,7 @@ call_refusals at places (Some m) ts = params_refusals at places m.params ts
 
 -- the errors of a call of an instance method on an object; the name must be that of one of its class
 abbrev pub instance_refusals : Place → List Place → Option NumberedMethod → List ValueType → List Refusal
-instance_refusals at places None ts = refused Y1 at
+instance_refusals at places None ts = refusal_at Y1 at
 instance_refusals at places (Some m) ts = params_refusals at places m.params ts
 
 -- ---- built-in members
@@ -71,7 +71,7 @@ arity _ = 0
 -- a grid is copied from one with the same element type and dimension; if the elements are local references, both grids must be local
 abbrev pub copy_refusals : Place → ValueType → List ValueType → List Refusal
 copy_refusals at t (u ∷ []) =
-    if same_grids t u then refused_if (not (can_copy t u)) Q2 at else mistaken at false (same_grids (one_dim t) (one_dim u))
+    if same_grids t u then refused_if (not (can_copy t u)) Q2 at else operand_refusal at false (same_grids (erase_dims t) (erase_dims u))
 copy_refusals at t _ = []
 
 -- the elements of the one-dimensional grid would accept the value if it were a local reference
@@ -83,12 +83,12 @@ takes_local _ _ = false
 -- these would accept but for its `local`, only the latter is reported
 abbrev pub exchange_refusals : Place → ValueType → List ValueType → List Refusal
 exchange_refusals at t (u ∷ []) =
-    mistaken at (can_exchange t u || takes_local t u) (can_exchange (one_dim t) (one_dim u)) ++ refused_if (has_local_elements t) Q3 at
+    operand_refusal at (can_exchange t u || takes_local t u) (can_exchange (erase_dims t) (erase_dims u)) ++ refused_if (has_local_elements t) Q3 at
 exchange_refusals at t _ = []
 
 -- a one-dimensional grid has no slices; for others, both arguments, the coordinate and its value, are ints
 abbrev pub slice_refusals : Place → ValueType → List ValueType → List Refusal
-slice_refusals at (Grid t n local) ts = if nat_lt 1 n then mistaken at (all_ints ts) false else refused Y5 at
+slice_refusals at (Grid t n local) ts = if nat_lt 1 n then operand_refusal at (all_ints ts) false else refusal_at Y5 at
 slice_refusals at _ ts = []
 
 -- the errors of the arguments of a member, if their number is right
@@ -96,19 +96,19 @@ abbrev pub argument_refusals : Place → BuiltIn → ValueType → List ValueTyp
 argument_refusals at Slice t ts = slice_refusals at t ts
 argument_refusals at Copy t ts = copy_refusals at t ts
 argument_refusals at Exchange t ts = exchange_refusals at t ts
-argument_refusals at b t ts = mistaken at (is_some (member_type b t ts)) (is_some (member_type b (one_dim t) (map one_dim ts)))
+argument_refusals at b t ts = operand_refusal at (is_some (member_type b t ts)) (is_some (member_type b (erase_dims t) (map erase_dims ts)))
 
 -- a name that is no member of the receiver breaks Y1, a wrong number of arguments Y4
 abbrev pub built_in_refusals : Place → Option BuiltIn → ValueType → List ValueType → List Refusal
-built_in_refusals at None t ts = refused Y1 at
+built_in_refusals at None t ts = refusal_at Y1 at
 built_in_refusals at (Some b) t ts =
-    if not (has_member b t) then refused Y1 at else
-    if not (length ts == arity b) then refused Y4 at else
+    if not (has_member b t) then refusal_at Y1 at else
+    if not (length ts == arity b) then refusal_at Y4 at else
     argument_refusals at b t ts
 
 -- ---- both kinds of calls
 
 -- the errors of `x.f(..)`: on an object a call of an instance method, on any other value a built-in member
-abbrev pub member_refusals : NumberedProgram → Place → List Place → ℕ → ValueType → List ValueType → List Refusal
+abbrev pub member_refusals : ProgramView → Place → List Place → ℕ → ValueType → List ValueType → List Refusal
 member_refusals p at places name (Class c local) ts = instance_refusals at places (instance_method p c name) ts
 member_refusals p at places name t ts = built_in_refusals at (built_in p name) t ts

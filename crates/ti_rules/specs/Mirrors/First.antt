@@ -4,12 +4,12 @@ use Rattle.ti_rules.specs.declared.refusal.Refusal.{Refusal}
 use Rattle.ti_rules.specs.Refusals.{counts_before}
 
 -- the earlier of two errors; the first argument on a tie
-unfoldable pub sooner : Option Refusal → Option Refusal → Option Refusal
-sooner None s = s
-sooner (Some r) None = Some r
-sooner (Some r) (Some s) = if counts_before s r then Some s else Some r
+unfoldable pub earlier_of : Option Refusal → Option Refusal → Option Refusal
+earlier_of None s = s
+earlier_of (Some r) None = Some r
+earlier_of (Some r) (Some s) = if counts_before s r then Some s else Some r
 
 -- the earliest error of a list; the first of them on a tie
-unfoldable pub first_of : List Refusal → Option Refusal
-first_of [] = None
-first_of (r ∷ rest) = sooner (Some r) (first_of rest)
+unfoldable pub earliest : List Refusal → Option Refusal
+earliest [] = None
+earliest (r ∷ rest) = earlier_of (Some r) (earliest rest)

@@ -3,7 +3,7 @@ use Rattle.std.specs.Prelude.{List, [], ◌∷◌, Option, Some, None}
 use Rattle.std.proofs.Props.{props}
 use Rattle.ti_lang.specs.Program.Expressions.{NumberedExp, numbered_ranges, NumberedExps, NumberedRange, NumberedRanges}
 use Rattle.ti_lang.specs.Program.Statements.{NumberedDims, NumberedInit, NumberedPrint, NumberedStm, MaybeNumbered, NumberedStms, numbered_stms}
-use Rattle.ti_lang.specs.Program.Classes.{NumberedMethod, NumberedProgram}
+use Rattle.ti_lang.specs.Program.Classes.{NumberedMethod, ProgramView}
 use Rattle.ti_lang.specs.Program.Expressions as e
 use Rattle.ti_lang.specs.Program.Statements as s
 use Rattle.ti_rules.specs.Mirrors.Literals.{InExp, InExps, InRange, InRanges, InOption, InDims, InInit, InPrint, InStm, InMaybe, InStms, InMethods, LiteralsFit}
@@ -86,5 +86,5 @@ methods_prop : (ms : List NumberedMethod) → IsProp (InMethods ms)
 methods_prop [] = hlevel
 methods_prop (m ∷ ms) = hlevel (stms_prop (numbered_stms m.body), methods_prop ms)
 
-pub one_way : (p : NumberedProgram) → IsProp (LiteralsFit p)
+pub one_way : (p : ProgramView) → IsProp (LiteralsFit p)
 one_way p = methods_prop p.methods

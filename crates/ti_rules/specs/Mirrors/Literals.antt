@@ -4,7 +4,7 @@ use Rattle.std.specs.Int.{w32, w64}
 use Rattle.ti_base.specs.WholeNumbers.{Fits}
 use Rattle.ti_lang.specs.Program.Expressions.{NumberedExp, numbered_ranges, NumberedExps, NumberedRange, NumberedRanges}
 use Rattle.ti_lang.specs.Program.Statements.{NumberedDims, NumberedInit, NumberedPrint, NumberedStm, MaybeNumbered, NumberedStms, numbered_stms}
-use Rattle.ti_lang.specs.Program.Classes.{NumberedMethod, NumberedProgram}
+use Rattle.ti_lang.specs.Program.Classes.{NumberedMethod, ProgramView}
 use Rattle.ti_lang.specs.Program.Expressions as e
 use Rattle.ti_lang.specs.Program.Statements as st
 
@@ -99,5 +99,5 @@ InMethods [] = Unit {0}
 InMethods (m ∷ ms) = InStms (numbered_stms m.body) × InMethods ms
 
 -- all literals of a program are in range
-abbrev pub LiteralsFit : NumberedProgram → Type 0
+abbrev pub LiteralsFit : ProgramView → Type 0
 LiteralsFit p = InMethods p.methods

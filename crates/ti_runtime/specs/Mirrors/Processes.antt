@@ -8,18 +8,18 @@ use Rattle.ti_base.specs.declared.entry.Answer.{Answer}
 use Rattle.ti_base.specs.declared.entry.Entry.{Entry}
 use Rattle.ti_base.specs.declared.entry.Next.{Next}
 use Rattle.ti_base.specs.declared.entry.Next.TheVariants as next
-use Rattle.ti_lang.specs.Meaning.Processes.{Setting, Process}
+use Rattle.ti_lang.specs.Meaning.Processes.{RunConfig, Process}
 use Rattle.ti_lang.specs.Meaning.NextStep.{IsNext}
 use Rattle.ti_lang.specs.Meaning.Histories.{is_fault, is_arrival, has_end, has_fault}
-use Rattle.ti_lang.specs.Meaning.Runs.{World, CanTake, IsRun, IsSolo, AllEnded}
+use Rattle.ti_lang.specs.Meaning.Runs.{ProcAfter, CanTake, IsRun, IsSolo, AllEnded}
 use Rattle.ti_align.specs.Alignment.{IsAlignedRun, OfEveryRun}
 use Rattle.ti_align.specs.Answering.{AnswersFit}
 use Rattle.ti_align.specs.Stopping.{RoundsBalance}
-use Rattle.ti_store.specs.Conditions.{IsWithin}
-use Rattle.ti_store.specs.Stores.{StoreState, setting_of}
+use Rattle.ti_store.specs.Conditions.{IsWithinRunLimits}
+use Rattle.ti_store.specs.Stores.{StoreState, config_of}
 use Rattle.ti_code.specs.Programs.{Code}
 use Rattle.ti_code.specs.Follows.{Follows}
-use Rattle.ti_machine.specs.Standing.{CodeStanding, HasNext, is_act}
+use Rattle.ti_machine.specs.ProcView.{ProcView, HasNext, is_act}
 use Rattle.ti_runtime.specs.declared.cursor.SoloCursor.{SoloCursor}
 use Rattle.ti_runtime.specs.declared.cursor.TurnOutcome.{TurnOutcome}
 use Rattle.ti_runtime.specs.declared.cursor.TurnOutcome.TheVariants as turn
@@ -29,8 +29,8 @@ use Rattle.ti_runtime.specs.declared.pending.RunStop.TheVariants as stop
 use Rattle.ti_runtime.specs.declared.scheduler.SoloScheduler.{SoloScheduler}
 use Rattle.ti_runtime.specs.declared.runner.How.{How}
 use Rattle.ti_runtime.specs.declared.runner.How.TheVariants as how
-use Rattle.ti_runtime.specs.Mirrors.Waiting.{Waits, Rests}
-use Rattle.ti_runtime.specs.Ran.{standing_of}
+use Rattle.ti_runtime.specs.Mirrors.Waiting.{IsBlocked, IsBlockedOrEnded}
+use Rattle.ti_runtime.specs.Ran.{proc_view_after}
 
 -- ---- processes
 
@@ -41,82 +41,82 @@ action_for (next.End at) = (at, act.End)
 action_for (next.Fault kind at) = (at, act.Fault kind)
 
 -- its place, and the action
-abbrev pub place_of : Next → Place
-place_of n = (action_for n).0
+abbrev pub next_place : Next → Place
+next_place n = (action_for n).0
 
-abbrev pub action_of : Next → Action
-action_of n = (action_for n).1
+abbrev pub next_action : Next → Action
+next_action n = (action_for n).1
 
 -- the process was asked for its next action, or not
-abbrev pub asking : Bool → PendingProc → PendingProc
-asking asks pending = record pending { process = record pending.process { asks = asks } }
+abbrev pub with_awaits : Bool → PendingProc → PendingProc
+with_awaits asks pending = record pending { process = record pending.process { asks = asks } }
 
 -- process i is up to date with these entries: it has their answers, and its code has next what the program has
-pub record Seated (code : Code) (s : Setting) (es : List Entry) (i : ℕ) (pending : PendingProc) : Type 0 where
-  pub told : record pending.process { asks = false } ≡ standing_of code s es i
+pub record IsUpToDate (code : Code) (s : RunConfig) (es : List Entry) (i : ℕ) (pending : PendingProc) : Type 0 where
+  pub answers : record pending.process { asks = false } ≡ proc_view_after code s es i
   pub there : Process
-  pub world : World s es i there
+  pub world : ProcAfter s es i there
   pub next : Next
   pub has_next : HasNext pending.process next
   pub is_next : IsNext there next
   pub ended : has_end i es ≡ pending.ended
 
 -- with one answer more
-abbrev pub told_more : CodeStanding → Answer → CodeStanding
-told_more t answer = record t { told = t.told ++ answer ∷ []; asks = false }
+abbrev pub with_answer : ProcView → Answer → ProcView
+with_answer t answer = record t { answers = t.answers ++ answer ∷ []; asks = false }
 
 -- the process after the answer to its next action; an end has no answer
-pub record Hears (old : PendingProc) (n : Next) (answer : Answer) (new : PendingProc) (t : TurnOutcome) : Type 0 where
-  pub turn : t ≡ (if is_arrival (action_of n) then turn.Arrived else turn.Went)
+pub record ReceivesAnswer (old : PendingProc) (n : Next) (answer : Answer) (new : PendingProc) (t : TurnOutcome) : Type 0 where
+  pub turn : t ≡ (if is_arrival (next_action n) then turn.Arrived else turn.Progressed)
   pub ends : is_act n ≡ false → new ≡ record old { ended = true }
-  pub hears : is_act n ≡ true → new ≡ record old { process = told_more old.process answer }
+  pub hears : is_act n ≡ true → new ≡ record old { process = with_answer old.process answer }
 
 -- ---- steps
 
 -- process i took an entry
-pub record Takes (s : Setting) (es : List Entry) (i : ℕ) (all : List Entry) : Type 0 where
+pub record TakesEntry (s : RunConfig) (es : List Entry) (i : ℕ) (all : List Entry) : Type 0 where
   pub entry : Entry
   pub can : CanTake s es i entry
   pub after : all ≡ es ++ entry ∷ []
 
 -- how many entries a process may still take: its answers, and its end
-abbrev pub steps_left : Setting → PendingProc → ℕ
-steps_left s pending = (s.fuel - length pending.process.told) + (if pending.ended then 0 else 1)
+abbrev pub steps_left : RunConfig → PendingProc → ℕ
+steps_left s pending = (s.fuel - length pending.process.answers) + (if pending.ended then 0 else 1)
 
-abbrev pub all_steps_left : Setting → List PendingProc → ℕ
+abbrev pub all_steps_left : RunConfig → List PendingProc → ℕ
 all_steps_left s processes = sum_by (steps_left s) processes
 
 -- process i took an entry, and is up to date again
-pub record GoesOn (code : Code) (s : Setting) (es : List Entry) (i : ℕ) (old : PendingProc) (all : List Entry) (new : PendingProc)
+pub record Progresses (code : Code) (s : RunConfig) (es : List Entry) (i : ℕ) (old : PendingProc) (all : List Entry) (new : PendingProc)
     (arrives : Bool) : Type 0 where
-  pub takes : Takes s es i all
+  pub takes : TakesEntry s es i all
   pub arrives_is : is_arrival takes.entry.act ≡ arrives
   pub no_fault : is_fault takes.entry.act ≡ false
-  pub seated : Seated code s all i new
+  pub seated : IsUpToDate code s all i new
   pub lighter : steps_left s new < steps_left s old
 
 -- process i did nothing
-pub record Keeps (code : Code) (s : Setting) (es : List Entry) (i : ℕ) (old : PendingProc) (all : List Entry) (new : PendingProc) : Type 0 where
+pub record DoesNothing (code : Code) (s : RunConfig) (es : List Entry) (i : ℕ) (old : PendingProc) (all : List Entry) (new : PendingProc) : Type 0 where
   pub entries : all ≡ es
-  pub seated : Seated code s es i new
+  pub seated : IsUpToDate code s es i new
   pub as_many : steps_left s new ≡ steps_left s old
 
 -- the run stops at process i: with its fault, or out of memory before its entry
-abbrev pub StopsAt : Setting → List Entry → ℕ → List Entry → RunStop → Type 0
-StopsAt s es i all stop.Faulted = (t : Takes s es i all) × (is_fault t.entry.act ≡ true)
+abbrev pub StopsAt : RunConfig → List Entry → ℕ → List Entry → RunStop → Type 0
+StopsAt s es i all stop.Faulted = (t : TakesEntry s es i all) × (is_fault t.entry.act ≡ true)
 StopsAt s es i all stop.Memory = (all ≡ es) × (has_end i es ≡ false)
 
 -- what a step of process i does to the entries and to the process
-abbrev pub TurnLeaves : Code → Setting → List Entry → ℕ → PendingProc → List Entry → PendingProc → Result TurnOutcome RunStop → Type 0
-TurnLeaves code s es i old all new (Ok turn.Arrived) = GoesOn code s es i old all new true
-TurnLeaves code s es i old all new (Ok turn.Went) = GoesOn code s es i old all new false
-TurnLeaves code s es i old all new (Ok turn.Ended) = Keeps code s es i old all new × (has_end i es ≡ true)
-TurnLeaves code s es i old all new (Ok turn.Waits) = Keeps code s es i old all new × Waits s es i
-TurnLeaves code s es i old all new (Err why) = StopsAt s es i all why × Seated code s all i new
+abbrev pub TurnLeaves : Code → RunConfig → List Entry → ℕ → PendingProc → List Entry → PendingProc → Result TurnOutcome RunStop → Type 0
+TurnLeaves code s es i old all new (Ok turn.Arrived) = Progresses code s es i old all new true
+TurnLeaves code s es i old all new (Ok turn.Progressed) = Progresses code s es i old all new false
+TurnLeaves code s es i old all new (Ok turn.Finished) = DoesNothing code s es i old all new × (has_end i es ≡ true)
+TurnLeaves code s es i old all new (Ok turn.Blocked) = DoesNothing code s es i old all new × IsBlocked s es i
+TurnLeaves code s es i old all new (Err why) = StopsAt s es i all why × IsUpToDate code s all i new
 
 -- procs and fuel are within their limits and the code follows the program; and what holds of every run
-pub record RunPremises (code : Code) (s : Setting) : Type 0 where
-  pub within : IsWithin s.procs s.fuel
+pub record RunPremises (code : Code) (s : RunConfig) : Type 0 where
+  pub within : IsWithinRunLimits s.procs s.fuel
   pub follows : Follows code s.program
   pub aligned : OfEveryRun IsAlignedRun s.program
   pub balance : OfEveryRun RoundsBalance s.program
@@ -125,68 +125,68 @@ pub record RunPremises (code : Code) (s : Setting) : Type 0 where
 -- a store that accepts actions: it isn't halted
 pub record IsOpen (code : Code) (store : StoreState) : Type 0 where
   pub goes_on : has_fault store.entries ≡ false
-  pub may : RunPremises code (setting_of store)
+  pub may : RunPremises code (config_of store)
 
 -- ---- all processes
 
 -- the cursor after this outcome
 abbrev pub cursor_after : SoloCursor → TurnOutcome → SoloCursor
-cursor_after c turn.Arrived = record { at = 0; waiting = c.at }
-cursor_after c turn.Went = record { at = c.at; waiting = 0 }
-cursor_after c turn.Ended = record { at = c.at + 1; waiting = c.waiting }
-cursor_after c turn.Waits = record { at = max (c.at + 1) c.waiting; waiting = c.waiting }
+cursor_after c turn.Arrived = record { next_proc = 0; blocked_below = c.next_proc }
+cursor_after c turn.Progressed = record { next_proc = c.next_proc; blocked_below = 0 }
+cursor_after c turn.Finished = record { next_proc = c.next_proc + 1; blocked_below = c.blocked_below }
+cursor_after c turn.Blocked = record { next_proc = max (c.next_proc + 1) c.blocked_below; blocked_below = c.blocked_below }
 
--- no process before the cursor can take an entry; and if one before `waiting` waits, then all before `waiting` do
-pub record Points (s : Setting) (es : List Entry) (c : SoloCursor) : Type 0 where
-  pub most : c.at ≤ s.procs
-  pub few : c.waiting ≤ s.procs
-  pub before : (i : ℕ) → i < c.at → Rests s es i
-  pub run_threaded : (i : ℕ) → i < c.waiting → Waits s es i → (j : ℕ) → j < c.waiting → Rests s es j
+-- no process before the cursor can take an entry; and if one before `blocked_below` waits, then all before `blocked_below` do
+pub record Points (s : RunConfig) (es : List Entry) (c : SoloCursor) : Type 0 where
+  pub most : c.next_proc ≤ s.procs
+  pub few : c.blocked_below ≤ s.procs
+  pub before : (i : ℕ) → i < c.next_proc → IsBlockedOrEnded s es i
+  pub all_blocked : (i : ℕ) → i < c.blocked_below → IsBlocked s es i → (j : ℕ) → j < c.blocked_below → IsBlockedOrEnded s es j
 
 -- all processes are up to date with the entries
-abbrev pub AllSeated : Code → Setting → List Entry → List PendingProc → Type 0
-AllSeated code s es processes = (d : PendingProc) (i : ℕ) → i < length processes → Seated code s es i (slice_index_or processes i d)
+abbrev pub AllUpToDate : Code → RunConfig → List Entry → List PendingProc → Type 0
+AllUpToDate code s es processes = (d : PendingProc) (i : ℕ) → i < length processes → IsUpToDate code s es i (slice_index_or processes i d)
 
 -- all processes are up to date with the entries of the run so far, and the cursor is right
-pub record Stands (code : Code) (s : Setting) (es : List Entry) (processes : List PendingProc) (c : SoloCursor) : Type 0 where
+pub record IsSoloState (code : Code) (s : RunConfig) (es : List Entry) (processes : List PendingProc) (c : SoloCursor) : Type 0 where
   pub run : IsRun s es
   pub goes_on : has_fault es ≡ false
   pub count : length processes ≡ s.procs
-  pub seated : AllSeated code s es processes
+  pub seated : AllUpToDate code s es processes
   pub points : Points s es c
 
 -- how many steps there may still be: of steps that take no entry there are at most as many in a row as processes
-abbrev pub turns_left : Setting → List PendingProc → SoloCursor → ℕ
-turns_left s processes c = all_steps_left s processes * (s.procs + 1) + (s.procs - c.at)
+abbrev pub turns_left : RunConfig → List PendingProc → SoloCursor → ℕ
+turns_left s processes c = all_steps_left s processes * (s.procs + 1) + (s.procs - c.next_proc)
 
 -- the run continues with fewer steps left; and if the entries before were those of the solo run, so are these
-pub record StandsOn (code : Code) (s : Setting) (before : List Entry) (old : List PendingProc) (was : SoloCursor) (es : List Entry)
+pub record SoloProgresses (code : Code) (s : RunConfig) (before : List Entry) (old : List PendingProc) (was : SoloCursor) (es : List Entry)
     (new : List PendingProc) (is : SoloCursor) : Type 0 where
-  pub stands : Stands code s es new is
+  pub stands : IsSoloState code s es new is
   pub solo : IsSolo s before → IsSolo s es
   pub lighter : turns_left s new is < turns_left s old was
 
 -- a run that stopped before all processes had ended
-pub record Stopped (code : Code) (s : Setting) (before es : List Entry) (processes : List PendingProc) (why : RunStop) : Type 0 where
+pub record HasStopped (code : Code) (s : RunConfig) (before es : List Entry) (processes : List PendingProc) (why : RunStop) : Type 0 where
   pub run : IsRun s es
   pub solo : IsSolo s before → IsSolo s es
   pub fault : (why ≡ stop.Faulted) ↔ (has_fault es ≡ true)
   pub unended : AllEnded s es → ⊥
   pub count : length processes ≡ s.procs
-  pub seated : AllSeated code s es processes
+  pub seated : AllUpToDate code s es processes
 
 -- what a step of the scheduler does to it and to the entries
-abbrev pub StepLeaves : {U : Type 0} → Code → Setting → List Entry → SoloScheduler → List Entry → SoloScheduler → Result U RunStop → Type 0
-StepLeaves code s before old all new (Ok u) = StandsOn code s before old.processes.items old.cursor all new.processes.items new.cursor
-StepLeaves code s before old all new (Err why) = Stopped code s before all new.processes.items why
+abbrev pub StepLeaves : {U : Type 0} → Code → RunConfig → List Entry → SoloScheduler → List Entry → SoloScheduler → Result U RunStop → Type 0
+StepLeaves code s before old all new (Ok u) = SoloProgresses code s before old.processes.items old.cursor all new.processes.items new.cursor
+StepLeaves code s before old all new (Err why) = HasStopped code s before all new.processes.items why
 
 -- ---- runs
 
 -- how a run ended that continued after these entries
-pub record SoloOutcome (code : Code) (s : Setting) (before es : List Entry) (processes : List PendingProc) (end : How) : Type 0 where
+pub record SoloOutcome (code : Code) (s : RunConfig) (before es : List Entry) (processes : List PendingProc) (end : How) : Type 0 where
   pub run : IsRun s es
   pub solo : IsSolo s before → IsSolo s es
   pub ended : (end ≡ how.Ended) ↔ AllEnded s es
   pub faulted : (end ≡ how.Faulted) ↔ (has_fault es ≡ true)
   pub count : length processes ≡ s.procs
-  pub seated : AllSeated code s es processes
+  pub seated : AllUpToDate code s es processes

@@ -6,7 +6,7 @@ use Rattle.ti_syntax.specs.declared.tree.classes.Modifier.{Modifier}
 use Rattle.ti_syntax.specs.declared.tree.classes.ModifierWord.{ModifierWord}
 use Rattle.ti_syntax.specs.Trees.Types.{TypeTree}
 use Rattle.ti_syntax.specs.Trees.Statements.{Stm}
-use Rattle.ti_syntax.specs.Trees.Classes.{ParamTree, ParamsTree, MemberTree, ClassTree, Words, Params, Void, Typed as TypedResult, FieldMember, MethodMember}
+use Rattle.ti_syntax.specs.Trees.Classes.{ParamTree, ParamsTree, MemberTree, ClassTree, MainArgs, Params, Void, Typed as TypedResult, FieldMember, MethodMember}
 use Rattle.ti_syntax.specs.Spelling.Operators.{modifier_of, class_modifier_of}
 use Rattle.ti_syntax.specs.Spelling.Types.{FieldType, Typed}
 use Rattle.ti_syntax.specs.Spelling.Statements.{Items}
@@ -26,7 +26,7 @@ pub data Parameters : List Token → ParamsTree → Type 0 where
   none : Parameters [] (Params [])
   words : (s o c t : Token) {name : List ℕ} → s.kind ≡ k.KeywordString → o.kind ≡ k.LeftBracket → c.kind ≡ k.RightBracket → t.kind
       ≡ k.Name name
-      → Parameters (s ∷ o ∷ c ∷ t ∷ []) (Words t.place name)
+      → Parameters (s ∷ o ∷ c ∷ t ∷ []) (MainArgs t.place name)
   typed : {l : List Token} {ps : List ParamTree} → ParamList l ps → Parameters l (Params ps)
 
 -- a method from its `(` on; the last argument is the token of its closing `}`

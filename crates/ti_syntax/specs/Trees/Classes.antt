@@ -17,7 +17,7 @@ pub record ParamTree : Type 0 where
   pub name : List ℕ
 
 pub data ParamsTree : Type 0 where
-  Words : (at : Place) (name : List ℕ) → ParamsTree
+  MainArgs : (at : Place) (name : List ℕ) → ParamsTree
   Params : (params : List ParamTree) → ParamsTree
 
 -- a method's declared result

@@ -54,7 +54,7 @@ abbrev mutual
   pub exp_of : Expr → Exp
   exp_of (e.Int at n) = x.Int at n
   exp_of (e.Long at n) = x.Long at n
-  exp_of (e.Truth at b) = x.Truth at b
+  exp_of (e.Bool at b) = x.Truth at b
   exp_of (e.Null at) = x.Null at
   exp_of (e.This at) = x.This at
   exp_of (e.Name at name) = x.Name at name
@@ -150,7 +150,7 @@ abbrev pub param_of : Param → ParamTree
 param_of p = record { ty = type_of p.ty; place = p.place; name = p.name }
 
 abbrev pub params_of : Params → ParamsTree
-params_of (params.Words at name) = c.Words at name
+params_of (params.MainArgs at name) = c.MainArgs at name
 params_of (params.Typed v) = c.Params (map param_of v.items)
 
 abbrev pub result_of : ResultType → ResultTree

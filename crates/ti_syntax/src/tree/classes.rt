@@ -44,7 +44,7 @@ pub struct Param {
 #[derive(Drop)]
 pub enum Params {
     /// `String[] x`, the parameter of `main`, at the name.
-    Words(Place, Spelled),
+    MainArgs(Place, Spelled),
     Typed(Vec<Param>),
 }
 

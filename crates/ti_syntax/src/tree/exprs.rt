@@ -69,7 +69,7 @@ pub enum Expr {
     /// A `long` literal.
     Long(Place, i64),
     /// `true` or `false`
-    Truth(Place, bool),
+    Bool(Place, bool),
     /// `null`
     Null(Place),
     /// `this`
@@ -152,7 +152,7 @@ impl Expr {
         match self {
             Expr::Int(place, _) => *place,
             Expr::Long(place, _) => *place,
-            Expr::Truth(place, _) => *place,
+            Expr::Bool(place, _) => *place,
             Expr::Null(place) => *place,
             Expr::This(place) => *place,
             Expr::Name(place, _) => *place,

@@ -12,7 +12,7 @@ use ti_turnstile::{Pass, Turnstile};
 
 /// A pass with its number.
 #[derive(Drop)]
-pub struct Member {
+pub struct NumberedPass {
     number: u32,
     pass: Pass<Pairs>,
     ghost same: { number_of pass ≡ number },
@@ -24,7 +24,7 @@ pub fn members_of(
     turnstile: &Turnstile<Pairs>,
     mut passes: Vec<Pass<Pairs>>,
     n: u32,
-) -> Result<Vec<Member>, Memory>
+) -> Result<Vec<NumberedPass>, Memory>
     requires count { length passes.items ≡ n }
     requires new { AreNew (identity_of turnstile.now) passes.items }
     ensures count { IfOk result (λ ms. length ms.items ≡ n) }
@@ -34,28 +34,33 @@ pub fn members_of(
     let mut number = n;
     while let Some(pass) = passes.pop() {
         number -= 1;
-        members.push(Member { number, pass })?;
+        members.push(NumberedPass { number, pass })?;
     }
     Ok(members)
 }
 
 /// Enters the turnstile, appends an item, and leaves.
-fn add_one<R: Wait>(rt: &R, turnstile: &Turnstile<Pairs>, member: Member, item: u32) -> Member
+fn add_one<R: Wait>(
+    rt: &R,
+    turnstile: &Turnstile<Pairs>,
+    member: NumberedPass,
+    item: u32,
+) -> NumberedPass
     requires { turnstile_of member.pass ≡ identity_of turnstile.now }
     ensures { turnstile_of result.pass ≡ identity_of turnstile.now }
 {
-    let Member { number, pass } = member;
+    let NumberedPass { number, pass } = member;
     let mut inside = turnstile.enter(rt, pass);
     inside.value().add(number, item);
     let pass = turnstile.leave(inside);
-    Member { number, pass }
+    NumberedPass { number, pass }
 }
 
 /// The member at this index appends an item.
 pub fn add_at<R: Wait>(
     rt: &R,
     turnstile: &Turnstile<Pairs>,
-    members: &mut Vec<Member>,
+    members: &mut Vec<NumberedPass>,
     at: usize,
     item: u32,
 )
@@ -73,7 +78,12 @@ pub fn add_at<R: Wait>(
 }
 
 /// Appends the numbers below `count`, in order.
-fn add_all<R: Wait>(rt: &R, turnstile: &Turnstile<Pairs>, mut member: Member, count: u32) -> Member
+fn add_all<R: Wait>(
+    rt: &R,
+    turnstile: &Turnstile<Pairs>,
+    mut member: NumberedPass,
+    count: u32,
+) -> NumberedPass
     requires { turnstile_of member.pass ≡ identity_of turnstile.now }
     ensures { turnstile_of result.pass ≡ identity_of turnstile.now }
 {
@@ -87,9 +97,9 @@ fn add_all<R: Wait>(rt: &R, turnstile: &Turnstile<Pairs>, mut member: Member, co
 pub fn all_add<R: Threads + Wait + Sync>(
     rt: &R,
     turnstile: &Turnstile<Pairs>,
-    members: Vec<Member>,
+    members: Vec<NumberedPass>,
     count: u32,
-) -> Result<Vec<Member>, Memory>
+) -> Result<Vec<NumberedPass>, Memory>
     requires { All (λ m. turnstile_of m.pass ≡ identity_of turnstile.now) members.items }
     ensures count { IfOk result (λ ms. length ms.items ≡ length members.items) }
     ensures turnstile { IfOk result (λ ms. All (λ m. turnstile_of m.pass ≡ identity_of turnstile.now) ms.items) }
@@ -103,10 +113,10 @@ pub fn all_add<R: Threads + Wait + Sync>(
 }
 
 /// Closes the turnstile with the passes of all members, and returns the list.
-pub fn closed(
+pub fn close_members(
     alloc: Global,
     turnstile: Turnstile<Pairs>,
-    mut members: Vec<Member>,
+    mut members: Vec<NumberedPass>,
 ) -> Result<Pairs, Memory>
     requires count { length members.items ≡ passes_of turnstile }
     requires turnstile { All (λ m. turnstile_of m.pass ≡ identity_of turnstile) members.items }

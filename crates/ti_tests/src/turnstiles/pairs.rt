@@ -20,8 +20,8 @@ impl Kept for Pairs {
         self.items.len()
     }
 
-    fn number_at(&self, i: usize) -> u32 {
-        self.items[i].0
+    fn number_at(&self, index: usize) -> u32 {
+        self.items[index].0
     }
 }
 

@@ -25,7 +25,7 @@ fn flat_of(alloc: Global, span: Span) -> Result<Flat, Fail> {
 }
 
 /// The union of two domains.
-fn united(alloc: Global, a: &Flat, b: &Flat) -> Result<Flat, DomErr> {
+fn union_of(alloc: Global, a: &Flat, b: &Flat) -> Result<Flat, DomErr> {
     let domain = dom_union(alloc, &a.domain, &b.domain)?;
     Ok(Flat { domain })
 }
@@ -95,7 +95,7 @@ fn a_difference_of_a_million_points_in_two_coordinates(rt: HostRuntime) -> Resul
 
 /// The second coordinates of the points, in the order of iteration, as digits of a number in base 3; `None` if there are `most` points or
 /// more.
-fn walked(plane: &Plane, most: u32) -> Option<i32> {
+fn walk_digits(plane: &Plane, most: u32) -> Option<i32> {
     let mut sum = 0i32;
     let mut at = dom_next_after(&plane.domain, None);
     for _ in 0..most {
@@ -113,7 +113,7 @@ fn walked(plane: &Plane, most: u32) -> Option<i32> {
 #[test]
 fn a_ring_of_twelve_points(rt: HostRuntime) -> Result<(), Fail> {
     let ring = square_minus(rt.alloc(), Span(0, 3, 1), Span(1, 2, 1))?;
-    let figures = (dom_size(&ring.domain), walked(&ring, 20));
+    let figures = (dom_size(&ring.domain), walk_digits(&ring, 20));
     assert_eq!(rt; figures, (12, Some(120546)));
     Ok(())
 }
@@ -181,13 +181,13 @@ fn the_most_points(rt: HostRuntime) -> Result<(), Fail> {
 fn union_size(alloc: Global, a: Span, b: Span) -> Result<Result<i32, DomErr>, Fail> {
     let left = flat_of(alloc, a)?;
     let right = flat_of(alloc, b)?;
-    Ok(united(alloc, &left, &right).map(|union| dom_size(&union.domain)))
+    Ok(union_of(alloc, &left, &right).map(|union| dom_size(&union.domain)))
 }
 
 /// The domain with this number added.
 fn with_number(alloc: Global, flat: &Flat, x: i32) -> Result<Flat, Fail> {
     let point = flat_of(alloc, Span(x, x, 1))?;
-    Ok(united(alloc, flat, &point)?)
+    Ok(union_of(alloc, flat, &point)?)
 }
 
 /// A thousand single points, each 389 after the previous one modulo 1009, yield one domain.

@@ -10,7 +10,7 @@ use ti_rect::rect_size;
 
 /// A view of the result of the steps before.
 #[derive(Clone, Copy)]
-enum Step {
+enum ViewStep {
     Restrict(Span, Span, Span),
     Translate(i32, i32, i32),
     Slice(i32, i32),
@@ -18,10 +18,10 @@ enum Step {
 
 /// Views of a block, each of the one before, and the points of the last one, each with the number of its cell; or the fault of the last
 /// step.
-struct Case {
+struct ViewCase {
     dim: u8,
     block: [Span; 3],
-    steps: &'static [Step],
+    steps: &'static [ViewStep],
     points: &'static [(i32, i32, i32, u64)],
     fault: Option<FaultKind>,
 }
@@ -32,113 +32,113 @@ const ROWS: [Span; 3] = [Span(0, 2, 1), Span(0, 3, 1), ZERO];
 /// Two planes of three rows of two points.
 const PLANES: [Span; 3] = [Span(0, 1, 1), Span(0, 2, 1), Span(0, 1, 1)];
 
-const CASES: [Case; 14] = [
-    Case {
+const CASES: [ViewCase; 14] = [
+    ViewCase {
         dim: 1,
         block: [Span(0, 10, 5), ZERO, ZERO],
         steps: &[],
         points: &[(0, 0, 0, 0), (5, 0, 0, 1), (10, 0, 0, 2)],
         fault: None,
     },
-    Case {
+    ViewCase {
         dim: 2,
         block: ROWS,
-        steps: &[Step::Restrict(Span(1, 2, 1), Span(1, 3, 2), ZERO)],
+        steps: &[ViewStep::Restrict(Span(1, 2, 1), Span(1, 3, 2), ZERO)],
         points: &[(1, 1, 0, 5), (1, 3, 0, 7), (2, 1, 0, 9), (2, 3, 0, 11)],
         fault: None,
     },
-    Case {
+    ViewCase {
         dim: 2,
         block: ROWS,
         steps: &[
-            Step::Translate(1, 1, 0),
-            Step::Restrict(Span(3, 9, 1), Span(0, 4, 1), ZERO),
+            ViewStep::Translate(1, 1, 0),
+            ViewStep::Restrict(Span(3, 9, 1), Span(0, 4, 1), ZERO),
         ],
         points: &[(3, 1, 0, 8), (3, 2, 0, 9), (3, 3, 0, 10), (3, 4, 0, 11)],
         fault: None,
     },
-    Case {
+    ViewCase {
         dim: 2,
         block: ROWS,
-        steps: &[Step::Slice(1, 1)],
+        steps: &[ViewStep::Slice(1, 1)],
         points: &[(0, 0, 0, 4), (1, 0, 0, 5), (2, 0, 0, 6), (3, 0, 0, 7)],
         fault: None,
     },
-    Case {
+    ViewCase {
         dim: 2,
         block: ROWS,
-        steps: &[Step::Slice(2, 3)],
+        steps: &[ViewStep::Slice(2, 3)],
         points: &[(0, 0, 0, 3), (1, 0, 0, 7), (2, 0, 0, 11)],
         fault: None,
     },
-    Case {
+    ViewCase {
         dim: 3,
         block: PLANES,
-        steps: &[Step::Slice(2, 1), Step::Translate(5, -1, 0)],
+        steps: &[ViewStep::Slice(2, 1), ViewStep::Translate(5, -1, 0)],
         points: &[(5, -1, 0, 2), (5, 0, 0, 3), (6, -1, 0, 8), (6, 0, 0, 9)],
         fault: None,
     },
-    Case {
+    ViewCase {
         dim: 3,
         block: PLANES,
-        steps: &[Step::Slice(3, 1), Step::Slice(1, 1)],
+        steps: &[ViewStep::Slice(3, 1), ViewStep::Slice(1, 1)],
         points: &[(0, 0, 0, 7), (1, 0, 0, 9), (2, 0, 0, 11)],
         fault: None,
     },
-    Case {
+    ViewCase {
         dim: 1,
         block: [Span(0, 20, 2), ZERO, ZERO],
         steps: &[
-            Step::Restrict(Span(0, 20, 3), ZERO, ZERO),
-            Step::Restrict(Span(6, 18, 12), ZERO, ZERO),
+            ViewStep::Restrict(Span(0, 20, 3), ZERO, ZERO),
+            ViewStep::Restrict(Span(6, 18, 12), ZERO, ZERO),
         ],
         points: &[(6, 0, 0, 3), (18, 0, 0, 9)],
         fault: None,
     },
-    Case {
+    ViewCase {
         dim: 1,
         block: [Span(0, 20, 2), ZERO, ZERO],
         steps: &[
-            Step::Restrict(Span(30, 40, 1), ZERO, ZERO),
-            Step::Translate(i32::MAX, 0, 0),
+            ViewStep::Restrict(Span(30, 40, 1), ZERO, ZERO),
+            ViewStep::Translate(i32::MAX, 0, 0),
         ],
         points: &[],
         fault: None,
     },
-    Case {
+    ViewCase {
         dim: 1,
         block: [Span(0, 1, 1), ZERO, ZERO],
-        steps: &[Step::Translate(i32::MAX, 0, 0)],
+        steps: &[ViewStep::Translate(i32::MAX, 0, 0)],
         points: &[],
         fault: Some(FaultKind::Range),
     },
-    Case {
+    ViewCase {
         dim: 2,
         block: ROWS,
-        steps: &[Step::Slice(3, 0)],
+        steps: &[ViewStep::Slice(3, 0)],
         points: &[],
         fault: Some(FaultKind::Bounds),
     },
-    Case {
+    ViewCase {
         dim: 2,
         block: ROWS,
-        steps: &[Step::Slice(0, 0)],
+        steps: &[ViewStep::Slice(0, 0)],
         points: &[],
         fault: Some(FaultKind::Bounds),
     },
-    Case {
+    ViewCase {
         dim: 2,
         block: ROWS,
-        steps: &[Step::Slice(1, 3)],
+        steps: &[ViewStep::Slice(1, 3)],
         points: &[],
         fault: Some(FaultKind::Bounds),
     },
-    Case {
+    ViewCase {
         dim: 2,
         block: ROWS,
         steps: &[
-            Step::Restrict(Span(5, 6, 1), Span(0, 3, 1), ZERO),
-            Step::Slice(2, 1),
+            ViewStep::Restrict(Span(5, 6, 1), Span(0, 3, 1), ZERO),
+            ViewStep::Slice(2, 1),
         ],
         points: &[],
         fault: Some(FaultKind::Bounds),
@@ -154,7 +154,7 @@ const BLOCK: Id = Id {
 };
 
 /// The view of the whole block.
-fn whole(r: &Rect) -> Result<View, FaultKind>
+fn whole_block(r: &Rect) -> Result<View, FaultKind>
     requires { IsRect r.now }
 {
     match rect_size(r) {
@@ -169,15 +169,15 @@ fn whole(r: &Rect) -> Result<View, FaultKind>
 }
 
 /// The view that a step makes.
-fn stepped(v: &View, step: Step) -> Result<View, FaultKind> {
+fn step_view(v: &View, step: ViewStep) -> Result<View, FaultKind> {
     let dim = v.domain().dim;
     match step {
-        Step::Restrict(a, b, c) => match rect_of(dim, [a, b, c]) {
+        ViewStep::Restrict(a, b, c) => match rect_of(dim, [a, b, c]) {
             Ok(r) => Ok(view_restrict(v, &r)),
             Err(_) => Err(FaultKind::BadStride),
         },
-        Step::Translate(x1, x2, x3) => view_translate(v, &point(dim, x1, x2, x3)),
-        Step::Slice(k, j) => {
+        ViewStep::Translate(x1, x2, x3) => view_translate(v, &point(dim, x1, x2, x3)),
+        ViewStep::Slice(k, j) => {
             if dim < 2 {
                 return Err(FaultKind::Depth);
             }
@@ -187,18 +187,18 @@ fn stepped(v: &View, step: Step) -> Result<View, FaultKind> {
 }
 
 /// The view that all steps make.
-fn viewed(case: &Case) -> Result<View, FaultKind> {
+fn case_view(case: &ViewCase) -> Result<View, FaultKind> {
     let dim = if case.dim == 1 || case.dim == 2 {
         case.dim
     } else {
         3
     };
     let mut view = match rect_of(dim, case.block) {
-        Ok(r) => whole(&r)?,
+        Ok(r) => whole_block(&r)?,
         Err(_) => return Err(FaultKind::BadStride),
     };
     for step in case.steps {
-        view = stepped(&view, *step)?;
+        view = step_view(&view, *step)?;
     }
     Ok(view)
 }
@@ -229,7 +229,7 @@ fn count(v: &View) -> u32 {
 #[test]
 fn views_of_views(rt: HostRuntime) -> Result<(), Fail> {
     for case in &CASES {
-        match viewed(case) {
+        match case_view(case) {
             Ok(view) => {
                 assert_eq!(rt; case.fault, None);
                 assert_eq!(rt; view.block(), BLOCK);

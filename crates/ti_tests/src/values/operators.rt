@@ -43,7 +43,7 @@ enum Operator {
 }
 
 /// The results of `a` with each of the operands.
-struct Row {
+struct OperatorRow {
     a: i64,
     sums: [i64; 7],
     differences: [i64; 7],
@@ -63,11 +63,11 @@ struct Shifts {
 }
 
 /// The expected results of all operators at one width.
-struct Table {
+struct OperatorTable {
     width: Width,
     /// The right operands of each row.
     operands: [i64; 7],
-    rows: [Row; 7],
+    rows: [OperatorRow; 7],
     shifts: [Shifts; 8],
 }
 
@@ -85,7 +85,7 @@ macro_rules! operands {
 macro_rules! rows {
     ($max:expr, $min:expr) => {
         [
-            Row {
+            OperatorRow {
                 a: 0,
                 sums: [0, 1, -1, $max, $max - 1, $min, $min + 1],
                 differences: [0, -1, 1, $min + 1, $min + 2, $min, $max],
@@ -93,7 +93,7 @@ macro_rules! rows {
                 quotients: [0, 0, 0, 0, 0, 0],
                 remainders: [0, 0, 0, 0, 0, 0],
             },
-            Row {
+            OperatorRow {
                 a: 1,
                 sums: [1, 2, 0, $min, $max, $min + 1, $min + 2],
                 differences: [1, 0, 2, $min + 2, $min + 3, $min + 1, $min],
@@ -101,7 +101,7 @@ macro_rules! rows {
                 quotients: [1, -1, 0, 0, 0, 0],
                 remainders: [0, 0, 1, 1, 1, 1],
             },
-            Row {
+            OperatorRow {
                 a: -1,
                 sums: [-1, 0, -2, $max - 1, $max - 2, $max, $min],
                 differences: [-1, -2, 0, $min, $min + 1, $max, $max - 1],
@@ -109,7 +109,7 @@ macro_rules! rows {
                 quotients: [-1, 1, 0, 0, 0, 0],
                 remainders: [0, 0, -1, -1, -1, -1],
             },
-            Row {
+            OperatorRow {
                 a: $max,
                 sums: [$max, $min, $max - 1, -2, -3, -1, 0],
                 differences: [$max, $max - 1, $min, 0, 1, -1, -2],
@@ -117,7 +117,7 @@ macro_rules! rows {
                 quotients: [$max, $min + 1, 1, 1, 0, -1],
                 remainders: [0, 0, 0, 1, $max, 0],
             },
-            Row {
+            OperatorRow {
                 a: $max - 1,
                 sums: [$max - 1, $max, $max - 2, -3, -4, -2, -1],
                 differences: [$max - 1, $max - 2, $max, -1, 0, -2, -3],
@@ -125,7 +125,7 @@ macro_rules! rows {
                 quotients: [$max - 1, $min + 2, 0, 1, 0, 0],
                 remainders: [0, 0, $max - 1, 0, $max - 1, $max - 1],
             },
-            Row {
+            OperatorRow {
                 a: $min,
                 sums: [$min, $min + 1, $max, -1, -2, 0, 1],
                 differences: [$min, $max, $min + 1, 1, 2, 0, -1],
@@ -133,7 +133,7 @@ macro_rules! rows {
                 quotients: [$min, $min, -1, -1, 1, 1],
                 remainders: [0, 0, -1, -2, 0, -1],
             },
-            Row {
+            OperatorRow {
                 a: $min + 1,
                 sums: [$min + 1, $min + 2, $min, 0, -1, 1, 2],
                 differences: [$min + 1, $min, $min + 2, 2, 3, 1, 0],
@@ -146,7 +146,7 @@ macro_rules! rows {
 }
 
 mod ints {
-    use super::{Row, Shifts, Table, Width};
+    use super::{OperatorRow, OperatorTable, Shifts, Width};
 
     const MAX: i64 = i32::MAX as i64;
 
@@ -154,7 +154,7 @@ mod ints {
 
     const BIT30: i64 = 1 << 30;
 
-    pub const TABLE: Table = Table {
+    pub const TABLE: OperatorTable = OperatorTable {
         width: Width::Int,
         operands: operands!(MAX, MIN),
         rows: rows!(MAX, MIN),
@@ -212,7 +212,7 @@ mod ints {
 }
 
 mod longs {
-    use super::{Row, Shifts, Table, Width};
+    use super::{OperatorRow, OperatorTable, Shifts, Width};
 
     const MAX: i64 = i64::MAX;
 
@@ -234,7 +234,7 @@ mod longs {
 
     const BIT62: i64 = 1 << 62;
 
-    pub const TABLE: Table = Table {
+    pub const TABLE: OperatorTable = OperatorTable {
         width: Width::Long,
         operands: operands!(MAX, MIN),
         rows: rows!(MAX, MIN),
@@ -363,8 +363,8 @@ fn refuses_zero(width: Width, a: i64) -> bool {
 
 /// Whether sums, differences, products, quotients and remainders are as expected, in this order, and division by 0 fails. Quotients and
 /// remainders are by the operands after 0.
-fn row_agrees(table: &Table, row: &Row) -> [bool; 6] {
-    let Table {
+fn row_agrees(table: &OperatorTable, row: &OperatorRow) -> [bool; 6] {
+    let OperatorTable {
         width,
         operands,
         ..

@@ -4,7 +4,7 @@ ghost use Rattle.std.specs.Prelude.{◌≡◌, IfOk};
 ghost use Rattle.ti_base.specs.Points.{IsDim};
 ghost use Rattle.ti_base.specs.Rects.{IsRect};
 
-use super::spans::{Both, Span, both_of, rect_of};
+use super::spans::{DomainPair, Span, both_of, rect_of};
 use std::alloc::Global;
 use std::test::Fail;
 use ti_base::{Point, Rect};
@@ -35,7 +35,7 @@ fn is_within(dim: u8, spans: [Span; 3], p: Point) -> bool {
 }
 
 /// The next pseudo-random number.
-fn turned(state: u32) -> u32 {
+fn next_random(state: u32) -> u32 {
     state.wrapping_mul(1664525).wrapping_add(1013904223)
 }
 
@@ -47,9 +47,9 @@ fn small(state: u32, count: u32, least: i32) -> i32 {
 
 /// A small span from a seed, and the next seed.
 fn span_of(seed: u32) -> (Span, u32) {
-    let low = turned(seed);
-    let high = turned(low);
-    let step = turned(high);
+    let low = next_random(seed);
+    let high = next_random(low);
+    let step = next_random(high);
     let span = Span(small(low, 9, -2), small(high, 9, 1), small(step, 4, 1));
     (span, step)
 }
@@ -128,7 +128,7 @@ struct Results {
 }
 
 /// The union, the difference and the intersection of the two.
-fn results_of(alloc: Global, both: &Both) -> Result<Results, Fail>
+fn results_of(alloc: Global, both: &DomainPair) -> Result<Results, Fail>
     ensures { IfOk result (λ results. results.dim ≡ both.now.dim) }
 {
     let union = dom_union(alloc, &both.left, &both.right)?;
@@ -232,7 +232,12 @@ fn is_alone(domain: &Dom, r: &Rect) -> bool {
 }
 
 /// Whether the union commutes, and the two are equal exactly if the rectangles are.
-fn equality_agrees(alloc: Global, both: &Both, union: &Dom, is_same: bool) -> Result<bool, Fail>
+fn equality_agrees(
+    alloc: Global,
+    both: &DomainPair,
+    union: &Dom,
+    is_same: bool,
+) -> Result<bool, Fail>
     requires { union.now.dim ≡ both.now.dim }
 {
     let other = dom_union(alloc, &both.right, &both.left)?;
@@ -242,7 +247,7 @@ fn equality_agrees(alloc: Global, both: &Both, union: &Dom, is_same: bool) -> Re
 /// Whether sizes, pieces and equality of the domains agree with counting.
 fn counts_agree(
     alloc: Global,
-    both: &Both,
+    both: &DomainPair,
     results: &Results,
     spans: Spans,
     is_same: bool,
@@ -258,12 +263,12 @@ fn counts_agree(
 }
 
 /// Whether each domain of a rectangle is represented by it only.
-fn are_alone(both: &Both, r: &Rect, s: &Rect) -> bool {
+fn are_alone(both: &DomainPair, r: &Rect, s: &Rect) -> bool {
     is_alone(&both.left, r) && is_alone(&both.right, s)
 }
 
 /// The first points of the box at which rectangles and domains aren't as expected, and whether what they count agrees with counting.
-fn compared(alloc: Global, spans: Spans) -> Result<(Option<Point>, Option<Point>, bool), Fail>
+fn compare_sets(alloc: Global, spans: Spans) -> Result<(Option<Point>, Option<Point>, bool), Fail>
     requires { IsDim spans.dim }
 {
     let r = rect_of(spans.dim, spans.a)?;
@@ -311,7 +316,7 @@ fn small_rectangles_against_plain_lists(rt: HostRuntime) -> Result<(), Fail> {
             let (spans, end) = pair_of(case.dim, state);
             assert!(rt; 1 <= spans.dim && spans.dim <= 3);
             assert_eq!(rt;
-                compared(rt.alloc(), spans)?,
+                compare_sets(rt.alloc(), spans)?,
                 (None, None, true),
                 "seed {state}"
             );

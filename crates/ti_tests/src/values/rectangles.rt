@@ -10,7 +10,7 @@ use ti_rect::{
 };
 
 /// A range, and the expected results of functions on one-dimensional rectangles.
-struct Line {
+struct RangeCase {
     span: Span,
     size: Option<i32>,
     least: Option<i32>,
@@ -19,57 +19,57 @@ struct Line {
     kept: (i32, i32, u32),
 }
 
-const LINES: [Line; 8] = [
-    Line {
+const LINES: [RangeCase; 8] = [
+    RangeCase {
         span: Span(0, 10, 3),
         size: Some(4),
         least: Some(0),
         greatest: Some(9),
         kept: (0, 9, 3),
     },
-    Line {
+    RangeCase {
         span: Span(5, 7, 3),
         size: Some(1),
         least: Some(5),
         greatest: Some(5),
         kept: (5, 5, 1),
     },
-    Line {
+    RangeCase {
         span: Span(1, 0, 7),
         size: Some(0),
         least: None,
         greatest: None,
         kept: (1, 0, 1),
     },
-    Line {
+    RangeCase {
         span: Span(i32::MAX, i32::MIN, 1),
         size: Some(0),
         least: None,
         greatest: None,
         kept: (1, 0, 1),
     },
-    Line {
+    RangeCase {
         span: Span(i32::MIN, i32::MAX, 1),
         size: None,
         least: Some(i32::MIN),
         greatest: Some(i32::MAX),
         kept: (i32::MIN, i32::MAX, 1),
     },
-    Line {
+    RangeCase {
         span: Span(i32::MIN, -2, 1),
         size: Some(i32::MAX),
         least: Some(i32::MIN),
         greatest: Some(-2),
         kept: (i32::MIN, -2, 1),
     },
-    Line {
+    RangeCase {
         span: Span(i32::MIN, i32::MAX, i32::MAX),
         size: Some(3),
         least: Some(i32::MIN),
         greatest: Some(2147483646),
         kept: (i32::MIN, 2147483646, 2147483647),
     },
-    Line {
+    RangeCase {
         span: Span(1, i32::MAX, i32::MAX),
         size: Some(1),
         least: Some(1),

@@ -60,7 +60,7 @@ pub fn line(span: Span) -> Result<Rect, BadStride>
 
 /// Two domains with the same number of dimensions.
 #[derive(Drop)]
-pub struct Both {
+pub struct DomainPair {
     pub dim: u8,
     pub left: Dom,
     pub right: Dom,
@@ -69,7 +69,7 @@ pub struct Both {
 }
 
 /// The domains of two rectangles.
-pub fn both_of(alloc: Global, dim: u8, r: &Rect, s: &Rect) -> Result<Both, Fail>
+pub fn both_of(alloc: Global, dim: u8, r: &Rect, s: &Rect) -> Result<DomainPair, Fail>
     requires first { IsRect r.now }
     requires second { IsRect s.now }
     requires first_dim { r.now.dim ≡ dim }
@@ -78,5 +78,5 @@ pub fn both_of(alloc: Global, dim: u8, r: &Rect, s: &Rect) -> Result<Both, Fail>
 {
     let left = dom_of(alloc, r)?;
     let right = dom_of(alloc, s)?;
-    Ok(Both { dim, left, right })
+    Ok(DomainPair { dim, left, right })
 }

@@ -2,7 +2,7 @@
 -- What compiling a text answers.
 use Rattle.std.specs.Prelude.{◌≡◌, ℕ, List, Result, Ok, Err}
 use Rattle.ti_syntax.specs.Trees.Classes.{TextTree}
-use Rattle.ti_lang.specs.Program.Classes.{NumberedProgram}
+use Rattle.ti_lang.specs.Program.Classes.{ProgramView}
 use Rattle.ti_lang.specs.declared.program.numbered.Program.{Program}
 use Rattle.ti_lang.specs.Program.Views.{program_of}
 use Rattle.ti_lang.specs.Numbering.{Numbers}
@@ -20,12 +20,12 @@ use Rattle.ti_check.specs.declared.error.CheckErr.{CheckErr}
 use Rattle.ti_check.specs.declared.error.CheckErr.TheVariants as checker
 use Rattle.ti_top.specs.declared.compiling.CompileErr.{CompileErr}
 use Rattle.ti_top.specs.declared.compiling.CompileErr.TheVariants.{Refused, Memory}
-use Rattle.ti_top.specs.declared.ending.Ending.{Ending}
-use Rattle.ti_top.specs.declared.ending.Ending.TheVariants as ending
+use Rattle.ti_top.specs.declared.exit.Exit.{Exit}
+use Rattle.ti_top.specs.declared.exit.Exit.TheVariants as ending
 use Rattle.ti_top.specs.Inference.{IsUnmarkedRefusal}
 
 -- the program that a text has by the rules of bytes, tokens and names
-pub record IsRead (text : List ℕ) (program : NumberedProgram) : Type 0 where
+pub record IsRead (text : List ℕ) (program : ProgramView) : Type 0 where
   pub tree : TextTree
   pub has_tree : HasTree text tree
   pub named : HasNone (BreaksNames tree)
@@ -38,15 +38,15 @@ ReadsProgram text (Err (Refused refusal)) = IsRefusal text refusal × IsUnmarked
 ReadsProgram text (Err Memory) = Unit {0}
 
 -- the program of a text, which has no other one and no refusal; it is aligned
-pub record IsCompiled (text : List ℕ) (program : NumberedProgram) : Type 0 where
+pub record IsCompiled (text : List ℕ) (program : ProgramView) : Type 0 where
   pub has : HasProgram text program
-  pub only : (other : NumberedProgram) → HasProgram text other → other ≡ program
+  pub only : (other : ProgramView) → HasProgram text other → other ≡ program
   pub unrefused : HasNone (IsRefusal text)
   pub aligned : IsAligned program
 
 -- the text has no program
 abbrev pub HasNoProgram : List ℕ → Type 0
-HasNoProgram text = (program : NumberedProgram) → HasProgram text program → ⊥
+HasNoProgram text = (program : ProgramView) → HasProgram text program → ⊥
 
 -- the program of the text or its refusal; it may run out of memory at any time
 abbrev pub Compiles : List ℕ → Result Checked CompileErr → Type 0
@@ -72,6 +72,6 @@ of_check (checker.Refused refusal) = Refused refusal
 of_check checker.Memory = Memory
 
 -- how the work ends with an error
-abbrev pub ending_by : CompileErr → Ending
+abbrev pub ending_by : CompileErr → Exit
 ending_by (Refused refusal) = ending.Refused refusal
 ending_by Memory = ending.NoMemory

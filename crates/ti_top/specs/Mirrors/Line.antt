@@ -12,5 +12,5 @@ pub record RoomyLine : Type 0 where
   pub room : ℕ
 
 -- there is room for each of these literals, a value and a line end
-abbrev pub HasRoom : List (List ℕ) → RoomyLine → Type 0
-HasRoom literals line = (n : ℕ) → length (slice_index_or literals n []) + value_room ≤ line.room
+abbrev pub HasLineRoom : List (List ℕ) → RoomyLine → Type 0
+HasLineRoom literals line = (n : ℕ) → length (slice_index_or literals n []) + value_room ≤ line.room

@@ -4,7 +4,7 @@ use Rattle.std.specs.Prelude.{◌≡◌, ◌⊎◌, ℕ, ◌≤◌, List, [], le
 use Rattle.ti_io.specs.Faults.{Rose}
 use Rattle.ti_io.specs.Source.{SourceState, SameFiles, IsMissing, Holds}
 use Rattle.ti_io.specs.Sink.{IsFront}
-use Rattle.ti_top.specs.Call.{most_read}
+use Rattle.ti_top.specs.CommandCall.{most_read}
 use Rattle.ti_top.specs.declared.reading.ReadEnd.{ReadEnd}
 use Rattle.ti_top.specs.declared.reading.ReadEnd.TheVariants.{Whole, CantRead}
 

@@ -17,7 +17,7 @@ pub record ReportedFew (watchers : List Watcher) (history : List Entry) (out out
   pub grew : GrewBy out out_after (reports few history)
 
 -- the watchers were told the history and their reports written, up to the first call that failed
-pub record Reported (watchers : List Watcher) (history : List Entry) (out out_after : SinkState) (end : ReportEnd) : Type 0 where
+pub record WritesReports (watchers : List Watcher) (history : List Entry) (out out_after : SinkState) (end : ReportEnd) : Type 0 where
   pub never_falls : out.faults ≤ out_after.faults
   pub tells : out_after.tells ≡ out.tells
   pub rose : end ≡ CantWrite → Rose out.faults out_after.faults

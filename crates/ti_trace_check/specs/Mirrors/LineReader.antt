@@ -21,7 +21,7 @@ pub record Fills (held left held_now left_now : List ℕ) : Type 0 where
   pub at_end : held_now ≡ [] → left_now ≡ []
 
 -- the line is the first one of the source, or as much of it as is held
-pub record IsFirst (text line : List ℕ) : Type 0 where
+pub record IsFirstLine (text line : List ℕ) : Type 0 where
   pub more : List ℕ
   pub begins : first_line text ≡ line ++ more
   pub whole : (more ≡ []) ⊎ (line_room ≤ length line)
@@ -29,4 +29,4 @@ pub record IsFirst (text line : List ℕ) : Type 0 where
 -- the line was consumed
 pub record TakesLine (text line left : List ℕ) : Type 0 where
   pub off : text ≡ line ++ left
-  pub first : IsFirst text line
+  pub first : IsFirstLine text line

@@ -2,85 +2,85 @@
 use Rattle.std.specs.Prelude.{ℕ, ◌&&◌, ◌==◌, Bool, false, is_none, is_some, if◌then◌else◌, List, [], ◌∷◌, length, Option, Some, None, option_map}
 use Rattle.ti_base.specs.declared.place.Place.{Place}
 use Rattle.ti_lang.specs.Program.Types.{ValueType}
-use Rattle.ti_lang.specs.Program.Classes.{NumberedParams, Words, Params, NumberedMethod}
+use Rattle.ti_lang.specs.Program.Classes.{NumberedParams, MainArgs, Params, NumberedMethod}
 use Rattle.ti_lang.specs.Typing.Kinds.{where_true}
 use Rattle.ti_lang.specs.Typing.Declared.{types_of, result_type}
-use Rattle.ti_lang.specs.Typing.Expressions.{Typed, is_int, all_ints}
+use Rattle.ti_lang.specs.Typing.Expressions.{ExprTyping, is_int, all_ints}
 use Rattle.ti_rules.specs.declared.rule.Rule.TheVariants.{Y4}
 use Rattle.ti_rules.specs.declared.refusal.Refusal.{Refusal}
-use Rattle.ti_rules.specs.Mirrors.First.{sooner, first_of}
-use Rattle.ti_rules.specs.Broken.Refused.{refused, misfit}
+use Rattle.ti_rules.specs.Mirrors.First.{earlier_of, earliest}
+use Rattle.ti_rules.specs.Broken.Refused.{refusal_at, misfit}
 use Rattle.ti_rules.specs.Broken.Calls.{misfits, first_misfit}
 use Rattle.ti_types.specs.declared.arguments.ArgumentTypes.{ArgumentTypes}
-use Rattle.ti_lang.specs.Typing.Seen.{seen}
+use Rattle.ti_lang.specs.Typing.TyRef.{ty_view}
 
 -- the summary of argument types: whether all are ints, the first two, and the first error of one that doesn't fit its parameter
-pub record ToldTypes : Type 0 where
+pub record ArgumentSummary : Type 0 where
   pub ints : Bool
   pub first : Option ValueType
   pub second : Option ValueType
   pub misfit : Option Refusal
 
 -- the first of a list
-abbrev pub first_type : List ValueType → Option ValueType
-first_type [] = None
-first_type (t ∷ ts) = Some t
+abbrev pub head_type : List ValueType → Option ValueType
+head_type [] = None
+head_type (t ∷ ts) = Some t
 
 -- the second of a list
 abbrev pub second_type : List ValueType → Option ValueType
 second_type [] = None
-second_type (t ∷ ts) = first_type ts
+second_type (t ∷ ts) = head_type ts
 
 -- the summary of the types `ts` at these positions, with parameters of the types `us`
-abbrev pub told : List Place → List ValueType → List ValueType → ToldTypes
-told places us ts = record { ints = all_ints ts; first = first_type ts; second = second_type ts; misfit = first_of (misfits places ts us) }
+abbrev pub summary : List Place → List ValueType → List ValueType → ArgumentSummary
+summary places us ts = record { ints = all_ints ts; first = head_type ts; second = second_type ts; misfit = earliest (misfits places ts us) }
 
 -- the error of a type that doesn't fit its parameter's type; None if there is no parameter
-abbrev pub wanted_misfit : Place → ValueType → Option ValueType → Option Refusal
-wanted_misfit at t None = None
-wanted_misfit at t (Some u) = first_of (misfit at t u)
+abbrev pub parameter_refusal : Place → ValueType → Option ValueType → Option Refusal
+parameter_refusal at t None = None
+parameter_refusal at t (Some u) = earliest (misfit at t u)
 
 -- the summary with one more argument prepended
-abbrev pub more : Place → Option ValueType → ValueType → ToldTypes → ToldTypes
-more at u t rest =
-    record { ints = is_int t && rest.ints; first = Some t; second = rest.first; misfit = sooner (wanted_misfit at t u) rest.misfit }
+abbrev pub prepend : Place → Option ValueType → ValueType → ArgumentSummary → ArgumentSummary
+prepend at u t rest =
+    record { ints = is_int t && rest.ints; first = Some t; second = rest.first; misfit = earlier_of (parameter_refusal at t u) rest.misfit }
 
 -- the model of the summary in the code
-abbrev pub told_of : ArgumentTypes → ToldTypes
-told_of t = record { ints = t.ints; first = option_map seen t.first; second = option_map seen t.second; misfit = t.misfit }
+abbrev pub summary_of : ArgumentTypes → ArgumentSummary
+summary_of t = record { ints = t.ints; first = option_map ty_view t.first; second = option_map ty_view t.second; misfit = t.misfit }
 
 -- the types of parameters; `String[] x` has none that a value could have
 abbrev pub types_in : NumberedParams → List ValueType
-types_in Words = []
+types_in MainArgs = []
 types_in (Params params) = types_of params
 
 -- the parameter types of a method; none if there is no method
-abbrev pub wanted_types : Option NumberedMethod → List ValueType
-wanted_types None = []
-wanted_types (Some m) = types_in m.params
+abbrev pub parameter_types : Option NumberedMethod → List ValueType
+parameter_types None = []
+parameter_types (Some m) = types_in m.params
 
 -- whether parameters accept `count` arguments whose first misfit is this
-abbrev pub told_takes : NumberedParams → ℕ → Option Refusal → Bool
-told_takes Words count misfit = false
-told_takes (Params params) count misfit = (count == length params) && is_none misfit
+abbrev pub params_accept : NumberedParams → ℕ → Option Refusal → Bool
+params_accept MainArgs count misfit = false
+params_accept (Params params) count misfit = (count == length params) && is_none misfit
 
 -- the result type of a call with `count` arguments, if they are accepted
-abbrev pub told_call : Option NumberedMethod → ℕ → ToldTypes → Option ValueType
-told_call None count told = None
-told_call (Some m) count told = where_true (told_takes m.params count told.misfit) (result_type m)
+abbrev pub summary_call_type : Option NumberedMethod → ℕ → ArgumentSummary → Option ValueType
+summary_call_type None count summary = None
+summary_call_type (Some m) count summary = where_true (params_accept m.params count summary.misfit) (result_type m)
 
 -- the first error of a call's arguments
-abbrev pub told_params : Place → List Place → NumberedParams → ℕ → Option Refusal → Option Refusal
-told_params at places Words count misfit = if count == 1 then first_of (first_misfit places) else first_of (refused Y4 at)
-told_params at places (Params params) count misfit = if count == length params then misfit else first_of (refused Y4 at)
+abbrev pub summary_params_refusal : Place → List Place → NumberedParams → ℕ → Option Refusal → Option Refusal
+summary_params_refusal at places MainArgs count misfit = if count == 1 then earliest (first_misfit places) else earliest (refusal_at Y4 at)
+summary_params_refusal at places (Params params) count misfit = if count == length params then misfit else earliest (refusal_at Y4 at)
 
 -- the first error of a call by itself; `otherwise` if there is no method, and none if an argument has no type
-abbrev pub told_refusal : Place → List Place → Option NumberedMethod → Option Refusal → ℕ → Option ToldTypes → Option Refusal
-told_refusal at places m otherwise count None = None
-told_refusal at places None otherwise count (Some told) = otherwise
-told_refusal at places (Some m) otherwise count (Some told) = told_params at places m.params count told.misfit
+abbrev pub summary_call_refusal : Place → List Place → Option NumberedMethod → Option Refusal → ℕ → Option ArgumentSummary → Option Refusal
+summary_call_refusal at places m otherwise count None = None
+summary_call_refusal at places None otherwise count (Some summary) = otherwise
+summary_call_refusal at places (Some m) otherwise count (Some summary) = summary_params_refusal at places m.params count summary.misfit
 
 -- the typing result of a call with `count` arguments, by itself
-abbrev pub told_called : Option NumberedMethod → ℕ → Option ToldTypes → Typed
-told_called m count None = record { type = None; is_call = false }
-told_called m count (Some told) = record { type = told_call m count told; is_call = is_some m }
+abbrev pub summary_call : Option NumberedMethod → ℕ → Option ArgumentSummary → ExprTyping
+summary_call m count None = record { type = None; is_call = false }
+summary_call m count (Some summary) = record { type = summary_call_type m count summary; is_call = is_some m }

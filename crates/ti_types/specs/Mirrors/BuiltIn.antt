@@ -6,24 +6,24 @@ use Rattle.ti_lang.specs.Typing.BuiltIn as member
 use Rattle.ti_lang.specs.Typing.BuiltIn.{member_type}
 use Rattle.ti_rules.specs.declared.rule.Rule.TheVariants.{Y1, Y4}
 use Rattle.ti_rules.specs.declared.refusal.Refusal.{Refusal}
-use Rattle.ti_lang.specs.Typing.Alike.{one_dim}
-use Rattle.ti_rules.specs.Broken.Refused.{refused, mistaken}
+use Rattle.ti_lang.specs.Typing.Alike.{erase_dims}
+use Rattle.ti_rules.specs.Broken.Refused.{refusal_at, operand_refusal}
 use Rattle.ti_rules.specs.Broken.Calls.{has_member, arity, copy_refusals, exchange_refusals, slice_refusals}
-use Rattle.ti_types.specs.Mirrors.Arguments.{ToldTypes}
+use Rattle.ti_types.specs.Mirrors.Arguments.{ArgumentSummary}
 
 -- the list of `count` types whose first two are these, if there are no more than two
-abbrev pub listed : ℕ → Option ValueType → Option ValueType → Option (List ValueType)
-listed count None u = if count == 0 then Some [] else None
-listed count (Some t) None = if count == 1 then Some (t ∷ []) else None
-listed count (Some t) (Some u) = if count == 2 then Some (t ∷ u ∷ []) else None
+abbrev pub argument_list : ℕ → Option ValueType → Option ValueType → Option (List ValueType)
+argument_list count None u = if count == 0 then Some [] else None
+argument_list count (Some t) None = if count == 1 then Some (t ∷ []) else None
+argument_list count (Some t) (Some u) = if count == 2 then Some (t ∷ u ∷ []) else None
 
 -- the result type of a built-in member with `count` arguments
-abbrev pub told_member : member.BuiltIn → ValueType → ℕ → ToldTypes → Option ValueType
-told_member b t count told = option_and_then (member_type b t) (listed count told.first told.second)
+abbrev pub summary_member_type : member.BuiltIn → ValueType → ℕ → ArgumentSummary → Option ValueType
+summary_member_type b t count told = option_and_then (member_type b t) (argument_list count told.first told.second)
 
 -- the errors of the arguments of a member that accepts them by their types
 abbrev pub other_refusals : Place → member.BuiltIn → ValueType → List ValueType → List Refusal
-other_refusals at b t ts = mistaken at (is_some (member_type b t ts)) (is_some (member_type b (one_dim t) (map one_dim ts)))
+other_refusals at b t ts = operand_refusal at (is_some (member_type b t ts)) (is_some (member_type b (erase_dims t) (map erase_dims ts)))
 
 -- the errors of the argument of a member with one parameter
 abbrev pub one_refusals : Place → member.BuiltIn → ValueType → ValueType → List Refusal
@@ -39,13 +39,13 @@ arguments_by at b t (suc (suc n)) (Some u) (Some v) = slice_refusals at t (u ∷
 arguments_by at b t n u v = []
 
 -- the errors of a member's arguments, given that their number is right and their summary is this
-abbrev pub told_arguments : Place → member.BuiltIn → ValueType → ToldTypes → List Refusal
-told_arguments at b t told = arguments_by at b t (arity b) told.first told.second
+abbrev pub summary_argument_refusals : Place → member.BuiltIn → ValueType → ArgumentSummary → List Refusal
+summary_argument_refusals at b t told = arguments_by at b t (arity b) told.first told.second
 
 -- the errors of a built-in member with `count` arguments
-abbrev pub told_built_in : Place → Option member.BuiltIn → ValueType → ℕ → ToldTypes → List Refusal
-told_built_in at None t count told = refused Y1 at
-told_built_in at (Some b) t count told =
-    if not (has_member b t) then refused Y1 at else
-    if not (count == arity b) then refused Y4 at else
-    told_arguments at b t told
+abbrev pub summary_built_in_refusals : Place → Option member.BuiltIn → ValueType → ℕ → ArgumentSummary → List Refusal
+summary_built_in_refusals at None t count told = refusal_at Y1 at
+summary_built_in_refusals at (Some b) t count told =
+    if not (has_member b t) then refusal_at Y1 at else
+    if not (count == arity b) then refusal_at Y4 at else
+    summary_argument_refusals at b t told

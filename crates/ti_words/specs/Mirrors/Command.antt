@@ -7,10 +7,10 @@ use Rattle.clap.specs.Walk.{Rule}
 use Rattle.clap.specs.declared.builder.action.ArgAction.TheVariants.{Set, SetTrue}
 use Rattle.clap.specs.declared.parser.matches.ValueSource.{ValueSource}
 use Rattle.clap.specs.declared.parser.matches.ValueSource.TheVariants.{CommandLine, DefaultValue}
-use Rattle.ti_words.specs.Uses.{Piece, Word, awaits, gives, plain, wrong, behind, piece_of}
+use Rattle.ti_words.specs.Uses.{ArgKind, Word, awaits, gives, plain, wrong, strip_front, piece_of}
 
 -- the argument can occur on the command line
-abbrev pub can_stand : Piece → Bool
+abbrev pub can_stand : ArgKind → Bool
 can_stand wrong = false
 can_stand (awaits name) = true
 can_stand (gives use_of) = true
@@ -28,7 +28,7 @@ is_left (Some (byte ∷ bytes)) = true
 
 -- the argument is this option, or begins with `front` and has a non-empty value after it
 abbrev pub is_setting : Word → Word → Word → Bool
-is_setting flag front word = bytes_eq word flag || is_left (behind front word)
+is_setting flag front word = bytes_eq word flag || is_left (strip_front front word)
 
 -- the value comes from the command line
 abbrev pub is_from_words : Option ValueSource → Bool

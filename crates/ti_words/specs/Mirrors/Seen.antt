@@ -1,12 +1,12 @@
 -- Mirrors the code, for contracts of private functions: its strings as lists of bytes.
 use Rattle.std.specs.Prelude.{option_map}
 use Rattle.ti_words.specs.Job.{Values}
-use Rattle.ti_words.specs.declared.arguments.Given.{Given}
+use Rattle.ti_words.specs.declared.arguments.RawArgs.{RawArgs}
 use Rattle.ti_words.specs.declared.job.Job.{Job}
-use Rattle.ti_words.specs.declared.words.Asked.{Asked}
+use Rattle.ti_words.specs.declared.words.JobRef.{JobRef}
 
 -- the values of options as lists of bytes
-abbrev pub values_seen : Given → Values
+abbrev pub values_seen : RawArgs → Values
 values_seen g = record {
   mode = option_map (λ s. s.now) g.mode;
   procs = option_map (λ s. s.now) g.procs;
@@ -21,7 +21,7 @@ values_seen g = record {
 }
 
 -- the job with its file names as lists of bytes
-abbrev pub job_asked : Asked → Job
+abbrev pub job_asked : JobRef → Job
 job_asked a = record {
   mode = a.mode;
   procs = a.procs;

@@ -3,4 +3,4 @@ use Rattle.ti_align.proofs.Runs.EveryRun as every
 use Rattle.ti_align.proofs.laws.none_after_end.Goals as goal
 
 pub returns : goal.returns
-returns c = every.none_after_end (program_of c.args.c.now.program.parts) (record { numbered = c.args.c.now.program.numbered; unbroken = c.args.c.now.unbroken })
+returns c = every.none_after_end (program_of c.args.checked.now.program.parts) (record { numbered = c.args.checked.now.program.numbered; unbroken = c.args.checked.now.unbroken })

@@ -4,5 +4,5 @@ use Rattle.ti_align.proofs.laws.nothing_dangles.Goals as goal
 
 pub returns : goal.returns
 returns c =
-    dangling.nothing_dangles (program_of c.args.c.now.program.parts) (record { numbered = c.args.c.now.program.numbered; unbroken = c.args.c.now.unbroken })
-    c.args.c.now.literals
+    dangling.nothing_dangles (program_of c.args.checked.now.program.parts) (record { numbered = c.args.checked.now.program.numbered; unbroken = c.args.checked.now.unbroken })
+    c.args.checked.now.literals

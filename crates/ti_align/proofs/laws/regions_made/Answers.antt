@@ -4,5 +4,5 @@ use Rattle.ti_align.proofs.laws.regions_made.Goals as goal
 
 pub returns : goal.returns
 returns c =
-    ended.regions_made (program_of c.args.c.now.program.parts) (record { numbered = c.args.c.now.program.numbered; unbroken = c.args.c.now.unbroken })
-    c.args.c.now.literals
+    ended.regions_made (program_of c.args.checked.now.program.parts) (record { numbered = c.args.checked.now.program.numbered; unbroken = c.args.checked.now.unbroken })
+    c.args.checked.now.literals

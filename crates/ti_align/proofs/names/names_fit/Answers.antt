@@ -4,5 +4,5 @@ use Rattle.ti_align.proofs.names.names_fit.Goals as goal
 
 pub returns : goal.returns
 returns c =
-    every.names_fit (program_of c.args.c.now.program.parts) (record { numbered = c.args.c.now.program.numbered; unbroken = c.args.c.now.unbroken })
-    c.args.c.now.literals
+    every.names_fit (program_of c.args.checked.now.program.parts) (record { numbered = c.args.checked.now.program.numbered; unbroken = c.args.checked.now.unbroken })
+    c.args.checked.now.literals

@@ -5,5 +5,5 @@ use Rattle.ti_base.proofs.int_calls.int_shl.Goals as goal
 
 pub returns : goal.returns
 returns c =
-    shifts_left w32 c.args.a c.args.b c.wrapping_shl.result _ c.ranges.a
-    (low_bits w32 c.args.b c.cast_unsigned.result 32 134217728 (lit< tt) refl c.ranges.b c.cast_unsigned.ensures) c.wrapping_shl.ensures
+    shifts_left w32 c.args.left c.args.right c.wrapping_shl.result _ c.ranges.left
+    (low_bits w32 c.args.right c.cast_unsigned.result 32 134217728 (lit< tt) refl c.ranges.right c.cast_unsigned.ensures) c.wrapping_shl.ensures

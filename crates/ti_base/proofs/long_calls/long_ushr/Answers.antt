@@ -6,6 +6,6 @@ use Rattle.ti_base.proofs.long_calls.long_ushr.Goals as goal
 
 pub returns : goal.returns
 returns c =
-    shifts_unsigned w64 c.args.a c.args.b c.cast_signed.result c.cast_unsigned-bits.result c.wrapping_shr.result _ c.ranges.a
-    (mod-eq_of_lt (mod-lt c.cast_unsigned.result (lit< tt)) ∙ low_bits w64 c.args.b c.cast_unsigned.result 64 288230376151711744 (lit< tt) refl c.ranges.b c.cast_unsigned.ensures)
+    shifts_unsigned w64 c.args.left c.args.right c.cast_signed.result c.cast_unsigned-bits.result c.wrapping_shr.result _ c.ranges.left
+    (mod-eq_of_lt (mod-lt c.cast_unsigned.result (lit< tt)) ∙ low_bits w64 c.args.right c.cast_unsigned.result 64 288230376151711744 (lit< tt) refl c.ranges.right c.cast_unsigned.ensures)
     c.cast_unsigned-bits.ensures c.wrapping_shr.ensures c.cast_signed.ensures

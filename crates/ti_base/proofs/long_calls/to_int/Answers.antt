@@ -2,4 +2,4 @@ use Rattle.ti_base.proofs.WholeLaws.{narrows}
 use Rattle.ti_base.proofs.long_calls.to_int.Goals as goal
 
 pub returns : goal.returns
-returns c = narrows c.args.a c.cast_signed.result c.cast_unsigned.result c.ranges.a c.cast_unsigned.ensures c.cast_signed.ensures
+returns c = narrows c.args.number c.cast_signed.result c.cast_unsigned.result c.ranges.number c.cast_unsigned.ensures c.cast_signed.ensures

@@ -4,7 +4,7 @@ use Rattle.ti_rules.proofs.Lemmas.{found, nothing_found}
 use Rattle.ti_check.proofs.checking.check.Goals as goal
 
 pub of-requires : goal.of-requires
-of-requires c = nothing_found (program_of c.args.p.parts) (sym c.in_ok-found.ensures ∙ c.in-None.is)
+of-requires c = nothing_found (program_of c.args.program.parts) (sym c.in_ok-found.ensures ∙ c.in-None.is)
 
 pub returns-in-Some : goal.returns-in-Some
-returns-in-Some c = found (program_of c.args.p.parts) c.in-Some.refusal (sym c.in_ok-found.ensures ∙ c.in-Some.is)
+returns-in-Some c = found (program_of c.args.program.parts) c.in-Some.refusal (sym c.in_ok-found.ensures ∙ c.in-Some.is)

@@ -7,17 +7,17 @@ use Rattle.ti_rect.specs.declared.axis.Axis.{Axis}
 use Rattle.ti_rect.specs.Axes.{range}
 use Rattle.ti_rect.specs.Parts.{IsOff, AreParts}
 use Rattle.ti_domain.specs.Pieces.{ArePiecesOf}
-use Rattle.ti_domain.specs.Slabs.{coordinate, range_at, with_range}
+use Rattle.ti_domain.specs.Slabs.{coordinate_of, range_at, with_range}
 use Rattle.ti_domain.proofs.SlabLaws.{slab_pieces}
 use Rattle.ti_domain.proofs.cut.slabs.Goals as goal
 
 pub returns : goal.returns
 returns c =
-    let r = c.args.r.now in
-    let k = c.args.k in
-    let out = range c.args.c in
+    let r = c.args.rect.now in
+    let k = c.args.coordinate in
+    let out = range c.args.removed in
     let parts = c.in_ok-parts.parts.items in
     let f : Axis → Rect = λ g. with_range k (range g) r in
     let cover : AreParts parts (IsOff (range_at k r) out) = subst (λ q. AreParts parts (IsOff q out)) c.axis_at.ensures c.in_ok-parts.ensures in
     let all = c.loop-part.invariant ∙ ap (map f) (take_all c.loop-part.part-index c.deref-part-items.result.now c.loop-part-test.false ∙ c.deref-part-items.ensures.value) in
-    subst (λ l. ArePiecesOf r.dim l (λ p. IsIn r p × (IsOn out (coordinate k p) → ⊥))) (sym all) (slab_pieces r.dim r c.requires.piece k out parts cover)
+    subst (λ l. ArePiecesOf r.dim l (λ p. IsIn r p × (IsOn out (coordinate_of k p) → ⊥))) (sym all) (slab_pieces r.dim r c.requires.piece k out parts cover)

@@ -4,4 +4,4 @@ use Rattle.ti_domain.specs.Slabs.{with_range}
 use Rattle.ti_domain.proofs.cut.slabs.Given as goal
 
 abbrev pub invariant-loop-part : goal.invariant-loop-part
-invariant-loop-part l = l.pieces.items ≡ map (λ g. with_range l.k (range g) l.r) (take l.part-index l.part-items)
+invariant-loop-part l = l.pieces.items ≡ map (λ g. with_range l.coordinate (range g) l.rect) (take l.part-index l.part-items)

@@ -5,6 +5,6 @@ use Rattle.ti_domain.proofs.meets.meets_with.Given as goal
 
 abbrev pub invariant-loop-other : goal.invariant-loop-other
 invariant-loop-other l = record {
-  pieces : ArePiecesOf l.r.dim l.common.items (λ p. IsIn l.r p × IsInSome (take l.other-index l.others) p);
+  pieces : ArePiecesOf l.rect.dim l.common.items (λ p. IsIn l.rect p × IsInSome (take l.other-index l.others) p);
   number : length l.common.items ≤ l.other-index;
 }

@@ -3,4 +3,4 @@ use Rattle.ti_domain.specs.Pieces.{IsInSome}
 use Rattle.ti_domain.proofs.members.dom_contains.Given as goal
 
 abbrev pub invariant-loop-r : goal.invariant-loop-r
-invariant-loop-r l = IsInSome (take l.r-index l.pieces) l.p → ⊥
+invariant-loop-r l = IsInSome (take l.r-index l.pieces) l.point → ⊥

@@ -5,8 +5,8 @@ use Rattle.ti_domain.proofs.SetLaws.{count_of}
 use Rattle.ti_domain.proofs.members.dom_size.Goals as goal
 use Rattle.ti_domain.proofs.members.dom_size.Goals.{After-dom_pieces}
 
-counted : (c : After-dom_pieces) → total_count c.dom_pieces.result.now ≡ length c.args.a.now.points
-counted c = sym (count_of c.args.a.now.dim c.dom_pieces.result.now c.dom_pieces.ensures.pieces) ∙ ap length (sym c.dom_pieces.ensures.list)
+counted : (c : After-dom_pieces) → total_count c.dom_pieces.result.now ≡ length c.args.dom.now.points
+counted c = sym (count_of c.args.dom.now.dim c.dom_pieces.result.now c.dom_pieces.ensures.pieces) ∙ ap length (sym c.dom_pieces.ensures.list)
 
 pub total-requires-clause-small : goal.total-requires-clause-small
 total-requires-clause-small c = let n = counted c in let b = c.dom_pieces.ensures.domain.bound in omega arith

@@ -3,16 +3,16 @@ use Rattle.ti_domain.specs.Domains.{Domain}
 use Rattle.ti_domain.proofs.SetLaws.{meet_kept, meet_points_in}
 use Rattle.ti_domain.proofs.sets.dom_meet.Goals as goal
 
-pub made-requires : goal.made-requires
-made-requires c =
-    meet_kept c.args.a.now c.args.b.now c.dom_pieces-left.result.now c.dom_pieces-right.result.now c.dom_pieces-left.ensures.domain c.dom_pieces-left.ensures.pieces c.dom_pieces-left.ensures.list
+pub dom_from_pieces-requires : goal.dom_from_pieces-requires
+dom_from_pieces-requires c =
+    meet_kept c.args.dom.now c.args.other.now c.dom_pieces-left.result.now c.dom_pieces-right.result.now c.dom_pieces-left.ensures.domain c.dom_pieces-left.ensures.pieces c.dom_pieces-left.ensures.list
     c.dom_pieces-right.ensures.domain c.dom_pieces-right.ensures.pieces c.dom_pieces-right.ensures.list c.requires c.dim_of-dim.result c.dim_of-dim.ensures
     c.in_ok-pieces.pieces.items c.in_ok-pieces.ensures.pieces
 
 pub returns-clause-points : goal.returns-clause-points
 returns-clause-points c =
-    ap (λ (d : Domain). d.points) c.made.ensures
-    ∙ meet_points_in c.args.a.now c.args.b.now c.dom_pieces-left.result.now c.dom_pieces-right.result.now c.dom_pieces-left.ensures.domain
+    ap (λ (d : Domain). d.points) c.dom_from_pieces.ensures
+    ∙ meet_points_in c.args.dom.now c.args.other.now c.dom_pieces-left.result.now c.dom_pieces-right.result.now c.dom_pieces-left.ensures.domain
     c.dom_pieces-left.ensures.pieces c.dom_pieces-left.ensures.list
     c.dom_pieces-right.ensures.domain c.dom_pieces-right.ensures.pieces c.dom_pieces-right.ensures.list c.requires c.dim_of-dim.result c.dim_of-dim.ensures
     c.in_ok-pieces.pieces.items c.in_ok-pieces.ensures.pieces

@@ -10,15 +10,15 @@ second_total : (c : After-total-2) → c.total-2.result ≡ total_count c.in_ok-
 second_total c = c.total-2.ensures ∙ ap total_count c.as_slice.ensures.value
 
 -- the two counts make up the union
-sum_is : (c : After-total-2) → c.total.result + c.total-2.result ≡ length (union c.args.a.now.points c.args.b.now.points)
+sum_is : (c : After-total-2) → c.total.result + c.total-2.result ≡ length (union c.args.dom.now.points c.args.other.now.points)
 sum_is c = (λ i. c.total.ensures i + second_total c i)
-    ∙ union_count c.args.a.now c.args.b.now c.dom_pieces-left.result.now c.dom_pieces-right.result.now c.dom_pieces-left.ensures.domain c.dom_pieces-left.ensures.pieces c.dom_pieces-left.ensures.list
+    ∙ union_count c.args.dom.now c.args.other.now c.dom_pieces-left.result.now c.dom_pieces-right.result.now c.dom_pieces-left.ensures.domain c.dom_pieces-left.ensures.pieces c.dom_pieces-left.ensures.list
     c.dom_pieces-right.ensures.domain c.dom_pieces-right.ensures.pieces c.dom_pieces-right.ensures.list c.requires c.dim_of-dim.result c.dim_of-dim.ensures
     c.in_ok-more.more.items c.in_ok-more.ensures
 
 pub total-requires-clause-small : goal.total-requires-clause-small
 total-requires-clause-small c =
-    let n = first_count c.args.a.now c.args.b.now c.dom_pieces-left.result.now c.dom_pieces-right.result.now
+    let n = first_count c.args.dom.now c.args.other.now c.dom_pieces-left.result.now c.dom_pieces-right.result.now
     c.dom_pieces-left.ensures.domain c.dom_pieces-left.ensures.pieces c.dom_pieces-left.ensures.list
     c.dom_pieces-right.ensures.domain c.dom_pieces-right.ensures.pieces c.dom_pieces-right.ensures.list c.requires c.dim_of-dim.result c.dim_of-dim.ensures in
     let b = c.dom_pieces-left.ensures.domain.bound in
@@ -26,17 +26,17 @@ total-requires-clause-small c =
 
 pub total-requires-2-clause-small : goal.total-requires-2-clause-small
 total-requires-2-clause-small c = subst (λ l. total_count l ≤ 1048576) (sym c.as_slice.ensures.value)
-    (more_small c.args.a.now c.args.b.now c.dom_pieces-left.result.now c.dom_pieces-right.result.now c.dom_pieces-left.ensures.domain c.dom_pieces-left.ensures.pieces c.dom_pieces-left.ensures.list
+    (more_small c.args.dom.now c.args.other.now c.dom_pieces-left.result.now c.dom_pieces-right.result.now c.dom_pieces-left.ensures.domain c.dom_pieces-left.ensures.pieces c.dom_pieces-left.ensures.list
     c.dom_pieces-right.ensures.domain c.dom_pieces-right.ensures.pieces c.dom_pieces-right.ensures.list c.requires c.dim_of-dim.result c.dim_of-dim.ensures
     c.in_ok-more.more.items c.in_ok-more.ensures)
 
 pub overflow_add-total : goal.overflow_add-total
 overflow_add-total c =
-    let n = first_count c.args.a.now c.args.b.now c.dom_pieces-left.result.now c.dom_pieces-right.result.now
+    let n = first_count c.args.dom.now c.args.other.now c.dom_pieces-left.result.now c.dom_pieces-right.result.now
     c.dom_pieces-left.ensures.domain c.dom_pieces-left.ensures.pieces c.dom_pieces-left.ensures.list
     c.dom_pieces-right.ensures.domain c.dom_pieces-right.ensures.pieces c.dom_pieces-right.ensures.list c.requires c.dim_of-dim.result c.dim_of-dim.ensures in
     let b = c.dom_pieces-left.ensures.domain.bound in
-    let m = more_small c.args.a.now c.args.b.now c.dom_pieces-left.result.now c.dom_pieces-right.result.now c.dom_pieces-left.ensures.domain
+    let m = more_small c.args.dom.now c.args.other.now c.dom_pieces-left.result.now c.dom_pieces-right.result.now c.dom_pieces-left.ensures.domain
     c.dom_pieces-left.ensures.pieces c.dom_pieces-left.ensures.list
     c.dom_pieces-right.ensures.domain c.dom_pieces-right.ensures.pieces c.dom_pieces-right.ensures.list c.requires c.dim_of-dim.result c.dim_of-dim.ensures
     c.in_ok-more.more.items c.in_ok-more.ensures in
@@ -50,15 +50,15 @@ returns-then-total-gt-MAX_POINTS-clause-large c = λ _.
     let t = c.if-total-gt-MAX_POINTS.true in
     omega arith
 
-pub made-requires : goal.made-requires
-made-requires c =
+pub dom_from_pieces-requires : goal.dom_from_pieces-requires
+dom_from_pieces-requires c =
     let own : c.in_ok-own.own.items ≡ c.dom_pieces-left.result.now = c.in_ok-own.ensures in
     let all = c.in_ok-pieces.ensures ∙ (λ i. own i ++ c.as_slice-2.ensures.value i) in
     let e = c.total.ensures in
-    let f = second_total (goal.at.made-requires c).After-total-2 in
+    let f = second_total (goal.at.dom_from_pieces-requires c).After-total-2 in
     let t = c.if-total-gt-MAX_POINTS.false in
     subst (IsKept c.dim_of-dim.result) (sym all)
-    (union_kept c.args.a.now c.args.b.now c.dom_pieces-left.result.now c.dom_pieces-right.result.now c.dom_pieces-left.ensures.domain c.dom_pieces-left.ensures.pieces c.dom_pieces-left.ensures.list
+    (union_kept c.args.dom.now c.args.other.now c.dom_pieces-left.result.now c.dom_pieces-right.result.now c.dom_pieces-left.ensures.domain c.dom_pieces-left.ensures.pieces c.dom_pieces-left.ensures.list
     c.dom_pieces-right.ensures.domain c.dom_pieces-right.ensures.pieces c.dom_pieces-right.ensures.list c.requires c.dim_of-dim.result c.dim_of-dim.ensures
     c.in_ok-more.more.items c.in_ok-more.ensures (omega arith))
 
@@ -72,7 +72,7 @@ pub returns-clause-points : goal.returns-clause-points
 returns-clause-points c =
     let own : c.in_ok-own.own.items ≡ c.dom_pieces-left.result.now = c.in_ok-own.ensures in
     let all = c.in_ok-pieces.ensures ∙ (λ i. own i ++ c.as_slice-2.ensures.value i) in
-    ap (λ (d : Domain). d.points) c.made.ensures ∙ ap points_in all
-    ∙ union_points c.args.a.now c.args.b.now c.dom_pieces-left.result.now c.dom_pieces-right.result.now c.dom_pieces-left.ensures.domain c.dom_pieces-left.ensures.pieces c.dom_pieces-left.ensures.list
+    ap (λ (d : Domain). d.points) c.dom_from_pieces.ensures ∙ ap points_in all
+    ∙ union_points c.args.dom.now c.args.other.now c.dom_pieces-left.result.now c.dom_pieces-right.result.now c.dom_pieces-left.ensures.domain c.dom_pieces-left.ensures.pieces c.dom_pieces-left.ensures.list
     c.dom_pieces-right.ensures.domain c.dom_pieces-right.ensures.pieces c.dom_pieces-right.ensures.list c.requires c.dim_of-dim.result c.dim_of-dim.ensures
     c.in_ok-more.more.items c.in_ok-more.ensures

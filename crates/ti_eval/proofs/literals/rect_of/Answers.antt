@@ -10,4 +10,4 @@ pub unreachable-requires : goal.unreachable-requires
 unreachable-requires c =
     let e = c.point_of_numbers-step.ensures.value ∙ ap point_of_numbers c.deref-3.ensures.value in
     let bad = c.rect_make.ensures.stride.0 (ap is_err c.in-Err.is) in
-    no_bad_stride (bounds_of c.args.b.now) (sym c.is_even.ensures ∙ c.if-not-is_even.false) c.requires (subst (λ (p : Point). HasBadStride p) e bad)
+    no_bad_stride (bounds_of c.args.bounds.now) (sym c.is_even.ensures ∙ c.if-not-is_even.false) c.requires (subst (λ (p : Point). HasBadStride p) e bad)

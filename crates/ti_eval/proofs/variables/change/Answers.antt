@@ -6,8 +6,8 @@ use Rattle.ti_eval.specs.declared.frame.Slot.{Slot}
 use Rattle.ti_eval.proofs.Slots.{changed_at, same_default}
 use Rattle.ti_eval.proofs.variables.change.Goals as goal
 
-pub returns-then-same : goal.returns-then-same
-returns-then-same c =
+pub returns-then-is_same_variable : goal.returns-then-is_same_variable
+returns-then-is_same_variable c =
     let xs = c.loop-n.slots.items in
     let m : ℕ = c.loop-n.n - 1 in
     let d : Slot = c.index.result.now in
@@ -17,7 +17,7 @@ returns-then-same c =
     let e : c.loop-n.n ≡ suc m = omega (arith, c.loop-n-test.true) in
     let l : m < length xs = omega (arith, c.loop-n-test.true, c.loop-n.invariant.within) in
     let same : same_variable x (slot_of (get_or xs m d)).named ≡ true =
-    subst (λ (y : Slot). same_variable x (slot_of y).named ≡ true) c.index.ensures (sym c.same.ensures ∙ c.if-same.true) in
+    subst (λ (y : Slot). same_variable x (slot_of y).named ≡ true) c.index.ensures (sym c.is_same_variable.ensures ∙ c.if-is_same_variable.true) in
     let k : i ≡ get_or xs m d = c.index_mut.ensures.value ∙ same_default xs m i d l in
     let is = ap (λ (y : Slot). slot_of (record y { held = c.args.held })) k in
     changed_at xs m c.loop-n.n d s x c.args.held e l same is c.loop-n.invariant.same

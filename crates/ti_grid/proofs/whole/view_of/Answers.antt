@@ -7,5 +7,5 @@ use Rattle.ti_grid.proofs.whole.view_of.Goals as goal
 
 pub returns-clause-below : goal.returns-clause-below
 returns-clause-below c =
-    subst (NumbersBelow (length (points_of c.args.dom.now))) (sym c.laid.ensures)
-    (subst (λ (r : Rect). NumbersBelow (length (points_of r)) c.whole.result) c.whole.ensures.dom (whole_below c.whole.result c.whole.ensures.numbers))
+    subst (NumbersBelow (length (points_of c.args.dom.now))) (sym c.view_from_layout.ensures)
+    (subst (λ (r : Rect). NumbersBelow (length (points_of r)) c.row_major_layout.result) c.row_major_layout.ensures.dom (whole_below c.row_major_layout.result c.row_major_layout.ensures.numbers))

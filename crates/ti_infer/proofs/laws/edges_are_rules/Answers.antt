@@ -1,5 +1,5 @@
-use Rattle.ti_infer.proofs.ProgramEdges.{kept_edges, edges_kept}
-use Rattle.ti_infer.proofs.FitEdges.{edges_fit, fit_edges_kept}
+use Rattle.ti_infer.proofs.ImplicationsOfProgram.{kept_edges, edges_kept}
+use Rattle.ti_infer.proofs.FitImplications.{edges_fit, fit_edges_kept}
 use Rattle.ti_infer.proofs.laws.edges_are_rules.Goals as goal
 
 pub returns : goal.returns

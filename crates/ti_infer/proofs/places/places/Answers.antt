@@ -11,7 +11,7 @@ use Rattle.ti_infer.proofs.places.places.Goals as goal
 
 pub returns : goal.returns
 returns c =
-    let m = numbered_method_of c.args.m.now in
+    let m = numbered_method_of c.args.method.now in
     let new = c.note_all.new.places.items in
     all_placed m new
     (subst (λ (old : List (Option Place)). AreAdded old new (place_among (locals_in_all (numbered_stms m.body)))) (c.in_ok-found.ensures

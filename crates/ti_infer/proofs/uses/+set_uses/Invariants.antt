@@ -9,7 +9,7 @@ abbrev pub invariant-set_in_all-loop-i : goal.invariant-set_in_all-loop-i
 invariant-set_in_all-loop-i g l =
     goal.unvisited-set_in_all-loop-i g l
     × ((k : ℕ) (d : Expr) → k < l.i
-    → expression_of (get_or l.xs.items k d) ≡ marked_exp (g.S.Singles.says l.singles) (expression_of (get_or l.initial.xs.items k d)))
+    → expression_of (get_or l.exprs.items k d) ≡ marked_exp (g.S.Singles.says l.singles) (expression_of (get_or l.initial.exprs.items k d)))
 
 abbrev pub invariant-set_in_ranges-loop-i : goal.invariant-set_in_ranges-loop-i
 invariant-set_in_ranges-loop-i g l =

@@ -15,10 +15,10 @@ none_left : (w : Where) (ps : List VariableUse) (code : List Instr) → args_on 
 none_left w [] code = refl
 none_left w (p ∷ ps) code = refl
 
-pub returns-else-i-xs : goal.returns-else-i-xs
-returns-else-i-xs c =
-    let w = where_of c.args.p.now in
+pub returns-else-i-exprs : goal.returns-else-i-exprs
+returns-else-i-exprs c =
+    let w = where_of c.args.context.now in
     let ps = parameters_from c.loop-i.i (map numbered_param_of (drop c.loop-i.i c.args.params.now)) in
-    sym (ap (λ (ys : List Expr). args_on w ps (numbered_exps (map expression_of ys)) c.loop-i.out.items) (drop_all c.loop-i.i c.args.xs.now (omega (arith, c.if-i-xs.false)))
+    sym (ap (λ (ys : List Expr). args_on w ps (numbered_exps (map expression_of ys)) c.loop-i.out.items) (drop_all c.loop-i.i c.args.exprs.now (omega (arith, c.if-i-exprs.false)))
     ∙ none_left w ps c.loop-i.out.items)
     ∙ c.loop-i.invariant

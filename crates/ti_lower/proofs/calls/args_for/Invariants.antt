@@ -8,8 +8,8 @@ use Rattle.ti_lower.proofs.calls.args_for.Given as goal
 
 abbrev pub invariant-loop-i : goal.invariant-loop-i
 invariant-loop-i l =
-    args_on (where_of l.p) (parameters_from l.i (map numbered_param_of (drop l.i l.params))) (numbered_exps (map expression_of (drop l.i l.xs))) l.out.items
-    ≡ args_on (where_of l.p) (parameters_from 0 (map numbered_param_of l.params)) (numbered_exps (map expression_of l.xs)) l.initial.out.items
+    args_on (where_of l.context) (parameters_from l.i (map numbered_param_of (drop l.i l.params))) (numbered_exps (map expression_of (drop l.i l.exprs))) l.out.items
+    ≡ args_on (where_of l.context) (parameters_from 0 (map numbered_param_of l.params)) (numbered_exps (map expression_of l.exprs)) l.initial.out.items
 
 abbrev pub decreases-loop-i : goal.decreases-loop-i
 decreases-loop-i l = length l.params - l.i

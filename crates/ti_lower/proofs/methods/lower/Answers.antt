@@ -33,9 +33,9 @@ code_with methods main = record { methods = methods; main = main }
 pub returns-clause-follows : goal.returns-clause-follows
 returns-clause-follows c =
     let program = program_of c.program.result.now.parts in
-    let checked = program_of c.args.c.now.program.parts in
+    let checked = program_of c.args.checked.now.program.parts in
     let same : c.in_ok-methods.methods.items ≡ methods_code program 0 program.methods =
     c.in_ok-methods.ensures ∙ ap (λ (xs : List Method). methods_code program 0 (map numbered_method_of xs)) c.deref.ensures.value in
     subst (λ (z : Code). Follows z checked)
     (sym (c.new.ensures ∙ ap (λ z. code_with z program.main) same ∙ ap (λ p. program_code (program_of p.parts)) c.program.ensures.program))
-    (checked_follows checked (record { numbered = c.args.c.now.program.numbered; unbroken = c.args.c.now.unbroken }))
+    (checked_follows checked (record { numbered = c.args.checked.now.program.numbered; unbroken = c.args.checked.now.unbroken }))

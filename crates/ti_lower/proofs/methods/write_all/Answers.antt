@@ -7,4 +7,4 @@ use Rattle.ti_lower.proofs.methods.write_all.Goals as goal
 pub returns : goal.returns
 returns c =
     c.in_ok-push.ensures.items ∙ ap (λ is. is ++ i.Return ∷ []) c.in_ok-code.ensures
-    ∙ written_twice (program_of c.args.program.now) (numbered_method_of c.args.m.now)
+    ∙ written_twice (program_of c.args.program.now) (numbered_method_of c.args.method.now)

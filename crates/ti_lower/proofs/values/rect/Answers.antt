@@ -9,10 +9,10 @@ use Rattle.ti_lower.proofs.values.rect.Goals as goal
 
 pub returns : goal.returns
 returns c =
-    let s = c.args.p.now.site in
+    let s = c.args.context.now.site in
     let o = c.args.out.now.items in
     let x = rect c.args.place (map bound_of c.args.ranges.now) in
     on_ok_weaker c.lower_rect.result
     (λ (h : c.lower_rect.new.out.items ≡ o ++ code_of (program_of s.program.now) s.this (names_in s.slots.now) x (length o)).
-    h ∙ ap (λ z. o ++ z) (sym (code_hidden (program_of s.program.now) s.this c.args.p.now.waiting (names_in s.slots.now) x (length o))))
+    h ∙ ap (λ z. o ++ z) (sym (code_hidden (program_of s.program.now) s.this c.args.context.now.temporaries (names_in s.slots.now) x (length o))))
     c.lower_rect.ensures.code

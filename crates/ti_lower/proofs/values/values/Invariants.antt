@@ -7,5 +7,5 @@ use Rattle.ti_lower.proofs.values.values.Given as goal
 
 abbrev pub invariant-loop-x : goal.invariant-loop-x
 invariant-loop-x l =
-    values_on (where_of l.p) (numbered_exps (map expression_of (drop l.x-index l.xs))) l.out.items
-    ≡ values_on (where_of l.p) (numbered_exps (map expression_of l.xs)) l.initial.out.items
+    values_on (where_of l.context) (numbered_exps (map expression_of (drop l.x-index l.exprs))) l.out.items
+    ≡ values_on (where_of l.context) (numbered_exps (map expression_of l.exprs)) l.initial.out.items

@@ -7,4 +7,4 @@ use Rattle.ti_lower_expr.proofs.entry.lower_expr.Goals as goal
 pub returns-clause-code : goal.returns-clause-code
 returns-clause-code c =
     let s = c.args.site.now in
-    c.in_ok-walk.ensures.code ∙ walked_is (program_of s.program.now) s.this (names_in s.slots.now) (expression_of c.args.e.now) c.args.out.now.items
+    c.in_ok-walk.ensures.code ∙ walked_is (program_of s.program.now) s.this (names_in s.slots.now) (expression_of c.args.expr.now) c.args.out.now.items

@@ -6,7 +6,7 @@ use Rattle.ti_lang.specs.Program.Types.{ValueType}
 use Rattle.ti_lang.specs.Program.Expressions.{NumberedExp, NumberedExps, NumberedRanges, numbered_exps, numbered_ranges}
 use Rattle.ti_lang.specs.Program.Views.{program_of, expression_of, bound_of}
 use Rattle.ti_lang.specs.Typing.Kinds.{is_point}
-use Rattle.ti_lang.specs.Typing.Seen.{seen}
+use Rattle.ti_lang.specs.Typing.TyRef.{ty_view}
 use Rattle.ti_lang.specs.Typing.TextTypes.{how_many}
 use Rattle.ti_lang.proofs.Lemmas.{seen_numbered_rect, seen_numbered_member, seen_numbered_index}
 use Rattle.ti_lower_expr.specs.Coding.{rect_instr, kind_of_ranges, how_many_ranges, member_code, index_code}
@@ -18,20 +18,20 @@ use Rattle.ti_lower_expr.proofs.walker.+walk.Goals as goal
 
 pub form-returns-in_ok-add_rect-in-Rect-clause-code : goal.form-returns-in_ok-add_rect-in-Rect-clause-code
 form-returns-in_ok-add_rect-in-Rect-clause-code t c =
-    let s = c.args.s.now in
+    let s = c.args.context.now in
     let o = c.args.out.now.items in
     let m = c.walk_ranges.new.out.items in
     let n = c.add_rect.new.out.items in
     let at = c.in-Rect.place in
     let last = λ (rs : List Range). rect_instr (kind_of_ranges (program_of s.program.now) s.this (numbered_ranges (map bound_of rs))) (how_many_ranges (numbered_ranges (map bound_of rs))) at ∷ [] in
-    subst (λ (y : NumberedExp). n ≡ walked_in s y o) (sym (seen_numbered_rect c.args.e.now at c.in-Rect.ranges c.in-Rect.is))
+    subst (λ (y : NumberedExp). n ≡ walked_in s y o) (sym (seen_numbered_rect c.args.expr.now at c.in-Rect.ranges c.in-Rect.is))
     (subst (λ (ys : List Range). n ≡ m ++ last ys) c.deref-in-Rect-2.ensures.value c.in_ok-add_rect-in-Rect.ensures.code
     ∙ ap (λ z. z ++ last c.in-Rect.ranges.items)
     (subst (λ (ys : List Range). m ≡ ranges_in s (numbered_ranges (map bound_of ys)) o) c.deref-in-Rect.ensures.value c.in_ok-walk_ranges-in-Rect.ensures.code))
 
 pub form-returns-in_ok-walk_all-in-Member-clause-code : goal.form-returns-in_ok-walk_all-in-Member-clause-code
 form-returns-in_ok-walk_all-in-Member-clause-code t c =
-    let s = c.args.s.now in
+    let s = c.args.context.now in
     let o = c.args.out.now.items in
     let m = c.walk-in-Member.new.out.items in
     let k = c.walk_all-in-Member.new.out.items in
@@ -42,18 +42,18 @@ form-returns-in_ok-walk_all-in-Member-clause-code t c =
     let a = expression_of c.in-Member.receiver.value in
     let exps = λ (ys : List Expr). numbered_exps (map expression_of ys) in
     let xs = c.in-Member.args.items in
-    let told = seen c.in_ok-t-in-Member.t.ty in
+    let told = ty_view c.in_ok-t-in-Member.t.ty in
     let code = λ (u : ValueType) (ys : List Expr). member_code (called_behind s u name) (how_many (exps ys)) at in
     let first : m ≡ walked_in s a o = subst (λ (z : Expr). m ≡ walked_in s (expression_of z) o) c.deref-in-Member.ensures c.in_ok-t-in-Member.ensures.code in
     let type : told ≡ type_in s a = subst (λ (z : Expr). told ≡ type_in s (expression_of z)) c.deref-in-Member.ensures c.in_ok-t-in-Member.ensures.ty in
     let rest : k ≡ all_in s (exps xs) m = subst (λ (ys : List Expr). k ≡ all_in s (exps ys) m) c.deref-in-Member-2.ensures.value c.in_ok-walk_all-in-Member.ensures.code in
-    subst (λ (y : NumberedExp). OnOk r (n ≡ walked_in s y o)) (sym (seen_numbered_member c.args.e.now at c.in-Member.receiver name c.in-Member.args c.in-Member.is))
+    subst (λ (y : NumberedExp). OnOk r (n ≡ walked_in s y o)) (sym (seen_numbered_member c.args.expr.now at c.in-Member.receiver name c.in-Member.args c.in-Member.is))
     (on_ok_weaker r (λ (h : n ≡ k ++ code told xs). h ∙ ap (λ u. k ++ code u xs) type ∙ ap (λ z. z ++ code (type_in s a) xs) (rest ∙ ap (all_in s (exps xs)) first))
     (subst (λ (ys : List Expr). OnOk r (n ≡ k ++ code told ys)) c.deref-in-Member-3.ensures.value c.member.ensures.code))
 
 pub form-returns-in_ok-walk_all-in-Index-clause-code : goal.form-returns-in_ok-walk_all-in-Index-clause-code
 form-returns-in_ok-walk_all-in-Index-clause-code t c =
-    let s = c.args.s.now in
+    let s = c.args.context.now in
     let o = c.args.out.now.items in
     let m = c.walk-in-Index.new.out.items in
     let k = c.walk_all-in-Index.new.out.items in
@@ -63,12 +63,12 @@ form-returns-in_ok-walk_all-in-Index-clause-code t c =
     let a = expression_of c.in-Index.receiver.value in
     let exps = λ (ys : List Expr). numbered_exps (map expression_of ys) in
     let xs = c.in-Index.indices.items in
-    let told = seen c.in_ok-t-in-Index.t.ty in
+    let told = ty_view c.in_ok-t-in-Index.t.ty in
     let code = λ (u : ValueType) (ys : List Expr). index_code (is_point u) (how_many (exps ys)) at in
     let first : m ≡ walked_in s a o = subst (λ (z : Expr). m ≡ walked_in s (expression_of z) o) c.deref-in-Index.ensures c.in_ok-t-in-Index.ensures.code in
     let type : told ≡ type_in s a = subst (λ (z : Expr). told ≡ type_in s (expression_of z)) c.deref-in-Index.ensures c.in_ok-t-in-Index.ensures.ty in
     let rest : k ≡ all_in s (exps xs) m = subst (λ (ys : List Expr). k ≡ all_in s (exps ys) m) c.deref-in-Index-2.ensures.value c.in_ok-walk_all-in-Index.ensures.code in
-    subst (λ (y : NumberedExp). OnOk r (n ≡ walked_in s y o)) (sym (seen_numbered_index c.args.e.now at c.in-Index.receiver c.in-Index.indices c.in-Index.is))
+    subst (λ (y : NumberedExp). OnOk r (n ≡ walked_in s y o)) (sym (seen_numbered_index c.args.expr.now at c.in-Index.receiver c.in-Index.indices c.in-Index.is))
     (on_ok_weaker r (λ (h : n ≡ k ++ code told xs). h ∙ ap (λ u. k ++ code u xs) type ∙ ap (λ z. z ++ code (type_in s a) xs) (rest ∙ ap (all_in s (exps xs)) first))
     (subst (λ (ys : List Expr). OnOk r (n ≡ k ++ code told ys)) c.deref-in-Index-3.ensures.value c.index.ensures.code))
 
@@ -77,8 +77,8 @@ walk_all-loop-x-init t c = record { code = refl; begins = same_begins refl }
 
 pub walk_all-loop-x-preserved : goal.walk_all-loop-x-preserved
 walk_all-loop-x-preserved t c =
-    let s = c.args.s.now in
-    let xs = c.args.xs.now in
+    let s = c.args.context.now in
+    let xs = c.args.exprs.now in
     let j = c.loop-x.x-index in
     let d = c.x-item.result in
     let one = subst (λ (z : Expr). c.walk.new.out.items ≡ walked_in s (expression_of z) c.loop-x.out.items) c.x-item.is c.in_ok-walk.ensures.code in
@@ -93,7 +93,7 @@ walk_ranges-loop-r-init t c = record { code = refl; begins = same_begins refl }
 
 pub walk_ranges-loop-r-preserved : goal.walk_ranges-loop-r-preserved
 walk_ranges-loop-r-preserved t c =
-    let s = c.args.s.now in
+    let s = c.args.context.now in
     let rs = c.args.ranges.now in
     let j = c.loop-r.r-index in
     let d = c.r-item.result in
@@ -106,67 +106,67 @@ walk_ranges-loop-r-preserved t c =
 
 -- ---- out of memory
 
-pub operated-returns-in_err-add-in-Never-clause-err : goal.operated-returns-in_err-add-in-Never-clause-err
-operated-returns-in_err-add-in-Never-clause-err t c =
-    on_any_err _ (both_begin (walked_begins c.args.s.now (expression_of c.args.right.now) c.in_ok-t-in-Never.ensures.code) c.in_err-add-in-Never.ensures.err)
+pub append_operator-returns-in_err-emit-in-Never-clause-err : goal.append_operator-returns-in_err-emit-in-Never-clause-err
+append_operator-returns-in_err-emit-in-Never-clause-err t c =
+    on_any_err _ (both_begin (walked_begins c.args.context.now (expression_of c.args.right.now) c.in_ok-t-in-Never.ensures.code) c.in_err-emit-in-Never.ensures.err)
 
-pub operated-returns-in_err-close-in-Where-clause-err : goal.operated-returns-in_err-close-in-Where-clause-err
-operated-returns-in_err-close-in-Where-clause-err t c =
+pub append_operator-returns-in_err-close_short_circuit-in-Where-clause-err : goal.append_operator-returns-in_err-close_short_circuit-in-Where-clause-err
+append_operator-returns-in_err-close_short_circuit-in-Where-clause-err t c =
     let o = c.args.out.now.items in
     let long : c.len-jump.result ≡ length o = omega (arith, c.len-jump.ensures) in
-    let before = subst (BeginsWith c.walk-in-Where.new.out.items) c.in_ok-add-in-Where.ensures.code (walked_begins c.args.s.now (expression_of c.args.right.now) c.in_ok-t-in-Where.ensures.code) in
-    let after = subst (λ (n : ℕ). BeginsWith c.close.new.out.items (take n c.walk-in-Where.new.out.items)) long c.in_err-close-in-Where.ensures.err in
-    on_any_err _ (jump_begins o c.walk-in-Where.new.out.items c.close.new.out.items c.jump_where.result before after)
+    let before = subst (BeginsWith c.walk-in-Where.new.out.items) c.in_ok-emit-in-Where.ensures.code (walked_begins c.args.context.now (expression_of c.args.right.now) c.in_ok-t-in-Where.ensures.code) in
+    let after = subst (λ (n : ℕ). BeginsWith c.close_short_circuit.new.out.items (take n c.walk-in-Where.new.out.items)) long c.in_err-close_short_circuit-in-Where.ensures.err in
+    on_any_err _ (jump_begins o c.walk-in-Where.new.out.items c.close_short_circuit.new.out.items c.jump_where.result before after)
 
 pub walk-returns-in_err-second-in-Binary-clause-err : goal.walk-returns-in_err-second-in-Binary-clause-err
 walk-returns-in_err-second-in-Binary-clause-err t c =
-    on_any_err _ (both_begin (walked_begins c.args.s.now (expression_of c.deref.result.now) c.in_ok-first-in-Binary.ensures.code) c.in_err-second-in-Binary.ensures.err)
+    on_any_err _ (both_begin (walked_begins c.args.context.now (expression_of c.deref.result.now) c.in_ok-first-in-Binary.ensures.code) c.in_err-second-in-Binary.ensures.err)
 
-pub walk-returns-in_err-add_alone-in-Unary-clause-err : goal.walk-returns-in_err-add_alone-in-Unary-clause-err
-walk-returns-in_err-add_alone-in-Unary-clause-err t c =
-    on_any_err _ (both_begin (walked_begins c.args.s.now (expression_of c.deref-in-Unary.result.now) c.in_ok-t-in-Unary.ensures.code) c.in_err-add_alone-in-Unary.ensures.err)
+pub walk-returns-in_err-add_unary-in-Unary-clause-err : goal.walk-returns-in_err-add_unary-in-Unary-clause-err
+walk-returns-in_err-add_unary-in-Unary-clause-err t c =
+    on_any_err _ (both_begin (walked_begins c.args.context.now (expression_of c.deref-in-Unary.result.now) c.in_ok-t-in-Unary.ensures.code) c.in_err-add_unary-in-Unary.ensures.err)
 
 pub form-returns-in_err-add_point-in-Point-clause-err : goal.form-returns-in_err-add_point-in-Point-clause-err
 form-returns-in_err-add_point-in-Point-clause-err t c =
-    on_any_err _ (both_begin (all_begin c.args.s.now (numbered_exps (map expression_of c.deref.result.now)) c.in_ok-walk_all-in-Point.ensures.code) c.in_err-add_point-in-Point.ensures.err)
+    on_any_err _ (both_begin (all_begin c.args.context.now (numbered_exps (map expression_of c.deref.result.now)) c.in_ok-walk_all-in-Point.ensures.code) c.in_err-add_point-in-Point.ensures.err)
 
 pub form-returns-in_err-add_rect-in-Rect-clause-err : goal.form-returns-in_err-add_rect-in-Rect-clause-err
 form-returns-in_err-add_rect-in-Rect-clause-err t c =
-    on_any_err _ (both_begin (ranges_begin c.args.s.now (numbered_ranges (map bound_of c.deref-in-Rect.result.now)) c.in_ok-walk_ranges-in-Rect.ensures.code) c.in_err-add_rect-in-Rect.ensures.err)
+    on_any_err _ (both_begin (ranges_begin c.args.context.now (numbered_ranges (map bound_of c.deref-in-Rect.result.now)) c.in_ok-walk_ranges-in-Rect.ensures.code) c.in_err-add_rect-in-Rect.ensures.err)
 
-pub form-returns-in_err-add_alone-in-Unary-clause-err : goal.form-returns-in_err-add_alone-in-Unary-clause-err
-form-returns-in_err-add_alone-in-Unary-clause-err t c =
-    on_any_err _ (both_begin (walked_begins c.args.s.now (expression_of c.deref-in-Unary.result.now) c.in_ok-t-in-Unary.ensures.code) c.in_err-add_alone-in-Unary.ensures.err)
+pub form-returns-in_err-add_unary-in-Unary-clause-err : goal.form-returns-in_err-add_unary-in-Unary-clause-err
+form-returns-in_err-add_unary-in-Unary-clause-err t c =
+    on_any_err _ (both_begin (walked_begins c.args.context.now (expression_of c.deref-in-Unary.result.now) c.in_ok-t-in-Unary.ensures.code) c.in_err-add_unary-in-Unary.ensures.err)
 
 pub form-returns-in_err-second-in-Binary-clause-err : goal.form-returns-in_err-second-in-Binary-clause-err
 form-returns-in_err-second-in-Binary-clause-err t c =
-    on_any_err _ (both_begin (walked_begins c.args.s.now (expression_of c.deref-in-Binary.result.now) c.in_ok-first-in-Binary.ensures.code) c.in_err-second-in-Binary.ensures.err)
+    on_any_err _ (both_begin (walked_begins c.args.context.now (expression_of c.deref-in-Binary.result.now) c.in_ok-first-in-Binary.ensures.code) c.in_err-second-in-Binary.ensures.err)
 
 pub form-returns-in_err-add_cast-in-Cast-clause-err : goal.form-returns-in_err-add_cast-in-Cast-clause-err
 form-returns-in_err-add_cast-in-Cast-clause-err t c =
-    on_any_err _ (both_begin (walked_begins c.args.s.now (expression_of c.deref-in-Cast.result.now) c.in_ok-t-in-Cast.ensures.code) c.in_err-add_cast-in-Cast.ensures.err)
+    on_any_err _ (both_begin (walked_begins c.args.context.now (expression_of c.deref-in-Cast.result.now) c.in_ok-t-in-Cast.ensures.code) c.in_err-add_cast-in-Cast.ensures.err)
 
 pub form-returns-in_ok-t-in-Select-clause-err : goal.form-returns-in_ok-t-in-Select-clause-err
 form-returns-in_ok-t-in-Select-clause-err t c =
-    on_err_weaker c.field.result (both_begin (walked_begins c.args.s.now (expression_of c.deref-in-Select.result.now) c.in_ok-t-in-Select.ensures.code)) c.field.ensures.err
+    on_err_weaker c.field.result (both_begin (walked_begins c.args.context.now (expression_of c.deref-in-Select.result.now) c.in_ok-t-in-Select.ensures.code)) c.field.ensures.err
 
 pub form-returns-in_err-walk_all-in-Member-clause-err : goal.form-returns-in_err-walk_all-in-Member-clause-err
 form-returns-in_err-walk_all-in-Member-clause-err t c =
-    on_any_err _ (both_begin (walked_begins c.args.s.now (expression_of c.deref-in-Member.result.now) c.in_ok-t-in-Member.ensures.code) c.in_err-walk_all-in-Member.ensures.err)
+    on_any_err _ (both_begin (walked_begins c.args.context.now (expression_of c.deref-in-Member.result.now) c.in_ok-t-in-Member.ensures.code) c.in_err-walk_all-in-Member.ensures.err)
 
 pub form-returns-in_ok-walk_all-in-Member-clause-err : goal.form-returns-in_ok-walk_all-in-Member-clause-err
 form-returns-in_ok-walk_all-in-Member-clause-err t c =
-    on_err_weaker c.member.result (both_begin (both_begin (walked_begins c.args.s.now (expression_of c.deref-in-Member.result.now) c.in_ok-t-in-Member.ensures.code)
-    (all_begin c.args.s.now (numbered_exps (map expression_of c.deref-in-Member-2.result.now)) c.in_ok-walk_all-in-Member.ensures.code))) c.member.ensures.err
+    on_err_weaker c.member.result (both_begin (both_begin (walked_begins c.args.context.now (expression_of c.deref-in-Member.result.now) c.in_ok-t-in-Member.ensures.code)
+    (all_begin c.args.context.now (numbered_exps (map expression_of c.deref-in-Member-2.result.now)) c.in_ok-walk_all-in-Member.ensures.code))) c.member.ensures.err
 
 pub form-returns-in_err-walk_all-in-Index-clause-err : goal.form-returns-in_err-walk_all-in-Index-clause-err
 form-returns-in_err-walk_all-in-Index-clause-err t c =
-    on_any_err _ (both_begin (walked_begins c.args.s.now (expression_of c.deref-in-Index.result.now) c.in_ok-t-in-Index.ensures.code) c.in_err-walk_all-in-Index.ensures.err)
+    on_any_err _ (both_begin (walked_begins c.args.context.now (expression_of c.deref-in-Index.result.now) c.in_ok-t-in-Index.ensures.code) c.in_err-walk_all-in-Index.ensures.err)
 
 pub form-returns-in_ok-walk_all-in-Index-clause-err : goal.form-returns-in_ok-walk_all-in-Index-clause-err
 form-returns-in_ok-walk_all-in-Index-clause-err t c =
-    on_err_weaker c.index.result (both_begin (both_begin (walked_begins c.args.s.now (expression_of c.deref-in-Index.result.now) c.in_ok-t-in-Index.ensures.code)
-    (all_begin c.args.s.now (numbered_exps (map expression_of c.deref-in-Index-2.result.now)) c.in_ok-walk_all-in-Index.ensures.code))) c.index.ensures.err
+    on_err_weaker c.index.result (both_begin (both_begin (walked_begins c.args.context.now (expression_of c.deref-in-Index.result.now) c.in_ok-t-in-Index.ensures.code)
+    (all_begin c.args.context.now (numbered_exps (map expression_of c.deref-in-Index-2.result.now)) c.in_ok-walk_all-in-Index.ensures.code))) c.index.ensures.err
 
 pub walk_all-returns-in_err-walk-clause-err : goal.walk_all-returns-in_err-walk-clause-err
 walk_all-returns-in_err-walk-clause-err t c = on_any_err _ (both_begin c.loop-x.invariant.begins c.in_err-walk.ensures.err)
@@ -176,17 +176,17 @@ walk_ranges-returns-in_err-walk_range-clause-err t c = on_any_err _ (both_begin 
 
 pub walk_range-returns-in_err-walk-in-Plain-2-clause-err : goal.walk_range-returns-in_err-walk-in-Plain-2-clause-err
 walk_range-returns-in_err-walk-in-Plain-2-clause-err t c =
-    on_any_err _ (both_begin (walked_begins c.args.s.now (expression_of c.in-Plain.low) c.in_ok-walk-in-Plain.ensures.code) c.in_err-walk-in-Plain-2.ensures.err)
+    on_any_err _ (both_begin (walked_begins c.args.context.now (expression_of c.in-Plain.low) c.in_ok-walk-in-Plain.ensures.code) c.in_err-walk-in-Plain-2.ensures.err)
 
 pub walk_range-returns-in_ok-walk-in-Plain-2-clause-err : goal.walk_range-returns-in_ok-walk-in-Plain-2-clause-err
 walk_range-returns-in_ok-walk-in-Plain-2-clause-err t c =
-    on_err_weaker c.add.result (both_begin (both_begin (walked_begins c.args.s.now (expression_of c.in-Plain.low) c.in_ok-walk-in-Plain.ensures.code)
-    (walked_begins c.args.s.now (expression_of c.in-Plain.high) c.in_ok-walk-in-Plain-2.ensures.code))) c.add.ensures.err
+    on_err_weaker c.emit.result (both_begin (both_begin (walked_begins c.args.context.now (expression_of c.in-Plain.low) c.in_ok-walk-in-Plain.ensures.code)
+    (walked_begins c.args.context.now (expression_of c.in-Plain.high) c.in_ok-walk-in-Plain-2.ensures.code))) c.emit.ensures.err
 
 pub walk_range-returns-in_err-walk-in-Stepped-2-clause-err : goal.walk_range-returns-in_err-walk-in-Stepped-2-clause-err
 walk_range-returns-in_err-walk-in-Stepped-2-clause-err t c =
-    on_any_err _ (both_begin (walked_begins c.args.s.now (expression_of c.in-Stepped.low) c.in_ok-walk-in-Stepped.ensures.code) c.in_err-walk-in-Stepped-2.ensures.err)
+    on_any_err _ (both_begin (walked_begins c.args.context.now (expression_of c.in-Stepped.low) c.in_ok-walk-in-Stepped.ensures.code) c.in_err-walk-in-Stepped-2.ensures.err)
 
 pub walk_range-returns-in_err-walk-in-Stepped-3-clause-err : goal.walk_range-returns-in_err-walk-in-Stepped-3-clause-err
 walk_range-returns-in_err-walk-in-Stepped-3-clause-err t c =
-    on_any_err _ (both_begin (both_begin (walked_begins c.args.s.now (expression_of c.in-Stepped.low) c.in_ok-walk-in-Stepped.ensures.code) (walked_begins c.args.s.now (expression_of c.in-Stepped.high) c.in_ok-walk-in-Stepped-2.ensures.code)) c.in_err-walk-in-Stepped-3.ensures.err)
+    on_any_err _ (both_begin (both_begin (walked_begins c.args.context.now (expression_of c.in-Stepped.low) c.in_ok-walk-in-Stepped.ensures.code) (walked_begins c.args.context.now (expression_of c.in-Stepped.high) c.in_ok-walk-in-Stepped-2.ensures.code)) c.in_err-walk-in-Stepped-3.ensures.err)

@@ -7,4 +7,4 @@ use Rattle.ti_lower_expr.proofs.walker.walk_rect.Goals as goal
 
 pub returns-clause-err : goal.returns-clause-err
 returns-clause-err c =
-    on_err_weaker c.add_rect.result (both_begin (ranges_begin c.args.s.now (numbered_ranges (map bound_of c.args.ranges.now)) c.in_ok-walk_ranges.ensures.code)) c.add_rect.ensures.err
+    on_err_weaker c.add_rect.result (both_begin (ranges_begin c.args.context.now (numbered_ranges (map bound_of c.args.ranges.now)) c.in_ok-walk_ranges.ensures.code)) c.add_rect.ensures.err

@@ -1,6 +1,6 @@
 use Rattle.std.proofs.Common.{◌∙◌, sym, ap, option_map}
 use Rattle.ti_lang.specs.Program.Views.{program_of}
-use Rattle.ti_moves.specs.Moves.{method_at}
+use Rattle.ti_moves.specs.Outcomes.{method_at}
 use Rattle.ti_moves.proofs.MethodLaws.{named_at}
 use Rattle.ti_moves.proofs.calls.method_named.Goals as goal
 

@@ -7,5 +7,5 @@ use Rattle.ti_moves.proofs.scopes.declares_among.Given as goal
 
 abbrev pub invariant-loop-s : goal.invariant-loop-s
 invariant-loop-s l =
-    is_among (declared_among (numbered_stms (map statement_of l.initial.body))) (variable_of l.v)
-    ≡ is_among (declared_among (numbered_stms (map statement_of (drop l.s-index l.body)))) (variable_of l.v)
+    is_among (declared_among (numbered_stms (map statement_of l.initial.body))) (variable_of l.variable)
+    ≡ is_among (declared_among (numbered_stms (map statement_of (drop l.s-index l.body)))) (variable_of l.variable)

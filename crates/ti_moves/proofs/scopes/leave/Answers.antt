@@ -8,6 +8,6 @@ use Rattle.ti_moves.proofs.scopes.leave.Goals as goal
 
 pub returns : goal.returns
 returns c =
-    let xs = declared_in (stm_seen c.args.x) in
+    let xs = declared_in (stm_seen c.args.stmt) in
     ap slots_of (filter_same _ (stays xs) _ (λ x b q h. search rules) _ _ c.retain.ensures.filtered)
     ∙ slots_left xs c.args.variables.now.items

@@ -7,4 +7,4 @@ use Rattle.ti_parse_expr.proofs.full.behind_name_phrase.Goals as goal
 
 pub returns : goal.returns
 returns c = front_reads operand_of 0 (λ n. behind_name n c.args.place c.args.name) _ c.args.tokens.now _ _ _
-    (behind_name_same c.args.place c.args.name c.args.tokens.now) (λ before after n r h. search (rules, of_calls)) c.within.ensures
+    (behind_name_same c.args.place c.args.name c.args.tokens.now) (λ before after n r h. search (rules, of_calls)) c.with_weight_limit.ensures

@@ -8,4 +8,4 @@ use Rattle.ti_parse_expr.proofs.full.full_behind_bracket.Goals as goal
 pub returns : goal.returns
 returns c = front_reads operand_of 1 (λ n. behind_bracket n c.args.bracket c.args.place c.args.name) _ c.args.tokens.now _ _ _
     (behind_bracket_same c.args.bracket c.args.place c.args.name c.args.tokens.now)
-    (λ before after n r h. search (rules, of_calls)) c.within.ensures
+    (λ before after n r h. search (rules, of_calls)) c.with_weight_limit.ensures

@@ -6,4 +6,4 @@ use Rattle.ti_parse_expr.proofs.FullLaws.{operand_same}
 use Rattle.ti_parse_expr.proofs.full.full_operand.Goals as goal
 
 pub returns : goal.returns
-returns c = front_reads operand_of 0 (λ n. operand n (expr n)) _ c.args.tokens.now _ _ _ (operand_same c.args.tokens.now) (λ before after n r h. search (rules, of_calls)) c.within.ensures
+returns c = front_reads operand_of 0 (λ n. operand n (expr n)) _ c.args.tokens.now _ _ _ (operand_same c.args.tokens.now) (λ before after n r h. search (rules, of_calls)) c.with_weight_limit.ensures

@@ -6,4 +6,4 @@ use Rattle.ti_parse_expr.proofs.FullLaws.{full_same}
 use Rattle.ti_parse_expr.proofs.full.full_phrase.Goals as goal
 
 pub returns : goal.returns
-returns c = front_reads exp_of 0 (λ n. phrase n c.args.form) _ c.args.tokens.now _ _ _ (full_same c.args.form c.args.tokens.now) (λ before after n r h. search (rules, of_calls)) c.within.ensures
+returns c = front_reads exp_of 0 (λ n. phrase n c.args.form) _ c.args.tokens.now _ _ _ (full_same c.args.form c.args.tokens.now) (λ before after n r h. search (rules, of_calls)) c.with_weight_limit.ensures

@@ -9,4 +9,4 @@ abbrev at : Place → Refusal
 at place = record { rule = G2; place = place }
 
 pub returns : goal.returns
-returns c = λ before last is. c.refused.ensures ∙ ap (λ p. Refused (at p)) (c.last_place.ensures before last is)
+returns c = λ before last is. c.parse_error.ensures ∙ ap (λ p. Refused (at p)) (c.last_place.ensures before last is)

@@ -4,4 +4,4 @@ use Rattle.ti_parse_expr.specs.Mirrors.Seen.{qualifiers_of}
 use Rattle.ti_parse_expr.proofs.types.qualifiers.Given as goal
 
 abbrev pub invariant-loop-turn : goal.invariant-loop-turn
-invariant-loop-turn l = qualifiers l.turns [] l.fn.tokens ≡ qualifiers (l.turns - l._turn) (qualifiers_of l.found) l.tokens
+invariant-loop-turn l = qualifiers l.fuel [] l.fn.tokens ≡ qualifiers (l.fuel - l._turn) (qualifiers_of l.found) l.tokens

@@ -1,6 +1,6 @@
 use Rattle.std.proofs.Common.{take, sym, subst}
 use Rattle.std.proofs.lemmas.List.{take_more}
-use Rattle.ti_race.specs.Mirrors.Told.{Gathers}
+use Rattle.ti_race.specs.Mirrors.HistoryIndex.{Gathers}
 use Rattle.ti_race.proofs.uses.uses_of.Goals as goal
 
 pub loop-e-preserved : goal.loop-e-preserved

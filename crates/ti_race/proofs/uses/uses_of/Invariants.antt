@@ -1,5 +1,5 @@
 use Rattle.std.proofs.Common.{take}
-use Rattle.ti_race.specs.Mirrors.Told.{Gathers}
+use Rattle.ti_race.specs.Mirrors.HistoryIndex.{Gathers}
 use Rattle.ti_race.proofs.uses.uses_of.Given as goal
 
 -- the entries so far are told

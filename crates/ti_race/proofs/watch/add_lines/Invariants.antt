@@ -1,6 +1,6 @@
 use Rattle.std.proofs.Common.{◌≡◌, ◌++◌, take}
 use Rattle.std.specs.List.{flat_map}
-use Rattle.ti_race.specs.Mirrors.Told.{use_line}
+use Rattle.ti_race.specs.Mirrors.HistoryIndex.{use_line}
 use Rattle.ti_race.proofs.watch.add_lines.Given as goal
 
 -- the lines so far are added

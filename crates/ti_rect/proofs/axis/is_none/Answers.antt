@@ -5,6 +5,6 @@ use Rattle.ti_rect.proofs.axis.is_none.Goals as goal
 
 pub returns : goal.returns
 returns c =
-    let low : FitsSigned w32 c.args.a.low = search rules in
-    let high : FitsSigned w32 c.args.a.high = search rules in
-    less_iff c.args.a.high c.args.a.low high low
+    let low : FitsSigned w32 c.args.axis.low = search rules in
+    let high : FitsSigned w32 c.args.axis.high = search rules in
+    less_iff c.args.axis.high c.args.axis.low high low

@@ -8,32 +8,32 @@ use Rattle.ti_rect.proofs.meet.walk.Goals as goal
 pub returns-in-None-clause-same : goal.returns-in-None-clause-same
 returns-in-None-clause-same c = λ x. (λ o. absurd (none_here x o), λ o. absurd (c.in-None.ensures x o))
 
-pub spread-requires-clause-least : goal.spread-requires-clause-least
-spread-requires-clause-least c =
+pub meet_of_many-requires-clause-least : goal.meet_of_many-requires-clause-least
+meet_of_many-requires-clause-least c =
     let f : FitsSigned w32 c.in-Some.first = search rules in
-    subst (IsLeastOnBoth (range c.args.a) (range c.args.b)) (sym (to_z-of_z w32 c.in-Some.first f)) c.in-Some.ensures
+    subst (IsLeastOnBoth (range c.args.left) (range c.args.right)) (sym (to_z-of_z w32 c.in-Some.first f)) c.in-Some.ensures
 
-pub spread-requires-clause-next : goal.spread-requires-clause-next
-spread-requires-clause-next c =
+pub meet_of_many-requires-clause-next : goal.meet_of_many-requires-clause-next
+meet_of_many-requires-clause-next c =
     let g : FitsSigned w32 c.in-Some-second.second = search rules in
-    subst (IsNextOnBoth (range c.args.a) (range c.args.b) (to_z w32 (of_z w32 c.in-Some.first))) (sym (to_z-of_z w32 c.in-Some-second.second g)) c.in-Some-second.ensures
+    subst (IsNextOnBoth (range c.args.left) (range c.args.right) (to_z w32 (of_z w32 c.in-Some.first))) (sym (to_z-of_z w32 c.in-Some-second.second g)) c.in-Some-second.ensures
 
 pub returns-in-Some-second-clause-form : goal.returns-in-Some-second-clause-form
-returns-in-Some-second-clause-form c = inr c.spread.ensures.form
+returns-in-Some-second-clause-form c = inr c.meet_of_many.ensures.form
 
 pub returns-in-Some-second-clause-same : goal.returns-in-Some-second-clause-same
-returns-in-Some-second-clause-same c = c.spread.ensures.same
+returns-in-Some-second-clause-same c = c.meet_of_many.ensures.same
 
-pub alone-requires-clause-least : goal.alone-requires-clause-least
-alone-requires-clause-least c =
+pub meet_of_one-requires-clause-least : goal.meet_of_one-requires-clause-least
+meet_of_one-requires-clause-least c =
     let f : FitsSigned w32 c.in-Some.first = search rules in
-    subst (IsLeastOnBoth (range c.args.a) (range c.args.b)) (sym (to_z-of_z w32 c.in-Some.first f)) c.in-Some.ensures
+    subst (IsLeastOnBoth (range c.args.left) (range c.args.right)) (sym (to_z-of_z w32 c.in-Some.first f)) c.in-Some.ensures
 
-pub alone-requires-clause-last : goal.alone-requires-clause-last
-alone-requires-clause-last c = c.in-None-second.ensures
+pub meet_of_one-requires-clause-last : goal.meet_of_one-requires-clause-last
+meet_of_one-requires-clause-last c = c.in-None-second.ensures
 
 pub returns-in-None-second-clause-form : goal.returns-in-None-second-clause-form
-returns-in-None-second-clause-form c = inr c.alone.ensures.form
+returns-in-None-second-clause-form c = inr c.meet_of_one.ensures.form
 
 pub returns-in-None-second-clause-same : goal.returns-in-None-second-clause-same
-returns-in-None-second-clause-same c = c.alone.ensures.same
+returns-in-None-second-clause-same c = c.meet_of_one.ensures.same

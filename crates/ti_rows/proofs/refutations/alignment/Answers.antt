@@ -9,7 +9,7 @@ use Rattle.ti_base.specs.declared.entry.Next.TheVariants as next
 use Rattle.ti_lang.specs.Typing.BuiltIn.{built_in}
 use Rattle.ti_lang.specs.Typing.Declared.{named_field_type, instance_method}
 use Rattle.ti_lang.specs.Meaning.Held.{whole_of}
-use Rattle.ti_lang.specs.Meaning.Processes.{Setting, Variable}
+use Rattle.ti_lang.specs.Meaning.Processes.{RunConfig, Variable}
 use Rattle.ti_lang.specs.Meaning.Runs.{CanTake}
 use Rattle.ti_align.specs.SinglePart.{SingleFrame}
 use Rattle.ti_align.specs.declared.slices.SliceStep.TheVariants as answer
@@ -28,7 +28,7 @@ use Rattle.ti_rows.proofs.SliceSimulated.{comes}
 use Rattle.ti_rows.proofs.refutations.alignment.Goals as goal
 
 -- where one process waits at a barrier, and the other has its end
-abbrev waiting : Setting
+abbrev waiting : RunConfig
 waiting = by_two 1000 singles.a_barrier_under_the_own_number
 
 pub returns-clause-aligned : goal.returns-clause-aligned
@@ -40,7 +40,7 @@ returns-clause-aligned c = fails IsAlignedRun singles.a_barrier_under_the_own_nu
 pub returns-clause-arrivals_at_two_places : goal.returns-clause-arrivals_at_two_places
 unfolding int_wrap built_in named_field_type instance_method
 returns-clause-arrivals_at_two_places c = fails ArrivalsAgree programs.barriers_at_two_places 2 (λ f.
-    let s : Setting = by_two 1000 programs.barriers_at_two_places in
+    let s : RunConfig = by_two 1000 programs.barriers_at_two_places in
     let first = arrives s (solo s 2) [] _ 0 0 _ (pl 1 89) coll.Barrier None deposit.Nothing Done refl refl refl refl in
     let second = arrives s (solo s 2) (solo s 1) _ 1 0 _ (pl 1 108) coll.Barrier None deposit.Nothing Done refl refl refl refl in
     let k : 89 ≡ 108 = ap (λ (a : Arrival). a.place.col) (f 0 1 0 _ _ first second) in
@@ -58,7 +58,7 @@ newest_number (f ∷ fs) = number_in f.variables
 pub returns-clause-arrivals_with_two_numbers : goal.returns-clause-arrivals_with_two_numbers
 unfolding int_wrap built_in named_field_type instance_method
 returns-clause-arrivals_with_two_numbers c = fails ArrivalsAgree programs.a_barrier_behind_own_numbers 2 (λ f.
-    let s : Setting = by_two 1000 programs.a_barrier_behind_own_numbers in
+    let s : RunConfig = by_two 1000 programs.a_barrier_behind_own_numbers in
     let first = arrives s (solo s 2) [] _ 0 0 _ (pl 1 95) coll.Barrier None deposit.Nothing Done refl refl refl refl in
     let second = arrives s (solo s 2) (solo s 1) _ 1 0 _ (pl 1 95) coll.Barrier None deposit.Nothing Done refl refl refl refl in
     let k : 0 ≡ 1 = ap (λ (a : Arrival). nat_abs (newest_number a.single)) (f 0 1 0 _ _ first second) in

@@ -10,8 +10,8 @@ use Rattle.ti_base.specs.declared.fault.FaultKind.TheVariants.{Fuel}
 use Rattle.ti_base.specs.declared.value.Value.TheVariants as v
 use Rattle.ti_lang.specs.Typing.BuiltIn.{built_in}
 use Rattle.ti_lang.specs.Typing.Declared.{named_field_type, instance_method}
-use Rattle.ti_lang.specs.Program.Classes.{NumberedProgram}
-use Rattle.ti_lang.specs.Meaning.Processes.{Setting}
+use Rattle.ti_lang.specs.Program.Classes.{ProgramView}
+use Rattle.ti_lang.specs.Meaning.Processes.{RunConfig}
 use Rattle.ti_lang.specs.Meaning.Histories.{History}
 use Rattle.ti_lang.specs.Meaning.HeapAnswers.{Outcome, Answers, Impossible, heap_answer, IsAnswered}
 use Rattle.ti_lang.specs.Meaning.HeapAnswers as heap
@@ -22,7 +22,7 @@ use Rattle.ti_rows.specs.Texts.{pl}
 use Rattle.ti_rows.specs.Histories.{thing}
 use Rattle.ti_rows.specs.Refuted.Programs as programs
 use Rattle.ti_rows.specs.Refuted.Entries as entries
-use Rattle.ti_rows.specs.Refuted.Things.{both}
+use Rattle.ti_rows.specs.Refuted.Things.{two_at_barrier}
 use Rattle.ti_rows.proofs.Reached.{has_next, can_take_next}
 use Rattle.ti_rows.proofs.Taking.{first_can, no_end_first}
 use Rattle.ti_rows.proofs.refutations.runs.Goals as goal
@@ -52,7 +52,7 @@ first_of e x (y ∷ z ∷ xs) k = absurd (longer e y z (xs ++ x ∷ []) k)
     longer e y x xs k = cc
 
 -- the only entry of a run is that of the lowest-numbered process that can take one
-only_entry : (s : Setting) (all : List Entry) (e : Entry) → IsSolo s all → all ≡ e ∷ [] → (i : ℕ) × CanTake s [] i e × ((j : ℕ) (d : Entry) → j < i → CanTake s [] j d → ⊥)
+only_entry : (s : RunConfig) (all : List Entry) (e : Entry) → IsSolo s all → all ≡ e ∷ [] → (i : ℕ) × CanTake s [] i e × ((j : ℕ) (d : Entry) → j < i → CanTake s [] j d → ⊥)
 only_entry s all e r.none k = cc
 only_entry s all e (r.more {es = before} {i = i} {e = last} run take least z) k =
     let only = first_of e last before (sym k ∙ z) in (
@@ -65,8 +65,8 @@ pub returns-clause-the_second_first : goal.returns-clause-the_second_first
 unfolding int_wrap built_in named_field_type instance_method
 returns-clause-the_second_first c = λ run.
     let e : Entry = record { proc = 1; place = pl 1 65; act = act.Arrive coll.Barrier None deposit.Nothing; answer = Done } in
-    let k = only_entry both entries.the_second_first e run refl in
-    let one : 1 ≡ k.0 = taker both [] k.0 e k.1 in
+    let k = only_entry two_at_barrier entries.the_second_first e run refl in
+    let one : 1 ≡ k.0 = taker two_at_barrier [] k.0 e k.1 in
     k.2 0 _ (omega (arith, one)) first_can
 
 -- ---- the last entry of a run
@@ -94,7 +94,7 @@ snoc_same (a ∷ xs) [] x y k = absurd (none_more xs x (tail y a [] _ (sym k)))
     tail a b ks ls k = cc
 snoc_same (a ∷ xs) (b ∷ ys) x y k =
     let more = snoc_same xs ys x y (tail a b _ _ k) in
-    (both a b xs ys (head a b _ _ k) more.0, more.1)
+    (two_at_barrier a b xs ys (head a b _ _ k) more.0, more.1)
   where
     head : (a b : Entry) (ks ls : List Entry) → a ∷ ks ≡ b ∷ ls → a ≡ b
     head a b ks ls k = cc
@@ -102,11 +102,11 @@ snoc_same (a ∷ xs) (b ∷ ys) x y k =
     tail : (a b : Entry) (ks ls : List Entry) → a ∷ ks ≡ b ∷ ls → ks ≡ ls
     tail a b ks ls k = cc
 
-    both : (a b : Entry) (ks ls : List Entry) → a ≡ b → ks ≡ ls → a ∷ ks ≡ b ∷ ls
-    both a b ks ls p q = cc
+    two_at_barrier : (a b : Entry) (ks ls : List Entry) → a ≡ b → ks ≡ ls → a ∷ ks ≡ b ∷ ls
+    two_at_barrier a b ks ls p q = cc
 
 -- its process could take it
-last_taken : (s : Setting) (all es : List Entry) (e : Entry) → IsRun s all → all ≡ es ++ e ∷ [] → CanTake s es e.proc e
+last_taken : (s : RunConfig) (all es : List Entry) (e : Entry) → IsRun s all → all ≡ es ++ e ∷ [] → CanTake s es e.proc e
 last_taken s all es e r.none k = absurd (none_more es e k)
   where
     none_more : (ls : List Entry) (l : Entry) → [] ≡ ls ++ l ∷ [] → ⊥
@@ -125,21 +125,21 @@ pub returns-clause-a_departure_too_early : goal.returns-clause-a_departure_too_e
 unfolding int_wrap built_in named_field_type instance_method
 returns-clause-a_departure_too_early c = λ run.
     let e : Entry = record { proc = 0; place = pl 1 65; act = act.Depart; answer = Done } in
-    let can = last_taken both entries.a_departure_too_early arrived e run refl in
-    let k : 0 < 0 = can_take_next both arrived 0 (next.Act (pl 1 65) act.Depart) e (has_next both arrived 0 _ refl) can 1 (omega arith) in
+    let can = last_taken two_at_barrier entries.a_departure_too_early arrived e run refl in
+    let k : 0 < 0 = can_take_next two_at_barrier arrived 0 (next.Act (pl 1 65) act.Depart) e (has_next two_at_barrier arrived 0 _ refl) can 1 (omega arith) in
     omega (arith, k)
 
 pub returns-clause-an_entry_behind_a_fault : goal.returns-clause-an_entry_behind_a_fault
 unfolding int_wrap built_in named_field_type instance_method
 returns-clause-an_entry_behind_a_fault c = λ run.
     let e : Entry = record { proc = 1; place = pl 1 65; act = act.Arrive coll.Barrier None deposit.Nothing; answer = Done } in
-    let can = last_taken both entries.an_entry_behind_a_fault (record { proc = 0; place = pl 1 65; act = act.Fault Fuel; answer = Done } ∷ []) e run refl in
+    let can = last_taken two_at_barrier entries.an_entry_behind_a_fault (record { proc = 0; place = pl 1 65; act = act.Fault Fuel; answer = Done } ∷ []) e run refl in
     true_false can.goes_on
 
 -- ---- answers that nothing gives
 
 -- the last entry of an answered history got its answer
-last_answered : (p : NumberedProgram) (h : History) (e : Entry) → IsAnswered p (e ∷ h) → heap_answer p h e.proc e.act ≡ Answers e.answer
+last_answered : (p : ProgramView) (h : History) (e : Entry) → IsAnswered p (e ∷ h) → heap_answer p h e.proc e.act ≡ Answers e.answer
 last_answered p h e (heap.more told last) = last
 
 not_this : Answers (Val (v.Int (pos 0))) ≡ Answers (Val (v.Int (pos 1))) → ⊥

@@ -8,7 +8,7 @@ use Rattle.ti_base.specs.declared.entry.Next.TheVariants as next
 use Rattle.ti_base.specs.Cells.{Field}
 use Rattle.ti_lang.specs.Typing.BuiltIn.{built_in}
 use Rattle.ti_lang.specs.Typing.Declared.{named_field_type, instance_method}
-use Rattle.ti_lang.specs.Meaning.Processes.{Setting}
+use Rattle.ti_lang.specs.Meaning.Processes.{RunConfig}
 use Rattle.ti_align.specs.Owners.{OwnersKept}
 use Rattle.ti_align.specs.Dangling.{NothingDangles}
 use Rattle.ti_align.specs.Stopping.{RegionsMade}
@@ -29,14 +29,14 @@ true_false e = cc
 pub returns-clause-another_owner : goal.returns-clause-another_owner
 unfolding int_wrap built_in named_field_type instance_method
 returns-clause-another_owner c = fails OwnersKept programs.a_local_variable_of_another_process 5 (λ f.
-    let s : Setting = by_two 1000 programs.a_local_variable_of_another_process in
+    let s : RunConfig = by_two 1000 programs.a_local_variable_of_another_process in
     let w = has_asked s (solo s 5) 0 _ refl in
     false_true (f.actions 0 w.process w.settled _ w.go (omega arith) w.world w.reaches w.stands refl))
 
 pub returns-clause-a_region_that_is_gone : goal.returns-clause-a_region_that_is_gone
 unfolding int_wrap built_in named_field_type instance_method
 returns-clause-a_region_that_is_gone c = fails NothingDangles programs.a_region_is_deleted_by_one 10 (λ f.
-    let s : Setting = by_two 1000 programs.a_region_is_deleted_by_one in
+    let s : RunConfig = by_two 1000 programs.a_region_is_deleted_by_one in
     let a = act.PutField (thing 1 0 1) 0 (v.Int (pos 1)) in
     let w = has_next s (solo s 10) 1 (next.Act (pl 1 198) a) refl in
     let k = f.actions 1 w.process (pl 1 198) a (omega arith) w.world w.next in
@@ -45,7 +45,7 @@ returns-clause-a_region_that_is_gone c = fails NothingDangles programs.a_region_
 pub returns-clause-a_region_that_is_none : goal.returns-clause-a_region_that_is_none
 unfolding int_wrap built_in named_field_type instance_method
 returns-clause-a_region_that_is_none c = fails RegionsMade programs.no_region_is_deleted 0 (λ f.
-    let s : Setting = by_two 1000 programs.no_region_is_deleted in
+    let s : RunConfig = by_two 1000 programs.no_region_is_deleted in
     let w = has_next s (solo s 0) 0 (next.Act (pl 1 94) (act.Arrive coll.DeleteRegion (Some 0) (deposit.Count 0))) refl in
     let k = f.deleted 0 w.process (pl 1 94) (Some 0) (deposit.Count 0) (omega arith) w.world w.next in
     false_true k.2)

@@ -11,19 +11,19 @@ use Rattle.ti_lang.specs.Program.Types as t
 use Rattle.ti_lang.specs.Typing.BuiltIn.{built_in}
 use Rattle.ti_lang.specs.Typing.Declared.{field_type, named_field_type, instance_method}
 use Rattle.ti_lang.specs.Meaning.Held.{Plain}
-use Rattle.ti_lang.specs.Meaning.Asking.{ValueOf, Request}
+use Rattle.ti_lang.specs.Meaning.Comp.{ValueOf, Request}
 use Rattle.ti_lang.specs.Meaning.Histories.{History}
-use Rattle.ti_lang.specs.Meaning.HeapOf.{class_of, last_written}
-use Rattle.ti_lang.specs.Program.Classes.{NumberedProgram}
+use Rattle.ti_lang.specs.Meaning.HeapOf.{class_of_object, last_written}
+use Rattle.ti_lang.specs.Program.Classes.{ProgramView}
 use Rattle.ti_lang.specs.Meaning.Answers.{HasForm, FitsWanted}
 use Rattle.ti_base.specs.declared.action.CollKind.TheVariants as coll
 use Rattle.ti_base.specs.declared.action.Deposit.TheVariants as deposit
-use Rattle.ti_lang.specs.Meaning.Processes.{Setting, Process, begin}
-use Rattle.ti_lang.specs.Meaning.NextStep.{here, none, shown}
+use Rattle.ti_lang.specs.Meaning.Processes.{RunConfig, Process, begin}
+use Rattle.ti_lang.specs.Meaning.NextStep.{here, none, step_label}
 use Rattle.ti_align.specs.Answering.{AnswersFit}
 use Rattle.ti_align.specs.Heap.{Elements, HeapFits}
 use Rattle.ti_align.specs.Stopping.{NoneImpossible}
-use Rattle.ti_align.specs.Things.{Things, IsOf}
+use Rattle.ti_align.specs.HeapTyping.{HeapTyping, IsOf}
 use Rattle.ti_align.specs.Typed.{RunTyped, TakenAsGiven}
 use Rattle.ti_align.specs.Scoped.{VariablesInScope}
 use Rattle.ti_rows.specs.Texts.{pl}
@@ -46,13 +46,13 @@ type_is a b e = cc
 no_number : (n : ℤ) → Plain (v.Bool true) ≡ Plain (v.Int n) → ⊥
 no_number n e = cc
 
-not_of : (w : Things) (type : ValueType) → t.Int ≡ type → IsOf w type (Plain (v.Bool true)) → ⊥
+not_of : (w : HeapTyping) (type : ValueType) → t.Int ≡ type → IsOf w type (Plain (v.Bool true)) → ⊥
 not_of w type e k =
     let n : IsOf w t.Int (Plain (v.Bool true)) = subst (λ x. IsOf w x (Plain (v.Bool true))) (sym e) k in
     no_number n.0 n.1
 
 -- where a cell of a field of numbers holds a boolean, the heap doesn't fit
-unfit : (p : NumberedProgram) (elements : Elements) (h : History) → HeapFits p elements h → class_of (thing 0 0 0) h ≡ Some 0 → field_type p 0 0 ≡ Some t.Int
+unfit : (p : ProgramView) (elements : Elements) (h : History) → HeapFits p elements h → class_of_object (thing 0 0 0) h ≡ Some 0 → field_type p 0 0 ≡ Some t.Int
     → last_written (Field (thing 0 0 0) 0) h ≡ Some (v.Bool true) → ⊥
 unfit p elements h fits made typed written =
     let m = fits.cells (Field (thing 0 0 0) 0) (v.Bool true) written in
@@ -80,7 +80,7 @@ no_form request e k =
 pub returns-clause-a_truth_for_a_number : goal.returns-clause-a_truth_for_a_number
 unfolding int_wrap built_in named_field_type instance_method
 returns-clause-a_truth_for_a_number c = fails AnswersFit programs.a_truth_in_a_number 3 (λ f.
-    let s : Setting = by_two 1000 programs.a_truth_in_a_number in
+    let s : RunConfig = by_two 1000 programs.a_truth_in_a_number in
     let w = has_asked s (solo s 2) 0 _ refl in
     let k = f (solo s 2) _ _ w.process refl w.world refl in
     let same = asks_once w.process _ _ _ _ _ _ k.reaches k.stands w.reaches w.stands in
@@ -94,7 +94,7 @@ not_both e = cc
 pub returns-clause-two_types_at_a_broadcast : goal.returns-clause-two_types_at_a_broadcast
 unfolding int_wrap built_in named_field_type instance_method
 returns-clause-two_types_at_a_broadcast c = fails TakenAsGiven programs.two_broadcasts 2 (λ f.
-    let s : Setting = by_two 1000 programs.two_broadcasts in
+    let s : RunConfig = by_two 1000 programs.two_broadcasts in
     let first = gives s (solo s 2) [] _ 0 0 _ (pl 1 96) coll.Broadcast (Some 0) (deposit.One (v.Int (pos 1))) Done t.Int refl refl refl refl refl in
     let second = gives s (solo s 2) (solo s 1) _ 1 0 _ (pl 1 137) coll.Broadcast (Some 0) deposit.Nothing Done t.Boolean refl refl refl refl refl in
     not_both (f.given 0 1 0 t.Int t.Boolean first second))
@@ -115,9 +115,9 @@ returns-clause-a_variable_of_nowhere c = fails VariablesInScope programs.a_varia
 pub returns-clause-an_element_of_an_object : goal.returns-clause-an_element_of_an_object
 unfolding int_wrap built_in named_field_type instance_method
 returns-clause-an_element_of_an_object c = fails NoneImpossible programs.an_object_for_a_grid 1 (λ f.
-    let s : Setting = by_two 1000 programs.an_object_for_a_grid in
+    let s : RunConfig = by_two 1000 programs.an_object_for_a_grid in
     let w = has_asked s (solo s 1) 0 _ refl in
-    f 0 w.process _ _ (omega arith) w.world (w.settled, record { reaches = w.reaches; stands = ap shown w.stands }) tt refl)
+    f 0 w.process _ _ (omega arith) w.world (w.settled, record { reaches = w.reaches; stands = ap step_label w.stands }) tt refl)
 
 -- ---- forms
 

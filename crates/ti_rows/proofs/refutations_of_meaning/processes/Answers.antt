@@ -4,11 +4,11 @@ use Rattle.ti_base.specs.declared.action.Action.{Action}
 use Rattle.ti_base.specs.declared.entry.Next.TheVariants as next
 use Rattle.ti_base.specs.declared.entry.Answer.{Answer}
 use Rattle.ti_base.specs.declared.entry.Answer.TheVariants.{Done}
-use Rattle.ti_lang.specs.Meaning.Asking.{Got, Gives}
+use Rattle.ti_lang.specs.Meaning.Comp.{CompResult, Gives}
 use Rattle.ti_lang.specs.Meaning.NextStep.{none, here}
 use Rattle.ti_lang.proofs.Lemmas.{after_pays, only_acts}
 use Rattle.ti_rows.specs.Texts.{pl}
-use Rattle.ti_rows.specs.Refuted.Things.{fresh, ended, a_departure}
+use Rattle.ti_rows.specs.Refuted.Things.{fresh, ended_process, a_departure}
 use Rattle.ti_rows.proofs.Reached.{rest_of, settles}
 use Rattle.ti_rows.proofs.refutations_of_meaning.processes.Goals as goal
 
@@ -28,7 +28,7 @@ end_act p q a e = cc
 
 pub returns-clause-an_answer_behind_the_end : goal.returns-clause-an_answer_behind_the_end
 returns-clause-an_answer_behind_the_end c = λ q w.
-    let k = only_acts ended q (next.End (pl 1 76)) Done (ended, record { reaches = here; stands = refl }) w in
+    let k = only_acts ended_process q (next.End (pl 1 76)) Done (ended_process, record { reaches = here; stands = refl }) w in
     end_act _ _ _ k.2
 
 pub returns-clause-it_asks : goal.returns-clause-it_asks
@@ -40,7 +40,7 @@ true_false e = cc
 pub returns-clause-an_end_is_asked : goal.returns-clause-an_end_is_asked
 returns-clause-an_end_is_asked c = λ f. true_false (f _ _ refl).0
 
-one_left : ◌≡◌ {A = Got ℕ} (Gives 1 []) (Gives 0 (Done ∷ [])) → ⊥
+one_left : ◌≡◌ {A = CompResult ℕ} (Gives 1 []) (Gives 0 (Done ∷ [])) → ⊥
 one_left e = cc
 
 pub returns-clause-all_answers_are_counted : goal.returns-clause-all_answers_are_counted

@@ -3,7 +3,7 @@ use Rattle.ti_lang.specs.Typing.BuiltIn.{built_in}
 use Rattle.ti_lang.specs.Typing.Declared.{named_field_type, instance_method}
 use Rattle.ti_rules.specs.declared.refusal.Refusal.{Refusal}
 use Rattle.ti_rules.specs.declared.rule.Rule.TheVariants.{Y1, Y7}
-use Rattle.ti_rules.specs.Mirrors.First.{sooner, first_of}
+use Rattle.ti_rules.specs.Mirrors.First.{earlier_of, earliest}
 use Rattle.ti_rows.specs.Refuted.Things.{later, earlier}
 use Rattle.ti_rows.proofs.refutations_of_meaning.refusals.Goals as goal
 
@@ -33,7 +33,7 @@ true_false : true ≡ false → ⊥
 true_false e = cc
 
 pub returns-clause-the_earlier_one : goal.returns-clause-the_earlier_one
-unfolding first_of sooner
+unfolding earliest earlier_of
 returns-clause-the_earlier_one c = refl
 
 pub returns-clause-the_later_one : goal.returns-clause-the_later_one
@@ -43,7 +43,7 @@ some_none : (r : Refusal) → ◌≡◌ {A = Option Refusal} (Some r) None → �
 some_none r e = cc
 
 pub returns-clause-none_of_one : goal.returns-clause-none_of_one
-unfolding first_of sooner
+unfolding earliest earlier_of
 returns-clause-none_of_one c = some_none later
 
 column_of : Option Refusal → ℕ
@@ -51,7 +51,7 @@ column_of None = 0
 column_of (Some r) = r.place.col
 
 pub returns-clause-the_first_list_alone : goal.returns-clause-the_first_list_alone
-unfolding first_of sooner column_of
+unfolding earliest earlier_of column_of
 returns-clause-the_first_list_alone c = λ e.
     let k : 3 ≡ 9 = ap column_of e in
     omega (arith, k)

@@ -9,7 +9,7 @@ use Rattle.ti_base.specs.declared.entry.Next.TheVariants as next
 use Rattle.ti_base.specs.declared.value.Value.TheVariants as v
 use Rattle.ti_lang.specs.Typing.BuiltIn.{built_in}
 use Rattle.ti_lang.specs.Typing.Declared.{named_field_type, instance_method}
-use Rattle.ti_lang.specs.Meaning.Processes.{Setting}
+use Rattle.ti_lang.specs.Meaning.Processes.{RunConfig}
 use Rattle.ti_lang.specs.Meaning.Histories.{departures, arrivals, has_end}
 use Rattle.ti_lang.specs.Meaning.Runs.{CanTake, IsReady, IsRun}
 use Rattle.ti_lang.specs.Meaning.Runs as r
@@ -38,7 +38,7 @@ returns-clause-one_race c = refl
 -- ---- the other run
 
 -- the setting of both
-abbrev shared : Setting
+abbrev shared : RunConfig
 shared = by_two 1000 programs.a_field_is_shared
 
 -- both have arrived

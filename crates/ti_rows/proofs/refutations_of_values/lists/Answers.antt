@@ -4,7 +4,7 @@ use Rattle.ti_base.specs.declared.point.Point.{Point}
 use Rattle.ti_base.specs.Points.{pt_lex_lt}
 use Rattle.ti_base.specs.PointSets.{Rises}
 use Rattle.ti_base.proofs.Lemmas.{goes_on}
-use Rattle.ti_rows.specs.Refuted.Sets.{on_line, rising}
+use Rattle.ti_rows.specs.Refuted.Sets.{on_line, rising_points}
 use Rattle.ti_rows.proofs.refutations_of_values.lists.Goals as goal
 
 -- equal points of a line have one coordinate
@@ -39,7 +39,7 @@ returns-clause-the_first_alone_for_either c = λ f. middle_not_else ((f.has (on_
 pub returns-clause-the_second_is_first : goal.returns-clause-the_second_is_first
 returns-clause-the_second_is_first c = λ f. not_first 1 0 (omega arith) (f.first (on_line (pos 0)) (inl refl) tt)
 
-rising_rises : Rises rising
+rising_rises : Rises rising_points
 rising_rises = grind (arith, ints)
 
 pub returns-clause-the_second_is_next_to_the_first : goal.returns-clause-the_second_is_next_to_the_first

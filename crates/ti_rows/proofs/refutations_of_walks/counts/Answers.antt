@@ -2,20 +2,20 @@ use Rattle.std.proofs.Common.{◌≡◌, ℕ, ◌+◌, List, [], ◌∷◌, refl
 use Rattle.ti_base.specs.declared.entry.Answer.{Answer}
 use Rattle.ti_base.specs.declared.entry.Answer.TheVariants.{Done}
 use Rattle.ti_base.specs.declared.place.Place.{Place}
-use Rattle.ti_lang.specs.Meaning.Asking.{Got, Gives}
+use Rattle.ti_lang.specs.Meaning.Comp.{CompResult, Gives}
 use Rattle.ti_code.specs.Programs.{Code}
-use Rattle.ti_code.specs.Machine.{Machine, Turn, On, Ended, first, turn}
+use Rattle.ti_code.specs.Machine.{Machine, StepResult, On, Ended, first, next_step}
 use Rattle.ti_code.specs.Follows.{Finishes, all, one}
-use Rattle.ti_machine.specs.Standing.{counted}
+use Rattle.ti_machine.specs.ProcView.{saturate}
 use Rattle.ti_rows.specs.Refuted.Codes.{prints_at, stops}
 use Rattle.ti_rows.proofs.refutations_of_walks.counts.Goals as goal
 
 -- ---- one number
 
-on_same : (a b : Machine) (xs ys : List Answer) → ◌≡◌ {A = Got Turn} (Gives (On a) xs) (Gives (On b) ys) → a ≡ b
+on_same : (a b : Machine) (xs ys : List Answer) → ◌≡◌ {A = CompResult StepResult} (Gives (On a) xs) (Gives (On b) ys) → a ≡ b
 on_same a b xs ys e = cc
 
-left_same : (a b : Machine) (xs ys : List Answer) → ◌≡◌ {A = Got Turn} (Gives (On a) xs) (Gives (On b) ys) → xs ≡ ys
+left_same : (a b : Machine) (xs ys : List Answer) → ◌≡◌ {A = CompResult StepResult} (Gives (On a) xs) (Gives (On b) ys) → xs ≡ ys
 left_same a b xs ys e = cc
 
 finishes_same : (c : Code) {m : Machine} {rs : List Answer} {j k : ℕ} → Finishes c m rs j → Finishes c m rs k → j ≡ k
@@ -46,12 +46,12 @@ returns-clause-two_as_counted c = (2, two, refl)
 
 pub returns-clause-one_as_counted : goal.returns-clause-one_as_counted
 returns-clause-one_as_counted c = λ f.
-    let k : 2 ≡ 1 = ap counted (finishes_same (prints_at 62) two f.1) ∙ sym f.2 in
+    let k : 2 ≡ 1 = ap saturate (finishes_same (prints_at 62) two f.1) ∙ sym f.2 in
     omega (arith, k)
 
 -- ---- an end
 
-ended_on : (at : Place) (m : Machine) (xs ys : List Answer) → ◌≡◌ {A = Got Turn} (Gives (Ended at) xs) (Gives (On m) ys) → ⊥
+ended_on : (at : Place) (m : Machine) (xs ys : List Answer) → ◌≡◌ {A = CompResult StepResult} (Gives (Ended at) xs) (Gives (On m) ys) → ⊥
 ended_on at m xs ys e = cc
 
 none_finished : {m : Machine} {rs : List Answer} {k : ℕ} → Finishes stops m rs k → m ≡ first stops 2 1000 0 → rs ≡ Done ∷ [] → ⊥
@@ -60,7 +60,7 @@ none_finished all e h = absurd (by h)
     by : [] ≡ Done ∷ [] → ⊥
     by h = cc
 none_finished (one {n = n} {r = r} {rs = rs} {rest = rest} t f) e h =
-    ended_on _ n _ rest (sym (ap (λ (m : Machine). turn stops m (r ∷ rs)) e) ∙ t)
+    ended_on _ n _ rest (sym (ap (λ (m : Machine). next_step stops m (r ∷ rs)) e) ∙ t)
 
 pub returns-clause-an_answer_to_an_end : goal.returns-clause-an_answer_to_an_end
 returns-clause-an_answer_to_an_end c = λ k f. none_finished f refl refl

@@ -7,22 +7,22 @@ use Rattle.ti_base.specs.declared.entry.Next.TheVariants as next
 use Rattle.ti_base.specs.declared.place.Place.{Place}
 use Rattle.ti_base.specs.declared.value.Value.{Value}
 use Rattle.ti_base.specs.declared.value.Value.TheVariants as v
-use Rattle.ti_lang.specs.Meaning.Asking.{Request}
+use Rattle.ti_lang.specs.Meaning.Comp.{Request}
 use Rattle.ti_lang.specs.Meaning.Answers.{FitsWanted}
 use Rattle.ti_lang.specs.Meaning.Histories.{is_end}
-use Rattle.ti_lang.specs.Meaning.NextStep.{After, none, here, shown}
+use Rattle.ti_lang.specs.Meaning.NextStep.{After, none, here, step_label}
 use Rattle.ti_lang.specs.Meaning.Processes.{Process}
 use Rattle.ti_lang.specs.Meaning.Steps.{Step, To, At, Ends, Faults, step}
 use Rattle.ti_lang.proofs.Lemmas.{no_end_asked, next_some}
-use Rattle.ti_exec.specs.Standing.{begun_of}
+use Rattle.ti_exec.specs.Standing.{initial_process_of}
 use Rattle.ti_rows.specs.Refuted.Things.{fresh}
 use Rattle.ti_rows.proofs.Reached.{asks_once}
 use Rattle.ti_rows.proofs.refutations_of_walks.processes.Goals as goal
 
 pub returns-clause-something_is_next : goal.returns-clause-something_is_next
 returns-clause-something_is_next c = λ s e.
-    let w = next_some (begun_of s) in
-    (w.0, (begun_of s, subst (λ rs. After (begun_of s) rs (begun_of s)) (sym e) none, w.1))
+    let w = next_some (initial_process_of s) in
+    (w.0, (initial_process_of s, subst (λ rs. After (initial_process_of s) rs (initial_process_of s)) (sym e) none, w.1))
 
 -- ---- no process asks for its end
 
@@ -38,7 +38,7 @@ same_action p q a b e = cc
 end_act : (p q : Place) (b : Action) → Some (next.End p) ≡ Some (next.Act q b) → ⊥
 end_act p q b e = cc
 
-no_end : (q : Process) (at : Place) (t : Step) → step q ≡ t → shown t ≡ Some (next.Act at act.End) → ⊥
+no_end : (q : Process) (at : Place) (t : Step) → step q ≡ t → step_label t ≡ Some (next.Act at act.End) → ⊥
 no_end q at (To p) e k = none_some _ k
 no_end q at (At request go) e k =
     true_false (ap is_end (sym (same_action _ _ _ _ k)) ∙ (no_end_asked q request go e).0)

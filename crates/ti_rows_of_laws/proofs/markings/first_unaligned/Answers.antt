@@ -5,7 +5,7 @@ use Rattle.ti_lang.specs.Typing.BuiltIn.{built_in}
 use Rattle.ti_lang.specs.Typing.Declared.{named_field_type, instance_method}
 use Rattle.ti_rules.specs.declared.refusal.Refusal.{Refusal}
 use Rattle.ti_blame.specs.Marks.{marks_of}
-use Rattle.ti_infer.specs.Answer.{MarksNames}
+use Rattle.ti_infer.specs.Answer.{MarksCandidates}
 use Rattle.ti_infer.specs.Inferred.{IsAcceptedTo}
 use Rattle.ti_infer.specs.Limited.{counts_to, limited_refusals}
 use Rattle.ti_infer.specs.Marked.{marked}
@@ -22,23 +22,23 @@ returns-clause-collectives c = refl
 
 -- ---- the first barrier
 
-nothing_names : MarksNames programs.an_own_number (marks_of marks.nothing)
+nothing_names : MarksCandidates programs.an_own_number (marks_of marks.no_marks)
 nothing_names = record { methods = λ at h. absurd (true_false (sym h)); results = λ at h. absurd (true_false (sym h)); variables = λ at h. absurd (true_false (sym h)) }
 
 -- what is wrong where the first barrier counts, or doesn't, and where the second does, or doesn't
 abbrev wrong_where : Bool → Bool → List Refusal
-wrong_where first second = limited_refusals (λ at. if same_place at (pl 1 104) then first else second) (marked (marks_of marks.nothing) programs.an_own_number)
+wrong_where first second = limited_refusals (λ at. if same_place at (pl 1 104) then first else second) (marked (marks_of marks.no_marks) programs.an_own_number)
 
-up_to_none : (c : Place) → place_before c (pl 1 104) ≡ true → limited_refusals (counts_to (Some c)) (marked (marks_of marks.nothing) programs.an_own_number) ≡ []
+up_to_none : (c : Place) → place_before c (pl 1 104) ≡ true → limited_refusals (counts_to (Some c)) (marked (marks_of marks.no_marks) programs.an_own_number) ≡ []
 unfolding built_in named_field_type instance_method
 up_to_none c h =
     let first : counts_to (Some c) (pl 1 104) ≡ false = not_up_to c (pl 1 104) h in
     let second : counts_to (Some c) (pl 1 118) ≡ false = not_up_to c (pl 1 118) (before_trans c (pl 1 104) (pl 1 118) h refl) in
-    let all : limited_refusals (counts_to (Some c)) (marked (marks_of marks.nothing) programs.an_own_number)
+    let all : limited_refusals (counts_to (Some c)) (marked (marks_of marks.no_marks) programs.an_own_number)
     ≡ wrong_where (counts_to (Some c) (pl 1 104)) (counts_to (Some c) (pl 1 118)) = refl in
     all ∙ ap₂ wrong_where first second
 
-sooner_accepted : (c : Place) → place_before c (pl 1 104) ≡ true → IsAcceptedTo (Some c) programs.an_own_number (marks_of marks.nothing)
+sooner_accepted : (c : Place) → place_before c (pl 1 104) ≡ true → IsAcceptedTo (Some c) programs.an_own_number (marks_of marks.no_marks)
 unfolding built_in named_field_type instance_method
 sooner_accepted c h = record { types = refl; single = up_to_none c h }
 
@@ -48,7 +48,7 @@ returns-clause-the_first_barrier c = record {
   never = λ a names accepted. own_never a accepted;
   collective = (0, omega arith, refl);
   none = λ a names accepted. own_none a accepted.types accepted.single;
-  sooner = λ c before. (marks_of marks.nothing, nothing_names, sooner_accepted c before);
+  sooner = λ c before. (marks_of marks.no_marks, nothing_names, sooner_accepted c before);
 }
 
 -- ---- other places
@@ -71,7 +71,7 @@ returns-clause-no_collective c = λ f. by f.collective.0 f.collective.1 f.collec
         omega (arith, k)
     by (suc (suc n)) h e = omega arith
 
-sent_names : MarksNames programs.a_sent_number (marks_of marks.the_first)
+sent_names : MarksCandidates programs.a_sent_number (marks_of marks.the_first)
 sent_names = record { methods = λ at h. absurd (true_false (sym h)); results = λ at h. absurd (true_false (sym h)); variables = λ at h. h }
 
 pub returns-clause-where_a_marking_is_accepted : goal.returns-clause-where_a_marking_is_accepted

@@ -5,9 +5,9 @@ use Rattle.ti_base.specs.declared.place.Place.{Place}
 use Rattle.ti_base.specs.Places.{same_place}
 use Rattle.ti_lang.specs.Typing.BuiltIn.{built_in}
 use Rattle.ti_lang.specs.Typing.Declared.{named_field_type, instance_method}
-use Rattle.ti_blame.specs.Marks.{Marks, IsPart, marks_of}
+use Rattle.ti_blame.specs.Marks.{Marks, IsSubset, marks_of}
 use Rattle.ti_infer.specs.Accepted.{IsAccepted}
-use Rattle.ti_infer.specs.Answer.{MarksNames}
+use Rattle.ti_infer.specs.Answer.{MarksCandidates}
 use Rattle.ti_rows_of_laws.specs.Texts.{pl}
 use Rattle.ti_rows_of_laws.specs.Markings as marks
 use Rattle.ti_rows_of_laws.specs.Programs as programs
@@ -21,10 +21,10 @@ sent_accepted : IsAccepted programs.a_sent_number (marks_of marks.the_first)
 unfolding built_in named_field_type instance_method
 sent_accepted = record { types = refl; single = refl }
 
-sent_names : MarksNames programs.a_sent_number (marks_of marks.the_first)
+sent_names : MarksCandidates programs.a_sent_number (marks_of marks.the_first)
 sent_names = record { methods = λ at h. absurd (true_false (sym h)); results = λ at h. absurd (true_false (sym h)); variables = λ at h. h }
 
-sent_greatest : (a : Marks) → MarksNames programs.a_sent_number a → IsAccepted programs.a_sent_number a → IsPart a (marks_of marks.the_first)
+sent_greatest : (a : Marks) → MarksCandidates programs.a_sent_number a → IsAccepted programs.a_sent_number a → IsSubset a (marks_of marks.the_first)
 sent_greatest a names h = record {
   methods = λ at e. absurd (no_method_but_main a at e (or_left _ (names.methods at e)) (sent_main a h));
   results = λ at e. absurd (true_false (sym (names.results at e)));
@@ -44,14 +44,14 @@ returns-clause-less c = λ i. some_more _ _ (i.accepted refl).single
 
 -- ---- both variables
 
-two_accepted : IsAccepted programs.two_numbers (marks_of marks.both)
+two_accepted : IsAccepted programs.two_numbers (marks_of marks.both_marks)
 unfolding built_in named_field_type instance_method
 two_accepted = record { types = refl; single = refl }
 
-two_names : MarksNames programs.two_numbers (marks_of marks.both)
+two_names : MarksCandidates programs.two_numbers (marks_of marks.both_marks)
 two_names = record { methods = λ at h. absurd (true_false (sym h)); results = λ at h. absurd (true_false (sym h)); variables = λ at h. h }
 
-two_greatest : (a : Marks) → MarksNames programs.two_numbers a → IsAccepted programs.two_numbers a → IsPart a (marks_of marks.both)
+two_greatest : (a : Marks) → MarksCandidates programs.two_numbers a → IsAccepted programs.two_numbers a → IsSubset a (marks_of marks.both_marks)
 two_greatest a names h = record {
   methods = λ at e. absurd (no_method_but_main a at e (or_left _ (names.methods at e)) (two_main a h));
   results = λ at e. absurd (true_false (sym (names.results at e)));
@@ -67,10 +67,10 @@ unfolding built_in named_field_type instance_method
 second_accepted = record { types = refl; single = refl }
 
 -- the second is a name
-second_name : (at : Place) → (marks_of marks.the_second).variables at ≡ true → (marks_of marks.both).variables at ≡ true
+second_name : (at : Place) → (marks_of marks.the_second).variables at ≡ true → (marks_of marks.both_marks).variables at ≡ true
 second_name at h = or_right (same_place at (pl 1 66)) _ h
 
-second_names : MarksNames programs.two_numbers (marks_of marks.the_second)
+second_names : MarksCandidates programs.two_numbers (marks_of marks.the_second)
 second_names = record { methods = λ at h. absurd (true_false (sym h)); results = λ at h. absurd (true_false (sym h)); variables = second_name }
 
 pub returns-clause-one_of_two : goal.returns-clause-one_of_two

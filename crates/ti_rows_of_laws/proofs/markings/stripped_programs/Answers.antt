@@ -3,7 +3,7 @@ use Rattle.std.proofs.Math.Bool.{Bool-set}
 use Rattle.std.proofs.Math.Logic.{∥∥₁_elim}
 use Rattle.ti_lang.specs.Program.Statements.{NumberedStm}
 use Rattle.ti_lang.specs.Program.Statements as st
-use Rattle.ti_lang.specs.Program.Classes.{NumberedMethod, NumberedProgram}
+use Rattle.ti_lang.specs.Program.Classes.{NumberedMethod, ProgramView}
 use Rattle.ti_syntax.specs.Trees.Classes.{TextTree}
 use Rattle.ti_lang.specs.Members.{OwnMethod, methods_of}
 use Rattle.ti_lang.specs.Numbering.{IsNumbered, NumbersMethods}
@@ -28,7 +28,7 @@ first_single [] = false
 first_single (m ∷ ms) = first_in m.body
 
 pub returns-clause-a_mark_to_take_off : goal.returns-clause-a_mark_to_take_off
-returns-clause-a_mark_to_take_off c = λ e. true_false (sym (ap (λ (p : NumberedProgram). first_single p.methods) e))
+returns-clause-a_mark_to_take_off c = λ e. true_false (sym (ap (λ (p : ProgramView). first_single p.methods) e))
 
 -- where no method is numbered, there is none
 none_numbered : (text : TextTree) (number before : ℕ) (owns : List OwnMethod) (ms : List NumberedMethod) → NumbersMethods text number before owns ms → ms ≡ [] → owns ≡ []

@@ -14,14 +14,14 @@ take-requires-clause-procs g c = omega (arith, c.requires.procs, c.requires.may.
 pub take-requires-clause-goes : goal.take-requires-clause-goes
 take-requires-clause-goes g c =
     let left = c.pop.new.self in
-    let inside : c.len-number.result < g.J.Terms.setting.procs = omega (
+    let inside : c.len-number.result < g.J.RunConfigOf.config.procs = omega (
       arith,
       c.len-number.ensures ∙ left.ok.0,
       one_longer _ left.items c.in-Some.pass c.in-Some.ensures.items,
       c.loop-pass.invariant.count,
       c.requires.procs,
     ) in
-    begins_here g.J.CodeOf.code c.args.code.now g.J.Terms.setting c.args.procs c.args.fuel c.len-number.result c.requires.may c.requires.code c.requires.procs c.requires.fuel inside
+    begins_here g.J.CodeOf.code c.args.code.now g.J.RunConfigOf.config c.args.procs c.args.fuel c.len-number.result c.requires.may c.requires.code c.requires.procs c.requires.fuel inside
 
 pub new-task-requires-clause-number : goal.new-task-requires-clause-number
 new-task-requires-clause-number g c =
@@ -39,14 +39,14 @@ new-task-requires-clause-seen g c = (last_pass (identity_of c.args.turnstile.now
 pub new-task-requires-clause-seated : goal.new-task-requires-clause-seated
 new-task-requires-clause-seated g c =
     let left = c.pop.new.self in
-    let inside : c.len-number.result < g.J.Terms.setting.procs = omega (
+    let inside : c.len-number.result < g.J.RunConfigOf.config.procs = omega (
       arith,
       c.len-number.ensures ∙ left.ok.0,
       one_longer _ left.items c.in-Some.pass c.in-Some.ensures.items,
       c.loop-pass.invariant.count,
       c.requires.procs,
     ) in
-    seated_here g.J.CodeOf.code c.args.code.now g.J.Terms.setting c.args.procs c.args.fuel c.len-number.result c.requires.may
+    seated_here g.J.CodeOf.code c.args.code.now g.J.RunConfigOf.config c.args.procs c.args.fuel c.len-number.result c.requires.may
     c.requires.code c.requires.procs c.requires.fuel inside c.in_ok-pending.pending c.in_ok-pending.ensures
 
 pub put-requires-clause-task : goal.put-requires-clause-task

@@ -11,7 +11,7 @@ pub loop-task-preserved-in-Some : goal.loop-task-preserved-in-Some
 loop-task-preserved-in-Some g c =
     let id = identity_of c.args.turnstile.now in
     let code = g.J.CodeOf.code in
-    let s = g.J.Terms.setting in
+    let s = g.J.RunConfigOf.config in
     let inv = c.loop-task.invariant in
     let old = c.loop-task.tasks.items in
     let left = c.pop.new.self.items in
@@ -38,7 +38,7 @@ pub loop-task-preserved : goal.loop-task-preserved
 loop-task-preserved g c =
     let id = identity_of c.args.turnstile.now in
     let code = g.J.CodeOf.code in
-    let s = g.J.Terms.setting in
+    let s = g.J.RunConfigOf.config in
     let inv = c.loop-task.invariant in
     let old = c.loop-task.tasks.items in
     let left = c.pop.new.self.items in

@@ -12,9 +12,9 @@ invariant-loop-task g l = record {
   count : length l.passes.items + length l.tasks.items ≡ length l.fn.tasks.items;
   room : vec_len l.passes + vec_len l.tasks ≤ vec_capacity l.passes;
   turnstile : AreOf (identity_of l.turnstile) l.passes.items;
-  places : length l.places.items ≡ g.J.Terms.setting.procs;
-  placed : ArePlaced g.J.Terms.setting.procs l.places.items l.passes.items;
-  back : IsBack g.J.CodeOf.code g.J.Terms.setting l.places.items l.passes.items;
+  places : length l.places.items ≡ g.J.RunConfigOf.config.procs;
+  placed : ArePlaced g.J.RunConfigOf.config.procs l.places.items l.passes.items;
+  back : IsBack g.J.CodeOf.code g.J.RunConfigOf.config l.places.items l.passes.items;
 }
 
 abbrev pub decreases-loop-task : goal.decreases-loop-task

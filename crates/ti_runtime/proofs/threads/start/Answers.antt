@@ -9,7 +9,7 @@ use Rattle.ti_runtime.proofs.threads.start.Goals as goal
 pub spawn_with-requires-send-F : goal.spawn_with-requires-send-F
 spawn_with-requires-send-F g c κs within =
     param_send 2 _ (arg_send _ yes _
-    (job_send (param 1 g.row.J) g.J.Terms g.J.CodeOf (kept.ghosts (param 1 g.row.J) g.J.Terms kept.no_dict) g.row.R g.row.G (named 6) (named 7) (named 8) (named 9) (named 10)
+    (job_send (param 1 g.row.J) g.J.RunConfigOf g.J.CodeOf (kept.ghosts (param 1 g.row.J) g.J.RunConfigOf kept.no_dict) g.row.R g.row.G (named 6) (named 7) (named 8) (named 9) (named 10)
     κs.1.1.1.1.1.1.0 κs.1.1.1.1.1.1.1.0 κs.1.1.1.1.1.1.1.1.0 κs.1.1.1.1.1.1.1.1.1.0 κs.1.1.1.1.1.1.1.1.1.1.0 _ c.type_bounds.sync-R c.type_bounds.sync-G))
 
 pub spawn_with-requires-send-T : goal.spawn_with-requires-send-T

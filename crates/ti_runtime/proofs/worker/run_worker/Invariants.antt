@@ -11,6 +11,6 @@ invariant-loop g l = record {
   finite : (goal.iterator-loop g).is_finite l.iterator';
   tasks : All (BelongsTo (identity_of l.turnstile)) l.tasks.items;
   count : length l.tasks.items ≡ length l.initial.tasks.items;
-  near : (l.ended ≤ l.at) × (l.at ≤ length l.tasks.items);
+  near : (l.ended ≤ l.index) × (l.index ≤ length l.tasks.items);
   room : vec_capacity l.initial.tasks ≤ vec_capacity l.tasks;
 }

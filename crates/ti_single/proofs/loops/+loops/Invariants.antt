@@ -5,4 +5,4 @@ use Rattle.ti_single.specs.Mirrors.Loops.{loop_in_all}
 use Rattle.ti_single.proofs.loops.+loops.Given as goal
 
 abbrev pub invariant-loop_in_all-loop-x : goal.invariant-loop_in_all-loop-x
-invariant-loop_in_all-loop-x l = loop_in_all l.at (numbered_stms (map statement_of l.xs)) ≡ loop_in_all l.at (numbered_stms (map statement_of (drop l.x-index l.xs)))
+invariant-loop_in_all-loop-x l = loop_in_all l.loop_place (numbered_stms (map statement_of l.stmts)) ≡ loop_in_all l.loop_place (numbered_stms (map statement_of (drop l.x-index l.stmts)))

@@ -1,7 +1,7 @@
 use Rattle.std.proofs.Common.{◌≡◌, ◌==◌, map, drop, find, false}
 use Rattle.std.specs.Option.{option_map_or}
 use Rattle.ti_lang.specs.Program.Scope.{ScopeVariable, in_scope_of, contents_of}
-use Rattle.ti_rules.specs.Standing.{singles_in}
+use Rattle.ti_rules.specs.StmtInContext.{singles_in}
 use Rattle.ti_single.proofs.singleness.is_single_number.Given as goal
 
 abbrev pub invariant-loop-v : goal.invariant-loop-v

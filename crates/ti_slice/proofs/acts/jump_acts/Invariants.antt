@@ -7,7 +7,7 @@ use Rattle.ti_slice.proofs.acts.jump_acts.Given as goal
 abbrev pub invariant-loop-n : goal.invariant-loop-n
 invariant-loop-n l = record {
   within : l.n ≤ length l.levels;
-  same : SameJump (program_of l.p.parts) (numbered_method_of l.m) (numbered_stms (numbered_method_of l.m).body) l.levels (take l.n l.levels);
+  same : SameJump (program_of l.program.parts) (numbered_method_of l.method) (numbered_stms (numbered_method_of l.method).body) l.levels (take l.n l.levels);
 }
 
 abbrev pub decreases-loop-n : goal.decreases-loop-n

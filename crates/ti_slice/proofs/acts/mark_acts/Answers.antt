@@ -6,6 +6,6 @@ use Rattle.ti_slice.proofs.acts.mark_acts.Goals as goal
 
 pub returns-in-Turn : goal.returns-in-Turn
 returns-in-Turn c =
-    turn_mark (program_of c.args.p.now.parts) (numbered_method_of c.args.m.now) c.foreach_acts.result (stm_seen c.args.x)
-    (statement_of c.in-Some.x.now) c.args.t.now c.in-Turn.variable c.in-Turn.domain c.in-Turn.at
+    turn_mark (program_of c.args.program.now.parts) (numbered_method_of c.args.method.now) c.foreach_acts.result (stm_seen c.args.stmt)
+    (statement_of c.in-Some.stmt.now) c.args.todo.now c.in-Turn.variable c.in-Turn.domain c.in-Turn.at
     c.in-Turn.is (ap stm_seen c.in-Some.is) c.foreach_acts.ensures

@@ -7,6 +7,6 @@ use Rattle.ti_slice.proofs.answer.fits.Goals as goal
 pub returns-in-Expects : goal.returns-in-Expects
 returns-in-Expects c =
     let env = env_of c.env.result in
-    fits_expected (program_of c.args.c.now) c.args.w.now _ c.args.outcome.now env
-    (stm_seen c.waiting.result) c.fits_departure.result c.in-Expects.is c.env.ensures
-    (c.waiting.ensures env) c.fits_departure.ensures.yes c.fits_departure.ensures.no
+    fits_expected (program_of c.args.parts.now) c.args.machine.now _ c.args.outcome.now env
+    (stm_seen c.waiting_statement.result) c.fits_departure.result c.in-Expects.is c.env.ensures
+    (c.waiting_statement.ensures env) c.fits_departure.ensures.yes c.fits_departure.ensures.no

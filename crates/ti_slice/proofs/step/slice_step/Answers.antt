@@ -7,11 +7,11 @@ use Rattle.ti_slice.proofs.Stepping.{same_slice_turn}
 use Rattle.ti_slice.proofs.step.slice_step.Goals as goal
 
 pub act-requires-clause-new : goal.act-requires-clause-new
-act-requires-clause-new c = ap (λ (p : Process). p.answers) c.in_ok-settle.ensures.same ∙ c.requires
+act-requires-clause-new c = ap (λ (p : Process). p.answers) c.in_ok-normalize.ensures.same ∙ c.requires
 
 pub returns : goal.returns
 returns c =
-    let p = program_of c.args.c.now.program.parts in
-    let mid = c.settle.new.self in
-    let new = c.act.new.w in
-    of_result c.act.result (λ t. IsSliceTurn p mid t new) (λ t. IsSliceTurn p c.args.w.now t new) (λ t h. same_slice_turn p c.args.w.now mid new t c.in_ok-settle.ensures.same h) c.act.ensures
+    let p = program_of c.args.checked.now.program.parts in
+    let mid = c.normalize.new.self in
+    let new = c.act.new.machine in
+    of_result c.act.result (λ t. IsSliceTurn p mid t new) (λ t. IsSliceTurn p c.args.machine.now t new) (λ t h. same_slice_turn p c.args.machine.now mid new t c.in_ok-normalize.ensures.same h) c.act.ensures

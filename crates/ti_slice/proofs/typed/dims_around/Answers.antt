@@ -6,7 +6,7 @@ use Rattle.ti_lang.specs.Program.Views.{program_of}
 use Rattle.ti_lang.specs.Typing.Kinds.{dim_of_type}
 use Rattle.ti_lang.specs.Mirrors.ListedDims.{dims_in}
 use Rattle.ti_lang.specs.Typing.TextTypes.{type_at}
-use Rattle.ti_eval.specs.Envs.{site_of}
+use Rattle.ti_eval.specs.Envs.{context_of}
 use Rattle.ti_eval.specs.Frames.{method_seen, domain_in}
 use Rattle.ti_eval.specs.Places.{inside}
 use Rattle.ti_moves.specs.Receiving.{stm_seen}
@@ -18,7 +18,7 @@ pub loop-n-init : goal.loop-n-init
 loop-n-init c =
     let e = c.args.env.now in
     ap (λ ds. dims_in (reverse ds)) c.new-dims.ensures.items
-    ∙ none_first (program_of e.program.now) (this_of (method_seen e.method)) (site_of e) (numbered_stms (method_seen e.method).body) e.levels.now 1 (omega arith)
+    ∙ none_first (program_of e.program.now) (this_of (method_seen e.method)) (context_of e) (numbered_stms (method_seen e.method).body) e.levels.now 1 (omega arith)
 
 pub loop-n-preserved : goal.loop-n-preserved
 loop-n-preserved c =
@@ -27,7 +27,7 @@ loop-n-preserved c =
     elim c.match-env-n.branch [
       | in-Turn+in_ok-push w ↦
           ap (λ ds. dims_in (reverse ds)) (ap (λ v. v.items) w.dims-is ∙ w.in_ok-push.ensures.items)
-          ∙ one_turn (program_of e.program.now) (this_of (method_seen e.method)) (site_of e) (numbered_stms (method_seen e.method).body) e.levels.now c.loop-n.n level c.loop-n.dims.items _
+          ∙ one_turn (program_of e.program.now) (this_of (method_seen e.method)) (context_of e) (numbered_stms (method_seen e.method).body) e.levels.now c.loop-n.n level c.loop-n.dims.items _
           (stm_seen w.statement_at-x.result) w.in-Turn.domain w.in-Turn.at (omega arith) (omega arith) w.in-Turn.is
           (w.statement_at-x.ensures ∙ ap (λ xs. inside (numbered_stms xs) (reverse (take c.loop-n.n e.levels.now))) c.body_of-body.ensures)
           (w.dims_of_domain-dim.ensures
@@ -35,7 +35,7 @@ loop-n-preserved c =
           c.loop-n.invariant
       | in_default w ↦
           ap (λ v. dims_in (reverse v.items)) w.dims-is
-          ∙ no_turn (program_of e.program.now) (this_of (method_seen e.method)) (site_of e) (numbered_stms (method_seen e.method).body) e.levels.now c.loop-n.n level c.loop-n.dims.items
+          ∙ no_turn (program_of e.program.now) (this_of (method_seen e.method)) (context_of e) (numbered_stms (method_seen e.method).body) e.levels.now c.loop-n.n level c.loop-n.dims.items
           (omega arith) (omega arith) w.in_default.not-Turn c.loop-n.invariant
     ]
 
@@ -43,4 +43,4 @@ pub returns : goal.returns
 returns c =
     let e = c.args.env.now in
     c.loop-n.invariant
-    ∙ ap (dims_rest (program_of e.program.now) (this_of (method_seen e.method)) (site_of e) (numbered_stms (method_seen e.method).body)) (take_all c.loop-n.n e.levels.now c.loop-n-test.false)
+    ∙ ap (dims_rest (program_of e.program.now) (this_of (method_seen e.method)) (context_of e) (numbered_stms (method_seen e.method).body)) (take_all c.loop-n.n e.levels.now c.loop-n-test.false)

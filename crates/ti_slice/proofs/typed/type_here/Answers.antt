@@ -9,4 +9,4 @@ pub returns : goal.returns
 returns c =
     let dims : dims_in (reverse c.deref.result.now) ≡ (env_of c.args.env.now).dims =
     ap (λ xs. dims_in (reverse xs)) c.deref.ensures.value ∙ c.in_ok-dims.ensures in
-    c.type_over.ensures ∙ (λ i. type_at (program_of c.args.env.now.program.now) (c.class_of_this.ensures i) (dims i) (expression_of c.args.e.now))
+    c.syntactic_type_with.ensures ∙ (λ i. type_at (program_of c.args.env.now.program.now) (c.class_of_this.ensures i) (dims i) (expression_of c.args.expr.now))

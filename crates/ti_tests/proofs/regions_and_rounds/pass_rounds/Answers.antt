@@ -3,7 +3,7 @@ use Rattle.ti_base.specs.declared.action.CollKind.TheVariants.{Broadcast, Exchan
 use Rattle.ti_base.specs.declared.action.Deposit.TheVariants.{Nothing, One}
 use Rattle.ti_base.specs.declared.value.Value.TheVariants.{Int}
 use Rattle.ti_rounds.specs.declared.arrival.Arrival.{Arrival}
-use Rattle.ti_rounds.specs.Seats.{round_at, left_by, Goes, Waits, IsReached, collective_of}
+use Rattle.ti_rounds.specs.Seats.{round_at, left_by, HasLeft, Waits, IsReached, collective_of}
 use Rattle.ti_rounds.specs.Courses.{Course, no_course, seat_of, AllSay, with_arrival, with_departure}
 use Rattle.ti_tests.proofs.regions_and_rounds.pass_rounds.Goals as goal
 
@@ -72,7 +72,7 @@ arrive-requires c =
     let k = c.in_ok-rounds.ensures in
     record {
       process = subst (λ s. 0 < length s) (sym k) (lit< tt);
-      goes = subst (λ s. Goes s 0) (sym k) refl;
+      goes = subst (λ s. HasLeft s 0) (sym k) refl;
       agrees = (none, k, subst (λ s. AllSay none (round_at s 0 + 1) (collective_of of_0)) (sym k) none_said);
       countable = subst (λ s. round_at s 0 < 2 ^ 64 - 1) (sym k) (lit< tt);
     }
@@ -87,7 +87,7 @@ arrive-requires-2 c =
     let k = c.arrive.ensures none c.in_ok-rounds.ensures in
     record {
       process = subst (λ s. 1 < length s) (sym k) (lit< tt);
-      goes = subst (λ s. Goes s 1) (sym k) refl;
+      goes = subst (λ s. HasLeft s 1) (sym k) refl;
       agrees = (one_arrived, k, subst (λ s. AllSay one_arrived (round_at s 1 + 1) (collective_of of_1)) (sym k) one_said);
       countable = subst (λ s. round_at s 1 < 2 ^ 64 - 1) (sym k) (lit< tt);
     }
@@ -131,7 +131,7 @@ arrive-requires-3 c =
     let k = c.depart-fast.ensures.left both_arrived (c.arrive-2.ensures one_arrived (c.arrive.ensures none c.in_ok-rounds.ensures)) in
     record {
       process = subst (λ s. 1 < length s) (sym k) (lit< tt);
-      goes = subst (λ s. Goes s 1) (sym k) refl;
+      goes = subst (λ s. HasLeft s 1) (sym k) refl;
       agrees = (one_left, k, subst (λ s. AllSay one_left (round_at s 1 + 1) (collective_of ahead)) (sym k) nobody_ahead);
       countable = subst (λ s. round_at s 1 < 2 ^ 64 - 1) (sym k) (lit< tt);
     }
@@ -172,6 +172,6 @@ take-taken-requires c =
     record {
       process = subst (λ s. 0 < length s) (sym k) (lit< tt);
       giver = subst (λ s. 1 < length s) (sym k) (lit< tt);
-      goes = subst (λ s. Goes s 0) (sym k) refl;
+      goes = subst (λ s. HasLeft s 0) (sym k) refl;
       left = subst (λ s. 0 < left_by s 0) (sym k) (lit< tt);
     }

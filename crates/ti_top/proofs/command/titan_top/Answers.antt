@@ -1,6 +1,6 @@
 use Rattle.std.proofs.Common.{ℕ, List, [], map, string_bytes, Global, refl, sym, subst}
-use Rattle.ti_top.specs.declared.ending.Ending.TheVariants.{NoCommand, NoMemory}
-use Rattle.ti_top.specs.Mirrors.Ended.{Ended}
+use Rattle.ti_top.specs.declared.exit.Exit.TheVariants.{NoCommand, NoMemory}
+use Rattle.ti_top.specs.Mirrors.EndsWithLine.{EndsWithLine}
 use Rattle.ti_top.proofs.ClausesMet.{meets_no_command, meets_command, meets_unread}
 use Rattle.ti_top.proofs.JobRanges.{in_ranges}
 use Rattle.ti_top.proofs.command.titan_top.Goals as goal
@@ -18,7 +18,7 @@ returns-in-Err-Usage g c =
         no_count = c.nothing.ensures.done;
       };
     })
-    (subst (λ (s : ℕ). Ended NoCommand [] (g.K.Sink.state c.args.err.now) (g.K.Sink.state c.end_with.new.err) s) (sym c.nothing.ensures.status) c.end_with.ensures)
+    (subst (λ (s : ℕ). EndsWithLine NoCommand [] (g.K.Sink.state c.args.err.now) (g.K.Sink.state c.end_with.new.err) s) (sym c.nothing.ensures.status) c.end_with.ensures)
 
 pub returns-in-Err-Memory : goal.returns-in-Err-Memory
 returns-in-Err-Memory g c =
@@ -33,16 +33,16 @@ returns-in-Err-Memory g c =
         no_count = c.nothing-in-Err-Memory.ensures.done;
       };
     })
-    (subst (λ (s : ℕ). Ended NoMemory [] (g.K.Sink.state c.args.err.now) (g.K.Sink.state c.end_with-in-Err-Memory.new.err) s)
+    (subst (λ (s : ℕ). EndsWithLine NoMemory [] (g.K.Sink.state c.args.err.now) (g.K.Sink.state c.end_with-in-Err-Memory.new.err) s)
     (sym c.nothing-in-Err-Memory.ensures.status) c.end_with-in-Err-Memory.ensures)
 
-pub work-worked-requires-clause-ranges : goal.work-worked-requires-clause-ranges
-work-worked-requires-clause-ranges g c = λ _ _. in_ranges (map (string_bytes {Z = Global}) c.args.words.now) c.in-Ok.job c.in-Ok.ensures.job
+pub run_job-job_result-requires-clause-ranges : goal.run_job-job_result-requires-clause-ranges
+run_job-job_result-requires-clause-ranges g c = λ _ _. in_ranges (map (string_bytes {Z = Global}) c.args.words.now) c.in-Ok.job c.in-Ok.ensures.job
 
 pub returns : goal.returns
 returns g c =
-    meets_command c.work-worked.result.ending c.in-Ok.job _ c.in-Ok.ensures.job
+    meets_command c.run_job-job_result.result.ending c.in-Ok.job _ c.in-Ok.ensures.job
     (in_ranges (map (string_bytes {Z = Global}) c.args.words.now) c.in-Ok.job c.in-Ok.ensures.job).within.some
-    c.work-worked.ensures.says c.work-worked.ensures.leaves
-    (subst (λ (file : List ℕ). Ended c.work-worked.result.ending file (g.K.Sink.state c.args.err.now)
+    c.run_job-job_result.ensures.says c.run_job-job_result.ensures.leaves
+    (subst (λ (file : List ℕ). EndsWithLine c.run_job-job_result.result.ending file (g.K.Sink.state c.args.err.now)
     (g.K.Sink.state c.end_with-status.new.err) c.end_with-status.result) c.as_str.ensures c.end_with-status.ensures)

@@ -1,5 +1,5 @@
 use Rattle.std.proofs.Common.{◌≡◌, ◌-◌, length, vec_len}
-use Rattle.ti_top.specs.Call.{most_read}
+use Rattle.ti_top.specs.CommandCall.{most_read}
 use Rattle.ti_top.proofs.ReadSoFar.{ReadSoFar}
 use Rattle.ti_top.proofs.reading.read_rest.Given as goal
 

@@ -1,5 +1,5 @@
 use Rattle.std.proofs.Common.{◌^◌, ◌<◌, arith, sym}
-use Rattle.ti_lang.specs.Meaning.Processes.{Setting}
+use Rattle.ti_lang.specs.Meaning.Processes.{RunConfig}
 use Rattle.ti_lang.specs.Program.Views.{program_of}
 use Rattle.ti_top.specs.Run.{run_of}
 use Rattle.ti_top.proofs.TraceJudged.{Laws, judged}
@@ -8,7 +8,7 @@ use Rattle.ti_top.proofs.verifying.verify_found.Goals as goal
 pub returns-in-Ok : goal.returns-in-Ok
 returns-in-Ok g c =
     let job = c.args.job.now in
-    let s : Setting = run_of (program_of c.args.checked.now.program.parts) job in
+    let s : RunConfig = run_of (program_of c.args.checked.now.program.parts) job in
     let within = c.requires.within in
     let few : s.procs < 2 ^ 64 = omega (arith, within.few) in
     let one = c.one_verdict.ensures in

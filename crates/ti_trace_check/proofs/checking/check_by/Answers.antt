@@ -1,28 +1,28 @@
 use Rattle.std.proofs.Common.{◌≡◌, ◌∙◌, sym, ap, subst}
 use Rattle.ti_lang.specs.Meaning.Histories.{has_fault}
-use Rattle.ti_lang.specs.Meaning.Processes.{Setting}
+use Rattle.ti_lang.specs.Meaning.Processes.{RunConfig}
 use Rattle.ti_lang.specs.Program.Views.{program_of}
-use Rattle.ti_trace_check.specs.Mirrors.Seats.{ReplayOutcome, LeavesText, Gives}
+use Rattle.ti_trace_check.specs.Mirrors.Replaying.{ReplayOutcome, LeavesText, Gives}
 use Rattle.ti_trace_check.proofs.Completing.{opens, stands_first, all_have, complete, not_complete, keeps, judges}
 use Rattle.ti_trace_check.proofs.checking.check_by.Goals as goal
 
 pub start_processes-requires-clause-follows : goal.start_processes-requires-clause-follows
-start_processes-requires-clause-follows g c = (program_of c.args.c.now.program.parts, c.in_ok-code.ensures.follows)
+start_processes-requires-clause-follows g c = (program_of c.args.checked.now.program.parts, c.in_ok-code.ensures.follows)
 
 pub replay_lines-requires-clause-open : goal.replay_lines-requires-clause-open
 replay_lines-requires-clause-open g c =
-    let s : Setting = record { program = program_of c.args.c.now.program.parts; procs = c.args.procs; fuel = c.args.fuel } in
+    let s : RunConfig = record { program = program_of c.args.checked.now.program.parts; procs = c.args.procs; fuel = c.args.fuel } in
     opens c.in_ok-code.code c.in_ok-store.store s c.in_ok-store.ensures.setting c.in_ok-store.ensures.halted c.requires.within c.in_ok-code.ensures.follows c.answers_fit.ensures
 
 pub replay_lines-requires-clause-stands : goal.replay_lines-requires-clause-stands
 replay_lines-requires-clause-stands g c =
-    let program = program_of c.args.c.now.program.parts in
-    let s : Setting = record { program = program; procs = c.args.procs; fuel = c.args.fuel } in
+    let program = program_of c.args.checked.now.program.parts in
+    let s : RunConfig = record { program = program; procs = c.args.procs; fuel = c.args.fuel } in
     stands_first c.in_ok-code.code s _ _ c.in_ok-processes.processes.items c.in_ok-store.ensures.setting c.in_ok-store.ensures.entries (c.in_ok-processes.ensures program c.in_ok-code.ensures.follows)
 
 pub returns-clause-keeps : goal.returns-clause-keeps
 returns-clause-keeps g c =
-    let s : Setting = record { program = program_of c.args.c.now.program.parts; procs = c.args.procs; fuel = c.args.fuel } in
+    let s : RunConfig = record { program = program_of c.args.checked.now.program.parts; procs = c.args.procs; fuel = c.args.fuel } in
     let code = c.in_ok-code.code in
     let all = c.replay_lines.new.store.entries in
     let processes = c.replay_lines.new.processes.items in
@@ -37,7 +37,7 @@ returns-clause-keeps g c =
 
 pub returns-clause-judges : goal.returns-clause-judges
 returns-clause-judges g c = λ tells.
-    let s : Setting = record { program = program_of c.args.c.now.program.parts; procs = c.args.procs; fuel = c.args.fuel } in
+    let s : RunConfig = record { program = program_of c.args.checked.now.program.parts; procs = c.args.procs; fuel = c.args.fuel } in
     let code = c.in_ok-code.code in
     let all = c.replay_lines.new.store.entries in
     let processes = c.replay_lines.new.processes.items in

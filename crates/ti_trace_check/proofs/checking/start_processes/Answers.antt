@@ -1,7 +1,7 @@
 use Rattle.std.proofs.Common.{◌∙◌, ◌+◌, [], ◌∷◌, length, sym, ap, subst, arith, length-append}
-use Rattle.ti_lang.specs.Meaning.Processes.{Setting}
+use Rattle.ti_lang.specs.Meaning.Processes.{RunConfig}
 use Rattle.ti_lang.specs.Meaning.Runs.{none}
-use Rattle.ti_trace_check.specs.Mirrors.Seats.{Seated, AllSeated}
+use Rattle.ti_trace_check.specs.Mirrors.Replaying.{IsUpToDate, AllUpToDate}
 use Rattle.ti_trace_check.proofs.ByCode.{begins_on, begins_seated}
 use Rattle.ti_trace_check.proofs.Turns.{seated_more}
 use Rattle.ti_trace_check.proofs.checking.start_processes.Goals as goal
@@ -18,10 +18,10 @@ loop-number-preserved c =
     record {
       count = ap length c.in_ok-push.ensures.items ∙ length-append processes (replayed ∷ []) ∙ ap (λ n. n + 1) c.loop-number.invariant.count;
       seated = λ program follows.
-          let s : Setting = record { program = program; procs = c.args.procs; fuel = c.args.fuel } in
-          let one = begins_seated code s follows c.requires.within c.loop-number.number (omega arith) c.has_one_next.ensures replayed c.in_ok-replayed.ensures.stands c.in_ok-replayed.ensures.unended in
-          subst (AllSeated code s []) (sym c.in_ok-push.ensures.items)
-          (seated_more code s processes replayed (subst (λ n. Seated code s [] n replayed) (sym c.loop-number.invariant.count) one) (c.loop-number.invariant.seated program follows));
+          let s : RunConfig = record { program = program; procs = c.args.procs; fuel = c.args.fuel } in
+          let one = begins_seated code s follows c.requires.within c.loop-number.number (omega arith) c.next_is_unique.ensures replayed c.in_ok-replayed.ensures.stands c.in_ok-replayed.ensures.unended in
+          subst (AllUpToDate code s []) (sym c.in_ok-push.ensures.items)
+          (seated_more code s processes replayed (subst (λ n. IsUpToDate code s [] n replayed) (sym c.loop-number.invariant.count) one) (c.loop-number.invariant.seated program follows));
     }
 
 pub returns : goal.returns

@@ -1,11 +1,11 @@
 use Rattle.std.proofs.Common.{◌≡◌, length, []}
-use Rattle.ti_lang.specs.Program.Classes.{NumberedProgram}
+use Rattle.ti_lang.specs.Program.Classes.{ProgramView}
 use Rattle.ti_code.specs.Follows.{Follows}
-use Rattle.ti_trace_check.specs.Mirrors.Seats.{AllSeated}
+use Rattle.ti_trace_check.specs.Mirrors.Replaying.{AllUpToDate}
 use Rattle.ti_trace_check.proofs.checking.start_processes.Given as goal
 
 abbrev pub invariant-loop-number : goal.invariant-loop-number
 invariant-loop-number l = record {
   count : length l.processes.items ≡ l.number;
-  seated : (program : NumberedProgram) → Follows l.code program → AllSeated l.code (record { program = program; procs = l.procs; fuel = l.fuel }) [] l.processes.items;
+  seated : (program : ProgramView) → Follows l.code program → AllUpToDate l.code (record { program = program; procs = l.procs; fuel = l.fuel }) [] l.processes.items;
 }

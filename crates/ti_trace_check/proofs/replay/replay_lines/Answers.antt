@@ -1,6 +1,6 @@
 use Rattle.std.proofs.Common.{◌≡◌, ◌∙◌, ◌++◌, [], length, ap, sym, arith, eqb-true}
 use Rattle.std.proofs.lemmas.List.{nil_from_length}
-use Rattle.ti_store.specs.Stores.{StoreState, setting_of}
+use Rattle.ti_store.specs.Stores.{StoreState, config_of}
 use Rattle.ti_trace_check.specs.Mirrors.LineReader.{held}
 use Rattle.ti_trace_check.proofs.Refusing.{off_of}
 use Rattle.ti_trace_check.proofs.OfLines.{open_still, not_empty_line, goes, goes_of, left_whole, left_off}
@@ -11,9 +11,9 @@ replay_line-requires-clause-open g c = open_still c.args.code.now c.args.store.n
 
 pub returns-then-not-branch-clause-leaves : goal.returns-then-not-branch-clause-leaves
 returns-then-not-branch-clause-leaves g c = λ tells.
-    let s = setting_of c.args.store.now in
-    let same : setting_of c.lines.store ≡ s = ap setting_of c.lines.invariant.store in
-    let off = off_of (setting_of c.lines.store) s c.lines.store.entries c.replay_line.new.store.entries c.as_slice-in-lines.result.now c.lines.line
+    let s = config_of c.args.store.now in
+    let same : config_of c.lines.store ≡ s = ap config_of c.lines.invariant.store in
+    let off = off_of (config_of c.lines.store) s c.lines.store.entries c.replay_line.new.store.entries c.as_slice-in-lines.result.now c.lines.line
     same c.as_slice-in-lines.ensures (rw c.if-not-branch.true at c.in_ok-replay_line.ensures.meets) in
     left_off s (omega (arith, c.requires.open.within.few)) (g.S.Source.state c.args.source.now).left c.lines.line (held c.lines.line_reader
     ++ (g.S.Source.state c.lines.source).left) c.lines.store.entries c.replay_line.new.store.entries c.lines.taken
@@ -22,9 +22,9 @@ returns-then-not-branch-clause-leaves g c = λ tells.
 
 pub lines-preserved : goal.lines-preserved
 lines-preserved g c =
-    let s = setting_of c.args.store.now in
-    let same : setting_of c.lines.store ≡ s = ap setting_of c.lines.invariant.store in
-    let on = goes_of c.args.code.now (setting_of c.lines.store) s c.lines.store.entries c.lines.processes.items c.replay_line.new.store.entries
+    let s = config_of c.args.store.now in
+    let same : config_of c.lines.store ≡ s = ap config_of c.lines.invariant.store in
+    let on = goes_of c.args.code.now (config_of c.lines.store) s c.lines.store.entries c.lines.processes.items c.replay_line.new.store.entries
     c.replay_line.new.processes.items c.as_slice-in-lines.result.now c.lines.line same c.as_slice-in-lines.ensures
     (rw c.if-not-branch.false at c.in_ok-replay_line.ensures.meets) in
     record {
@@ -43,4 +43,4 @@ lines-preserved g c =
 pub returns-clause-leaves : goal.returns-clause-leaves
 returns-clause-leaves g c = λ tells.
     let none : c.lines.line ≡ [] = sym c.as_slice.ensures ∙ nil_from_length c.as_slice.result.now (eqb-true _ 0 (sym c.is_empty.ensures ∙ c.lines-test.false)) in
-    left_whole (setting_of c.args.store.now) (g.S.Source.state c.args.source.now).left c.lines.line _ c.lines.store.entries c.lines.taken c.lines.invariant.taken none (c.lines.invariant.told tells)
+    left_whole (config_of c.args.store.now) (g.S.Source.state c.args.source.now).left c.lines.line _ c.lines.store.entries c.lines.taken c.lines.invariant.taken none (c.lines.invariant.told tells)

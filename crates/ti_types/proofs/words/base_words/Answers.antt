@@ -1,6 +1,6 @@
 use Rattle.std.proofs.Common.{sym, ap, ◌∙◌, arith}
 use Rattle.ti_lang.specs.Program.Views.{value_type_of}
-use Rattle.ti_rules.specs.Mirrors.First.{sooner}
+use Rattle.ti_rules.specs.Mirrors.First.{earlier_of}
 use Rattle.ti_rules.specs.Broken.Words.{base_word_refusals}
 use Rattle.ti_types.proofs.Loops.{none_sooner, each_step, each_end}
 use Rattle.ti_types.proofs.words.base_words.Goals as goal
@@ -11,7 +11,7 @@ loop-q-init c = none_sooner _
 pub loop-q-preserved : goal.loop-q-preserved
 loop-q-preserved c =
     let f = base_word_refusals c.args.may_be_single (value_type_of c.args.ty.now) in
-    c.loop-q.invariant ∙ each_step f c.args.words.now c.loop-q.q-index _ c.loop-q.found c.sooner-found.result (omega arith) (c.sooner-found.ensures ∙ ap (sooner c.loop-q.found) c.base_word.ensures)
+    c.loop-q.invariant ∙ each_step f c.args.words.now c.loop-q.q-index _ c.loop-q.found c.earlier_of-found.result (omega arith) (c.earlier_of-found.ensures ∙ ap (earlier_of c.loop-q.found) c.base_word.ensures)
 
 pub returns : goal.returns
 returns c =

@@ -1,5 +1,5 @@
 use Rattle.std.proofs.Common.{sym, ap, ◌∙◌, arith}
-use Rattle.ti_rules.specs.Mirrors.First.{sooner}
+use Rattle.ti_rules.specs.Mirrors.First.{earlier_of}
 use Rattle.ti_rules.specs.Broken.Words.{grid_word_refusals}
 use Rattle.ti_types.proofs.Loops.{none_sooner, each_step, each_end}
 use Rattle.ti_types.proofs.words.grid_words.Goals as goal
@@ -9,7 +9,7 @@ loop-q-init c = none_sooner _
 
 pub loop-q-preserved : goal.loop-q-preserved
 loop-q-preserved c = c.loop-q.invariant ∙ each_step grid_word_refusals c.args.words.now c.loop-q.q-index _ c.loop-q.found
-    c.sooner-found.result (omega arith) (c.sooner-found.ensures ∙ ap (sooner c.loop-q.found) c.grid_word.ensures)
+    c.earlier_of-found.result (omega arith) (c.earlier_of-found.ensures ∙ ap (earlier_of c.loop-q.found) c.grid_word.ensures)
 
 pub returns : goal.returns
 returns c = sym (c.loop-q.invariant ∙ each_end grid_word_refusals c.args.words.now c.loop-q.q-index c.loop-q.found (omega arith))

@@ -2,7 +2,7 @@ use Rattle.std.proofs.Common.{◌≡◌, ◌∙◌, List, [], true, ap, inl, inr
 use Rattle.clap.specs.Words.{App, IsAmong, app_of, fault_of, found_of, is_simple, is_simple_and_free, kind_of, matches_of, rows_of}
 use Rattle.ti_words.specs.Uses.{Word}
 use Rattle.ti_words.specs.Mirrors.Command.{all_stand, titan}
-use Rattle.ti_words.proofs.Given.{given, none_given, none_stand}
+use Rattle.ti_words.proofs.RawArgs.{given, none_given, none_stand}
 use Rattle.ti_words.proofs.arguments.find_arguments.Goals as goal
 
 titan_is_free : is_simple_and_free titan ≡ true
@@ -24,17 +24,17 @@ returns-in-Ok-clause-given c =
     ap (λ a. fault_of a words) (sym made) ∙ c.in-Ok.ensures.kinds (ap is_simple_and_free made ∙ titan_is_free) in
     let rows : rows_of (found_of c.in-Ok.matches) ≡ matches_of titan words =
     (c.in-Ok.ensures.matches (ap is_simple made ∙ titan_is_simple)).0 ∙ ap (λ a. matches_of a words) made in
-    given words (found_of c.in-Ok.matches) c.given_in.result stand faultless rows (record {
-      mode = c.given_in.ensures.mode;
-      procs = c.given_in.ensures.procs;
-      workers = c.given_in.ensures.workers;
-      fuel = c.given_in.ensures.fuel;
-      seed = c.given_in.ensures.seed;
-      against = c.given_in.ensures.against;
-      trace = c.given_in.ensures.trace;
-      stats = c.given_in.ensures.stats;
-      races = c.given_in.ensures.races;
-      file = c.given_in.ensures.file;
+    given words (found_of c.in-Ok.matches) c.raw_args.result stand faultless rows (record {
+      mode = c.raw_args.ensures.mode;
+      procs = c.raw_args.ensures.procs;
+      workers = c.raw_args.ensures.workers;
+      fuel = c.raw_args.ensures.fuel;
+      seed = c.raw_args.ensures.seed;
+      against = c.raw_args.ensures.against;
+      trace = c.raw_args.ensures.trace;
+      stats = c.raw_args.ensures.stats;
+      races = c.raw_args.ensures.races;
+      file = c.raw_args.ensures.file;
     })
 
 pub returns : goal.returns

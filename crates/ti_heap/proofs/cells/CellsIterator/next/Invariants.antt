@@ -1,5 +1,5 @@
 use Rattle.std.proofs.Common.{◌≡◌, ◌+◌, List, length, sum_by}
-use Rattle.ti_heap.specs.declared.thing.Thing.{Thing}
+use Rattle.ti_heap.specs.declared.allocation.Allocation.{Allocation}
 use Rattle.ti_heap.specs.Things.{values_left}
 use Rattle.ti_heap.proofs.cells.CellsIterator.next.Given as goal
 
@@ -10,4 +10,4 @@ invariant-loop-thing l =
     ≡ values_left l.initial.self-inside.region l.initial.self-inside.values.now l.initial.self-inside.things.now l.initial.self-inside.shares.now)
 
 abbrev pub decreases-loop-thing : goal.decreases-loop-thing
-decreases-loop-thing l = length l.self-inside.things.now + sum_by (λ (share : List Thing). 1 + length share) l.self-inside.shares.now
+decreases-loop-thing l = length l.self-inside.things.now + sum_by (λ (share : List Allocation). 1 + length share) l.self-inside.shares.now

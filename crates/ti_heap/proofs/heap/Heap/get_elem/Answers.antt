@@ -14,6 +14,6 @@ value-requires c =
 
 pub returns-in-Some-clause-bounds : goal.returns-in-Some-clause-bounds
 returns-in-Some-clause-bounds c =
-    and_some (grid_in (thing_at c.args.self.now) c.args.grid) (λ (g : GridMap). (false ≡ true) ↔ (IsIn g.domain c.args.at.now → ⊥))
+    and_some (grid_in (thing_at c.args.self.now) c.args.grid) (λ (g : GridMap). (false ≡ true) ↔ (IsIn g.domain c.args.point.now → ⊥))
     (map_of c.view-view.result.now) (ap (option_map map_of) c.view-view.ensures.layout)
     (λ e. cc, λ out. let t = c.in-Some.ensures.outside.1 out in cc)

@@ -17,7 +17,7 @@ returns-clause-made c =
     let s = contents c.args.self.now in
     let dom = c.args.dom.now in
     let n : c.in-Some.count ≡ length (points_of dom) =
-    passed (nat_lt 1048576 (cost_of c.args.p s + (1 + length (points_of dom)))) c.in-Some.count (length (points_of dom)) c.in-Some.ensures in
+    passed (nat_lt 1048576 (cost_of c.args.process s + (1 + length (points_of dom)))) c.in-Some.count (length (points_of dom)) c.in-Some.ensures in
     let values : c.in_ok-elements.elements ≡ replicate (length (points_of dom)) (zero_value c.args.zero) =
     c.in_ok-elements.ensures ∙ (λ i. replicate (n i) (c.zero_of.ensures i)) in
     let grid : Some (map_of c.view_of-whole.result) ≡ Some (whole_map c.next_id-id.result dom) =

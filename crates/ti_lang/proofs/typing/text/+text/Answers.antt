@@ -13,13 +13,13 @@ use Rattle.ti_lang.proofs.typing.text.+text.Goals as goal
 pub dims_of_ranges-returns-else-ranges-eq1 : goal.dims_of_ranges-returns-else-ranges-eq1
 dims_of_ranges-returns-else-ranges-eq1 t c = sym (many_ranges (program_of c.args.program.now) c.args.this (dims_in (reverse c.args.dims.now)) c.args.ranges.now c.if-ranges-eq1.false)
 
-pub type_over-returns-in-Rect : goal.type_over-returns-in-Rect
-type_over-returns-in-Rect f c =
+pub syntactic_type_with-returns-in-Rect : goal.syntactic_type_with-returns-in-Rect
+syntactic_type_with-returns-in-Rect f c =
     ap t.Rc (c.dims_of_ranges.ensures ∙ ap (λ (rs : List Range). dims_of_ranges (program_of c.args.program.now) c.args.this
     (dims_in (reverse c.args.dims.now)) (numbered_ranges (map bound_of rs))) c.deref-in-Rect.ensures.value)
-    ∙ ap (type_at (program_of c.args.program.now) c.args.this (dims_in (reverse c.args.dims.now))) (sym (seen_numbered_rect c.args.e.now c.in-Rect.field-0 c.in-Rect.ranges c.in-Rect.is))
+    ∙ ap (type_at (program_of c.args.program.now) c.args.this (dims_in (reverse c.args.dims.now))) (sym (seen_numbered_rect c.args.expr.now c.in-Rect.field-0 c.in-Rect.ranges c.in-Rect.is))
 
-pub type_over-returns-in-Point : goal.type_over-returns-in-Point
-type_over-returns-in-Point f c =
+pub syntactic_type_with-returns-in-Point : goal.syntactic_type_with-returns-in-Point
+syntactic_type_with-returns-in-Point f c =
     ap t.Pt (c.how_many.ensures ∙ ap (λ (xs : List Expr). how_many (numbered_exps (map expression_of xs))) c.deref.ensures.value)
-    ∙ ap (type_at (program_of c.args.program.now) c.args.this (dims_in (reverse c.args.dims.now))) (sym (seen_numbered_point c.args.e.now c.in-Point.field-0 c.in-Point.parts c.in-Point.is))
+    ∙ ap (type_at (program_of c.args.program.now) c.args.this (dims_in (reverse c.args.dims.now))) (sym (seen_numbered_point c.args.expr.now c.in-Point.field-0 c.in-Point.parts c.in-Point.is))

@@ -1,8 +1,8 @@
 use Rattle.std.proofs.Common.{◌≡◌, ◌+◌, [], drop, Ok, Err, sym, ap, ◌∙◌, subst}
 use Rattle.std.proofs.lemmas.Result.{err_from_is_err_and}
 use Rattle.ti_base.specs.Places.{place_of}
-use Rattle.ti_lex.specs.Mirrors.Answers.{Reads, ReadsItem}
-use Rattle.ti_lex.specs.Mirrors.Cursor.{Spot, rest}
+use Rattle.ti_lex.specs.Mirrors.Answers.{Scans, ReadsItem}
+use Rattle.ti_lex.specs.Mirrors.Cursor.{CursorView, rest}
 use Rattle.ti_lex.specs.Mirrors.Reading.{item, string_from}
 use Rattle.ti_lex.proofs.Strings.{item_given, item_refused}
 use Rattle.ti_lex.proofs.cursor.Cursor.string.Goals as goal
@@ -14,14 +14,14 @@ returns-in_err-byte c =
     let bytes = c.loop-bytes.bytes.items in
     let e = c.in_err-byte.field-0.0 in
     let p = err_from_is_err_and c.from_residual.result c.from_residual.ensures.1 in
-    let same : old.text ≡ spot.text = sym (c.loop-bytes.invariant.same ∙ ap (λ (z : Spot). z.text) c.advance.ensures.moves) in
+    let same : old.text ≡ spot.text = sym (c.loop-bytes.invariant.same ∙ ap (λ (z : CursorView). z.text) c.advance.ensures.moves) in
     let told : ReadsItem (item (rest spot)) (place_of old.text old.at) spot c.item.new.self (Err e) =
     subst (λ z. ReadsItem (item (rest spot)) z spot c.item.new.self (Err e)) c.place-quote.ensures c.in_err-byte.ensures in
     let start : string_from old.at bytes spot.at (rest spot) ≡ string_from old.at [] (old.at + 1) (drop 1 (rest old)) =
     c.loop-bytes.invariant.reads ∙ ap (λ b. string_from old.at b c.advance.new.self.at (rest c.advance.new.self)) c.new-bytes.ensures.items
-    ∙ ap (λ (z : Spot). string_from old.at [] z.at (rest c.advance.new.self)) c.advance.ensures.moves
+    ∙ ap (λ (z : CursorView). string_from old.at [] z.at (rest c.advance.new.self)) c.advance.ensures.moves
     ∙ ap (string_from old.at [] (old.at + 1)) c.advance.ensures.left in
-    rw (p.1, p.2) (subst (λ z. Reads z old c.item.new.self (Err e)) start (item_refused old.at bytes spot c.item.new.self old c.item.new.self e same told))
+    rw (p.1, p.2) (subst (λ z. Scans z old c.item.new.self (Err e)) start (item_refused old.at bytes spot c.item.new.self old c.item.new.self e same told))
 
 pub loop-bytes-preserved : goal.loop-bytes-preserved
 loop-bytes-preserved c =

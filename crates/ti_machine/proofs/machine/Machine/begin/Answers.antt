@@ -23,8 +23,8 @@ returns c =
       team = c.args.team;
       fuel = c.args.fuel;
       spent = 0;
-      top = record { method = c.main-method.result; desk = record { at = 0; slots = c.new.result; stack = c.new-2.result } };
+      top = record { method = c.main-method.result; state = record { at = 0; slots = c.new.result; stack = c.new-2.result } };
       below = c.new-3.result;
-      spare = c.new-4.result;
+      frame_pool = c.new-4.result;
     } in
     begun_machine p m x.0 x.1 c.main-method.ensures refl c.new.ensures.items c.new-2.ensures.items c.new-3.ensures.items refl

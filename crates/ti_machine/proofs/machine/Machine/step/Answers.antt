@@ -5,10 +5,10 @@ use Rattle.ti_code.specs.declared.instr.Instr.TheVariants as i
 use Rattle.ti_code.specs.declared.code.MethodCode.{MethodCode}
 use Rattle.ti_code.specs.Forms.{IsFormedInstr, IsFormedMethod}
 use Rattle.ti_code.specs.Machine as seen
-use Rattle.ti_code.specs.Machine.{turn, first}
-use Rattle.ti_machine.specs.Mirrors.Desks.{spot_of}
+use Rattle.ti_code.specs.Machine.{next_step, first}
+use Rattle.ti_machine.specs.Mirrors.FrameStates.{state_of}
 use Rattle.ti_machine.specs.Mirrors.Instrs.{instrs_at}
-use Rattle.ti_machine.specs.Mirrors.Machines.{machine_of, frame_at, below_of, IsTurn}
+use Rattle.ti_machine.specs.Mirrors.Machines.{machine_of, frame_at, below_of, IsStepResult}
 use Rattle.std.specs.Prelude.{pos, All}
 use Rattle.std.proofs.Common.{get_or}
 use Rattle.ti_machine.proofs.Withins.{there, there_or, gone, instrs_there, stuck_method, stuck_turn}
@@ -24,7 +24,7 @@ pub returns-then-at-instrs : goal.returns-then-at-instrs
 returns-then-at-instrs c =
     let p = c.args.code.now in
     let m = c.args.self.now in
-    let at = m.top.desk.at in
+    let at = m.top.state.at in
     let x = c.index-methods-method.result in
     let found : slice_get p.methods m.top.method ≡ Some x =
     subst (λ (ms : List MethodCode). slice_get ms m.top.method ≡ Some x) c.methods-methods.ensures.methods
@@ -37,7 +37,7 @@ pub act-requires-clause-here : goal.act-requires-clause-here
 act-requires-clause-here c =
     let p = c.args.code.now in
     let m = c.args.self.now in
-    let at = m.top.desk.at in
+    let at = m.top.state.at in
     let x = c.index-methods-method.result in
     let found : slice_get p.methods m.top.method ≡ Some x =
     subst (λ (ms : List MethodCode). slice_get ms m.top.method ≡ Some x) c.methods-methods.ensures.methods
@@ -54,13 +54,13 @@ act-requires-clause-form c =
     let m = c.args.self.now in
     let x = c.index-methods-method.result in
     let formed : IsFormedMethod x = subst IsFormedMethod (sym c.index-methods-method.is) (c.methods-methods.ensures.formed m.top.method x c.if-method-methods.false) in
-    subst (All IsFormedInstr) (sym (c.as_slice-instrs.ensures ∙ ap (λ (y : MethodCode). y.instrs) (sym c.index-methods-method.is))) formed m.top.desk.at (i.Const (v.Int (pos 0))) c.if-at-instrs.false
+    subst (All IsFormedInstr) (sym (c.as_slice-instrs.ensures ∙ ap (λ (y : MethodCode). y.instrs) (sym c.index-methods-method.is))) formed m.top.state.at (i.Const (v.Int (pos 0))) c.if-at-instrs.false
 
 pub returns : goal.returns
 returns c =
     let p = c.args.code.now in
     let m = c.args.self.now in
-    let at = m.top.desk.at in
+    let at = m.top.state.at in
     let x = c.index-methods-method.result in
     let found : slice_get p.methods m.top.method ≡ Some x =
     subst (λ (ms : List MethodCode). slice_get ms m.top.method ≡ Some x) c.methods-methods.ensures.methods
@@ -71,5 +71,5 @@ returns c =
     let instr = get_or c.as_slice-instrs.result.now at (i.Const (v.Int (pos 0))) in
     let first : slice_get c.as_slice-instrs.result.now at ≡ Some instr = there_or c.as_slice-instrs.result.now at (i.Const (v.Int (pos 0))) c.if-at-instrs.false in
     let stands = subst (λ (is : List Instr). slice_get is at ≡ Some instr) same first in
-    subst (λ (o : Option Instr). IfOk c.act.result (λ t. IsTurn p (seen.done p (machine_of p m) (frame_at p m (spot_of m.top.desk))
+    subst (λ (o : Option Instr). IfOk c.act.result (λ t. IsStepResult p (seen.execute p (machine_of p m) (frame_at p m (state_of m.top.state))
     (below_of p m) o) t (machine_of p c.act.new.self))) (sym stands) c.act.ensures

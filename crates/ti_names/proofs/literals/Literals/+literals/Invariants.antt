@@ -4,5 +4,5 @@ use Rattle.ti_syntax.specs.Trees.Views.{stm_of}
 use Rattle.ti_lang.specs.Scopes.{literals_in}
 use Rattle.ti_names.proofs.literals.Literals.+literals.Given as goal
 
-abbrev pub invariant-body-loop-x : goal.invariant-body-loop-x
-invariant-body-loop-x l = l.self.texts.items ++ literals_in (stms (map stm_of (drop l.x-index l.xs))) ≡ l.initial.self.texts.items ++ literals_in (stms (map stm_of l.xs))
+abbrev pub invariant-body-loop-stmt : goal.invariant-body-loop-stmt
+invariant-body-loop-stmt l = l.self.texts.items ++ literals_in (stms (map stm_of (drop l.stmt-index l.stmts))) ≡ l.initial.self.texts.items ++ literals_in (stms (map stm_of l.stmts))

@@ -2,7 +2,7 @@ use Rattle.std.proofs.Common.{sym, ap, ◌∙◌, ◌≡◌, is_some, true, fals
 use Rattle.std.specs.Map.{lookup}
 use Rattle.std.specs.Option.{option_copied}
 use Rattle.std.specs.Str.{bytes_eq}
-use Rattle.ti_names.specs.Mirrors.Tables.{numbered, with_first}
+use Rattle.ti_names.specs.Mirrors.Tables.{with_indices, with_new_name}
 use Rattle.ti_names.proofs.TableLookups.{names_kept, names_more, table_more}
 use Rattle.ti_names.proofs.spelling.NameTable.with.Goals as goal
 
@@ -11,8 +11,8 @@ some_copied None = refl
 some_copied (Some n) = refl
 
 -- whether the table has a name
-has_name : (names : List (List ℕ)) (table : List (List ℕ × ℕ)) (name : List ℕ) (found : Option (Bor ℕ)) (b : Bool) → table ≡ numbered 0 names → option_copied found ≡ lookup (bytes_eq name) table
-    → is_some found ≡ b → is_some (lookup (bytes_eq name) (numbered 0 names)) ≡ b
+has_name : (names : List (List ℕ)) (table : List (List ℕ × ℕ)) (name : List ℕ) (found : Option (Bor ℕ)) (b : Bool) → table ≡ with_indices 0 names → option_copied found ≡ lookup (bytes_eq name) table
+    → is_some found ≡ b → is_some (lookup (bytes_eq name) (with_indices 0 names)) ≡ b
 has_name names table name found b told got is = ap (λ t. is_some (lookup (bytes_eq name) t)) (sym told) ∙ ap is_some (sym got) ∙ some_copied found ∙ is
 
 pub returns-then-is_some : goal.returns-then-is_some
@@ -36,5 +36,5 @@ invariant_of-result c =
     let bytes : c.new.result ≡ name = c.new.ensures ∙ c.in_ok-bytes.ensures.items_if_clones_equal (λ x y e. e) in
     let items : c.push.new.self.items ≡ names ++ name ∷ [] = c.in_ok-push.ensures.items ∙ ap (λ z. names ++ z ∷ []) bytes in
     let number : c.in_ok-number.number ≡ length names = omega (arith, c.in_ok-number.ensures, c.len.ensures, c.args.self.spelled.ok.0) in
-    let added : c.add.new.self ≡ with_first c.args.self.numbers name c.in_ok-number.number = c.in_ok-add.ensures in
-    record { told = added ∙ (λ j. with_first (c.args.self.told j) name (number j)) ∙ table_more names name lacks ∙ ap (numbered 0) (sym items) }
+    let added : c.add.new.self ≡ with_new_name c.args.self.numbers name c.in_ok-number.number = c.in_ok-add.ensures in
+    record { told = added ∙ (λ j. with_new_name (c.args.self.told j) name (number j)) ∙ table_more names name lacks ∙ ap (with_indices 0) (sym items) }

@@ -1,7 +1,7 @@
 use Rattle.std.proofs.Common.{◌∙◌, ap, sym, take}
 use Rattle.std.proofs.lemmas.List.{take_at}
-use Rattle.ti_race.specs.Mirrors.Told.{one_or_none}
-use Rattle.ti_race.proofs.ToldThings.{on_err}
+use Rattle.ti_race.specs.Mirrors.HistoryIndex.{one_or_none}
+use Rattle.ti_race.proofs.IndexedObjects.{on_err}
 use Rattle.ti_race.proofs.ToldUses.{gathers_more, gathers_still}
 use Rattle.ti_race.proofs.uses.Uses.see.Goals as goal
 
@@ -10,7 +10,7 @@ returns-in_err-push_use-clause-kept c = on_err c.from_residual.result (λ es gat
 
 pub returns-in-Ok-clause-told : goal.returns-in-Ok-clause-told
 returns-in-Ok-clause-told c es gathers =
-    gathers_more c.args.self.now _ es c.args.e.now c.use_of-u.result gathers c.in-Ok.ensures.told c.use_of-u.ensures.told c.use_of-u.ensures.entry c.in_ok-push_use.ensures.items
+    gathers_more c.args.self.now _ es c.args.entry.now c.use_of-u.result gathers c.in-Ok.ensures.told c.use_of-u.ensures.told c.use_of-u.ensures.entry c.in_ok-push_use.ensures.items
 
 pub returns-in-Err-clause-kept : goal.returns-in-Err-clause-kept
 returns-in-Err-clause-kept c es gathers =

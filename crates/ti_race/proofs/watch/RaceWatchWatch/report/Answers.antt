@@ -1,6 +1,6 @@
 use Rattle.std.proofs.Common.{◌++◌, ◌∙◌, ap, sym}
 use Rattle.ti_lang.specs.Meaning.Spots.{races_text}
-use Rattle.ti_race.specs.Mirrors.Told.{report_of}
+use Rattle.ti_race.specs.Mirrors.HistoryIndex.{report_of}
 use Rattle.ti_race.proofs.SameSpots.{report_like}
 use Rattle.ti_race.proofs.watch.RaceWatchWatch.report.Goals as goal
 

@@ -1,6 +1,6 @@
 use Rattle.std.proofs.Common.{◌∙◌, ◌+◌, [], ◌∷◌, length, sym, ap, subst, arith, length-append}
-use Rattle.ti_lang.specs.Meaning.Processes.{Setting}
-use Rattle.ti_runtime.specs.Mirrors.Processes.{Seated, AllSeated}
+use Rattle.ti_lang.specs.Meaning.Processes.{RunConfig}
+use Rattle.ti_runtime.specs.Mirrors.Processes.{IsUpToDate, AllUpToDate}
 use Rattle.ti_runtime.proofs.Following.{begins_on, begins_seated}
 use Rattle.ti_runtime.proofs.Endings.{seated_more, begins}
 use Rattle.ti_runtime.proofs.scheduler.SoloScheduler.begin.Goals as goal
@@ -17,10 +17,10 @@ loop-number-preserved c =
     record {
       count = ap length c.in_ok-push.ensures.items ∙ length-append processes (pending ∷ []) ∙ ap (λ n. n + 1) c.loop-number.invariant.count;
       seated = λ program follows.
-          let s : Setting = record { program = program; procs = c.args.procs; fuel = c.args.fuel } in
+          let s : RunConfig = record { program = program; procs = c.args.procs; fuel = c.args.fuel } in
           let one = begins_seated code s follows c.requires.within c.loop-number.number (omega arith) pending c.in_ok-pending.ensures in
-          subst (AllSeated code s []) (sym c.in_ok-push.ensures.items)
-          (seated_more code s processes pending (subst (λ n. Seated code s [] n pending) (sym c.loop-number.invariant.count) one) (c.loop-number.invariant.seated program follows));
+          subst (AllUpToDate code s []) (sym c.in_ok-push.ensures.items)
+          (seated_more code s processes pending (subst (λ n. IsUpToDate code s [] n pending) (sym c.loop-number.invariant.count) one) (c.loop-number.invariant.seated program follows));
     }
 
 pub returns : goal.returns

@@ -8,8 +8,8 @@ use Rattle.ti_store.proofs.store.StoreKept.number_at.Goals as goal
 
 pub returns : goal.returns
 returns g c =
-    let es = c.self.inside.ledger.entries.items in
+    let es = c.self.inside.run_state.entries.items in
     let same = c.self.view_is in
-    let lt : c.args.i < length (log_of es) = subst (λ (t : StoreState). c.args.i < length (log_of t.entries)) (sym same) c.requires in
-    let near : c.args.i < length es = omega (arith, lt, length-map {B = ℕ × Entry} es (λ (e : Entry). (e.proc, e))) in
-    ap (λ (e : Entry). e.proc) c.index.ensures ∙ number_logged es c.args.i c.index.result.now near ∙ ap (λ (t : StoreState). number_at (log_of t.entries) c.args.i) same
+    let lt : c.args.index < length (log_of es) = subst (λ (t : StoreState). c.args.index < length (log_of t.entries)) (sym same) c.requires in
+    let near : c.args.index < length es = omega (arith, lt, length-map {B = ℕ × Entry} es (λ (e : Entry). (e.proc, e))) in
+    ap (λ (e : Entry). e.proc) c.index.ensures ∙ number_logged es c.args.index c.index.result.now near ∙ ap (λ (t : StoreState). number_at (log_of t.entries) c.args.index) same

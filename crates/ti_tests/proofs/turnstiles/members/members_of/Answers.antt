@@ -1,6 +1,6 @@
 use Rattle.std.proofs.Common.{◌≡◌, ◌-◌, ◌∙◌, arith, length}
 use Rattle.ti_turnstile.specs.Turnstiles.{identity_of, turnstile_of}
-use Rattle.ti_tests.specs.declared.turnstiles.members.Member.{Member}
+use Rattle.ti_tests.specs.declared.turnstiles.members.NumberedPass.{NumberedPass}
 use Rattle.ti_tests.proofs.Dealing.{last_pass, one_longer, all_pushed}
 use Rattle.ti_tests.proofs.turnstiles.members.members_of.Goals as goal
 
@@ -14,7 +14,7 @@ invariant_of-push c =
 pub loop-pass-preserved : goal.loop-pass-preserved
 loop-pass-preserved c =
     let id = identity_of c.args.turnstile.now in
-    let P : Member → Type 0 = λ m. turnstile_of m.pass ≡ id in
+    let P : NumberedPass → Type 0 = λ m. turnstile_of m.pass ≡ id in
     let inv = c.loop-pass.invariant in
     let left = c.pop.new.self.items in
     let pass = c.in-Some.pass in

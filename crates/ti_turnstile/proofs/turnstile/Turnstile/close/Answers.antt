@@ -1,7 +1,7 @@
 use Rattle.std.proofs.Common.{◌∷◌, [], ◌++◌, ap, sym, ◌∙◌, false, append_assoc}
 use mathlib.Core.Option.{some, some-injective}
 use Rattle.ti_turnstile.specs.Mirrors.Views.{view}
-use Rattle.ti_turnstile.specs.Turnstiles.{identity_of, part_of}
+use Rattle.ti_turnstile.specs.Turnstiles.{identity_of, pass_view_of}
 use Rattle.ti_turnstile.proofs.Closing.{of_last, closing, closed}
 use Rattle.ti_turnstile.proofs.turnstile.Turnstile.close.Goals as goal
 
@@ -11,8 +11,8 @@ loop-pass-init g c =
     let of = of_last (identity_of c.args.self) _ c.pop.new.self.items last c.in-Some.ensures.items c.requires.turnstile in
     (of.0, of.1, (last ∷ [], c.in-Some.ensures.items, (λ i. (last.is_pass.0 i, last.is_pass.1 i))))
 
-pub joined-seat-requires-clause-table : goal.joined-seat-requires-clause-table
-joined-seat-requires-clause-table g c =
+pub join_pass-seat-requires-clause-table : goal.join_pass-seat-requires-clause-table
+join_pass-seat-requires-clause-table g c =
     let inv = c.loop-pass.invariant in
     ((of_last (identity_of c.args.self) _ c.pop-in-loop-pass.new.self.items c.in-Some-pop.pass c.in-Some-pop.ensures.items inv.1).0, inv.0)
 
@@ -22,12 +22,12 @@ loop-pass-preserved g c =
     let old = c.pop-in-loop-pass.new.self.items in
     let inv = c.loop-pass.invariant in
     let done = inv.2.0 in (
-      c.joined-seat.ensures.table,
+      c.join_pass-seat.ensures.table,
       (of_last (identity_of c.args.self) _ old pass c.in-Some-pop.ensures.items inv.1).1,
       (
         pass ∷ done,
         inv.2.1 ∙ ap (λ l. l ++ done) c.in-Some-pop.ensures.items ∙ append_assoc old (pass ∷ []) done,
-        c.joined-seat.ensures.both ∙ ap (λ m. (view false (part_of pass ∷ m.0.parts), [])) inv.2.2,
+        c.join_pass-seat.ensures.both ∙ ap (λ m. (view false (pass_view_of pass ∷ m.0.passes), [])) inv.2.2,
       ),
     )
 

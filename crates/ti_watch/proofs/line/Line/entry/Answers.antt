@@ -11,9 +11,9 @@ returns c =
       c.text-2.ensures.text,
       c.act.ensures.text,
       c.text.ensures.text,
-      c.labelled-3.ensures.text,
-      c.labelled-2.ensures.text,
-      c.labelled.ensures.text,
+      c.labelled_number-3.ensures.text,
+      c.labelled_number-2.ensures.text,
+      c.labelled_number.ensures.text,
       c.number.ensures.text,
     )
     (simp append_assoc)

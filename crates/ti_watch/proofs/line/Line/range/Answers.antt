@@ -5,5 +5,5 @@ use Rattle.ti_watch.proofs.line.Line.range.Goals as goal
 
 pub returns-clause-text : goal.returns-clause-text
 returns-clause-text c =
-    rw (c.labelled-3.ensures.text, c.labelled-2.ensures.text, c.labelled.ensures.text)
+    rw (c.labelled_number-3.ensures.text, c.labelled_number-2.ensures.text, c.labelled_number.ensures.text)
     (rw (to_z-of_z w32 c.args.low (search rules), to_z-of_z w32 c.args.high (search rules)) (simp append_assoc))

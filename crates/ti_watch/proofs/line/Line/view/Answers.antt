@@ -5,7 +5,7 @@ use Rattle.ti_watch.proofs.line.Line.view.Goals as goal
 
 pub returns-in-Slice-clause-text : goal.returns-in-Slice-clause-text
 returns-in-Slice-clause-text c =
-    rw (c.in-Slice.is, c.labelled-in-Slice.ensures.text, c.labelled.ensures.text)
+    rw (c.in-Slice.is, c.labelled_number-in-Slice.ensures.text, c.labelled_number.ensures.text)
     (rw (to_z-of_z w32 c.in-Slice.k (search rules), to_z-of_z w32 c.in-Slice.j (search rules)) (simp append_assoc))
 
 pub returns-in-Restrict-clause-text : goal.returns-in-Restrict-clause-text

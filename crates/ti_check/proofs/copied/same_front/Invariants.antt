@@ -1,6 +1,0 @@
-use Rattle.std.proofs.Common.{◌≡◌, map, take}
-use Rattle.ti_lang.specs.Program.Scope.{in_scope_of}
-use Rattle.ti_check.proofs.copied.same_front.Given as goal
-
-abbrev pub invariant-loop-count : goal.invariant-loop-count
-invariant-loop-count l = map in_scope_of (take l.count l.a) ≡ map in_scope_of (take l.count l.b)

@@ -1,8 +1,0 @@
--- Mirrors the code: only contracts of private functions use this definition.
-use Rattle.std.specs.Prelude.{ℕ, pos, ◌-ℤ◌, [], ◌∷◌}
-use Rattle.ti_base.specs.declared.point.Point.{Point}
-use Rattle.ti_lang.specs.Meaning.Literals.{point_of_numbers}
-
--- The element of the last of `procs` processes.
-abbrev pub last_of : ℕ → Point
-last_of procs = point_of_numbers ((pos procs -ℤ pos 1) ∷ [])

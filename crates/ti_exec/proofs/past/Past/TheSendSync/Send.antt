@@ -1,6 +1,0 @@
-use denote.Param.Send.{IsSend}
-use Rattle.ti_exec.specs.contracts.past.Past.{the_row}
-use Rattle.ti_exec.proofs.Sending.{past_sent}
-
-pub send : IsSend the_row
-send = past_sent

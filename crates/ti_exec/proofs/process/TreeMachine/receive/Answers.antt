@@ -1,0 +1,31 @@
+use Rattle.std.proofs.Common.{List, ◌∷◌}
+use Rattle.ti_lang.specs.Program.Classes.{ProgramView}
+use Rattle.ti_lang.specs.Program.Views.{program_of}
+use Rattle.ti_lang.specs.Meaning.Comp.{CompResult}
+use Rattle.ti_lang.specs.Meaning.Moves.{Move}
+use Rattle.ti_lang.specs.Meaning.Processes.{ContItem, Receive}
+use Rattle.ti_lang.specs.Meaning.Steps.{Step, step_of_result}
+use Rattle.ti_eval.specs.Comes.{Stops}
+use Rattle.ti_moves.specs.Outcomes.{outcome_of}
+use Rattle.ti_moves.specs.Receiving.{receiver_of}
+use Rattle.ti_exec.specs.States.{IsStep, IsStepOutcome, IsApplied, process_of, env_in, innermost_stmt, rest}
+use Rattle.ti_exec.proofs.Asked.{valued_gives}
+use Rattle.ti_exec.proofs.Works.{receives_at, turn_at, of_result}
+use Rattle.ti_exec.proofs.process.TreeMachine.receive.Goals as goal
+
+pub returns-in-Ok : goal.returns-in-Ok
+returns-in-Ok c =
+    let p = program_of c.args.program.now in
+    let w = c.args.self.now in
+    let new = c.apply_outcome.new.self in
+    let ws : List ContItem = Receive (receiver_of (innermost_stmt p w.top)) c.in-Receives.h ∷ rest p w.rank.procs w.top in
+    of_result c.apply_outcome.result (λ t. IsApplied p w (outcome_of (env_in p w) (innermost_stmt p w.top) c.in-Ok.m) t new) (λ t. IsStepOutcome p w t new)
+    (λ t h. turn_at p w new _ t (receives_at p w _ c.in-Receives.is) (valued_gives p (process_of p w) _ _ _ _ _ _ c.in-Ok.ensures (h ws))) c.apply_outcome.ensures
+
+pub returns-in-Err : goal.returns-in-Err
+returns-in-Err c =
+    let p = program_of c.args.program.now in
+    let w = c.args.self.now in
+    of_result c.stops.result (λ t. (g : ProgramView) (got : CompResult Move) (go : Move → Step) → Stops c.in-Err.stop got
+    → IsStep g (process_of g w) (step_of_result (process_of g w) got go) t w) (λ t. IsStepOutcome p w t w)
+    (λ t h. turn_at p w w _ t (receives_at p w _ c.in-Receives.is) (h p _ _ c.in-Err.ensures)) c.stops.ensures

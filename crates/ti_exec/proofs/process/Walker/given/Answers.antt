@@ -1,4 +1,0 @@
-use Rattle.ti_exec.proofs.process.Walker.given.Goals as goal
-
-pub returns : goal.returns
-returns c = rw (c.env.ensures, c.stands.ensures, c.deref.ensures.value) at c.received.ensures

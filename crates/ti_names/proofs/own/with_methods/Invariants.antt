@@ -1,9 +1,0 @@
-use Rattle.std.proofs.Common.{◌≡◌, ◌++◌, map, drop}
-use Rattle.ti_syntax.specs.Trees.Views.{member_of}
-use Rattle.ti_names.specs.Own.{own_of}
-use Rattle.ti_lang.specs.Members.{methods_in}
-use Rattle.ti_names.proofs.own.with_methods.Given as goal
-
-abbrev pub invariant-loop-member : goal.invariant-loop-member
-invariant-loop-member l = map own_of l.found.items ++ methods_in l.class (map member_of (drop l.member-index l.members))
-    ≡ map own_of l.initial.found.items ++ methods_in l.class (map member_of l.members)

@@ -1,8 +1,0 @@
-use Rattle.std.proofs.Common.{◌≡◌, ◌-◌}
-use Rattle.ti_syntax.specs.Trees.Views.{ranges_of}
-use Rattle.ti_parse.specs.Mirrors.Way.{plain}
-use Rattle.ti_parse.specs.Mirrors.Parts.{more_ranges}
-use Rattle.ti_parse.proofs.reader.Reader.more_ranges.Given as goal
-
-abbrev pub invariant-loop-turn : goal.invariant-loop-turn
-invariant-loop-turn l = more_ranges plain l.self.turns l.room (ranges_of l.fn.found) l.fn.tokens ≡ more_ranges plain l.self.turns (l.room - l._turn) (ranges_of l.found) l.tokens

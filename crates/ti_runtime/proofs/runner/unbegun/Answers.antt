@@ -1,6 +1,0 @@
-use Rattle.std.proofs.Common.{refl}
-use Rattle.ti_runtime.proofs.Endings.{unbegun}
-use Rattle.ti_runtime.proofs.runner.unbegun.Goals as goal
-
-pub returns : goal.returns
-returns c = λ code s workers some. unbegun code s workers _ some refl c.new.ensures.items

@@ -1,8 +1,0 @@
--- The model of a context is proved to have the variables of its scope.
-use Rattle.std.proofs.Common.{◌≡◌}
-use Rattle.ti_lang.specs.Program.Scope.{contents_of}
-use Rattle.ti_single.specs.declared.site.SingleSite.{SingleSite}
-use Rattle.ti_single.specs.Sites.{scope_at}
-
-pub scope_is : (s : SingleSite) → contents_of s.scope.now ≡ scope_at s
-scope_is s = λ j. record { this_class = s.of_method j; variables = (contents_of s.scope.now).variables }

@@ -1,5 +1,0 @@
-use Rattle.std.proofs.Common.{refl}
-use Rattle.ti_slice.proofs.stated.exchange.Goals as goal
-
-pub returns : goal.returns
-returns c = λ env x. refl

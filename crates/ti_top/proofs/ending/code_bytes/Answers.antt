@@ -1,5 +1,0 @@
-use Rattle.ti_top.proofs.ShortNames.{short_code}
-use Rattle.ti_top.proofs.ending.code_bytes.Goals as goal
-
-pub returns-clause-short : goal.returns-clause-short
-returns-clause-short c = rw (c.as_bytes.ensures.value, c.code.ensures) (short_code c.args.rule)
