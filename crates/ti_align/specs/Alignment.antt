@@ -23,14 +23,14 @@ abbrev pub most_fuel : ℕ
 most_fuel = 4000000
 
 -- an arrival at a collective: where it is, which collective, and the single part of the process then
-pub record Arrival : Type 0 where
+pub record SingleArrival : Type 0 where
   pub place : Place
   pub kind : CollKind
   pub arg : Option ℕ
   pub single : List SingleFrame
 
 -- in these entries, the arrival with index k (counted from 0) of process i is this one
-pub record ArrivesAt (s : RunConfig) (es : List Entry) (i k : ℕ) (arrival : Arrival) : Type 0 where
+pub record ArrivesAt (s : RunConfig) (es : List Entry) (i k : ℕ) (arrival : SingleArrival) : Type 0 where
   pub before : List Entry
   pub rest : List Entry
   pub deposit : Deposit
@@ -47,7 +47,7 @@ pub record ArrivesAt (s : RunConfig) (es : List Entry) (i k : ℕ) (arrival : Ar
 
 -- the nth arrivals of any two processes are equal, for every n
 abbrev pub ArrivalsAgree : RunConfig → List Entry → Type 0
-ArrivalsAgree s es = (i j k : ℕ) (a b : Arrival) → ArrivesAt s es i k a → ArrivesAt s es j k b → a ≡ b
+ArrivalsAgree s es = (i j k : ℕ) (a b : SingleArrival) → ArrivesAt s es i k a → ArrivesAt s es j k b → a ≡ b
 
 -- no process arrives more often than one that has ended
 abbrev pub NoneAfterEnd : RunConfig → List Entry → Type 0

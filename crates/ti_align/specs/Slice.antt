@@ -44,7 +44,7 @@ use Rattle.ti_rules.specs.StmtInContext.{loop_acts}
 use Rattle.ti_align.specs.declared.slices.SliceStep.{SliceStep}
 use Rattle.ti_align.specs.declared.slices.SliceStep.TheVariants as answer
 use Rattle.ti_align.specs.SinglePart.{is_single_declared}
-use Rattle.ti_align.specs.Alignment.{Arrival, ArrivesAt}
+use Rattle.ti_align.specs.Alignment.{SingleArrival, ArrivesAt}
 
 -- ---- what is single in a frame
 
@@ -267,7 +267,7 @@ pub record SliceTells (s : RunConfig) (es : List Entry) : Type 0 where
   -- the outcomes of a process's departures fit
   pub fits : (i : ℕ) (x : SliceStep) → SliceAnswers s (answers_at_departures i es) x → AllFit x
   -- the arrival of a process after n departures is the one at which the slice arrives after their outcomes
-  pub arrives : (i : ℕ) (outcomes others : List Answer) (x : SliceStep) (a : Arrival) → SliceAnswers s outcomes x
+  pub arrives : (i : ℕ) (outcomes others : List Answer) (x : SliceStep) (a : SingleArrival) → SliceAnswers s outcomes x
       → answers_at_departures i es ≡ outcomes ++ others
       → ArrivesAt s es i (length outcomes) a → x ≡ answer.At a.kind a.place a.arg
   -- if a process has ended, the slice ends after the outcomes of all its departures

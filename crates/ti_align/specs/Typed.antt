@@ -24,7 +24,7 @@ use Rattle.ti_lang.specs.Meaning.RoundsOf.{arrival_at, value_in}
 use Rattle.ti_lang.specs.Meaning.Runs.{ProcAfter}
 use Rattle.ti_lang.specs.Meaning.RoundsOf as rounds
 use Rattle.ti_align.specs.HeapTyping.{IsOf, FramesHold, DepositFits}
-use Rattle.ti_align.specs.Alignment.{Arrival, ArrivesAt}
+use Rattle.ti_align.specs.Alignment.{SingleArrival, ArrivesAt}
 use Rattle.ti_align.specs.Owners.{MadeWith}
 use Rattle.ti_align.specs.Existing.{OperandsExist, GoesThrough, SuitsWanted}
 use Rattle.ti_align.specs.Given.{IsOfRound, contribution_by}
@@ -35,7 +35,7 @@ use Rattle.ti_align.specs.Mirrors.Processes.{ProcessFits}
 
 -- values of this type are contributed at the arrival with index k (counted from 0) of process i
 pub record GivesAt (s : RunConfig) (es : List Entry) (i k : ℕ) (type : ValueType) : Type 0 where
-  pub arrival : Arrival
+  pub arrival : SingleArrival
   pub arrives : ArrivesAt s es i k arrival
   pub gives : contribution_by arrives.settled ≡ Some type
 

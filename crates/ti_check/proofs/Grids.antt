@@ -5,7 +5,7 @@ use Rattle.ti_lang.specs.Program.Types.{ValueType, Pt, Rc, Dm, Class, Grid}
 use Rattle.ti_lang.specs.Typing.Alike.{erase_dims}
 use Rattle.ti_lang.specs.Typing.Kinds.{where_true}
 use Rattle.ti_lang.specs.Typing.Expressions.{and_then_both, all_ints, all_points, range_of_points, rect_literal}
-use Rattle.ti_rules.specs.InitialTypes.{is_region, Spread, Over, Ranged, grid_over, new_grid_type}
+use Rattle.ti_rules.specs.InitialTypes.{is_region_type, Spread, Over, Ranged, grid_over, new_grid_type}
 use Rattle.ti_rules.specs.Broken.Refused.{both_judged, operand_refusal}
 use Rattle.ti_rules.specs.Broken.RightSides.{one_dim_spread}
 use Rattle.ti_types.specs.Results.{LiteralTypes}
@@ -48,8 +48,8 @@ in_region true element o c is = is
 in_region false element o c is = refl
 
 near_told : (element r : ValueType) (d : Spread) → is_some (new_grid_type element r (one_dim_spread d)) ≡ summary_fits_other_dims r (extent_summary d)
-near_told element r (Over t) = in_region (is_region r) element (Some (erase_dims t)) (is_rect_type t) (over_near element t)
-near_told element r (Ranged n ts) = in_region (is_region r) element (rect_literal n (map erase_dims ts)) (is_some (rect_literal n (map erase_dims ts))) (literal_near element n (map erase_dims ts))
+near_told element r (Over t) = in_region (is_region_type r) element (Some (erase_dims t)) (is_rect_type t) (over_near element t)
+near_told element r (Ranged n ts) = in_region (is_region_type r) element (rect_literal n (map erase_dims ts)) (is_some (rect_literal n (map erase_dims ts))) (literal_near element n (map erase_dims ts))
 
 -- the type
 pub grid_told : (element : ValueType) (o : Option ValueType) (q : Option Spread) → and_then_both o (option_map extent_summary q) (summary_grid_type element) ≡ and_then_both o q (new_grid_type element)

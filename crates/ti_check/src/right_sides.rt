@@ -7,7 +7,7 @@ ghost use Rattle.ti_lang.specs.Program.Views.{expression_of, type_use_of, extent
 ghost use Rattle.ti_lang.specs.Typing.Expressions.{and_then_both};
 ghost use Rattle.ti_lang.specs.Typing.TyRef.{ty_view};
 ghost use Rattle.ti_rules.specs.Mirrors.First.{earliest, earlier_of as sooner_of};
-ghost use Rattle.ti_rules.specs.InitialTypes.{can_broadcast, broadcast_type, region_type, is_region, object_type, grid_over, spread, new_grid_type, initial_type};
+ghost use Rattle.ti_rules.specs.InitialTypes.{can_broadcast, broadcast_type, region_type, is_region_type, object_type, grid_over, spread, new_grid_type, initial_type};
 ghost use Rattle.ti_rules.specs.Broken.Refused.{judged, both_judged, operand_refusal as mistaken_at};
 ghost use Rattle.ti_rules.specs.Broken.RightSides.{region_refusals, dims_refusals, one_dim_spread, initial_refusals};
 ghost use Rattle.ti_types.specs.Results.{LiteralTypes, literal_of};
@@ -71,8 +71,8 @@ fn broadcast_refusal<'a>(
 
 // ---- objects
 
-fn is_region(ty: TyRef) -> bool
-    ensures { result ≡ is_region (ty_view ty.entry) }
+fn is_region_type(ty: TyRef) -> bool
+    ensures { result ≡ is_region_type (ty_view ty.entry) }
 {
     matches!(ty, TyRef::Region)
 }
@@ -83,7 +83,7 @@ fn object_type<'a>(class: u32, region: Option<TyRef<'a>>) -> Option<TyRef<'a>>
 {
     match region {
         Some(region) => {
-            if is_region(region) {
+            if is_region_type(region) {
                 Some(TyRef::Class { class, local: true })
             } else {
                 None
@@ -95,10 +95,10 @@ fn object_type<'a>(class: u32, region: Option<TyRef<'a>>) -> Option<TyRef<'a>>
 
 #[tactic(auto, unfolding(ti_rules::specs::Mirrors::First::earliest))]
 fn region_mistaken(place: Place, region: Option<TyRef>) -> Option<Refusal>
-    ensures { result ≡ earliest (judged (option_map ty_view region.entry) (λ r. mistaken_at place (is_region r) false)) }
+    ensures { result ≡ earliest (judged (option_map ty_view region.entry) (λ r. mistaken_at place (is_region_type r) false)) }
 {
     match region {
-        Some(region) => operand_refusal(place, is_region(region), false),
+        Some(region) => operand_refusal(place, is_region_type(region), false),
         None => None,
     }
 }
@@ -143,7 +143,7 @@ fn grid_over<'a>(element: &'a TypeUse, domain: Option<TyRef<'a>>) -> Option<TyRe
 fn grid_type<'a>(element: &'a TypeUse, region: TyRef<'a>, spread: Literal<'a>) -> Option<TyRef<'a>>
     ensures { option_map ty_view result ≡ summary_grid_type (type_use_of element.now).type (ty_view region.entry) (literal_of spread.entry) }
 {
-    if is_region(region) {
+    if is_region_type(region) {
         grid_over(element, spread.ty)
     } else {
         None
@@ -167,7 +167,7 @@ fn maybe_grid<'a>(
 fn grid_near(region: TyRef, spread: Literal) -> bool
     ensures { result ≡ summary_fits_other_dims (ty_view region.entry) (literal_of spread.entry) }
 {
-    is_region(region) && spread.fits_other_dims
+    is_region_type(region) && spread.fits_other_dims
 }
 
 #[tactic(auto, unfolding(ti_rules::specs::Mirrors::First::earliest))]

@@ -8,7 +8,7 @@ ghost use Rattle.ti_lang.specs.Typing.Effects.{kept_in_loop, doings, doings_of_m
 ghost use Rattle.ti_lang.specs.Typing.Kinds.{domain_dim};
 ghost use Rattle.ti_lang.specs.Typing.TyRef.{ty_view};
 ghost use Rattle.ti_rules.specs.Mirrors.First.{earlier_of as sooner_of, earliest};
-ghost use Rattle.ti_rules.specs.StmtInContext.{with_point, variables_inside, inside as inside_one, inside_maybe, inside_all};
+ghost use Rattle.ti_rules.specs.StmtInContext.{with_foreach_variable, variables_inside, inside as inside_one, inside_maybe, inside_all};
 ghost use Rattle.ti_rules.specs.SingleRules.{single_refusals_at};
 ghost use Rattle.ti_single.specs.Effects.{effects_of};
 ghost use Rattle.ti_single.specs.EffectsAt.{effects_in_loop};
@@ -30,7 +30,7 @@ use ti_single::{Effects, deref_stmt, deref_stmts, jump_acts, stmt_effects};
 // ---- scopes
 
 // The variables in scope with that of a foreach over a domain of `dim` dimensions. None means that it isn't a domain: no variable then.
-fn with_point(
+fn with_foreach_variable(
     alloc: Global,
     unused: Vec<InScope>,
     variables: &[InScope],
@@ -38,7 +38,7 @@ fn with_point(
     is_single: bool,
     dim: Option<usize>,
 ) -> Result<Vec<InScope>, Memory>
-    ensures { IfOk result (λ v. map in_scope_of v.items ≡ with_point (map in_scope_of variables.now) number is_single dim) }
+    ensures { IfOk result (λ v. map in_scope_of v.items ≡ with_foreach_variable (map in_scope_of variables.now) number is_single dim) }
 {
     let mut found = copy_variables(alloc, unused, variables)?;
     match dim {
@@ -69,7 +69,14 @@ impl<'a> CheckContext<'a> {
     {
         let is_single = self.is_single_inside(domain);
         let dim = domain_dim(self.target(domain).ty);
-        let variables = with_point(alloc, unused, &self.scope.variables, number, is_single, dim)?;
+        let variables = with_foreach_variable(
+            alloc,
+            unused,
+            &self.scope.variables,
+            number,
+            is_single,
+            dim,
+        )?;
         Ok(Scope {
             this: self.scope.this,
             variables,

@@ -59,52 +59,52 @@ member_word kind.Translate = codes "view translate"
 member_word kind.Slice = codes "view slice"
 
 -- The name of an instruction.
-abbrev pub word_of : Instr → List ℕ
-word_of (i.Const value) = codes "const"
-word_of (i.EmptyDom dim) = codes "emptyDom"
-word_of i.Pop = codes "pop"
-word_of i.Dup = codes "dup"
-word_of (i.Load k) = codes "load"
-word_of (i.Keep k) = codes "keep"
-word_of (i.Trim k) = codes "trim"
-word_of i.ThisProc = codes "thisProc"
-word_of i.NumProcs = codes "numProcs"
-word_of (i.Operate op at) = operation_word op
-word_of (i.Alone op) = unary_word op
-word_of i.Widen = codes "widen"
-word_of i.Narrow = codes "narrow"
-word_of i.AsObj = codes "asObject"
-word_of i.AsGrid = codes "asGrid"
-word_of (i.MakePt n) = codes "makePt"
-word_of (i.Coord n at) = codes "coord"
-word_of i.Step = codes "step"
-word_of (i.MakeRect n at) = codes "makeRect"
-word_of (i.RectOfPts at) = codes "rectOfPts"
-word_of i.Common = codes "rectMeet"
-word_of (i.ToDom at) = codes "toDom"
-word_of (i.Member k n at) = member_word k
-word_of (i.CastLocal at) = codes "castLocal"
-word_of (i.Jump target) = codes "jump"
-word_of (i.JumpIf target) = codes "jumpIf"
-word_of (i.JumpIfNot target) = codes "jumpIfNot"
-word_of (i.Next k target) = codes "next"
-word_of (i.Tick at) = codes "tick"
-word_of (i.GetField field at) = codes "getField"
-word_of (i.PutField field at) = codes "putField"
-word_of (i.GetElem at) = codes "getElem"
-word_of (i.PutElem at) = codes "putElem"
-word_of (i.NewObj class at) = codes "newObj"
-word_of (i.NewGrid initial at) = codes "newGrid"
-word_of (i.Print literal value at) = codes "print"
-word_of (i.RootTest at) = codes "rootTest"
-word_of (i.GridTest at) = codes "gridTest"
-word_of (i.Arrive kind at) = codes "arrive"
-word_of (i.Depart at) = codes "depart"
-word_of (i.Take at) = codes "take"
-word_of (i.Call k at) = codes "call"
-word_of i.Return = codes "return"
-word_of i.ReturnValue = codes "returnValue"
-word_of (i.Stop at) = codes "stop"
+abbrev pub instr_name : Instr → List ℕ
+instr_name (i.Const value) = codes "const"
+instr_name (i.EmptyDom dim) = codes "emptyDom"
+instr_name i.Pop = codes "pop"
+instr_name i.Dup = codes "dup"
+instr_name (i.Load k) = codes "load"
+instr_name (i.Keep k) = codes "keep"
+instr_name (i.Trim k) = codes "trim"
+instr_name i.ThisProc = codes "thisProc"
+instr_name i.NumProcs = codes "numProcs"
+instr_name (i.Operate op at) = operation_word op
+instr_name (i.Alone op) = unary_word op
+instr_name i.Widen = codes "widen"
+instr_name i.Narrow = codes "narrow"
+instr_name i.AsObj = codes "asObject"
+instr_name i.AsGrid = codes "asGrid"
+instr_name (i.MakePt n) = codes "makePt"
+instr_name (i.Coord n at) = codes "coord"
+instr_name i.Step = codes "step"
+instr_name (i.MakeRect n at) = codes "makeRect"
+instr_name (i.RectOfPts at) = codes "rectOfPts"
+instr_name i.Common = codes "rectMeet"
+instr_name (i.ToDom at) = codes "toDom"
+instr_name (i.Member k n at) = member_word k
+instr_name (i.CastLocal at) = codes "castLocal"
+instr_name (i.Jump target) = codes "jump"
+instr_name (i.JumpIf target) = codes "jumpIf"
+instr_name (i.JumpIfNot target) = codes "jumpIfNot"
+instr_name (i.Next k target) = codes "next"
+instr_name (i.Tick at) = codes "tick"
+instr_name (i.GetField field at) = codes "getField"
+instr_name (i.PutField field at) = codes "putField"
+instr_name (i.GetElem at) = codes "getElem"
+instr_name (i.PutElem at) = codes "putElem"
+instr_name (i.NewObj class at) = codes "newObj"
+instr_name (i.NewGrid initial at) = codes "newGrid"
+instr_name (i.Print literal value at) = codes "print"
+instr_name (i.RootTest at) = codes "rootTest"
+instr_name (i.GridTest at) = codes "gridTest"
+instr_name (i.Arrive kind at) = codes "arrive"
+instr_name (i.Depart at) = codes "depart"
+instr_name (i.Take at) = codes "take"
+instr_name (i.Call k at) = codes "call"
+instr_name i.Return = codes "return"
+instr_name i.ReturnValue = codes "returnValue"
+instr_name (i.Stop at) = codes "stop"
 
 -- ---- operands, each after a space
 
@@ -184,7 +184,7 @@ operands_text (i.Stop at) = place_part at
 -- ---- lines
 
 abbrev pub instr_text : Instr → List ℕ
-instr_text x = word_of x ++ operands_text x
+instr_text x = instr_name x ++ operands_text x
 
 -- Two spaces, the number of the instruction, and the instruction.
 abbrev pub instr_line : ℕ → Instr → List ℕ

@@ -25,5 +25,5 @@ abbrev pub IsFormedMethod : MethodCode → Type 0
 IsFormedMethod m = All IsFormedInstr m.instrs
 
 -- Each instruction of all methods is well-formed.
-abbrev pub AreFormed : List MethodCode → Type 0
-AreFormed methods = All IsFormedMethod methods
+abbrev pub AreFormedMethods : List MethodCode → Type 0
+AreFormedMethods methods = All IsFormedMethod methods

@@ -2,7 +2,7 @@
 
 ghost use Rattle.std.specs.Prelude.{◌≡◌, IsTrue};
 ghost use Rattle.ti_code.specs.JumpRule.{keep_jump_rule};
-ghost use Rattle.ti_code.specs.Forms.{AreFormed};
+ghost use Rattle.ti_code.specs.Forms.{AreFormedMethods};
 
 use crate::instr::Instr;
 use std::marker::Model;
@@ -60,20 +60,20 @@ impl Model for Code {
     ghost use Rattle.std.specs.Prelude.{IsTrue};
     ghost use Rattle.ti_code.specs.Programs.{Code as Methods};
     ghost use Rattle.ti_code.specs.JumpRule.{keep_jump_rule};
-    ghost use Rattle.ti_code.specs.Forms.{AreFormed};
+    ghost use Rattle.ti_code.specs.Forms.{AreFormedMethods};
 
     ghost Value = { Methods };
 
     ghost view = { λ code. record { methods = code.methods.items; main = code.main } };
 
-    ghost invariant = { λ code. IsTrue (keep_jump_rule code.methods.items) × AreFormed code.methods.items };
+    ghost invariant = { λ code. IsTrue (keep_jump_rule code.methods.items) × AreFormedMethods code.methods.items };
 }
 
 impl Code {
     /// The code of these methods; a run begins in the method with the number `main`. It doesn't allocate.
     pub fn new(methods: Vec<MethodCode>, main: u32) -> Self
         requires rule { IsTrue (keep_jump_rule methods.items) }
-        requires formed { AreFormed methods.items }
+        requires formed { AreFormedMethods methods.items }
         ensures { result ≡ record { methods = methods.items; main = main } }
     {
         Code { methods, main }
@@ -83,7 +83,7 @@ impl Code {
     pub fn methods(&self) -> &[MethodCode]
         ensures methods { result.now ≡ self.now.methods }
         ensures rule { IsTrue (keep_jump_rule result.now) }
-        ensures formed { AreFormed result.now }
+        ensures formed { AreFormedMethods result.now }
     {
         &self.methods
     }

@@ -33,10 +33,10 @@ operands_of (o.Regions a b) = seen.Regions a b
 operands_of o.Others = seen.Others
 
 -- Points and rectangular domains are canonical and of one dimension.
-abbrev pub AreFormed : Operands → Type 0
-AreFormed (o.Points p q) = IsPoint p × IsPoint q × (q.dim ≡ p.dim)
-AreFormed (o.Rects r s) = IsRect r × IsRect s × (s.dim ≡ r.dim)
-AreFormed x = Unit {0}
+abbrev pub AreFormedOperands : Operands → Type 0
+AreFormedOperands (o.Points p q) = IsPoint p × IsPoint q × (q.dim ≡ p.dim)
+AreFormedOperands (o.Rects r s) = IsRect r × IsRect s × (s.dim ≡ r.dim)
+AreFormedOperands x = Unit {0}
 
 -- Both are domains of one dimension, rectangular or not.
 abbrev pub HaveOneDim : Held → Held → Type 0

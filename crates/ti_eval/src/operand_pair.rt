@@ -7,7 +7,7 @@ ghost use Rattle.ti_base.specs.declared.value.Value.TheVariants.{Pt, Rc, Obj, Gr
 ghost use Rattle.ti_lang.specs.Meaning.Held.{Held as Seen, Plain};
 ghost use Rattle.ti_lang.specs.Meaning.Operands as seen;
 ghost use Rattle.ti_eval.specs.Forms.{IsFormedValue};
-ghost use Rattle.ti_eval.specs.Operators.{operands_of, AreFormed, AreDomains};
+ghost use Rattle.ti_eval.specs.Operators.{operands_of, AreFormedOperands, AreDomains};
 
 use crate::pairs::Operands;
 use crate::var_value::VarValue;
@@ -18,7 +18,7 @@ fn points(point: Point, other: Point) -> Operands
     requires first { IsPoint point }
     requires second { IsPoint other }
     ensures value { operands_of result ≡ seen.plain_operands (Pt point) (Pt other) }
-    ensures form { AreFormed result }
+    ensures form { AreFormedOperands result }
     ensures domains { (x y : Seen) → AreDomains result x y }
 {
     if point.dim == other.dim {
@@ -32,7 +32,7 @@ fn rects(rect: Rect, other: Rect) -> Operands
     requires first { IsRect rect }
     requires second { IsRect other }
     ensures value { operands_of result ≡ seen.plain_operands (Rc rect) (Rc other) }
-    ensures form { AreFormed result }
+    ensures form { AreFormedOperands result }
     ensures domains { AreDomains result (Plain (Rc rect)) (Plain (Rc other)) }
 {
     if rect.dim == other.dim {
@@ -46,7 +46,7 @@ fn rects(rect: Rect, other: Rect) -> Operands
 fn things(id: Option<Id>, other: Value) -> Operands
     ensures value { operands_of result ≡ seen.plain_operands (Obj id) other }
     ensures grid { operands_of result ≡ seen.plain_operands (Grid id) other }
-    ensures form { AreFormed result }
+    ensures form { AreFormedOperands result }
     ensures domains { (x z : Seen) → AreDomains result x z }
 {
     match other {
@@ -61,7 +61,7 @@ fn values(left: Value, right: Value) -> Operands
     requires first { IsFormedValue left }
     requires second { IsFormedValue right }
     ensures value { operands_of result ≡ seen.plain_operands left right }
-    ensures form { AreFormed result }
+    ensures form { AreFormedOperands result }
     ensures domains { AreDomains result (Plain left) (Plain right) }
 {
     match left {
@@ -110,7 +110,7 @@ fn held_dim(value: &VarValue) -> Option<u8>
 // Two operands of which at least one is a general domain.
 fn domains(left: &VarValue, right: &VarValue) -> Operands
     ensures value { operands_of result ≡ (if seen.same_dim (seen.held_dim left.now) (seen.held_dim right.now) then seen.Domains else seen.Others) }
-    ensures form { AreFormed result }
+    ensures form { AreFormedOperands result }
     ensures domains { AreDomains result left.now right.now }
 {
     match (held_dim(left), held_dim(right)) {
@@ -126,7 +126,7 @@ fn domains(left: &VarValue, right: &VarValue) -> Operands
 /// Two operands, brought to one type.
 pub fn operands(left: &VarValue, right: &VarValue) -> Operands
     ensures value { operands_of result ≡ seen.operands left.now right.now }
-    ensures form { AreFormed result }
+    ensures form { AreFormedOperands result }
     ensures domains { AreDomains result left.now right.now }
 {
     match (&left.kept, &right.kept) {

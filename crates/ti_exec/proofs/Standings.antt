@@ -19,7 +19,7 @@ use Rattle.ti_exec.specs.declared.process.OnAnswer.TheVariants as pend
 use Rattle.ti_exec.specs.States.{process_of, mode_after_answer, after_answer, RequestsNext}
 use Rattle.ti_exec.specs.Standing.{TreeProcView, setting_of, initial_process_of, HasNext, IsAfterAnswer, is_act}
 use Rattle.ti_exec.specs.Mirrors.RunLoop.{poisoned_in, asks_in, Rests, RunsToNext}
-use Rattle.ti_exec.specs.Mirrors.TreeProc.{CorrespondsTo, Awaits, Agrees}
+use Rattle.ti_exec.specs.Mirrors.TreeProc.{CorrespondsTo, Awaits, AgreesWithTree}
 use Rattle.ti_exec.proofs.Advances.{reaches_through, one_more, moved, with_room}
 
 -- ---- the beginning
@@ -33,7 +33,7 @@ begins s w t e = record {
 
 -- ---- what is next
 
-pub unspent : (s : TreeProcView) (w : TreeMachine) (st : TreeProcState) → Agrees s w st → poisoned_in st ≡ false → CorrespondsTo s w
+pub unspent : (s : TreeProcView) (w : TreeMachine) (st : TreeProcState) → AgreesWithTree s w st → poisoned_in st ≡ false → CorrespondsTo s w
 unspent s w state.Running a e = a
 unspent s w (state.Suspended asking) a e = a.0
 unspent s w state.Poisoned a e = cc
@@ -84,7 +84,7 @@ follows_on s b old new v e f r =
     }
 
 pub agrees : (s : TreeProcView) (old new : TreeMachine) (v : Vec Answer Global) (n : Next) (st : TreeProcState) → v.items ≡ new.answers.items → vec_len v < vec_capacity v
-    → CorrespondsTo s old → RunsToNext (program_of s.program) old n st new → Agrees (record s { asks = asks_in st }) (record new { answers = v }) st
+    → CorrespondsTo s old → RunsToNext (program_of s.program) old n st new → AgreesWithTree (record s { asks = asks_in st }) (record new { answers = v }) st
 agrees s old new v n state.Running e l f g = follows_on s _ old new v e f g.reaches
 agrees s old new v n (state.Suspended asking) e l f g = (
   follows_on s _ old new v e f g.reaches,

@@ -21,7 +21,7 @@ use Rattle.ti_eval.specs.declared.frame.StmtFrame.{StmtFrame}
 use Rattle.ti_eval.specs.Frames.{MethodContext, slots_of, work_of, work_of_body, pending_of, rest_of}
 use Rattle.ti_eval.specs.Places.{inside, child_of, list_of}
 use Rattle.ti_moves.specs.declared.outcomes.StmtOutcome as moves
-use Rattle.ti_moves.specs.Outcomes.{method_at, outcome_of}
+use Rattle.ti_moves.specs.Outcomes.{method_at, move_after}
 use Rattle.ti_moves.specs.Receiving.{receiver_of}
 use Rattle.ti_exec.specs.declared.process.CallStack.{CallStack}
 use Rattle.ti_exec.specs.declared.process.CallFrame.{CallFrame}
@@ -143,13 +143,13 @@ begun_at c w ws b f method this ps below m t v l = rw (below, m, t, v, l, revers
 
 -- a move, spelled in another way
 pub moved_as : (c : ProgramView) (old new : TreeMachine) (t : StepOutcome) (m n : moves.StmtOutcome) → m ≡ n
-    → IsApplied c old (outcome_of (env_in c old) (innermost_stmt c old.top) n) t new → IsApplied c old (outcome_of (env_in c old) (innermost_stmt c old.top) m) t new
-moved_as c old new t m n e h = subst (λ (x : moves.StmtOutcome). IsApplied c old (outcome_of (env_in c old) (innermost_stmt c old.top) x) t new) (sym e) h
+    → IsApplied c old (move_after (env_in c old) (innermost_stmt c old.top) n) t new → IsApplied c old (move_after (env_in c old) (innermost_stmt c old.top) m) t new
+moved_as c old new t m n e h = subst (λ (x : moves.StmtOutcome). IsApplied c old (move_after (env_in c old) (innermost_stmt c old.top) x) t new) (sym e) h
 
 -- the same of a result
 pub moved_in : (c : ProgramView) (old new : TreeMachine) (r : Result StepOutcome Memory) (m n : moves.StmtOutcome) → m ≡ n
-    → IfOk r (λ t. IsApplied c old (outcome_of (env_in c old) (innermost_stmt c old.top) n) t new) → IfOk r (λ t. IsApplied c old (outcome_of (env_in c old) (innermost_stmt c old.top) m) t new)
-moved_in c old new r m n e h = subst (λ (x : moves.StmtOutcome). IfOk r (λ t. IsApplied c old (outcome_of (env_in c old) (innermost_stmt c old.top) x) t new)) (sym e) h
+    → IfOk r (λ t. IsApplied c old (move_after (env_in c old) (innermost_stmt c old.top) n) t new) → IfOk r (λ t. IsApplied c old (move_after (env_in c old) (innermost_stmt c old.top) m) t new)
+moved_in c old new r m n e h = subst (λ (x : moves.StmtOutcome). IfOk r (λ t. IsApplied c old (move_after (env_in c old) (innermost_stmt c old.top) x) t new)) (sym e) h
 
 -- a step of a result, spelled in another way
 pub step_in : (c : ProgramView) (p : Process) (s z : Step) (r : Result StepOutcome Memory) (new : TreeMachine) → s ≡ z → IfOk r (λ t. IsStep c p z t new) → IfOk r (λ t. IsStep c p s t new)

@@ -10,7 +10,7 @@ ghost use Rattle.ti_lang.specs.Meaning.Steps.{end_of};
 ghost use Rattle.ti_eval.specs.declared.frame.Resume.{Resume as Left};
 ghost use Rattle.ti_eval.specs.declared.frame.Resume.TheVariants.{Here};
 ghost use Rattle.ti_eval.specs.Comes.{ComesAs};
-ghost use Rattle.ti_moves.specs.Outcomes.{outcome_of};
+ghost use Rattle.ti_moves.specs.Outcomes.{move_after};
 ghost use Rattle.ti_moves.specs.Receiving.{receiver_of};
 ghost use Rattle.ti_moves.specs.declared.outcomes.CollectiveCall.{CollectiveCall as Met};
 ghost use Rattle.ti_exec.specs.declared.process.ControlMode.TheVariants.{Walks, Waits, Expects};
@@ -41,7 +41,7 @@ impl TreeMachine {
         program: &'c ProgramData,
     ) -> Result<(StmtOutcome<'c>, &'a [CanonicalAnswer]), Interrupt>
         requires { 0 < length self.now.top.levels.items }
-        ensures { ComesAs (outcome_of (env_in (program_of program.now) self.now) (innermost_stmt (program_of program.now) self.now.top)) result
+        ensures { ComesAs (move_after (env_in (program_of program.now) self.now) (innermost_stmt (program_of program.now) self.now.top)) result
             (statement_spec (env_in (program_of program.now) self.now) (innermost_stmt (program_of program.now) self.now.top) self.now.answers.items) }
     {
         statement(
@@ -60,7 +60,7 @@ impl TreeMachine {
         value: &VarValue,
     ) -> Result<(StmtOutcome<'c>, &'a [CanonicalAnswer]), Interrupt>
         requires { 0 < length self.now.top.levels.items }
-        ensures { ComesAs (outcome_of (env_in (program_of program.now) self.now) (innermost_stmt (program_of program.now) self.now.top)) result
+        ensures { ComesAs (move_after (env_in (program_of program.now) self.now) (innermost_stmt (program_of program.now) self.now.top)) result
             (receives (env_in (program_of program.now) self.now) (receiver_of (innermost_stmt (program_of program.now) self.now.top))
             (gives value.now) self.now.answers.items) }
     {

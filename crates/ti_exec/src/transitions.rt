@@ -8,7 +8,7 @@ ghost use Rattle.ti_lang.specs.Meaning.Moves as move;
 ghost use Rattle.ti_lang.specs.Meaning.Processes.{ContItem};
 ghost use Rattle.ti_lang.specs.Meaning.Steps as steps;
 ghost use Rattle.ti_eval.specs.Frames.{slots_of};
-ghost use Rattle.ti_moves.specs.Outcomes.{method_at, update_variables, outcome_of, works_of};
+ghost use Rattle.ti_moves.specs.Outcomes.{method_at, update_variables, move_after, works_of};
 ghost use Rattle.ti_moves.specs.Receiving.{receiver_of};
 ghost use Rattle.ti_exec.specs.States.{IsStep, IsApplied, process_of, process_in_mode, top_of, below_of, context_of_call, innermost_stmt, rest, env_in};
 
@@ -160,7 +160,7 @@ impl TreeMachine {
     ) -> Result<StepOutcome, Memory>
         requires { 0 < length self.old.top.levels.items }
         ensures { IfOk result (λ t. IsApplied (program_of program.now) self.old
-            (outcome_of (env_in (program_of program.now) self.old) (innermost_stmt (program_of program.now) self.old.top) outcome.entry) t self.new) }
+            (move_after (env_in (program_of program.now) self.old) (innermost_stmt (program_of program.now) self.old.top) outcome.entry) t self.new) }
     {
         match outcome {
             StmtOutcome::Goes(change, left) => self.change_variables(change, left),

@@ -10,8 +10,8 @@ use Rattle.ti_grid.specs.declared.layout.Layout.{Layout}
 use Rattle.ti_grid.specs.Views.{NumbersBelow}
 use Rattle.ti_heap.specs.declared.allocation.Allocation.{Allocation}
 use Rattle.ti_heap.specs.declared.allocation.Allocation.TheVariants.{Block}
-use Rattle.ti_heap.specs.Contents.{Cell, GridMap, Contents}
-use Rattle.ti_heap.specs.Things.{Things, is_named, named, live, values_of, layout_of, value_in_cell, grid_in, map_of, IsBacked, IsSound}
+use Rattle.ti_heap.specs.Contents.{CellIndex, GridMap, Contents}
+use Rattle.ti_heap.specs.Things.{Things, is_named, named, live, values_of, layout_of, value_in_cell, grid_in, map_of, IsBacked, HaveBlocks}
 use Rattle.ti_heap.proofs.Names.{same_ids, id_self, one_name}
 
 -- the thing with this maker and serial is t, and the others are as before
@@ -20,7 +20,7 @@ pub record Changed (old new : Things) (maker serial : ℕ) (t : Allocation) : Ty
   pub other : (a b : ℕ) → (a ≡ maker → b ≡ serial → ⊥) → new a b ≡ old a b
 
 -- contents with the same maps are the same
-pub same_contents : (a b : Contents) → a.procs ≡ b.procs → ((c : Cell) → a.held c ≡ b.held c) → ((id : Id) → a.grid id ≡ b.grid id) → ((p : ℕ) → a.made p ≡ b.made p) → a ≡ b
+pub same_contents : (a b : Contents) → a.procs ≡ b.procs → ((c : CellIndex) → a.held c ≡ b.held c) → ((id : Id) → a.grid id ≡ b.grid id) → ((p : ℕ) → a.made p ≡ b.made p) → a ≡ b
 same_contents a b e f g h = λ i. record { procs = e i; held = λ c. f c i; grid = λ id. g id i; made = λ p. h p i }
 
 pub through_if : {A B : Type 0} (f : A → B) (b : Bool) (x y : A) → f (if b then x else y) ≡ (if b then f x else f y)
@@ -52,7 +52,7 @@ module _ (old new : Things) (id : Id) (t : Allocation) (is : Changed old new id.
       by true e = subst (λ (x : Id). live new x ≡ Some t) (sym (same_ids other id e)) (ap (option_and_then (named id)) is.same ∙ ap (λ (b : Bool). if b then Some t else None) name)
       by false e = live_beside other (λ f. both_ways (same_id other id) e (subst (λ (x : Id). same_id x id ≡ true) (sym f) (id_self id)))
 
-  pub held_changed : (c : Cell) → value_in_cell new c ≡ (if same_id c.thing id then slice_get (values_of t) c.number else value_in_cell old c)
+  pub held_changed : (c : CellIndex) → value_in_cell new c ≡ (if same_id c.thing id then slice_get (values_of t) c.number else value_in_cell old c)
   held_changed c =
       let f : Option Allocation → Option Value = option_and_then (λ (u : Allocation). slice_get (values_of u) c.number) in
       ap f (live_changed c.thing) ∙ through_if f (same_id c.thing id) (Some t) (live old c.thing)
@@ -84,7 +84,7 @@ module _ (old new : Things) (id : Id) (t : Allocation) (is : Changed old new id.
         below = b.below;
       }
 
-  pub still_sound : IsSound old → ((l : Layout) → IsBacked old l → IsBacked new l) → ((l : Layout) → layout_of t ≡ Some l → IsBacked new l) → IsSound new
+  pub still_sound : HaveBlocks old → ((l : Layout) → IsBacked old l → IsBacked new l) → ((l : Layout) → layout_of t ≡ Some l → IsBacked new l) → HaveBlocks new
   still_sound sound kept fresh m s u l at e = ⊎_elim
       (λ a. ⊎_elim
       (λ b.

@@ -9,8 +9,8 @@ use Rattle.ti_base.specs.declared.value.Value.{Value}
 use Rattle.ti_grid.specs.declared.layout.Layout.{Layout}
 use Rattle.ti_heap.specs.declared.allocation.Allocation.{Allocation}
 use Rattle.ti_heap.specs.declared.allocation.Allocation.TheVariants.{Object, Block, ViewOf, Gone}
-use Rattle.ti_heap.specs.Contents.{Cell, GridMap, dropped_made, without_region}
-use Rattle.ti_heap.specs.Things.{thing_at, is_named, named, live, values_of, allocation_region, layout_of, made_of, drop_if_in, map_of, made_in, contents, IsBacked, IsSound}
+use Rattle.ti_heap.specs.Contents.{CellIndex, GridMap, dropped_made, without_region}
+use Rattle.ti_heap.specs.Things.{thing_at, is_named, named, live, values_of, allocation_region, layout_of, made_of, drop_if_in, map_of, made_in, contents, IsBacked, HaveBlocks}
 use Rattle.ti_heap.proofs.Names.{named_region}
 use Rattle.ti_heap.proofs.Changes.{same_contents, through_if}
 
@@ -54,7 +54,7 @@ module _ (r : ℕ) (h : List (List Allocation)) where
       by None = nothing_left (eqb id.region r)
       by (Some t) = named_dropped id t
 
-  held : (c : Cell) → (contents (map (map (drop_if_in r)) h)).held c ≡ (if eqb c.thing.region r then None else (contents h).held c)
+  held : (c : CellIndex) → (contents (map (map (drop_if_in r)) h)).held c ≡ (if eqb c.thing.region r then None else (contents h).held c)
   held c =
       let f : Option Allocation → Option Value = option_and_then (λ (u : Allocation). slice_get (values_of u) c.number) in
       ap f (live_dropped c.thing) ∙ through_if f (eqb c.thing.region r) None (live (thing_at h) c.thing)
@@ -97,7 +97,7 @@ module _ (r : ℕ) (h : List (List Allocation)) where
   block_region (ViewOf view) l e = let same : view ≡ l = cc in ap (λ (x : Layout). x.block.region) same
   block_region Gone l e = cc
 
-  pub drop_sound : IsSound (thing_at h) → IsSound (thing_at (map (map (drop_if_in r)) h))
+  pub drop_sound : HaveBlocks (thing_at h) → HaveBlocks (thing_at (map (map (drop_if_in r)) h))
   drop_sound sound m s u l at e = from (thing_at h m s) refl (sym (at_dropped m s) ∙ at)
     where
       rest : (t : Allocation) → thing_at h m s ≡ Some t → (b : Bool) → eqb (allocation_region t) r ≡ b → (if b then Gone else t) ≡ u → IsBacked (thing_at (map (map (drop_if_in r)) h)) l

@@ -8,7 +8,7 @@ use Rattle.ti_base.specs.declared.value.Id.{Id}
 use Rattle.ti_base.specs.declared.value.Value.{Value}
 use Rattle.ti_heap.specs.declared.allocation.Allocation.{Allocation}
 use Rattle.ti_heap.specs.declared.allocation.Allocation.TheVariants.{Object, Block, ViewOf, Gone}
-use Rattle.ti_heap.specs.Contents.{Cell, cell_at, IsAmong, AreDistinctCells, ListsCells}
+use Rattle.ti_heap.specs.Contents.{CellIndex, cell_at, IsAmong, AreDistinctCells, ListsCells}
 use Rattle.ti_heap.specs.Things.{thing_at, is_named, named, live, values_of, allocation_region, values_in, all_values_in, value_in_cell, contents}
 use Rattle.ti_heap.proofs.Costs.{has_some}
 use Rattle.ti_heap.proofs.Names.{one_name, named_region, live_then}
@@ -16,10 +16,10 @@ use Rattle.ti_heap.proofs.Puts.{share_then, held_then}
 
 -- ---- lists of cells
 
-one_cell : (a b : Cell) → a.thing ≡ b.thing → a.number ≡ b.number → a ≡ b
+one_cell : (a b : CellIndex) → a.thing ≡ b.thing → a.number ≡ b.number → a ≡ b
 one_cell a b e f = λ i. record { thing = e i; number = f i }
 
-among_append : (xs ys : List Cell) (c : Cell) → IsAmong (xs ++ ys) c ↔ (IsAmong xs c ⊎ IsAmong ys c)
+among_append : (xs ys : List CellIndex) (c : CellIndex) → IsAmong (xs ++ ys) c ↔ (IsAmong xs c ⊎ IsAmong ys c)
 among_append [] ys c = (λ m. inr m, ⊎_elim (λ m. absurd m) (λ m. m))
 among_append (x ∷ xs) ys c =
     let h = among_append xs ys c in (
@@ -27,7 +27,7 @@ among_append (x ∷ xs) ys c =
       ⊎_elim (⊎_elim inl (λ m. inr (h.1 (inl m)))) (λ m. inr (h.1 (inr m))),
     )
 
-apart_append : (xs ys : List Cell) → AreDistinctCells xs → AreDistinctCells ys → ((c : Cell) → IsAmong xs c → IsAmong ys c → ⊥) → AreDistinctCells (xs ++ ys)
+apart_append : (xs ys : List CellIndex) → AreDistinctCells xs → AreDistinctCells ys → ((c : CellIndex) → IsAmong xs c → IsAmong ys c → ⊥) → AreDistinctCells (xs ++ ys)
 apart_append [] ys a b h = b
 apart_append (x ∷ xs) ys a b h = (
   λ m. ⊎_elim a.0 (λ n. h x (inl refl) n) ((among_append xs ys x).0 m),
@@ -54,16 +54,16 @@ serial_of m s (Block whole elements) = refl
 serial_of m s (ViewOf view) = refl
 serial_of m s Gone = refl
 
-abbrev pub cells_from : Id → ℕ → List Value → List Cell
+abbrev pub cells_from : Id → ℕ → List Value → List CellIndex
 cells_from id n [] = []
 cells_from id n (v ∷ vs) = cell_at id n ∷ cells_from id (suc n) vs
 
-from_in : (id : Id) (n : ℕ) (vs : List Value) (c : Cell) → IsAmong (cells_from id n vs) c → (i : ℕ) × (c.thing ≡ id) × (c.number ≡ n + i) × IsSome (slice_get vs i)
+from_in : (id : Id) (n : ℕ) (vs : List Value) (c : CellIndex) → IsAmong (cells_from id n vs) c → (i : ℕ) × (c.thing ≡ id) × (c.number ≡ n + i) × IsSome (slice_get vs i)
 from_in id n [] c m = elim m [ ]
-from_in id n (v ∷ vs) c (inl e) = (0, ap (λ (x : Cell). x.thing) e, ap (λ (x : Cell). x.number) e ∙ omega arith, refl)
+from_in id n (v ∷ vs) c (inl e) = (0, ap (λ (x : CellIndex). x.thing) e, ap (λ (x : CellIndex). x.number) e ∙ omega arith, refl)
 from_in id n (v ∷ vs) c (inr m) = let h = from_in id (suc n) vs c m in (suc h.0, h.1, h.2 ∙ omega arith, h.3)
 
-in_from : (id : Id) (n : ℕ) (vs : List Value) (c : Cell) (i : ℕ) → c.thing ≡ id → c.number ≡ n + i → IsSome (slice_get vs i) → IsAmong (cells_from id n vs) c
+in_from : (id : Id) (n : ℕ) (vs : List Value) (c : CellIndex) (i : ℕ) → c.thing ≡ id → c.number ≡ n + i → IsSome (slice_get vs i) → IsAmong (cells_from id n vs) c
 in_from id n [] c i e f h = cc
 in_from id n (v ∷ vs) c zero e f h = inl (one_cell c (cell_at id n) e (f ∙ omega arith))
 in_from id n (v ∷ vs) c (suc i) e f h = inr (in_from id (suc n) vs c i e (f ∙ omega arith) h)
@@ -72,7 +72,7 @@ from_apart : (id : Id) (n : ℕ) (vs : List Value) → AreDistinctCells (cells_f
 from_apart id n [] = tt
 from_apart id n (v ∷ vs) = (λ m. let h = from_in id (suc n) vs (cell_at id n) m in absurd (omega (arith, h.2)), from_apart id (suc n) vs)
 
-from_values : (f : Cell → Option Value) (id : Id) (n : ℕ) (vs : List Value) → ((i k : ℕ) (x : Value) → k ≡ n + i → slice_get vs i ≡ Some x → f (cell_at id k) ≡ Some x)
+from_values : (f : CellIndex → Option Value) (id : Id) (n : ℕ) (vs : List Value) → ((i k : ℕ) (x : Value) → k ≡ n + i → slice_get vs i ≡ Some x → f (cell_at id k) ≡ Some x)
     → map f (cells_from id n vs) ≡ map Some vs
 from_values f id n [] h = refl
 from_values f id n (v ∷ vs) h =
@@ -82,11 +82,11 @@ from_values f id n (v ∷ vs) h =
 
 -- ---- the cells of the things of a process
 
-abbrev pub things_cells : ℕ → ℕ → ℕ → List Allocation → List Cell
+abbrev pub things_cells : ℕ → ℕ → ℕ → List Allocation → List CellIndex
 things_cells r m s [] = []
 things_cells r m s (t ∷ ts) = cells_from (id_of m s t) 0 (values_in r t) ++ things_cells r m (suc s) ts
 
-things_in : (r m s : ℕ) (ts : List Allocation) (c : Cell) → IsAmong (things_cells r m s ts) c
+things_in : (r m s : ℕ) (ts : List Allocation) (c : CellIndex) → IsAmong (things_cells r m s ts) c
     → (i : ℕ) × (t : Allocation) × (slice_get ts i ≡ Some t) × (c.thing ≡ id_of m (s + i) t) × IsSome (slice_get (values_in r t) c.number)
 things_in r m s [] c n = elim n [ ]
 things_in r m s (t ∷ ts) c n = ⊎_elim
@@ -101,7 +101,7 @@ things_in r m s (t ∷ ts) c n = ⊎_elim
     (suc h.0, h.1, h.2, h.3 ∙ ap (λ (q : ℕ). id_of m q h.1) at, h.4))
     ((among_append (cells_from (id_of m s t) 0 (values_in r t)) (things_cells r m (suc s) ts) c).0 n)
 
-in_things : (r m s : ℕ) (ts : List Allocation) (c : Cell) (i : ℕ) (t : Allocation) → slice_get ts i ≡ Some t → c.thing ≡ id_of m (s + i) t → IsSome (slice_get (values_in r t) c.number)
+in_things : (r m s : ℕ) (ts : List Allocation) (c : CellIndex) (i : ℕ) (t : Allocation) → slice_get ts i ≡ Some t → c.thing ≡ id_of m (s + i) t → IsSome (slice_get (values_in r t) c.number)
     → IsAmong (things_cells r m s ts) c
 in_things r m s [] c i t e f h = cc
 in_things r m s (u ∷ ts) c zero t e f h =
@@ -126,7 +126,7 @@ things_apart r m s (t ∷ ts) =
     let q : c.thing.serial ≡ suc s + y.0 = ap (λ (q : Id). q.serial) y.3 ∙ serial_of m (suc s + y.0) y.1 in
     absurd (omega (arith, p, q)))
 
-things_values : (f : Cell → Option Value) (r m s : ℕ) (ts : List Allocation)
+things_values : (f : CellIndex → Option Value) (r m s : ℕ) (ts : List Allocation)
     → ((i q : ℕ) (t : Allocation) (k : ℕ) (x : Value) → q ≡ s + i → slice_get ts i ≡ Some t → slice_get (values_in r t) k ≡ Some x → f (cell_at (id_of m q t) k) ≡ Some x)
     → map f (things_cells r m s ts) ≡ map Some (flat_map (values_in r) ts)
 things_values f r m s [] h = refl
@@ -139,11 +139,11 @@ things_values f r m s (t ∷ ts) h =
 
 -- ---- the cells of all processes
 
-abbrev pub shares_cells : ℕ → ℕ → List (List Allocation) → List Cell
+abbrev pub shares_cells : ℕ → ℕ → List (List Allocation) → List CellIndex
 shares_cells r m [] = []
 shares_cells r m (ts ∷ h) = things_cells r m 0 ts ++ shares_cells r (suc m) h
 
-shares_in : (r m : ℕ) (h : List (List Allocation)) (c : Cell) → IsAmong (shares_cells r m h) c → (j : ℕ) × (ts : List Allocation) × (slice_get h j ≡ Some ts) × IsAmong (things_cells r (m + j) 0 ts) c
+shares_in : (r m : ℕ) (h : List (List Allocation)) (c : CellIndex) → IsAmong (shares_cells r m h) c → (j : ℕ) × (ts : List Allocation) × (slice_get h j ≡ Some ts) × IsAmong (things_cells r (m + j) 0 ts) c
 shares_in r m [] c n = elim n [ ]
 shares_in r m (ts ∷ h) c n = ⊎_elim
     (λ a. let at : m ≡ m + 0 = omega arith in (0, ts, refl, subst (λ (q : ℕ). IsAmong (things_cells r q 0 ts) c) at a))
@@ -153,7 +153,7 @@ shares_in r m (ts ∷ h) c n = ⊎_elim
     (suc k.0, k.1, k.2, subst (λ (q : ℕ). IsAmong (things_cells r q 0 k.1) c) at k.3))
     ((among_append (things_cells r m 0 ts) (shares_cells r (suc m) h) c).0 n)
 
-in_shares : (r m : ℕ) (h : List (List Allocation)) (c : Cell) (j : ℕ) (ts : List Allocation) → slice_get h j ≡ Some ts → IsAmong (things_cells r (m + j) 0 ts) c → IsAmong (shares_cells r m h) c
+in_shares : (r m : ℕ) (h : List (List Allocation)) (c : CellIndex) (j : ℕ) (ts : List Allocation) → slice_get h j ≡ Some ts → IsAmong (things_cells r (m + j) 0 ts) c → IsAmong (shares_cells r m h) c
 in_shares r m [] c j ts e n = cc
 in_shares r m (us ∷ h) c zero ts e n =
     let same : ts ≡ us = cc in
@@ -177,7 +177,7 @@ shares_apart r m (ts ∷ h) =
     let q : c.thing.maker ≡ suc m + k.0 = ap (λ (q : Id). q.maker) y.3 ∙ maker_of (suc m + k.0) (0 + y.0) y.1 in
     absurd (omega (arith, p, q)))
 
-shares_values : (f : Cell → Option Value) (r m : ℕ) (h : List (List Allocation))
+shares_values : (f : CellIndex → Option Value) (r m : ℕ) (h : List (List Allocation))
     → ((j p : ℕ) (ts : List Allocation) (i : ℕ) (t : Allocation) (k : ℕ) (x : Value) → p ≡ m + j → slice_get h j ≡ Some ts → slice_get ts i ≡ Some t → slice_get (values_in r t) k ≡ Some x
     → f (cell_at (id_of p i t) k) ≡ Some x)
     → map f (shares_cells r m h) ≡ map Some (all_values_in r h)
@@ -219,7 +219,7 @@ module _ (h : List (List Allocation)) (r : ℕ) where
       let l = lies_there r t k x v in
       ap (option_and_then (λ (u : Allocation). slice_get (values_of u) k)) (live_at j i ts t k x a b l.1) ∙ l.1
 
-  forth : (c : Cell) → IsAmong (shares_cells r 0 h) c → (c.thing.region ≡ r) × IsSome (value_in_cell (thing_at h) c)
+  forth : (c : CellIndex) → IsAmong (shares_cells r 0 h) c → (c.thing.region ≡ r) × IsSome (value_in_cell (thing_at h) c)
   forth c n =
       let s = shares_in r 0 h c n in
       let y = things_in r (0 + s.0) 0 s.1 c s.3 in
@@ -233,7 +233,7 @@ module _ (h : List (List Allocation)) (r : ℕ) where
         ap is_some (ap (value_in_cell (thing_at h)) (one_cell c (cell_at (id_of s.0 y.0 y.1) c.number) id refl) ∙ held),
       )
 
-  back : (c : Cell) → c.thing.region ≡ r → IsSome (value_in_cell (thing_at h) c) → IsAmong (shares_cells r 0 h) c
+  back : (c : CellIndex) → c.thing.region ≡ r → IsSome (value_in_cell (thing_at h) c) → IsAmong (shares_cells r 0 h) c
   back c e g =
       let k = held_then (thing_at h) c.thing c.number g in
       let l = live_then (thing_at h) c.thing k.0 k.1 in

@@ -13,7 +13,7 @@ use Rattle.ti_grid.specs.Views.{NumbersBelow}
 use Rattle.ti_heap.specs.declared.allocation.Allocation.{Allocation}
 use Rattle.ti_heap.specs.declared.allocation.Allocation.TheVariants.{Object, Block, ViewOf, Gone}
 use Rattle.ti_heap.specs.Contents.{cell_at, GridMap, Contents, Made, with_thing, empty_contents}
-use Rattle.ti_heap.specs.Things.{thing_at, is_named, named, live, values_of, layout_of, made_of, map_of, layout_in, share_of, made_in, contents, changed_at, IsBacked, IsSound, HasBacking}
+use Rattle.ti_heap.specs.Things.{thing_at, is_named, named, live, values_of, layout_of, made_of, map_of, layout_in, share_of, made_in, contents, changed_at, IsBacked, HaveBlocks, HasBacking}
 use Rattle.ti_heap.proofs.Lists.{get_changed, get_unchanged, length_changed, set_changed, set_same, get_last, get_front, no_more}
 use Rattle.ti_heap.proofs.Names.{named_region, same_ids, id_self}
 use Rattle.ti_heap.proofs.Changes.{Changed, same_contents, live_there, held_changed, grid_changed, still_backed, still_sound}
@@ -69,7 +69,7 @@ module _ (h : List (List Allocation)) (id : Id) (things : List Allocation) (t : 
       (length_changed id.maker (λ ts. ts ++ t ∷ []) h)
       (held_changed (thing_at h) after id t change name alone) (grid_changed (thing_at h) after id t change name alone) made
 
-  pub push_sound : IsSound (thing_at h) → HasBacking (thing_at h) id t → IsSound (thing_at (changed_at id.maker (λ ts. ts ++ t ∷ []) h))
+  pub push_sound : HaveBlocks (thing_at h) → HasBacking (thing_at h) id t → HaveBlocks (thing_at (changed_at id.maker (λ ts. ts ++ t ∷ []) h))
   push_sound sound backing =
       let after = thing_at (changed_at id.maker (λ ts. ts ++ t ∷ []) h) in
       let kept = still_backed (thing_at h) after id t change name alone
@@ -99,14 +99,14 @@ module _ (h : List (List Allocation)) (id : Id) (things : List Allocation) (t : 
 
 module _ {E : Type 0} (r : Result (Unit {0}) E) (h : List (List Allocation)) (id : Id) (things new : List Allocation) (t : Allocation) (share : slice_get h id.maker ≡ Some things)
     (next : id.serial ≡ length things) (name : is_named id t ≡ true) (ok : OnOk r (new ≡ things ++ t ∷ [])) (err : OnErr r (new ≡ things)) where
-  pub pushed_sound : IsSound (thing_at h) → HasBacking (thing_at h) id t → IsSound (thing_at (set h id.maker new))
+  pub pushed_sound : HaveBlocks (thing_at h) → HasBacking (thing_at h) id t → HaveBlocks (thing_at (set h id.maker new))
   pushed_sound sound backing = by r ok err
     where
-      by : (q : Result (Unit {0}) E) → OnOk q (new ≡ things ++ t ∷ []) → OnErr q (new ≡ things) → IsSound (thing_at (set h id.maker new))
+      by : (q : Result (Unit {0}) E) → OnOk q (new ≡ things ++ t ∷ []) → OnErr q (new ≡ things) → HaveBlocks (thing_at (set h id.maker new))
       by (Ok u) a b =
-          subst (λ (x : List (List Allocation)). IsSound (thing_at x)) (sym (ap (λ (ts : List Allocation). set h id.maker ts) a ∙ set_changed h id.maker (λ ts. ts ++ t ∷ []) things share))
+          subst (λ (x : List (List Allocation)). HaveBlocks (thing_at x)) (sym (ap (λ (ts : List Allocation). set h id.maker ts) a ∙ set_changed h id.maker (λ ts. ts ++ t ∷ []) things share))
           (push_sound h id things t share next name sound backing)
-      by (Err u) a b = subst (λ (x : List (List Allocation)). IsSound (thing_at x)) (sym (ap (λ (ts : List Allocation). set h id.maker ts) b ∙ set_same h id.maker things share)) sound
+      by (Err u) a b = subst (λ (x : List (List Allocation)). HaveBlocks (thing_at x)) (sym (ap (λ (ts : List Allocation). set h id.maker ts) b ∙ set_same h id.maker things share)) sound
 
   pub pushed_contents : OnOk r (contents (set h id.maker new) ≡ with_thing id (values_of t) (option_map map_of (layout_of t)) (contents h))
   pushed_contents = by r ok
@@ -131,7 +131,7 @@ no_share zero p = refl
 no_share (suc n) zero = refl
 no_share (suc n) (suc p) = no_share n p
 
-pub new_sound : (n : ℕ) → IsSound (thing_at (replicate n []))
+pub new_sound : (n : ℕ) → HaveBlocks (thing_at (replicate n []))
 new_sound n m s t l at e = let f : None ≡ Some t = sym (no_things n m s) ∙ at in cc
 
 pub new_contents : (n : ℕ) → contents (replicate n []) ≡ empty_contents n

@@ -9,8 +9,8 @@ use Rattle.ti_base.specs.Cells.{same_id}
 use Rattle.ti_grid.specs.declared.layout.Layout.{Layout}
 use Rattle.ti_heap.specs.declared.allocation.Allocation.{Allocation}
 use Rattle.ti_heap.specs.declared.allocation.Allocation.TheVariants.{Object, Block, ViewOf, Gone}
-use Rattle.ti_heap.specs.Contents.{Cell, cell_at, same_cell, Made, with_cell_value}
-use Rattle.ti_heap.specs.Things.{Things, thing_at, is_named, named, live, values_of, layout_of, made_of, put_in, value_in_cell, grid_in, map_of, made_in, contents, changed_at, IsSound}
+use Rattle.ti_heap.specs.Contents.{CellIndex, cell_at, same_cell, Made, with_cell_value}
+use Rattle.ti_heap.specs.Things.{Things, thing_at, is_named, named, live, values_of, layout_of, made_of, put_in, value_in_cell, grid_in, map_of, made_in, contents, changed_at, HaveBlocks}
 use Rattle.ti_heap.proofs.Lists.{get_changed, get_unchanged, length_changed, map_changed, set_changed}
 use Rattle.ti_heap.proofs.Costs.{has_some}
 use Rattle.ti_heap.proofs.Names.{same_ids, one_name, live_then}
@@ -104,7 +104,7 @@ module _ (h : List (List Allocation)) (id : Id) (i : ℕ) (v x : Value) (t : All
       ap (option_and_then (named other)) at
       ∙ ap (λ (b : Bool). if b then Some t else None) (false_from_ne_true (is_named other t) (λ n. apart (one_name other id t n is.1 m s)))
 
-  held : (c : Cell) → value_in_cell (thing_at (changed_at id.maker (changed_at id.serial (put_in i v)) h)) c
+  held : (c : CellIndex) → value_in_cell (thing_at (changed_at id.maker (changed_at id.serial (put_in i v)) h)) c
       ≡ (if same_cell c (cell_at id i) then Some v else value_in_cell (thing_at h) c)
   held c =
       held_changed (thing_at h) (thing_at (changed_at id.maker (changed_at id.serial (put_in i v)) h)) id (put_in i v t) change name alone c
@@ -154,7 +154,7 @@ module _ (h : List (List Allocation)) (id : Id) (i : ℕ) (v x : Value) (t : All
       let one : t ≡ Block whole elements = cc in
       (whole, set elements i v, ap (put_in i v) one, length-set elements i v)
 
-  pub put_sound : IsSound (thing_at h) → IsSound (thing_at (changed_at id.maker (changed_at id.serial (put_in i v)) h))
+  pub put_sound : HaveBlocks (thing_at h) → HaveBlocks (thing_at (changed_at id.maker (changed_at id.serial (put_in i v)) h))
   put_sound sound =
       let after = thing_at (changed_at id.maker (changed_at id.serial (put_in i v)) h) in
       let kept = still_backed (thing_at h) after id (put_in i v t) change name alone keeps in
@@ -178,9 +178,9 @@ module _ (h : List (List Allocation)) (id : Id) (i : ℕ) (v : Value) (things ne
       ap contents (ap (λ (ts : List Allocation). set h id.maker ts) is ∙ set_changed h id.maker (changed_at id.serial (put_in i v)) things share)
       ∙ put_contents h id i v k.2.0 k.0 k.1 k.2.1
 
-  pub written_sound : IsSound (thing_at h) → IsSound (thing_at (set h id.maker new))
+  pub written_sound : HaveBlocks (thing_at h) → HaveBlocks (thing_at (set h id.maker new))
   written_sound sound =
       let k = held_then (thing_at h) id i some in
-      subst (λ (x : List (List Allocation)). IsSound (thing_at x))
+      subst (λ (x : List (List Allocation)). HaveBlocks (thing_at x))
       (sym (ap (λ (ts : List Allocation). set h id.maker ts) is ∙ set_changed h id.maker (changed_at id.serial (put_in i v)) things share))
       (put_sound h id i v k.2.0 k.0 k.1 k.2.1 sound)

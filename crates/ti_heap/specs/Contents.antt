@@ -17,20 +17,20 @@ use Rattle.ti_heap.specs.declared.error.HeapErr.TheVariants.{Faulted, Memory}
 -- ---- the maps
 
 -- a cell: a field of an object by its index, or an element of a block by the index of its point in the sorted list of the block's points
-pub record Cell : Type 0 where
+pub record CellIndex : Type 0 where
   pub thing : Id
   pub number : ℕ
 
-abbrev pub cell_at : Id → ℕ → Cell
+abbrev pub cell_at : Id → ℕ → CellIndex
 cell_at thing number = record { thing = thing; number = number }
 
-abbrev pub same_cell : Cell → Cell → Bool
+abbrev pub same_cell : CellIndex → CellIndex → Bool
 same_cell a b = same_id a.thing b.thing && a.number == b.number
 
 -- a grid: its domain, and the cell of each of its points
 pub record GridMap : Type 0 where
   pub domain : Rect
-  pub cell : Point → Option Cell
+  pub cell : Point → Option CellIndex
 
 -- what a process made, as its region and its cost; what was in a dropped region is in none and costs nothing
 pub record Made : Type 0 where
@@ -40,7 +40,7 @@ pub record Made : Type 0 where
 -- a heap: the number of processes, the value of each cell, the grids, and what each process made, in the order of making
 pub record Contents : Type 0 where
   pub procs : ℕ
-  pub held : Cell → Option Value
+  pub held : CellIndex → Option Value
   pub grid : Id → Option GridMap
   pub made : ℕ → List Made
 
@@ -55,7 +55,7 @@ abbrev pub empty_contents : ℕ → Contents
 empty_contents procs = record { procs = procs; held = λ _. None; grid = λ _. None; made = λ _. [] }
 
 -- one cell has another value
-abbrev pub with_cell_value : Cell → Value → Contents → Contents
+abbrev pub with_cell_value : CellIndex → Value → Contents → Contents
 with_cell_value cell v s = record s { held = λ other. if same_cell other cell then Some v else s.held other }
 
 -- an object, grid or view is made, with these values in its cells; it costs 1, and 1 for each cell
@@ -102,35 +102,35 @@ seen_map how g = record {
 }
 
 -- the cell of a point of a grid, if there is one
-abbrev pub grid_cell : Id → Point → Contents → Option Cell
+abbrev pub grid_cell : Id → Point → Contents → Option CellIndex
 grid_cell grid p s = option_and_then (λ (g : GridMap). g.cell p) (s.grid grid)
 
 -- what is read through a cell; `Bounds` if there is none
-abbrev pub ReadsCell : Contents → Option Cell → Result Value FaultKind → Type 0
+abbrev pub ReadsCell : Contents → Option CellIndex → Result Value FaultKind → Type 0
 ReadsCell s None r = r ≡ Err Bounds
 ReadsCell s (Some cell) r = (v : Value) × (s.held cell ≡ Some v) × (r ≡ Ok v)
 
 -- what is written through a cell; `Bounds` and no change if there is none
-abbrev pub WritesCell : Contents → Option Cell → Value → Result (Unit {0}) FaultKind → Contents → Type 0
+abbrev pub WritesCell : Contents → Option CellIndex → Value → Result (Unit {0}) FaultKind → Contents → Type 0
 WritesCell s None v r after = (r ≡ Err Bounds) × (after ≡ s)
 WritesCell s (Some cell) v r after = (r ≡ Ok tt) × (after ≡ with_cell_value cell v s)
 
 -- ---- the cells of a region
 
-abbrev pub IsAmong : List Cell → Cell → Type 0
+abbrev pub IsAmong : List CellIndex → CellIndex → Type 0
 IsAmong [] c = ⊥
 IsAmong (d ∷ ds) c = (c ≡ d) ⊎ IsAmong ds c
 
 -- no cell occurs twice in the list
-abbrev pub AreDistinctCells : List Cell → Type 0
+abbrev pub AreDistinctCells : List CellIndex → Type 0
 AreDistinctCells [] = Unit {0}
 AreDistinctCells (c ∷ cs) = (IsAmong cs c → ⊥) × AreDistinctCells cs
 
 -- the values of the cells of a region, each cell once
 pub record ListsCells (s : Contents) (region : ℕ) (values : List Value) : Type 0 where
-  pub cells : List Cell
+  pub cells : List CellIndex
   pub once : AreDistinctCells cells
-  pub has : (c : Cell) → IsAmong cells c ↔ ((c.thing.region ≡ region) × IsSome (s.held c))
+  pub has : (c : CellIndex) → IsAmong cells c ↔ ((c.thing.region ≡ region) × IsSome (s.held c))
   pub values_are : map s.held cells ≡ map Some values
 
 -- ---- faults

@@ -8,7 +8,7 @@ use Rattle.ti_grid.specs.declared.layout.Layout.{Layout}
 use Rattle.ti_grid.specs.Views.{cell_number, NumbersBelow}
 use Rattle.ti_heap.specs.declared.allocation.Allocation.{Allocation}
 use Rattle.ti_heap.specs.declared.allocation.Allocation.TheVariants.{Object, Block, ViewOf, Gone}
-use Rattle.ti_heap.specs.Contents.{Cell, cell_at, GridMap, Made, Contents}
+use Rattle.ti_heap.specs.Contents.{CellIndex, cell_at, GridMap, Made, Contents}
 
 -- ---- one object, block or view
 
@@ -80,7 +80,7 @@ named id t = if is_named id t then Some t else None
 abbrev pub live : Things → Id → Option Allocation
 live things id = option_and_then (named id) (things id.maker id.serial)
 
-abbrev pub value_in_cell : Things → Cell → Option Value
+abbrev pub value_in_cell : Things → CellIndex → Option Value
 value_in_cell things cell = option_and_then (λ t. slice_get (values_of t) cell.number) (live things cell.thing)
 
 abbrev pub map_of : Layout → GridMap
@@ -123,8 +123,8 @@ pub record IsBacked (things : Things) (l : Layout) : Type 0 where
   pub below : NumbersBelow (length elements) l
 
 -- the block of each grid exists
-abbrev pub IsSound : Things → Type 0
-IsSound things = (maker serial : ℕ) (t : Allocation) (l : Layout) → things maker serial ≡ Some t → layout_of t ≡ Some l → IsBacked things l
+abbrev pub HaveBlocks : Things → Type 0
+HaveBlocks things = (maker serial : ℕ) (t : Allocation) (l : Layout) → things maker serial ≡ Some t → layout_of t ≡ Some l → IsBacked things l
 
 -- what is newly made under this name has its block
 abbrev pub HasBacking : Things → Id → Allocation → Type 0

@@ -3,7 +3,7 @@
 ghost use Rattle.std.specs.Prelude.{◌≡◌, ℕ, ◌+◌, ◌<◌, ◌≤◌, nat_lt, true, length, IfOk, OnOk, OnErr, IsSome, Some};
 ghost use Rattle.std.specs.Option.{option_map};
 ghost use Rattle.ti_heap.specs.Contents.{empty_contents, cost_of, own_id, with_cell_value, with_thing, without_region, cell_at};
-ghost use Rattle.ti_heap.specs.Things.{thing_at, live, value_in_cell, layout_in, layout_of, map_of, values_of, contents, share_of, is_named, IsBacked, IsSound, HasBacking};
+ghost use Rattle.ti_heap.specs.Things.{thing_at, live, value_in_cell, layout_in, layout_of, map_of, values_of, contents, share_of, is_named, IsBacked, HaveBlocks, HasBacking};
 ghost use Rattle.ti_heap.specs.Things as things;
 
 use crate::allocation::Allocation;
@@ -25,13 +25,13 @@ pub struct Heap {
 impl Model for Heap {
     ghost use Rattle.std.specs.Prelude.{List};
     ghost use Rattle.ti_heap.specs.declared.allocation.Allocation.{Allocation};
-    ghost use Rattle.ti_heap.specs.Things.{thing_at, IsSound};
+    ghost use Rattle.ti_heap.specs.Things.{thing_at, HaveBlocks};
 
     ghost Value = { List (List Allocation) };
 
     ghost view = { λ h. h.shares.items };
 
-    ghost invariant = { λ h. IsSound (thing_at h.shares.items) };
+    ghost invariant = { λ h. HaveBlocks (thing_at h.shares.items) };
 }
 
 impl Heap {
@@ -49,7 +49,7 @@ impl Heap {
     /// The shares of all processes, by process number.
     pub(crate) fn shares(&self) -> &[ProcHeap]
         ensures shares { result.now ≡ self.now }
-        ensures sound { IsSound (thing_at self.now) }
+        ensures sound { HaveBlocks (thing_at self.now) }
     {
         &self.shares
     }

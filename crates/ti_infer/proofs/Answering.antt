@@ -12,7 +12,7 @@ use Rattle.ti_infer.specs.Candidates.{candidate_marks}
 use Rattle.ti_infer.specs.Accepted.{IsAccepted}
 use Rattle.ti_infer.specs.Limited.{every_one, counts_to}
 use Rattle.ti_infer.specs.Inferred.{IsAcceptedTo}
-use Rattle.ti_infer.specs.Answer.{IsGreatest, IsFirstUnaligned}
+use Rattle.ti_infer.specs.Answer.{IsGreatestMarking, IsFirstUnaligned}
 use Rattle.ti_infer.specs.Mirrors.Implications.{all_reasons, program_edges}
 use Rattle.ti_infer.specs.Mirrors.Fits.{fit_edges}
 use Rattle.ti_infer.specs.Mirrors.Solution.{AreInferred}
@@ -37,7 +37,7 @@ accepted_to p a last plain h = record {
   single = limited_by_reasons (counts_to last) p a plain (fewer_keep (counts_to last) every_one p a (λ at k. refl) (by_rules p a h.single));
 }
 
-pub is_greatest : (p : ProgramView) (marks : List Mark) → AreInferred p marks None → IsGreatest p marks
+pub is_greatest : (p : ProgramView) (marks : List Mark) → AreInferred p marks None → IsGreatestMarking p marks
 is_greatest p marks h = record { names = h.settled.part; accepted = h.inferred.accepted refl; greatest = h.inferred.greatest; rises = h.settled.rises }
 
 pub is_first : (p : ProgramView) (marks : List Mark) (at : Place) → stripped p ≡ p → AreInferred p marks (Some at) → IsFirstUnaligned p at

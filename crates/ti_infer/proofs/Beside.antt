@@ -8,7 +8,7 @@ use Rattle.ti_lang.specs.Program.Classes.{NumberedParam, NumberedParams, MainArg
 use Rattle.ti_lang.specs.Program.Scope.{ScopeVariable, parameters_from, parameters, this_of}
 use Rattle.ti_lang.specs.Typing.Kinds.{domain_dim}
 use Rattle.ti_lang.specs.Typing.Singleness.{is_single_part, is_single, is_single_initial}
-use Rattle.ti_rules.specs.StmtInContext.{StmtContext, scope_of, singles_in, with_point, variables_inside}
+use Rattle.ti_rules.specs.StmtInContext.{StmtContext, scope_of, singles_in, with_foreach_variable, variables_inside}
 use Rattle.ti_blame.specs.Marks.{Marks, IsSubset}
 use Rattle.ti_infer.specs.Marked.{marked_exp, marked_init, marked_param, marked_params, marked_method, marked}
 use Rattle.ti_infer.proofs.Truths.{Grows}
@@ -68,10 +68,10 @@ beside_behind [] (y ∷ ws) v w h e t g = absurd h
 beside_behind (x ∷ vs) [] v w h e t g = absurd h
 beside_behind (x ∷ vs) (y ∷ ws) v w h e t g = (h.0, h.1, h.2, beside_behind vs ws v w h.3 e t g)
 
-pub beside_point : (vs ws : List ScopeVariable) (number : ℕ) (a b : Bool) (o q : Option ℕ) → BesideAll vs ws → Grows a b → o ≡ q → BesideAll (with_point vs number a o) (with_point ws number b q)
+pub beside_point : (vs ws : List ScopeVariable) (number : ℕ) (a b : Bool) (o q : Option ℕ) → BesideAll vs ws → Grows a b → o ≡ q → BesideAll (with_foreach_variable vs number a o) (with_foreach_variable ws number b q)
 beside_point vs ws number a b o q h g e = rw (sym e) (by o)
   where
-    by : (o : Option ℕ) → BesideAll (with_point vs number a o) (with_point ws number b o)
+    by : (o : Option ℕ) → BesideAll (with_foreach_variable vs number a o) (with_foreach_variable ws number b o)
     by None = h
     by (Some n) = beside_behind vs ws _ _ h refl refl g
 

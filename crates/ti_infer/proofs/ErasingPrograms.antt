@@ -9,7 +9,7 @@ use Rattle.ti_lang.specs.Typing.Kinds.{is_void, domain_dim}
 use Rattle.ti_rules.specs.declared.refusal.Refusal.{Refusal}
 use Rattle.ti_rules.specs.declared.rule.Rule.TheVariants.{Y6}
 use Rattle.ti_rules.specs.Refusals.{refused_if}
-use Rattle.ti_rules.specs.StmtInContext.{StmtContext, StmtInContext, scope_of, with_point, loop_acts, inside, inside_maybe, inside_all}
+use Rattle.ti_rules.specs.StmtInContext.{StmtContext, StmtInContext, scope_of, with_foreach_variable, loop_acts, inside, inside_maybe, inside_all}
 use Rattle.ti_rules.specs.Broken.Statements.{standing_refusals}
 use Rattle.ti_rules.specs.TypeRules.{class_refusals, is_return, ends_with_return, end_refusals, method_refusals, type_refusals}
 use Rattle.ti_blame.specs.Marks.{Marks}
@@ -53,10 +53,10 @@ types_behind [] (y ∷ ws) v w h e t = absurd h
 types_behind (x ∷ vs) [] v w h e t = absurd h
 types_behind (x ∷ vs) (y ∷ ws) v w h e t = (h.0, h.1, types_behind vs ws v w h.2 e t)
 
-pub types_point : (vs ws : List ScopeVariable) (number : ℕ) (a b : Bool) (o q : Option ℕ) → TypesAll vs ws → o ≡ q → TypesAll (with_point vs number a o) (with_point ws number b q)
+pub types_point : (vs ws : List ScopeVariable) (number : ℕ) (a b : Bool) (o q : Option ℕ) → TypesAll vs ws → o ≡ q → TypesAll (with_foreach_variable vs number a o) (with_foreach_variable ws number b q)
 types_point vs ws number a b o q h e = rw (sym e) (by o)
   where
-    by : (o : Option ℕ) → TypesAll (with_point vs number a o) (with_point ws number b o)
+    by : (o : Option ℕ) → TypesAll (with_foreach_variable vs number a o) (with_foreach_variable ws number b o)
     by None = h
     by (Some n) = types_behind vs ws _ _ h refl refl
 

@@ -19,7 +19,7 @@ use Rattle.ti_lang.specs.Typing.Declared.{is_static_method}
 use Rattle.ti_rules.specs.declared.refusal.Refusal.{Refusal}
 use Rattle.ti_rules.specs.declared.rule.Rule.TheVariants.{Y7}
 use Rattle.ti_rules.specs.Refusals.{refused_if}
-use Rattle.ti_rules.specs.Broken.Words.{base_of, is_grid, repeated_qualifiers, same_word, repeated_modifiers, base_word_refusals, grid_refusals, type_word_refusals, method_modifier_refusals}
+use Rattle.ti_rules.specs.Broken.Words.{base_of, is_grid_type, repeated_qualifiers, same_word, repeated_modifiers, base_word_refusals, grid_refusals, type_word_refusals, method_modifier_refusals}
 use Rattle.ti_rules.specs.Broken.Statements.{standing_refusals}
 use Rattle.ti_rules.specs.StmtInContext.{StmtContext, StmtInContext, in_loop, in_foreach, inside, inside_maybe, inside_all, around_method}
 use Rattle.ti_rules.specs.TypeRules.{result_refusals, params_refusals, head_refusals, method_refusals, class_refusals, type_refusals}
@@ -235,7 +235,7 @@ module _ (counts : Place → Bool) (marks : Marks) (items : List Reason) where
   refused_param at t h =
       let words = flat_append (base_word_refusals false t.type) t.qualifiers (record { word = Single; place = at } ∷ []) in
       let last = (none_both (flat_map (base_word_refusals false t.type) t.qualifiers) _ (sym words ∙ (none_both _ _ (none_both _ _ h).0).1)).1 in
-      ends (is_object (base_of t.type) || is_grid t.type) (refused_none _ Y7 at (none_both _ _ last).0)
+      ends (is_object (base_of t.type) || is_grid_type t.type) (refused_none _ Y7 at (none_both _ _ last).0)
     where
       ends : (b : Bool) → (b || true) ≡ false → ⊥
       ends true e = true_false e

@@ -13,7 +13,7 @@ use Rattle.ti_lang.specs.Program.Classes as c
 use Rattle.ti_lang.specs.Typing.Kinds.{is_object}
 use Rattle.ti_rules.specs.declared.rule.Rule.TheVariants.{Y7}
 use Rattle.ti_rules.specs.Refusals.{refused_if}
-use Rattle.ti_rules.specs.Broken.Words.{base_of, is_grid, repeated_modifiers, base_word_refusals, type_word_refusals, method_modifier_refusals}
+use Rattle.ti_rules.specs.Broken.Words.{base_of, is_grid_type, repeated_modifiers, base_word_refusals, type_word_refusals, method_modifier_refusals}
 use Rattle.ti_rules.specs.TypeRules.{result_refusals, params_refusals, head_refusals, type_refusals}
 use Rattle.ti_blame.specs.Marks.{Marks, marks_union}
 use Rattle.ti_infer.specs.Marked.{marked_type, marked_param, marked_params, marked_result, marked_method}
@@ -31,7 +31,7 @@ use Rattle.ti_infer.proofs.ErasingPrograms.{marks_fit_types, types_fit_marks}
 
 -- what may be single may have each word that it may have where it may not
 word_more : (t : ValueType) (q : Qualifier) → base_word_refusals false t q ≡ [] → base_word_refusals true t q ≡ []
-word_more t q h = by (qualifier.is_single_word q.word) (is_object (base_of t) || is_grid t) (refused_none _ Y7 q.place h)
+word_more t q h = by (qualifier.is_single_word q.word) (is_object (base_of t) || is_grid_type t) (refused_none _ Y7 q.place h)
   where
     by : (w o : Bool) → (if w then o || true else not (is_object (base_of t))) ≡ false → refused_if (if w then o || false else not (is_object (base_of t))) Y7 q.place ≡ []
     by true true e = absurd (true_false e)

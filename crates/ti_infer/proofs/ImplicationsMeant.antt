@@ -14,7 +14,7 @@ use Rattle.ti_lang.specs.Program.Scope.{ScopeVariable, parameters_from, paramete
 use Rattle.ti_lang.specs.Typing.Kinds.{domain_dim}
 use Rattle.ti_lang.specs.Typing.Called.{called_method, member_called}
 use Rattle.ti_lang.specs.Typing.Effects.{doings, doings_of_maybe}
-use Rattle.ti_rules.specs.StmtInContext.{scope_of, singles_in, with_point, variables_inside}
+use Rattle.ti_rules.specs.StmtInContext.{scope_of, singles_in, with_foreach_variable, variables_inside}
 use Rattle.ti_rules.specs.SingleRules.{is_delete}
 use Rattle.ti_blame.specs.declared.reason.Reason.{Reason}
 use Rattle.ti_blame.specs.declared.reason.Reason.TheVariants.{OfVariable, OfCollective, Always}
@@ -129,10 +129,10 @@ module _ (counts : Place → Bool) (marks : Marks) where
 
   pub alike_point : (vs : List ScopeVariable) (ws : List (ℕ × List (Option Mark))) (number : ℕ) (b : Bool) (found : List (Option Mark))
       (o q : Option ℕ) → AlikeAll vs ws → open_in found ≡ not b → o ≡ q
-      → AlikeAll (with_point vs number b o) (ws ++ (if is_some q then (number, found) ∷ [] else []))
+      → AlikeAll (with_foreach_variable vs number b o) (ws ++ (if is_some q then (number, found) ∷ [] else []))
   alike_point vs ws number b found o q h k same = rw (sym same) (by o)
     where
-      by : (o : Option ℕ) → AlikeAll (with_point vs number b o) (ws ++ (if is_some o then (number, found) ∷ [] else []))
+      by : (o : Option ℕ) → AlikeAll (with_foreach_variable vs number b o) (ws ++ (if is_some o then (number, found) ∷ [] else []))
       by None = subst (AlikeAll vs) (sym (append-nil ws)) h
       by (Some n) = alike_behind vs ws _ (number, found) h refl k
 

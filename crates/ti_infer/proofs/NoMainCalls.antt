@@ -32,7 +32,7 @@ use Rattle.ti_lang.specs.Typing.Expressions.{called, type_result, operands, oper
 use Rattle.ti_rules.specs.Known.{IsThere}
 use Rattle.ti_rules.specs.declared.refusal.Refusal.{Refusal}
 use Rattle.ti_rules.specs.InitialTypes.{right_side_type, initial_type}
-use Rattle.ti_rules.specs.StmtInContext.{StmtContext, StmtInContext, stands, with_point, variables_inside, loop_acts, inside, inside_maybe, inside_all, standing_in_method}
+use Rattle.ti_rules.specs.StmtInContext.{StmtContext, StmtInContext, stands, with_foreach_variable, variables_inside, loop_acts, inside, inside_maybe, inside_all, standing_in_method}
 use Rattle.ti_rules.specs.Broken.Refused.{judged, both_judged, operand_refusal, misfit}
 use Rattle.ti_rules.specs.Broken.Misplaced.{misplaced}
 use Rattle.ti_rules.specs.Broken.Words.{type_word_refusals}
@@ -210,8 +210,8 @@ module _ (p : ProgramView) (plain : MethodsPlain p.methods) (m : NumberedMethod)
       (nil_right (exp_refusals p (scope vs) y) (misplaced p (scope vs) y) h)
 
   foreach_fits : (vs : List ScopeVariable) (site : Site) (name : List ℕ) (n : ℕ) (b : Bool) (o : Option ℕ) → o ≡ Some n → SiteFits p (scope vs) site
-      → SiteFits p (scope (with_point vs site.variables b o)) (declares site name Foreach)
-  foreach_fits vs site name n b o i k = subst (λ q. SiteFits p (scope (with_point vs site.variables b q)) (declares site name Foreach)) (sym i) (point_fits p (this_of m) vs site name n b k)
+      → SiteFits p (scope (with_foreach_variable vs site.variables b o)) (declares site name Foreach)
+  foreach_fits vs site name n b o i k = subst (λ q. SiteFits p (scope (with_foreach_variable vs site.variables b q)) (declares site name Foreach)) (sym i) (point_fits p (this_of m) vs site name n b k)
 
   mutual
     stm_calm : (vs : List ScopeVariable) (j : Option Bool) (site : Site) → SiteFits p (scope vs) site → (x : Stm) (y : NumberedStm)

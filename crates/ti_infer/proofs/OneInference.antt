@@ -6,11 +6,11 @@ use Rattle.ti_base.specs.Places.{place_before, same_place}
 use Rattle.ti_lang.specs.Program.Classes.{ProgramView}
 use Rattle.ti_blame.specs.declared.mark.Mark.{Mark}
 use Rattle.ti_blame.specs.Marks.{marks_of}
-use Rattle.ti_infer.specs.Answer.{IsGreatest, IsFirstUnaligned}
+use Rattle.ti_infer.specs.Answer.{IsGreatestMarking, IsFirstUnaligned}
 use Rattle.ti_infer.proofs.ImplicationsOfProgram.{same_places}
 use Rattle.ti_infer.proofs.OneMarking.{same_marks}
 
-pub one_greatest : (p : ProgramView) (m n : List Mark) → IsGreatest p m → IsGreatest p n → m ≡ n
+pub one_greatest : (p : ProgramView) (m n : List Mark) → IsGreatestMarking p m → IsGreatestMarking p n → m ≡ n
 one_greatest p m n g h =
     same_marks m n g.rises h.rises (h.greatest (marks_of m) g.names g.accepted) (g.greatest (marks_of n) h.names h.accepted)
 
@@ -34,5 +34,5 @@ not_before p a b f g = by (place_before a b) refl
 pub one_first : (p : ProgramView) (a b : Place) → IsFirstUnaligned p a → IsFirstUnaligned p b → a ≡ b
 one_first p a b f g = same_places a b (neither_before a b (not_before p a b f g) (not_before p b a g f))
 
-pub not_both : (p : ProgramView) (m : List Mark) (a : Place) → IsGreatest p m → IsFirstUnaligned p a → ⊥
+pub not_both : (p : ProgramView) (m : List Mark) (a : Place) → IsGreatestMarking p m → IsFirstUnaligned p a → ⊥
 not_both p m a g f = f.never (marks_of m) g.names g.accepted

@@ -19,7 +19,7 @@ abbrev pub MarksCandidates : ProgramView → Marks → Type 0
 MarksCandidates p a = IsSubset a (marks_of (candidate_marks p))
 
 -- the greatest accepted marking of a program, sorted by place, a method before its result
-pub record IsGreatest (p : ProgramView) (marks : List Mark) : Type 0 where
+pub record IsGreatestMarking (p : ProgramView) (marks : List Mark) : Type 0 where
   pub names : MarksCandidates p (marks_of marks)
   pub accepted : IsAccepted p (marks_of marks)
   -- each accepted marking is a subset of it
@@ -36,6 +36,6 @@ pub record IsFirstUnaligned (p : ProgramView) (at : Place) : Type 0 where
 
 -- what is promised of the result; nothing of an allocation failure
 abbrev pub GivesInferred : ProgramView → Result (List Mark) InferErr → Type 0
-GivesInferred p (Ok marks) = IsGreatest p marks
+GivesInferred p (Ok marks) = IsGreatestMarking p marks
 GivesInferred p (Err (NoMarking at)) = IsFirstUnaligned p at
 GivesInferred p (Err Memory) = Unit {0}

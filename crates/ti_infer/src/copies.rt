@@ -6,7 +6,7 @@ ghost use Rattle.ti_lang.specs.Program.Scope.{in_scope_of, contents_of, this_of}
 ghost use Rattle.ti_lang.specs.Program.Views.{expression_of};
 ghost use Rattle.ti_lang.specs.Typing.Kinds.{domain_dim};
 ghost use Rattle.ti_lang.specs.Typing.TyRef.{ty_view};
-ghost use Rattle.ti_rules.specs.StmtInContext.{with_point};
+ghost use Rattle.ti_rules.specs.StmtInContext.{with_foreach_variable};
 ghost use Rattle.ti_blame.specs.Marks.{matches_mark};
 ghost use Rattle.ti_infer.specs.Mirrors.Implications.{same_dependency, extend_distinct, inside_at};
 ghost use Rattle.ti_infer.specs.Mirrors.Sites.{inside_of};

@@ -2,7 +2,7 @@
 ghost use Rattle.std.specs.Prelude.{◌≡◌, false, [], map, IfOk};
 ghost use Rattle.ti_lang.specs.Program.Scope.{in_scope_of, contents_of};
 ghost use Rattle.ti_lang.specs.Program.Views.{expression_of};
-ghost use Rattle.ti_rules.specs.StmtInContext.{with_point};
+ghost use Rattle.ti_rules.specs.StmtInContext.{with_foreach_variable};
 ghost use Rattle.ti_infer.specs.Mirrors.Implications.{extend_distinct, inside_foreach, variables_foreach};
 ghost use Rattle.ti_infer.specs.Mirrors.Sites.{program_at, method_at, inside_of, dependencies_at};
 ghost use Rattle.ti_infer.specs.Mirrors.StmtSites.{variables_at};
@@ -24,7 +24,7 @@ fn with_variable(
     number: u32,
     dim: Option<usize>,
 ) -> Result<Vec<InScope>, Memory>
-    ensures { IfOk result (λ v. map in_scope_of v.items ≡ with_point (map in_scope_of old.now) number false dim) }
+    ensures { IfOk result (λ v. map in_scope_of v.items ≡ with_foreach_variable (map in_scope_of old.now) number false dim) }
 {
     let mut found = variables(alloc, old)?;
     match dim {

@@ -7,7 +7,7 @@ ghost use Rattle.ti_lang.specs.Numbering.{IsNumbered};
 ghost use Rattle.ti_rules.specs.TypeRules.{type_refusals};
 ghost use Rattle.ti_rules.specs.SingleRules.{single_refusals};
 ghost use Rattle.ti_infer.specs.Accepted.{IsAccepted};
-ghost use Rattle.ti_infer.specs.Answer.{IsGreatest, IsFirstUnaligned};
+ghost use Rattle.ti_infer.specs.Answer.{IsGreatestMarking, IsFirstUnaligned};
 ghost use Rattle.ti_infer.specs.Fitting.{MarksFit};
 ghost use Rattle.ti_blame.specs.Marks.{Marks, IsSubset, marks_union};
 ghost use Rattle.ti_infer.specs.Marked.{marked, marks_main};
@@ -127,7 +127,7 @@ pub fn stripped_once()
 
 /// A program has at most one greatest marking and at most one first collective that no marking aligns, and never both.
 pub fn one_inference()
-    ensures one_marking { (p : ProgramView) (m n : List Mark) → IsGreatest p m → IsGreatest p n → m ≡ n }
+    ensures one_marking { (p : ProgramView) (m n : List Mark) → IsGreatestMarking p m → IsGreatestMarking p n → m ≡ n }
     ensures one_place { (p : ProgramView) (a b : Place) → IsFirstUnaligned p a → IsFirstUnaligned p b → a ≡ b }
-    ensures never_both { (p : ProgramView) (m : List Mark) (a : Place) → IsGreatest p m → IsFirstUnaligned p a → ⊥ }
+    ensures never_both { (p : ProgramView) (m : List Mark) (a : Place) → IsGreatestMarking p m → IsFirstUnaligned p a → ⊥ }
 {}

@@ -12,7 +12,7 @@ use Rattle.ti_base.specs.Places.{place_of, end_place}
 use Rattle.ti_syntax.specs.declared.token.Token.{Token}
 use Rattle.ti_syntax.specs.declared.token.TokenKind.{TokenKind}
 use Rattle.ti_syntax.specs.declared.token.TokenKind.TheVariants as k
-use Rattle.ti_syntax.specs.Tokenizing.{Piece, Space, Lexeme, IsLongest, Pieces, IsTokenized, BeginsNoPiece, BeginsNoItem, IsItem, AreItems, OpensComment, breaks_string, is_plain, is_long_letter, escaped, first_passes, Flaw, StrayByte, OpenComment, OpenString, WrongNumber, HasFlaw, IsFlawed}
+use Rattle.ti_syntax.specs.Tokenizing.{Piece, Space, Lexeme, IsLongest, Pieces, IsTokenized, BeginsNoPiece, BeginsNoItem, IsItem, AreItems, OpensComment, breaks_string, is_unescaped, is_long_letter, escaped, first_passes, Flaw, StrayByte, OpenComment, OpenString, WrongNumber, HasFlaw, IsFlawed}
 use Rattle.ti_syntax.specs.Tokenizing as pieces
 use Rattle.ti_rules.specs.declared.refusal.Refusal.{Refusal}
 use Rattle.ti_rules.specs.LexicalRefusals.{most_bytes, rule_of, IsLexicalRefusal}
@@ -50,7 +50,7 @@ breaks_refused quote bytes at [] h = refl
 breaks_refused quote bytes at (b ∷ l) h =
     let quoted : (b == 34) ≡ false = grind (arith, nat_tests) in
     let begins : (b == 92) ≡ false = grind (arith, nat_tests) in
-    let plain : is_plain b ≡ false = grind (arith, nat_tests) in
+    let plain : is_unescaped b ≡ false = grind (arith, nat_tests) in
     rw (plain, quoted, begins, h) refl
 
 escape_refused : (quote : ℕ) (bytes : List ℕ) (at : ℕ) (l : List ℕ) → BeginsNoItem (92 ∷ l) → escape_from quote bytes at l ≡ Rejects StrayByte at
@@ -69,7 +69,7 @@ stray_refused quote bytes at (b ∷ l) h none =
     cond_both (b == 34) _ _ P (λ quoted. let both : true ≡ false = sym quoted ∙ none.0 in cc)
     (λ _. cond_both (b == 92) _ _ P (λ begins. escape_refused quote bytes at l
     (subst (λ d. BeginsNoItem (d ∷ l)) (eqb-true b 92 begins) none))
-    (λ _. cond_both (is_plain b) _ _ P (λ plain. absurd (none.1 (b ∷ []) l b (pieces.plain b plain) refl))
+    (λ _. cond_both (is_unescaped b) _ _ P (λ plain. absurd (none.1 (b ∷ []) l b (pieces.plain b plain) refl))
     (λ _. cond_both (b == 10 || b == 13) _ _ P (λ breaks. let both : true ≡ false = sym breaks ∙ h in cc) (λ _. refl))))
 
 abbrev head_of : List ℕ → ℕ

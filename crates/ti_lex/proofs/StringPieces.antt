@@ -4,15 +4,15 @@ use Rattle.std.proofs.lemmas.Bool.{cond_both, eqb-true, eqb-false}
 use Rattle.std.proofs.lemmas.Bool.Decides.{nat_tests}
 use Rattle.std.proofs.lemmas.List.{append-nil}
 use Rattle.ti_syntax.specs.declared.token.TokenKind.TheVariants as k
-use Rattle.ti_syntax.specs.Tokenizing.{Piece, Lexeme, Flaw, StrayByte, OpenString, IsPiece, HasFlaw, IsItem, AreItems, BeginsNoItem, breaks_string, first_passes, is_plain, escaped}
+use Rattle.ti_syntax.specs.Tokenizing.{Piece, Lexeme, Flaw, StrayByte, OpenString, IsPiece, HasFlaw, IsItem, AreItems, BeginsNoItem, breaks_string, first_passes, is_unescaped, escaped}
 use Rattle.ti_syntax.specs.Tokenizing as pieces
 use Rattle.ti_lex.specs.Mirrors.Reading.{Reading, Matches, Rejects, string_from, escape_from}
 use Rattle.ti_lex.proofs.Fronts.{Beats, IsSound}
 
-plain_apart : (b : ℕ) → is_plain b ≡ true → ((b == 34) ≡ false) × ((b == 92) ≡ false)
+plain_apart : (b : ℕ) → is_unescaped b ≡ true → ((b == 34) ≡ false) × ((b == 92) ≡ false)
 plain_apart b h = (grind (arith, nat_tests), grind (arith, nat_tests))
 
-plain_read : (quote : ℕ) (before : List ℕ) (at b : ℕ) (l : List ℕ) → is_plain b ≡ true → string_from quote before at (b ∷ l) ≡ string_from quote (before ++ b ∷ []) (at + 1) l
+plain_read : (quote : ℕ) (before : List ℕ) (at b : ℕ) (l : List ℕ) → is_unescaped b ≡ true → string_from quote before at (b ∷ l) ≡ string_from quote (before ++ b ∷ []) (at + 1) l
 plain_read quote before at b l h = let (quoted, begins) = plain_apart b h in rw (h, quoted, begins) refl
 
 escape_read : (quote : ℕ) (before : List ℕ) (at b byte : ℕ) (l : List ℕ) → escaped b ≡ Some byte → string_from quote before at (92 ∷ b ∷ l) ≡ string_from quote (before ++ byte ∷ []) (at + 2) l
@@ -91,14 +91,14 @@ module _ (quote : ℕ) where
   second_of (b ∷ []) = None
   second_of (b ∷ c ∷ l) = Some c
 
-  no_item : (b : ℕ) (l : List ℕ) → is_plain b ≡ false → (b == 92) ≡ false → (item back : List ℕ) (byte : ℕ) → IsItem item byte → b ∷ l ≢ item ++ back
+  no_item : (b : ℕ) (l : List ℕ) → is_unescaped b ≡ false → (b == 92) ≡ false → (item back : List ℕ) (byte : ℕ) → IsItem item byte → b ∷ l ≢ item ++ back
   no_item b l plain begins item back byte (pieces.plain d h) is =
-      let same : b ≡ d = ap head_of is in let both : true ≡ false = sym h ∙ ap is_plain (sym same) ∙ plain in cc
+      let same : b ≡ d = ap head_of is in let both : true ≡ false = sym h ∙ ap is_unescaped (sym same) ∙ plain in cc
   no_item b l plain begins item back byte (pieces.escape d h) is = eqb-false b 92 begins (ap head_of is)
 
   no_escape : (l : List ℕ) → ((c : ℕ) (rest : List ℕ) → l ≡ c ∷ rest → escaped c ≡ None) → (item back : List ℕ) (byte : ℕ) → IsItem item byte → 92 ∷ l ≢ item ++ back
   no_escape l none item back byte (pieces.plain d h) is =
-      let same : 92 ≡ d = ap head_of is in let both : true ≡ false = sym h ∙ ap is_plain (sym same) in cc
+      let same : 92 ≡ d = ap head_of is in let both : true ≡ false = sym h ∙ ap is_unescaped (sym same) in cc
   no_escape [] none item back byte (pieces.escape d h) is = let apart : None ≡ Some d = ap second_of is in cc
   no_escape (c ∷ l) none item back byte (pieces.escape d h) is =
       let same : Some c ≡ Some d = ap second_of is in let both : Some byte ≡ None = sym h ∙ ap escaped (ap (λ o. unwrap_or o d) (sym same)) ∙ none c l refl in cc
@@ -127,7 +127,7 @@ module _ (quote : ℕ) where
           omega arith,
         ))
         (λ quoted. cond_both (b == 92) _ _ P (λ h. subst (λ d. IsRest before at (d ∷ l) (escape_from quote before at l))
-        (sym (eqb-true b 92 h)) (escape_rest before at l)) (λ begins. cond_both (is_plain b) _ _ P
+        (sym (eqb-true b 92 h)) (escape_rest before at l)) (λ begins. cond_both (is_unescaped b) _ _ P
         (λ h. item_more (b ∷ []) b before at l (string_from quote (before ++ b ∷ []) (at + 1) l) (pieces.plain b h)
         (rest_of (before ++ b ∷ []) (at + 1) l)) (λ plain. cond_both (b == 10 || b == 13) _ _ P
         (λ h. ([], [], b ∷ l, pieces.no_items, refl, inl (refl, refl, h)))

@@ -5,7 +5,7 @@ use Rattle.std.specs.Option.{option_map_or}
 use Rattle.ti_base.specs.declared.place.Place.{Place}
 use Rattle.ti_base.specs.Places.{place_of}
 use Rattle.ti_syntax.specs.declared.token.TokenKind.TheVariants as k
-use Rattle.ti_syntax.specs.Tokenizing.{Lexeme, StrayByte, OpenString, escaped, is_plain}
+use Rattle.ti_syntax.specs.Tokenizing.{Lexeme, StrayByte, OpenString, escaped, is_unescaped}
 use Rattle.ti_lex.specs.declared.error.LexErr.{LexErr}
 use Rattle.ti_rules.specs.declared.rule.Rule.TheVariants.{X1}
 use Rattle.ti_lex.specs.Mirrors.Cursor.{CursorView, rest, skip_bytes}
@@ -43,7 +43,7 @@ module _ (quote : ℕ) (bytes : List ℕ) (at : ℕ) where
   pub string_from-item : (l : List ℕ) → string_from quote bytes at l ≡ behind quote bytes at l (item l)
   string_from-item [] = refl
   string_from-item (b ∷ l) =
-      chosen l b (b == 34) (b == 92) (is_plain b) (b == 10 || b == 13) (escape_from quote bytes at l) (escape l) (escape_from-item b l)
+      chosen l b (b == 34) (b == 92) (is_unescaped b) (b == 10 || b == 13) (escape_from quote bytes at l) (escape l) (escape_from-item b l)
 
 module _ (quote : ℕ) (bytes : List ℕ) (spot after : CursorView) where
   given : (place : Place) (byte : ℕ) (i : Item) → ReadsItem i place spot after (Ok (Some byte)) → (after.text ≡ spot.text)

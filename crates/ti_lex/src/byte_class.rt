@@ -1,6 +1,6 @@
 // Byte classes: which lexical elements a byte can begin, and which it can be part of.
 ghost use Rattle.std.specs.Prelude.{◌≡◌};
-ghost use Rattle.ti_syntax.specs.Tokenizing.{is_blank, is_name_byte, is_long_letter, is_plain, escaped};
+ghost use Rattle.ti_syntax.specs.Tokenizing.{is_blank, is_name_byte, is_long_letter, is_unescaped, escaped};
 ghost use Rattle.ti_lex.specs.Mirrors.Reading.{class_of_byte};
 
 /// The class of a byte, by which the lexer dispatches.
@@ -45,8 +45,8 @@ pub fn is_long_letter(byte: u8) -> bool
 }
 
 /// Whether the byte represents itself in a string literal.
-pub fn is_plain(byte: u8) -> bool
-    ensures { result ≡ is_plain byte }
+pub fn is_unescaped(byte: u8) -> bool
+    ensures { result ≡ is_unescaped byte }
 {
     match byte {
         b'"' | b'\\' => false,

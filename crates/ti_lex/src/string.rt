@@ -4,7 +4,7 @@ ghost use Rattle.ti_lex.specs.Mirrors.Answers.{Scans, ReadsItem};
 ghost use Rattle.ti_lex.specs.Mirrors.Cursor.{rest};
 ghost use Rattle.ti_lex.specs.Mirrors.Reading.{item, string_from};
 
-use crate::byte_class::{escape_value, is_plain};
+use crate::byte_class::{escape_value, is_unescaped};
 use crate::cursor::Cursor;
 use crate::error::{LexErr, lex_error};
 use crate::input_element::InputElement;
@@ -34,7 +34,7 @@ impl Cursor<'_> {
                 }
                 None => Err(lex_error(Rule::X1, place)),
             },
-            [byte, ..] if is_plain(*byte) => {
+            [byte, ..] if is_unescaped(*byte) => {
                 let byte = *byte;
                 self.advance();
                 Ok(Some(byte))

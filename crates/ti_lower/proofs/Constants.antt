@@ -24,7 +24,7 @@ use Rattle.ti_lang.specs.Meaning.Statements.{declared_as, one_more}
 use Rattle.ti_code.specs.declared.instr.Instr.{Instr}
 use Rattle.ti_code.specs.declared.instr.Instr.TheVariants as i
 use Rattle.ti_code.specs.declared.instr.Operation.{Operation}
-use Rattle.ti_code.specs.Forms.{IsFormedInstr, IsFormedMethod, AreFormed}
+use Rattle.ti_code.specs.Forms.{IsFormedInstr, IsFormedMethod, AreFormedMethods}
 use Rattle.ti_lower_expr.specs.Slots.{Name, Hidden, Point, has_this}
 use Rattle.ti_lower_expr.specs.Methods.{names_of}
 use Rattle.ti_lower_expr.specs.declared.kinds.OperandClass.{OperandClass}
@@ -295,12 +295,12 @@ method_formed program end m =
     let is = body_code program m in
     All-weaker IsLowered IsFormedInstr formed_from_comes (instrs_in end is) (instrs_come end is (body_comes program m).each)
 
-methods_formed : (program : ProgramView) (n : ℕ) (ms : List NumberedMethod) → AreFormed (methods_code program n ms)
+methods_formed : (program : ProgramView) (n : ℕ) (ms : List NumberedMethod) → AreFormedMethods (methods_code program n ms)
 methods_formed program n [] = All-nil IsFormedMethod
 methods_formed program n (m ∷ ms) =
     let end = end_in (n == program.main) m in
     All-cons IsFormedMethod (method_code program end m) (methods_code program (n + 1) ms) (method_formed program end m) (methods_formed program (n + 1) ms)
 
 -- the instructions of the code of every program are in their form
-pub program_formed : (program : ProgramView) → AreFormed (methods_code program 0 program.methods)
+pub program_formed : (program : ProgramView) → AreFormedMethods (methods_code program 0 program.methods)
 program_formed program = methods_formed program 0 program.methods

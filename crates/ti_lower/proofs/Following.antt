@@ -47,7 +47,7 @@ use Rattle.ti_code.specs.Effects.{LocalState, Who, top, below, top_operands, und
 use Rattle.ti_code.specs.Leading.{ExecutesTo, next_effect}
 use Rattle.ti_code.specs.declared.code.MethodCode.{MethodCode}
 use Rattle.ti_code.specs.Programs.{Code}
-use Rattle.ti_code.specs.Machine.{Arrival, arrival_of, named_in, push_departure, Frame, Machine, On, who_of, receiver_depth, call_method, enter_method, execute, next_step}
+use Rattle.ti_code.specs.Machine.{ArrivalOperands, arrival_of, named_in, push_departure, MachineFrame, Machine, On, who_of, receiver_depth, call_method, enter_method, execute, next_step}
 use Rattle.ti_code.specs.Follows.{Runs, here, on, Fit, HasNext, shown as code_shown}
 use Rattle.ti_lower.specs.Programs.{in_main, body_code, instrs_in, method_code}
 use Rattle.ti_lang.proofs.Lemmas.{Computes, none_left, used_up, work_computes}
@@ -93,7 +93,7 @@ abbrev thing_at : Place → Option Id → Comp Reference
 thing_at p o = found_or NullRef p o >>= λ id. gives (record { thing = id; type = t.Void })
 
 -- a call that is ready enters its frame
-enters : (m : Machine) (f : Frame) (fs : List Frame) (at : Place) (callee : MethodCode) (class : Option ℕ) (th : Option Id)
+enters : (m : Machine) (f : MachineFrame) (fs : List MachineFrame) (at : Place) (callee : MethodCode) (class : Option ℕ) (th : Option Id)
     (args stack : List Held) → IsReceiver class th (top (under callee.params f.state.stack))
     → top_operands callee.params f.state.stack [] ≡ args → without_object class (under callee.params f.state.stack) ≡ stack → (rs : List Answer)
     → call_method m f fs at callee (is_instance class) rs ≡ enter_method m f fs at callee (own_slots class th) args stack rs
@@ -112,7 +112,7 @@ module _ (code : Code) (s : RunConfig) (number : ℕ) (end : Place) (m0 : Machin
     pub this_id : Option Id
     pub receiver : Receiver
     pub below : List tree.Frame
-    pub under : List Frame
+    pub under : List MachineFrame
 
   abbrev pub code_in : Top → List Instr
   code_in t = body_code s.program t.method
@@ -143,13 +143,13 @@ module _ (code : Code) (s : RunConfig) (number : ℕ) (end : Place) (m0 : Machin
   abbrev base : Machine
   base = record { procs = s.procs; fuel = s.fuel; number = number; spent = 0; frames = [] }
 
-  abbrev first_frame : Top → Frame
+  abbrev first_frame : Top → MachineFrame
   first_frame t = record { instrs = instrs_in (ending t.below) (code_in t); state = record { at = 0; slots = []; stack = [] } }
 
-  abbrev placed : Top → LocalState → Frame
+  abbrev placed : Top → LocalState → MachineFrame
   placed t u = record { instrs = instrs_in (ending t.below) (code_in t); state = u }
 
-  abbrev machine_of : ℕ → List Frame → Machine
+  abbrev machine_of : ℕ → List MachineFrame → Machine
   machine_of n fs = record { procs = s.procs; fuel = s.fuel; number = number; spent = n; frames = fs }
 
   abbrev pub machine : Top → ℕ → LocalState → Machine
@@ -176,12 +176,12 @@ module _ (code : Code) (s : RunConfig) (number : ℕ) (end : Place) (m0 : Machin
   first_work t vs (w ∷ left) = exec_item (stands.env (code_in t) s.program t.method t.this_id number s.procs vs left) w
 
   -- The frames below wait for what the innermost call gives back, or for its end; where there are none, it is that of `main`, which gives nothing.
-  pub data Below : Bool → Receiver → List tree.Frame → List Frame → Type 0 where
+  pub data Below : Bool → Receiver → List tree.Frame → List MachineFrame → Type 0 where
     bottom : {r : Receiver} → Below true r [] []
     waits : {void : Bool} {r : Receiver} {t : Top} {vs : List Variable} {left : List ContItem} {u : LocalState} → Back t void left vs r u → Below (is_void_in t) t.receiver t.below t.under
         → Below void r (frame t vs left ∷ t.below) (placed t u ∷ t.under)
 
-  as_many : (b : Bool) (r : Receiver) (fs : List tree.Frame) (gs : List Frame) → Below b r fs gs → length fs ≡ length gs
+  as_many : (b : Bool) (r : Receiver) (fs : List tree.Frame) (gs : List MachineFrame) → Below b r fs gs → length fs ≡ length gs
   as_many b r fs gs bottom = refl
   as_many b r fs gs (waits {t = t} k h) = ap suc (as_many (is_void_in t) t.receiver t.below t.under h)
 
@@ -196,7 +196,7 @@ module _ (code : Code) (s : RunConfig) (number : ℕ) (end : Place) (m0 : Machin
   back_counts t region left vs r u true back = at_counts t region left vs u.slots back.1 back.2 back.4
   back_counts t region left vs r u false back = let x = back no_value in at_counts t region left vs u.slots x.1 x.2 x.4
 
-  below_counts : (region : ℕ) (b : Bool) (r : Receiver) (fs : List tree.Frame) (gs : List Frame) → Below b r fs gs → named_in region gs ≡ tree_named region fs
+  below_counts : (region : ℕ) (b : Bool) (r : Receiver) (fs : List tree.Frame) (gs : List MachineFrame) → Below b r fs gs → named_in region gs ≡ tree_named region fs
   below_counts region b r fs gs bottom = refl
   below_counts region b r fs gs (waits {t = t} {vs = vs} {left = left} {u = u} back h) =
       ap₂ (λ x y. x + y) (back_counts t region left vs r u b back) (below_counts region (is_void_in t) t.receiver t.below t.under h)
@@ -262,7 +262,7 @@ module _ (code : Code) (s : RunConfig) (number : ℕ) (end : Place) (m0 : Machin
   -- ---- returns
 
   -- without a value
-  void_return : (b : Bool) (r : Receiver) (fs : List tree.Frame) (gs : List Frame) → Below b r fs gs → b ≡ true
+  void_return : (b : Bool) (r : Receiver) (fs : List tree.Frame) (gs : List MachineFrame) → Below b r fs gs → b ≡ true
       → (c : List Instr) (u : LocalState) → slice_get c u.at ≡ Some i.Return → (all : List Answer) (spent : ℕ) → spent ≤ s.fuel
       → ((more : List Answer) → Runs code m0 (all ++ more) (machine_of spent (record { instrs = instrs_in (ending fs) c; state = u } ∷ gs))
       more) → (q : Process) → q ≡ process_of spent fs [] → Result all q
@@ -275,7 +275,7 @@ module _ (code : Code) (s : RunConfig) (number : ℕ) (end : Place) (m0 : Machin
       (λ more. runs_then code m0 here_now (machine t spent x) (all ++ more) more more (runs more) (on (turned more) here)) h
 
   -- with a value
-  value_return : (b : Bool) (r : Receiver) (fs : List tree.Frame) (gs : List Frame) → Below b r fs gs → b ≡ false
+  value_return : (b : Bool) (r : Receiver) (fs : List tree.Frame) (gs : List MachineFrame) → Below b r fs gs → b ≡ false
       → (c : List Instr) (u : LocalState) (value : Held) → slice_get c u.at ≡ Some i.ReturnValue → top u.stack ≡ value
       → (all : List Answer) (spent : ℕ) → spent ≤ s.fuel
       → ((more : List Answer) → Runs code m0 (all ++ more) (machine_of spent (record { instrs = instrs_in (ending fs) c; state = u } ∷ gs))
@@ -486,7 +486,7 @@ module _ (code : Code) (s : RunConfig) (number : ℕ) (end : Place) (m0 : Machin
         let x : LocalState = record { at = u.at + 1; slots = u.slots; stack = stack } in
         let turned = λ (rest : List Answer).
         ap (λ o. execute code (machine t spent u) (placed t u) t.under o (r ∷ rest)) (in_instr (ending t.below) c u.at (i.Arrive wait.kind wait.place) (λ end. refl) there)
-        ∙ ap (λ (g : Arrival). Gives (On (machine t (spent + 1) (record { at = u.at + 1; slots = u.slots; stack = g.stack }))) rest) hands in
+        ∙ ap (λ (g : ArrivalOperands). Gives (On (machine t (spent + 1) (record { at = u.at + 1; slots = u.slots; stack = g.stack }))) rest) hands in
         inr (inr (
           t,
           spent + 1,
@@ -622,7 +622,7 @@ module _ (code : Code) (s : RunConfig) (number : ℕ) (end : Place) (m0 : Machin
         let asked_for = request_of wait.place (act.Arrive wait.kind wait.arg deposit) ToBeDone in
         let turned : next_step code (machine t spent u) [] ≡ (if nat_lt spent s.fuel then Asks asked_for else Fails Fuel wait.place) =
         ap (λ o. execute code (machine t spent u) (placed t u) t.under o []) (in_instr (ending t.below) c u.at (i.Arrive wait.kind wait.place) (λ end. refl) there)
-        ∙ ap (λ (g : Arrival). if nat_lt spent s.fuel then Asks (request_of wait.place (act.Arrive wait.kind g.arg g.deposit) ToBeDone) else Fails Fuel wait.place) hands in
+        ∙ ap (λ (g : ArrivalOperands). if nat_lt spent s.fuel then Asks (request_of wait.place (act.Arrive wait.kind g.arg g.deposit) ToBeDone) else Fails Fuel wait.place) hands in
         asks_next n asked_for asked_for go u (nat_lt spent s.fuel) refl refl refl (reached u runs) turned k
 
     moved_next : (n : Next) (move : Move) (u : LocalState) → Moved t left vs move u → Ahead u → tree_shown (moves process here_frame t.below left move) ≡ Some n → HasNext code m0 all n

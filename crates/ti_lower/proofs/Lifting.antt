@@ -16,21 +16,21 @@ use Rattle.ti_code.specs.Effects.{LocalState, effect, receiver_needed, top, belo
 use Rattle.ti_code.specs.Leading.{effect_of, next_effect, ExecutesTo, here, on}
 use Rattle.ti_code.specs.declared.code.MethodCode.{MethodCode}
 use Rattle.ti_code.specs.Programs.{Code}
-use Rattle.ti_code.specs.Machine.{Frame, Machine, On, receiver_depth, call_method, enter_method, who_of, after_effect, exec_local, execute, next_step}
+use Rattle.ti_code.specs.Machine.{MachineFrame, Machine, On, receiver_depth, call_method, enter_method, who_of, after_effect, exec_local, execute, next_step}
 use Rattle.ti_code.specs.Follows.{Runs}
 use Rattle.ti_code.specs.Follows as runs
 use Rattle.ti_lang.proofs.Lemmas.{short_less}
 use Rattle.ti_code.proofs.Lemmas.{effect_short}
 
 -- an instruction stays in its frame, or does nothing there
-abbrev Local : Code → Machine → Frame → List Frame → Instr → Type 0
+abbrev Local : Code → Machine → MachineFrame → List MachineFrame → Instr → Type 0
 Local c m f fs x = ((rs : List Answer) → execute c m f fs (Some x) rs ≡ exec_local m f fs (effect (who_of c m) x f.state) rs) ⊎ ((rs : List Answer) → effect (who_of c m) x f.state rs ≡ Gives f.state rs)
 
 abbrev thing_at : Place → Option Id → Comp Reference
 thing_at p o = found_or NullRef p o >>= λ id. gives (record { thing = id; type = t.Void })
 
 -- a call: without a receiver that it needs it faults, and else it does nothing in its frame
-call_local : (c : Code) (m : Machine) (f : Frame) (fs : List Frame) (k : ℕ) (at : Place) (o : Option MethodCode) → slice_get c.methods k ≡ o → Local c m f fs (i.Call k at)
+call_local : (c : Code) (m : Machine) (f : MachineFrame) (fs : List MachineFrame) (k : ℕ) (at : Place) (o : Option MethodCode) → slice_get c.methods k ≡ o → Local c m f fs (i.Call k at)
 call_local c m f fs k at None e = inr (λ rs. ap (λ x. receiver_needed at x f.state rs) (slice_get-map receiver_depth c.methods k ∙ ap (option_map receiver_depth) e))
 call_local c m f fs k at (Some callee) e = by callee.instance refl
   where
@@ -53,7 +53,7 @@ call_local c m f fs k at (Some callee) e = by callee.instance refl
     by false z = inr (λ rs. ap (λ x. receiver_needed at x f.state rs) (receiver_is false z))
     by true z = found z (referent_of object) refl
 
-local : (c : Code) (m : Machine) (f : Frame) (fs : List Frame) (x : Instr) → Local c m f fs x
+local : (c : Code) (m : Machine) (f : MachineFrame) (fs : List MachineFrame) (x : Instr) → Local c m f fs x
 local c m f fs (i.Tick at) = inr (λ rs. refl)
 local c m f fs (i.Call k at) = call_local c m f fs k at (slice_get c.methods k) refl
 local c m f fs i.Return = inr (λ rs. refl)
@@ -69,7 +69,7 @@ same_spot s t rs rest e = cc
 same_rest : (s t : LocalState) (rs rest : List Answer) → ◌≡◌ {A = CompResult LocalState} (Gives s rs) (Gives t rest) → rs ≡ rest
 same_rest s t rs rest e = cc
 
-module _ (c : Code) (m : Machine) (f : Frame) (fs : List Frame) where
+module _ (c : Code) (m : Machine) (f : MachineFrame) (fs : List MachineFrame) where
   -- the process with its innermost frame there, and with so many ticks spent
   abbrev pub standing : ℕ → LocalState → Machine
   standing n s = record m { spent = n; frames = record f { state = s } ∷ fs }

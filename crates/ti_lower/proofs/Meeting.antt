@@ -23,7 +23,7 @@ use Rattle.ti_code.specs.declared.instr.Instr.TheVariants as i
 use Rattle.ti_code.specs.declared.instr.Operation.TheVariants as o
 use Rattle.ti_code.specs.Effects.{LocalState, Who, top, below}
 use Rattle.ti_code.specs.Leading.{effect_of, here, CodeAt, pc_after}
-use Rattle.ti_code.specs.Machine.{Machine, Frame, arrival_of}
+use Rattle.ti_code.specs.Machine.{Machine, MachineFrame, arrival_of}
 use Rattle.ti_lower_expr.specs.Slots.{Name, SlotsHold}
 use Rattle.ti_lower.specs.StmtCode.{root_code, broadcast_code}
 use Rattle.ti_lower_expr.specs.Doing.{Implements}
@@ -32,7 +32,7 @@ use Rattle.ti_lower_expr.proofs.Lemmas.{state, next, does, jumps, jumps_not}
 
 -- what the instruction of an arrival hands in, with these operands left
 abbrev pub Hands : ℕ → Wait → Deposit → LocalState → List Held → Type 0
-Hands number wait deposit s stack = (m : Machine) (f : Frame) → m.number ≡ number → f.state ≡ s → arrival_of wait.kind m f ≡ record { arg = wait.arg; deposit = deposit; stack = stack }
+Hands number wait deposit s stack = (m : Machine) (f : MachineFrame) → m.number ≡ number → f.state ≡ s → arrival_of wait.kind m f ≡ record { arg = wait.arg; deposit = deposit; stack = stack }
 
 root_same : (n w : ℕ) → same_number (pos w) (pos n) ≡ (n == w)
 root_same n w = grind arith

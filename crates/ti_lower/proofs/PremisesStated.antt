@@ -23,7 +23,7 @@ use Rattle.ti_rules.specs.declared.rule.Rule.TheVariants.{Y6}
 use Rattle.ti_rules.specs.declared.refusal.Refusal.{Refusal}
 use Rattle.ti_rules.specs.Refusals.{refused_if}
 use Rattle.ti_rules.specs.InitialTypes.{right_side_type, initial_type}
-use Rattle.ti_rules.specs.StmtInContext.{StmtContext, StmtInContext, stands, with_point, variables_inside, loop_acts, inside, inside_maybe, inside_all}
+use Rattle.ti_rules.specs.StmtInContext.{StmtContext, StmtInContext, stands, with_foreach_variable, variables_inside, loop_acts, inside, inside_maybe, inside_all}
 use Rattle.ti_rules.specs.Broken.Refused.{refusal_at, judged, both_judged, operand_refusal, misfit}
 use Rattle.ti_rules.specs.Broken.Words.{type_word_refusals}
 use Rattle.ti_rules.specs.Broken.Expressions.{exp_refusals}
@@ -151,8 +151,8 @@ module _ (p : ProgramView) (words : MainWords p) (m : NumberedMethod) where
       not_void result there.0 at (some_rule (operand_type p (scope vs) c) rule there.0 there.1 (nil_right (inner_refusals p (scope vs) c) (judged (operand_type p (scope vs) c) rule) own))
 
   foreach_fits : (vs : List ScopeVariable) (site : Site) (name : List ℕ) (n : ℕ) (b : Bool) (o : Option ℕ) → o ≡ Some n → SiteFits p (scope vs) site
-      → SiteFits p (scope (with_point vs site.variables b o)) (declares site name t.Foreach)
-  foreach_fits vs site name n b o e k = subst (λ q. SiteFits p (scope (with_point vs site.variables b q)) (declares site name t.Foreach)) (sym e) (point_fits p (this_of m) vs site name n b k)
+      → SiteFits p (scope (with_foreach_variable vs site.variables b o)) (declares site name t.Foreach)
+  foreach_fits vs site name n b o e k = subst (λ q. SiteFits p (scope (with_foreach_variable vs site.variables b q)) (declares site name t.Foreach)) (sym e) (point_fits p (this_of m) vs site name n b k)
 
   dim_there : (o : Option ℕ) → is_some o ≡ true → IsThere o
   dim_there None h = cc

@@ -2,7 +2,7 @@
 // `Interrupt::Request`; what the answer does to the frame is said by `AnswerUse`.
 
 ghost use Rattle.std.specs.Prelude.{◌≡◌, ◌+◌};
-ghost use Rattle.ti_code.specs.Effects.{Who, process_at};
+ghost use Rattle.ti_code.specs.Effects.{Who, process_of_point};
 ghost use Rattle.ti_code.specs.declared.instr.Instr.TheVariants as i;
 ghost use Rattle.ti_lang.specs.Meaning.Held.{plain_of};
 ghost use Rattle.ti_code.specs.Effects.{top};
@@ -14,7 +14,7 @@ use ti_eval::{Interrupt, VarValue};
 
 // The number of the process whose element of a grid has this point; 0 if the coordinate is negative.
 fn process_of(point: &VarValue) -> u32
-    ensures { result ≡ process_at point.now }
+    ensures { result ≡ process_of_point point.now }
 {
     let x = point.point().x1;
     if x < 0 { 0 } else { x as u32 }

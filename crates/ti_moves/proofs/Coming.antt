@@ -31,7 +31,7 @@ use Rattle.ti_eval.specs.declared.interrupt.Interrupt.{Interrupt}
 use Rattle.ti_eval.specs.Comes.{ComesAs}
 use Rattle.ti_eval.specs.Places.{list_of}
 use Rattle.ti_moves.specs.declared.outcomes.StmtOutcome.{StmtOutcome}
-use Rattle.ti_moves.specs.Outcomes.{outcome_of}
+use Rattle.ti_moves.specs.Outcomes.{move_after}
 
 -- the statements of a block come before its end
 pub before_list : (b : NumberedStms) (left : List ContItem) → all_before b left ≡ map Do (list_of b) ++ left
@@ -44,12 +44,12 @@ before_list (Cons x rest) left = ap (λ ws. Do x ∷ ws) (before_list rest left)
 pub member_comes : (E : Env) (e : NumberedExp) (at : Place) (x : NumberedExp) (name : ℕ) (args : NumberedExps) (k : Option member.BuiltIn)
     (answers : List Answer) (r : Result (StmtOutcome × Bor (List Answer)) Interrupt)
     → e ≡ exp.Member at x name args → k ≡ member_called E.program (this_of E.method) x name
-    → ComesAs (outcome_of E (stm.Call (exp.Member at x name args))) r (member_alone E at x args (receives E Nowhere (eval E e)) k answers) → ComesAs (outcome_of E (stm.Call e)) r (alone E e None answers)
+    → ComesAs (move_after E (stm.Call (exp.Member at x name args))) r (member_alone E at x args (receives E Nowhere (eval E e)) k answers) → ComesAs (move_after E (stm.Call e)) r (alone E e None answers)
 member_comes E e at x name args k answers r is seen h =
     let m = exp.Member at x name args in
-    subst (λ (y : NumberedExp). ComesAs (outcome_of E (stm.Call y)) r (alone E y None answers)) (sym is)
-    (subst (λ (y : NumberedExp). ComesAs (outcome_of E (stm.Call m)) r (member_alone E at x args (receives E Nowhere (eval E y)) (member_called E.program (this_of E.method) x name) answers)) is
-    (subst (λ (o : Option member.BuiltIn). ComesAs (outcome_of E (stm.Call m)) r (member_alone E at x args (receives E Nowhere (eval E e)) o answers)) seen h))
+    subst (λ (y : NumberedExp). ComesAs (move_after E (stm.Call y)) r (alone E y None answers)) (sym is)
+    (subst (λ (y : NumberedExp). ComesAs (move_after E (stm.Call m)) r (member_alone E at x args (receives E Nowhere (eval E y)) (member_called E.program (this_of E.method) x name) answers)) is
+    (subst (λ (o : Option member.BuiltIn). ComesAs (move_after E (stm.Call m)) r (member_alone E at x args (receives E Nowhere (eval E e)) o answers)) seen h))
 
 -- a member that has a value, which is dropped
 pub member_dropped : (E : Env) (at : Place) (x : NumberedExp) (args : NumberedExps) (other : Comp moves.Move) (b : BuiltIn) → (b ≡ built.Copy → ⊥) → (b ≡ built.Exchange → ⊥) → (b ≡ built.Delete → ⊥)

@@ -62,13 +62,13 @@ expected_wait env x m = wait_of m (ValueOf (type_received env x)) (receiver_of x
 -- ---- moves
 
 -- The outcome of a statement.
-abbrev pub outcome_of : Env → NumberedStm → StmtOutcome → move.Move
-outcome_of env x (m.Goes change left) = move.Goes (update_variables change env.variables) (works_of (context_in env) x left)
-outcome_of env x m.Breaks = move.Breaks
-outcome_of env x m.Continues = move.Continues
-outcome_of env x (m.Calls at method this parameters) =
+abbrev pub move_after : Env → NumberedStm → StmtOutcome → move.Move
+move_after env x (m.Goes change left) = move.Goes (update_variables change env.variables) (works_of (context_in env) x left)
+move_after env x m.Breaks = move.Breaks
+move_after env x m.Continues = move.Continues
+move_after env x (m.Calls at method this parameters) =
     move.Calls at (method_at env.program method) this (slots_of parameters.items) (receiver_of x)
-outcome_of env x (m.Returns value) = move.Returns value
-outcome_of env x (m.Meets collective deposit resume) = move.Meets (wait_of collective ToBeDone Nowhere) deposit (work_of (context_in env) x resume)
-outcome_of env x (m.Expects collective deposit) = move.Meets (expected_wait env x collective) deposit []
-outcome_of env x (m.Deletes at region) = move.Deletes at region
+move_after env x (m.Returns value) = move.Returns value
+move_after env x (m.Meets collective deposit resume) = move.Meets (wait_of collective ToBeDone Nowhere) deposit (work_of (context_in env) x resume)
+move_after env x (m.Expects collective deposit) = move.Meets (expected_wait env x collective) deposit []
+move_after env x (m.Deletes at region) = move.Deletes at region

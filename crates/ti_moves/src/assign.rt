@@ -14,7 +14,7 @@ ghost use Rattle.ti_eval.specs.Comes.{Comes, ComesAs};
 ghost use Rattle.ti_eval.specs.Envs.{env_of};
 ghost use Rattle.ti_eval.specs.Frames.{slot_of};
 ghost use Rattle.ti_moves.specs.declared.outcomes.VarUpdate.{VarUpdate as Changing};
-ghost use Rattle.ti_moves.specs.Outcomes.{update_variables, outcome_of};
+ghost use Rattle.ti_moves.specs.Outcomes.{update_variables, move_after};
 ghost use Rattle.ti_moves.specs.Receiving.{stm_seen, dest_seen, receiver_of, right_seen};
 ghost use Rattle.ti_moves.specs.Targets.{target_of};
 
@@ -274,7 +274,7 @@ pub fn store_value<'a, 'c>(
     right: RightSide,
     answers: &'a [CanonicalAnswer],
 ) -> Result<(StmtOutcome<'c>, &'a [CanonicalAnswer]), Interrupt>
-    ensures { (x : NumberedStm) → ComesAs (outcome_of (env_of env.now) x) result
+    ensures { (x : NumberedStm) → ComesAs (move_after (env_of env.now) x) result
         (receives_spec (env_of env.now) (dest_seen dest.entry) (right_seen (env_of env.now) right.entry) answers.now) }
 {
     let (change, answers) = store_into(alloc, env, dest, right, answers)?;

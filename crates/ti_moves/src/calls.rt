@@ -21,7 +21,7 @@ ghost use Rattle.ti_eval.specs.Envs.{env_of};
 ghost use Rattle.ti_eval.specs.Frames.{method_seen, slot_of, slots_of};
 ghost use Rattle.ti_moves.specs.Arguments.{bound_argument};
 ghost use Rattle.ti_moves.specs.Callees.{object_seen, call_seen};
-ghost use Rattle.ti_moves.specs.Outcomes.{method_at, outcome_of};
+ghost use Rattle.ti_moves.specs.Outcomes.{method_at, move_after};
 ghost use Rattle.ti_moves.specs.Receiving.{receiver_of};
 
 use crate::assign::new_slot;
@@ -305,7 +305,7 @@ pub fn call_outcome<'a, 'c>(
     call: Call,
     answers: &'a [CanonicalAnswer],
 ) -> Result<(StmtOutcome<'c>, &'a [CanonicalAnswer]), Interrupt>
-    ensures { (x : NumberedStm) → ComesAs (outcome_of (env_of env.now) x) result
+    ensures { (x : NumberedStm) → ComesAs (move_after (env_of env.now) x) result
         (calling_spec (env_of env.now) (receiver_of x) (call_seen (program_of env.now.program.now) call.entry) answers.now) }
 {
     let callee = method(env.program, call.method);

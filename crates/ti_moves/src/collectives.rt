@@ -16,7 +16,7 @@ ghost use Rattle.ti_lang.specs.Meaning.Scoping.{Env as Where, type_here};
 ghost use Rattle.ti_lang.specs.Meaning.Collectives as collectives;
 ghost use Rattle.ti_eval.specs.Comes.{Comes, ComesAs};
 ghost use Rattle.ti_eval.specs.Envs.{env_of};
-ghost use Rattle.ti_moves.specs.Outcomes.{outcome_of, type_received};
+ghost use Rattle.ti_moves.specs.Outcomes.{move_after, type_received};
 ghost use Rattle.ti_moves.specs.Receiving.{receiver_of};
 
 use crate::outcomes::{CollectiveCall, StmtOutcome};
@@ -45,7 +45,7 @@ fn collective(place: Place, kind: CollKind) -> CollectiveCall
 
 /// `Ti.barrier()`
 pub fn barrier<'c>(place: Place) -> StmtOutcome<'c>
-    ensures { (env : Where) (x : NumberedStm) (rest : List Answer) → collectives.meets place rest ≡ Gives (outcome_of env x result) rest }
+    ensures { (env : Where) (x : NumberedStm) (rest : List Answer) → collectives.meets place rest ≡ Gives (move_after env x result) rest }
 {
     StmtOutcome::Meets {
         collective: collective(place, CollKind::Barrier),
@@ -57,7 +57,7 @@ pub fn barrier<'c>(place: Place) -> StmtOutcome<'c>
 /// `new SharedRegion()`, whose departure yields the region.
 pub fn makes_region<'c>(place: Place) -> StmtOutcome<'c>
     ensures { (env : Where) (x : NumberedStm) (rest : List Answer) → type_received env x ≡ Region
-        → collectives.makes_region (receiver_of x) place rest ≡ Gives (outcome_of env x result) rest }
+        → collectives.makes_region (receiver_of x) place rest ≡ Gives (move_after env x result) rest }
 {
     StmtOutcome::Expects {
         collective: collective(place, CollKind::MakeRegion),
@@ -74,7 +74,7 @@ pub fn delete<'a, 'c>(
     receiver: &Expr,
     answers: &'a [CanonicalAnswer],
 ) -> Result<(StmtOutcome<'c>, &'a [CanonicalAnswer]), Interrupt>
-    ensures { (x : NumberedStm) → ComesAs (outcome_of (env_of env.now) x) result
+    ensures { (x : NumberedStm) → ComesAs (move_after (env_of env.now) x) result
         (collectives.deletes (env_of env.now) place (expression_of receiver.now) answers.now) }
 {
     let (h, answers) = evaluate(alloc, env, receiver, answers)?;
@@ -131,7 +131,7 @@ pub fn broadcasts<'a, 'c>(
     answers: &'a [CanonicalAnswer],
 ) -> Result<(StmtOutcome<'c>, &'a [CanonicalAnswer]), Interrupt>
     ensures { (x : NumberedStm) → type_received (env_of env.now) x ≡ type_here (env_of env.now) (expression_of value.now)
-        → ComesAs (outcome_of (env_of env.now) x) result (collectives.broadcasts (env_of env.now) (receiver_of x) place
+        → ComesAs (move_after (env_of env.now) x) result (collectives.broadcasts (env_of env.now) (receiver_of x) place
         (expression_of value.now) (expression_of root.now) answers.now) }
 {
     let (h, answers) = evaluate(alloc, env, root, answers)?;
@@ -178,7 +178,7 @@ pub fn exchanges<'a, 'c>(
     args: &[Expr],
     answers: &'a [CanonicalAnswer],
 ) -> Result<(StmtOutcome<'c>, &'a [CanonicalAnswer]), Interrupt>
-    ensures { (name : ℕ) → ComesAs (outcome_of (env_of env.now) (stm.Call
+    ensures { (name : ℕ) → ComesAs (move_after (env_of env.now) (stm.Call
         (exp.member place (expression_of receiver.now) name (map expression_of args.now)))) result
         (collectives.exchanges (env_of env.now) place (expression_of receiver.now) (numbered_exps (map expression_of args.now)) answers.now) }
 {

@@ -15,7 +15,7 @@ ghost use Rattle.ti_lang.specs.Meaning.Moves as move;
 ghost use Rattle.ti_lang.specs.Meaning.Copies as copying;
 ghost use Rattle.ti_eval.specs.Comes.{ComesAs};
 ghost use Rattle.ti_eval.specs.Envs.{env_of};
-ghost use Rattle.ti_moves.specs.Outcomes.{outcome_of};
+ghost use Rattle.ti_moves.specs.Outcomes.{move_after};
 
 use crate::outcomes::StmtOutcome;
 use crate::references::{first_or_false, require_reference};
@@ -54,7 +54,7 @@ pub fn copies<'a, 'c>(
     args: &[Expr],
     answers: &'a [CanonicalAnswer],
 ) -> Result<(StmtOutcome<'c>, &'a [CanonicalAnswer]), Interrupt>
-    ensures { (name : ℕ) → ComesAs (outcome_of (env_of env.now) (stm.Call
+    ensures { (name : ℕ) → ComesAs (move_after (env_of env.now) (stm.Call
         (exp.member place (expression_of receiver.now) name (map expression_of args.now)))) result
         (copying.copies (env_of env.now) place (expression_of receiver.now) (numbered_exps (map expression_of args.now)) answers.now) }
 {

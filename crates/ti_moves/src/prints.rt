@@ -9,7 +9,7 @@ ghost use Rattle.ti_lang.specs.Program.Statements.{NumberedStm};
 ghost use Rattle.ti_lang.specs.Meaning.Statements as statements;
 ghost use Rattle.ti_eval.specs.Comes.{Comes, ComesAs};
 ghost use Rattle.ti_eval.specs.Envs.{env_of};
-ghost use Rattle.ti_moves.specs.Outcomes.{outcome_of};
+ghost use Rattle.ti_moves.specs.Outcomes.{move_after};
 
 use crate::outcomes::StmtOutcome;
 use crate::statements::continue_with;
@@ -26,7 +26,7 @@ fn print_line<'a, 'c>(
     value: Option<Value>,
     answers: &'a [CanonicalAnswer],
 ) -> Result<(StmtOutcome<'c>, &'a [CanonicalAnswer]), Interrupt>
-    ensures { (env : Where) (x : NumberedStm) → ComesAs (outcome_of env x) result (statements.prints env place literal value answers.now) }
+    ensures { (env : Where) (x : NumberedStm) → ComesAs (move_after env x) result (statements.prints env place literal value answers.now) }
 {
     let (_, answers) = request(place, Action::Print { literal, value }, answers)?;
     Ok((continue_with(Resume::Inside), answers))
@@ -41,7 +41,7 @@ pub fn print_outcome<'a, 'c>(
     what: &Printed,
     answers: &'a [CanonicalAnswer],
 ) -> Result<(StmtOutcome<'c>, &'a [CanonicalAnswer]), Interrupt>
-    ensures { (x : NumberedStm) → ComesAs (outcome_of (env_of env.now) x) result
+    ensures { (x : NumberedStm) → ComesAs (move_after (env_of env.now) x) result
         (statements.printed (env_of env.now) place (printed_of what.now) answers.now) }
 {
     match what {

@@ -29,7 +29,7 @@ ghost use Rattle.ti_lang.specs.Meaning.Statements as statements;
 ghost use Rattle.ti_eval.specs.Comes.{Comes, ComesAs};
 ghost use Rattle.ti_eval.specs.Envs.{env_of};
 ghost use Rattle.ti_eval.specs.Frames.{MethodContext, method_seen, work_of};
-ghost use Rattle.ti_moves.specs.Outcomes.{outcome_of, context_in, works_of, type_received, type_given};
+ghost use Rattle.ti_moves.specs.Outcomes.{move_after, context_in, works_of, type_received, type_given};
 ghost use Rattle.ti_moves.specs.Receiving.{stm_seen, receiver_of};
 
 use crate::assign::{Dest, RightSide, dest_at, store_value};
@@ -49,7 +49,7 @@ use ti_lang::typing::BuiltIn;
 
 /// The outcome of a statement that continues with this pending work and changes no variable.
 pub fn continue_with<'c>(resume: Resume) -> StmtOutcome<'c>
-    ensures { (env : Where) (x : NumberedStm) → outcome_of env x result ≡ move.Goes env.variables (work_of (context_in env) x resume) }
+    ensures { (env : Where) (x : NumberedStm) → move_after env x result ≡ move.Goes env.variables (work_of (context_in env) x resume) }
 {
     StmtOutcome::Goes(VarUpdate::Same, Continuation::Own(resume))
 }
@@ -64,7 +64,7 @@ fn store_or_call<'a, 'c>(
     expr: &Expr,
     answers: &'a [CanonicalAnswer],
 ) -> Result<(StmtOutcome<'c>, &'a [CanonicalAnswer]), Interrupt>
-    ensures { ComesAs (outcome_of (env_of env.now) (statement_of stmt.now)) result
+    ensures { ComesAs (move_after (env_of env.now) (statement_of stmt.now)) result
         (statements.valued_or_called (env_of env.now) (receiver_of (statement_of stmt.now)) (expression_of expr.now)
         (called_spec (env_of env.now) (expression_of expr.now)) answers.now) }
 {
@@ -90,7 +90,7 @@ fn store_init<'a, 'c>(
     answers: &'a [CanonicalAnswer],
 ) -> Result<(StmtOutcome<'c>, &'a [CanonicalAnswer]), Interrupt>
     requires { type_received (env_of env.now) (statement_of stmt.now) ≡ type_given (env_of env.now) (initial_of value.now) }
-    ensures { ComesAs (outcome_of (env_of env.now) (statement_of stmt.now)) result
+    ensures { ComesAs (move_after (env_of env.now) (statement_of stmt.now)) result
         (statements.initialized (env_of env.now) (receiver_of (statement_of stmt.now)) (initial_of value.now) answers.now) }
 {
     match value {
@@ -138,7 +138,7 @@ fn evaluate_and_drop<'a, 'c>(
     expr: &Expr,
     answers: &'a [CanonicalAnswer],
 ) -> Result<(StmtOutcome<'c>, &'a [CanonicalAnswer]), Interrupt>
-    ensures { (x : NumberedStm) → ComesAs (outcome_of (env_of env.now) x) result
+    ensures { (x : NumberedStm) → ComesAs (move_after (env_of env.now) x) result
         (receives_spec (env_of env.now) Nowhere (eval (env_of env.now) (expression_of expr.now)) answers.now) }
 {
     store_value(alloc, env, Dest::Nowhere, RightSide::Value(expr), answers)
@@ -156,7 +156,7 @@ fn member_stmt<'a, 'c>(
     answers: &'a [CanonicalAnswer],
 ) -> Result<(StmtOutcome<'c>, &'a [CanonicalAnswer]), Interrupt>
     requires { expression_of expr.now ≡ exp.member place (expression_of receiver.now) name (map expression_of args.now) }
-    ensures { ComesAs (outcome_of (env_of env.now) (stm.Call (expression_of expr.now))) result
+    ensures { ComesAs (move_after (env_of env.now) (stm.Call (expression_of expr.now))) result
         (statements.alone (env_of env.now) (expression_of expr.now) None answers.now) }
 {
     match called_member(env, receiver, name) {
@@ -178,7 +178,7 @@ fn plain_expr_stmt<'a, 'c>(
     expr: &Expr,
     answers: &'a [CanonicalAnswer],
 ) -> Result<(StmtOutcome<'c>, &'a [CanonicalAnswer]), Interrupt>
-    ensures { ComesAs (outcome_of (env_of env.now) (stm.Call (expression_of expr.now))) result
+    ensures { ComesAs (move_after (env_of env.now) (stm.Call (expression_of expr.now))) result
         (statements.alone (env_of env.now) (expression_of expr.now) None answers.now) }
 {
     match expr {
@@ -199,7 +199,7 @@ fn expr_stmt<'a, 'c>(
     expr: &Expr,
     answers: &'a [CanonicalAnswer],
 ) -> Result<(StmtOutcome<'c>, &'a [CanonicalAnswer]), Interrupt>
-    ensures { ComesAs (outcome_of (env_of env.now) (stm.Call (expression_of expr.now))) result
+    ensures { ComesAs (move_after (env_of env.now) (stm.Call (expression_of expr.now))) result
         (statements.alone (env_of env.now) (expression_of expr.now) (called_spec (env_of env.now) (expression_of expr.now)) answers.now) }
 {
     match call_of(env, expr) {
@@ -248,7 +248,7 @@ pub fn returns<'a, 'c>(
     value: &Option<Expr>,
     answers: &'a [CanonicalAnswer],
 ) -> Result<(StmtOutcome<'c>, &'a [CanonicalAnswer]), Interrupt>
-    ensures { (x : NumberedStm) → ComesAs (outcome_of (env_of env.now) x) result
+    ensures { (x : NumberedStm) → ComesAs (move_after (env_of env.now) x) result
         (statements.returns (env_of env.now) place (maybe_of expression_of value.now) answers.now) }
 {
     match value {
@@ -289,10 +289,10 @@ fn branches<'a, 'c>(
     answers: &'a [CanonicalAnswer],
 ) -> Result<(StmtOutcome<'c>, &'a [CanonicalAnswer]), Interrupt>
     ensures alone { with_else ≡ false → (at : At) (x : NumberedStm)
-        → ComesAs (outcome_of (env_of env.now) (stm.If at (expression_of condition.now) x)) result
+        → ComesAs (move_after (env_of env.now) (stm.If at (expression_of condition.now) x)) result
         (statements.statement (env_of env.now) (stm.If at (expression_of condition.now) x) answers.now) }
     ensures both { with_else ≡ true → (at : At) (x y : NumberedStm)
-        → ComesAs (outcome_of (env_of env.now) (stm.IfElse at (expression_of condition.now) x y)) result
+        → ComesAs (move_after (env_of env.now) (stm.IfElse at (expression_of condition.now) x y)) result
         (statements.statement (env_of env.now) (stm.IfElse at (expression_of condition.now) x y) answers.now) }
 {
     let (h, answers) = evaluate(alloc, env, condition, answers)?;
@@ -309,7 +309,7 @@ fn foreach<'a, 'c>(
     domain: &Expr,
     answers: &'a [CanonicalAnswer],
 ) -> Result<(StmtOutcome<'c>, &'a [CanonicalAnswer]), Interrupt>
-    ensures { (at : At) (body : NumberedStm) → ComesAs (outcome_of (env_of env.now) (stm.Foreach at variable (expression_of domain.now) body))
+    ensures { (at : At) (body : NumberedStm) → ComesAs (move_after (env_of env.now) (stm.Foreach at variable (expression_of domain.now) body))
         result (statements.statement (env_of env.now) (stm.Foreach at variable (expression_of domain.now) body) answers.now) }
 {
     let (domain, answers) = evaluate(alloc, env, domain, answers)?;
@@ -330,7 +330,7 @@ fn step<'a, 'c>(
     stmt: &'c Stmt,
     answers: &'a [CanonicalAnswer],
 ) -> Result<(StmtOutcome<'c>, &'a [CanonicalAnswer]), Interrupt>
-    ensures { ComesAs (outcome_of (env_of env.now) (statement_of stmt.now)) result
+    ensures { ComesAs (move_after (env_of env.now) (statement_of stmt.now)) result
         (receives_spec (env_of env.now) (receiver_of (statement_of stmt.now)) (gives (Plain (Int (pos 1)))) answers.now) }
 {
     let one = VarValue::plain(Value::Int(1));
@@ -345,7 +345,7 @@ fn execute<'a, 'c>(
     stmt: &'c Stmt,
     answers: &'a [CanonicalAnswer],
 ) -> Result<(StmtOutcome<'c>, &'a [CanonicalAnswer]), Interrupt>
-    ensures { ComesAs (outcome_of (env_of env.now) (statement_of stmt.now)) result
+    ensures { ComesAs (move_after (env_of env.now) (statement_of stmt.now)) result
         (statements.statement (env_of env.now) (statement_of stmt.now) answers.now) }
 {
     match stmt {
@@ -393,7 +393,7 @@ pub fn statement<'a, 'c>(
     stmt: Option<&'c Stmt>,
     answers: &'a [CanonicalAnswer],
 ) -> Result<(StmtOutcome<'c>, &'a [CanonicalAnswer]), Interrupt>
-    ensures { ComesAs (outcome_of (env_of env.now) (stm_seen stmt.entry)) result
+    ensures { ComesAs (move_after (env_of env.now) (stm_seen stmt.entry)) result
         (statements.statement (env_of env.now) (stm_seen stmt.entry) answers.now) }
 {
     match stmt {
@@ -410,7 +410,7 @@ pub fn store_received<'a, 'c>(
     value: &VarValue,
     answers: &'a [CanonicalAnswer],
 ) -> Result<(StmtOutcome<'c>, &'a [CanonicalAnswer]), Interrupt>
-    ensures { ComesAs (outcome_of (env_of env.now) (stm_seen stmt.entry)) result
+    ensures { ComesAs (move_after (env_of env.now) (stm_seen stmt.entry)) result
         (receives_spec (env_of env.now) (receiver_of (stm_seen stmt.entry)) (gives value.now) answers.now) }
 {
     store_value(alloc, env, dest_at(stmt), RightSide::Known(value), answers)

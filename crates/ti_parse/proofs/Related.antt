@@ -24,7 +24,7 @@ use Rattle.ti_syntax.specs.Spelling.Expressions.{Ending, Target}
 use Rattle.ti_syntax.specs.Spelling.Statements.{starts}
 use Rattle.ti_parse_expr.specs.declared.parse.Form.{Form}
 use Rattle.ti_parse_expr.specs.declared.parse.Form.TheVariants as form
-use Rattle.ti_parse_expr.specs.Mirrors.Input.{At, Over, OutOfFuel, Parser, ◌>>=◌, ◌>>◌, pure, refuse, and_then, kind, place, next_place, next_is, spells, expect, expect_word, take_token, any_name, name_of_kind}
+use Rattle.ti_parse_expr.specs.Mirrors.Input.{At, Over, OutOfFuel, Parser, ◌>>=◌, ◌>>◌, pure, refuse, and_then, kind, place, place_of_next, next_is, spells, expect, expect_word, take_token, any_name, name_of_kind}
 use Rattle.ti_parse_expr.specs.Mirrors.Types.{arity, base as type_base, qualifiers, grid, grids, field_type}
 use Rattle.ti_parse_expr.specs.Mirrors.Exprs.{Operand, is_dim_token}
 use Rattle.ti_parse_expr.specs.Mirrors.Full.{full, full_operand, full_behind_name, full_behind_bracket}
@@ -170,7 +170,7 @@ class_named_at w fuel ms word at = do
   pure (record { modifiers = ms; word = word; place = at; name = name; members = xs })
 
 abbrev class_at : ParserParams → ℕ → List Modifier → Place → Parser ClassTree
-class_at w fuel ms word = (do expect k.KeywordClass; at ← next_place; class_named_at w fuel ms word at)
+class_at w fuel ms word = (do expect k.KeywordClass; at ← place_of_next; class_named_at w fuel ms word at)
 
 -- Q is the relation, T relates the turns that are left, and v is the second way
 module _ (Q : (A : Type 0) → Parser A → Parser A → Type 0) (T : ℕ → ℕ → Type 0) (v : ParserParams) (same_levels : v.levels ≡ most_levels) (q_pure : (A : Type 0) (x : A) → Q A (λ i. Ok (x, i)) (λ i. Ok (x, i)))

@@ -16,7 +16,7 @@ use Rattle.ti_syntax.specs.Spelling.Types.{FieldType, Typed}
 use Rattle.ti_syntax.specs.Spelling.Types as types
 use Rattle.ti_syntax.specs.Spelling.Classes.{ParamList, Parameters, Method, Modified, Member, Members, ClassModified, Class, AllClasses}
 use Rattle.ti_syntax.specs.Spelling.Classes as grammar
-use Rattle.ti_parse_expr.specs.Mirrors.Input.{ParseOutcome, Parser, ◌>>=◌, ◌>>◌, pure, next_place, and_then, next_is, expect, any_name, take_token}
+use Rattle.ti_parse_expr.specs.Mirrors.Input.{ParseOutcome, Parser, ◌>>=◌, ◌>>◌, pure, place_of_next, and_then, next_is, expect, any_name, take_token}
 use Rattle.ti_parse_expr.proofs.Lemmas.{paren_is, close_is, bracket_is, shut_is, comma_is, BeginsIn, Said, token, append_nil}
 use Rattle.ti_parse.specs.Mirrors.ParserParams.{language_params}
 use Rattle.ti_parse.specs.Mirrors.Parts.{is_wide}
@@ -206,7 +206,7 @@ module _ (fuel : ℕ) where
   unfolding class_from
   class_from_tells a ms sm l =
       want_here k.KeywordClass class_is refl
-      (λ word. next_place >>= (λ at. any_name >>= (λ name. expect k.LeftBrace >> (members language_params fuel fuel [] >>= (λ xs. expect k.RightBrace >> pure (class_tree ms word at name xs))))))
+      (λ word. place_of_next >>= (λ at. any_name >>= (λ name. expect k.LeftBrace >> (members language_params fuel fuel [] >>= (λ xs. expect k.RightBrace >> pure (class_tree ms word at name xs))))))
       (λ c l2 hc. name_here
       (λ at name. expect k.LeftBrace >> (members language_params fuel fuel [] >>= (λ xs. expect k.RightBrace >> pure (class_tree ms c.place at name xs))))
       (λ t name l3 ht. want_tells k.LeftBrace brace_is refl _ (λ o l4 ho. then_tells _ (all_tell (members_tell fuel (omega arith) [] l4)) (λ f r xs s.

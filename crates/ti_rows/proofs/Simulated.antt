@@ -23,7 +23,7 @@ use Rattle.ti_lang.specs.Meaning.HeapAnswers as heap
 use Rattle.ti_lang.specs.Meaning.Runs.{ProcAfter, IsReady, entry_with, entry_of, CanTake, IsSolo}
 use Rattle.ti_lang.specs.Meaning.Runs as r
 use Rattle.ti_lang.proofs.Lemmas.{no_end_asked, next_same, after_same}
-use Rattle.ti_rows.specs.Simulation.{settle_by, settle, most_silent, Slot, slots, have_arrived, is_ready, Taking, Waits, Takes, Unknown, by_outcome, by_request, by_step, next_taking, SoloTurn, Taken, Untold, put_before, first_of, solo_turn, run_by, run_from, solo}
+use Rattle.ti_rows.specs.Simulation.{settle_by, settle, most_silent, Slot, slots, have_arrived, is_ready, Taking, Waits, Takes, Unknown, by_outcome, by_request, by_step, next_taking, SoloTurn, Taken, Untold, put_before, first_of, solo_turn, run_after, run_from, solo}
 use Rattle.ti_rows.specs.Simulation as sim
 
 -- ---- silent steps
@@ -354,7 +354,7 @@ turned s es k (x ∷ xs) g w below =
 
 run_goes : (s : RunConfig) (n : ℕ) (es : List Entry) → IsSolo s es → has_fault es ≡ false
     → ((xs : List Slot) (ds : List Entry) → IsSolo s ds → has_fault ds ≡ false → AreSlots s ds 0 xs → IsSolo s (run_from s n xs ds))
-    → (t : SoloTurn) → Turn_is s es 0 t → IsSolo s (run_by (run_from s n) es t)
+    → (t : SoloTurn) → Turn_is s es 0 t → IsSolo s (run_after (run_from s n) es t)
 run_goes s n es run g go sim.None h = run
 run_goes s n es run g go (Taken ys e) h = by (is_fault e.act) refl
   where

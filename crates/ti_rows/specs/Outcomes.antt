@@ -42,16 +42,16 @@ by_fault s es lines (Some e) = faulted_run lines e.proc e.place e.act
 by_fault s es lines None = if have_ended es 0 s.procs then Ended lines else Unfinished lines
 
 -- the outcome of a list of entries
-abbrev pub outcome_of : RunConfig → List Entry → RunOutcome
-outcome_of s es = by_fault s es (lines_of s.program es) (fault_of es)
+abbrev pub run_outcome : RunConfig → List Entry → RunOutcome
+run_outcome s es = by_fault s es (lines_of s.program es) (fault_of es)
 
 -- the run, of at most 1,000 entries, prints this, and all processes end
 abbrev pub Prints : RunConfig → List ℕ → Type 0
-Prints s text = outcome_of s (solo s 1000) ≡ Ended text
+Prints s text = run_outcome s (solo s 1000) ≡ Ended text
 
 -- the run, of at most 1,000 entries, prints this and ends with a fault
 abbrev pub FaultsBehind : RunConfig → List ℕ → FaultKind → ℕ → Place → Type 0
-FaultsBehind s text kind proc at = outcome_of s (solo s 1000) ≡ Faulted text kind proc at
+FaultsBehind s text kind proc at = run_outcome s (solo s 1000) ≡ Faulted text kind proc at
 
 -- the run, of at most 1,000 entries, has these
 abbrev pub Makes : RunConfig → List Entry → Type 0

@@ -107,15 +107,15 @@ solo_turn s es [] = None
 solo_turn s es (x ∷ xs) = first_of (next_taking s es x) x xs (solo_turn s es xs)
 
 -- continues after an entry, unless it is a fault
-abbrev pub run_by : (List Slot → List Entry → List Entry) → List Entry → SoloTurn → List Entry
-run_by go es None = es
-run_by go es (Taken xs e) = if is_fault e.act then es ++ e ∷ [] else go xs (es ++ e ∷ [])
-run_by go es Untold = es
+abbrev pub run_after : (List Slot → List Entry → List Entry) → List Entry → SoloTurn → List Entry
+run_after go es None = es
+run_after go es (Taken xs e) = if is_fault e.act then es ++ e ∷ [] else go xs (es ++ e ∷ [])
+run_after go es Untold = es
 
 -- the entries of a run after at most n more, from given processes and entries on
 abbrev pub run_from : RunConfig → ℕ → List Slot → List Entry → List Entry
 run_from s zero xs es = es
-run_from s (suc n) xs es = run_by (run_from s n) es (solo_turn s es xs)
+run_from s (suc n) xs es = run_after (run_from s n) es (solo_turn s es xs)
 
 -- the first entries of the canonical run, at most the given number
 abbrev pub solo : RunConfig → ℕ → List Entry

@@ -9,18 +9,18 @@ abbrev pub two_prints : RunConfig
 two_prints = by_two 1000 a_print
 
 -- a line with its terminating line feed
-abbrev line : List ℕ → List ℕ
-line bytes = bytes ++ 10 ∷ []
+abbrev with_newline : List ℕ → List ℕ
+with_newline bytes = bytes ++ 10 ∷ []
 
 -- the first three lines of the trace, without the end of process 1
 abbrev pub three_lines : List ℕ
 three_lines =
-    line (codes "0 p0 1:62 print - 7 -> done") ++ line (codes "1 p0 1:74 end -> done") ++ line (codes "2 p1 1:62 print - 7 -> done")
+    with_newline (codes "0 p0 1:62 print - 7 -> done") ++ with_newline (codes "1 p0 1:74 end -> done") ++ with_newline (codes "2 p1 1:62 print - 7 -> done")
 
 -- all lines of the trace
 abbrev pub all_lines : List ℕ
-all_lines = three_lines ++ line (codes "3 p1 1:74 end -> done")
+all_lines = three_lines ++ with_newline (codes "3 p1 1:74 end -> done")
 
 -- a line that is not the line of any event
 abbrev pub another_line : List ℕ
-another_line = line (codes "x")
+another_line = with_newline (codes "x")

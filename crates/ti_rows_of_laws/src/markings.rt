@@ -7,7 +7,7 @@ ghost use Rattle.ti_lang.specs.Numbering.{IsNumbered};
 ghost use Rattle.ti_blame.specs.Implications.{Satisfies, holds_conditionally};
 ghost use Rattle.ti_blame.specs.Marks.{IsSubset, marks_of, marks_union};
 ghost use Rattle.ti_infer.specs.Accepted.{IsAccepted};
-ghost use Rattle.ti_infer.specs.Answer.{IsGreatest, IsFirstUnaligned};
+ghost use Rattle.ti_infer.specs.Answer.{IsGreatestMarking, IsFirstUnaligned};
 ghost use Rattle.ti_infer.specs.Reason.{KeepsSingle, program_blamed};
 ghost use Rattle.ti_infer.specs.Collectives.{collectives};
 ghost use Rattle.ti_infer.specs.Descent.{is_always, is_fixed, marks_without};
@@ -33,13 +33,13 @@ pub fn markings_accepted()
     ensures a_union_with_main { IsAccepted programs.two_numbers (marks_union (marks_of marks.the_first) (marks_of marks.main)) → ⊥ }
 {}
 
-/// The greatest accepted marking of a program (`IsGreatest`, `IsInferred`); not greatest are a smaller, an unsorted and a rejected marking.
+/// The greatest accepted marking of a program (`IsGreatestMarking`, `IsInferred`); not greatest are a smaller, an unsorted and a rejected marking.
 pub fn greatest()
-    ensures the_variable { IsGreatest programs.a_sent_number marks.the_first }
-    ensures both { IsGreatest programs.two_numbers marks.both_marks }
-    ensures one_of_two { IsGreatest programs.two_numbers marks.the_first → ⊥ }
-    ensures not_in_order { IsGreatest programs.two_numbers marks.both_falling → ⊥ }
-    ensures one_that_is_not_accepted { IsGreatest programs.an_own_number marks.the_first → ⊥ }
+    ensures the_variable { IsGreatestMarking programs.a_sent_number marks.the_first }
+    ensures both { IsGreatestMarking programs.two_numbers marks.both_marks }
+    ensures one_of_two { IsGreatestMarking programs.two_numbers marks.the_first → ⊥ }
+    ensures not_in_order { IsGreatestMarking programs.two_numbers marks.both_falling → ⊥ }
+    ensures one_that_is_not_accepted { IsGreatestMarking programs.an_own_number marks.the_first → ⊥ }
     ensures inferred { IsInferred programs.a_sent_number (candidate_marks programs.a_sent_number) marks.the_first None }
     ensures less { IsInferred programs.a_sent_number (candidate_marks programs.a_sent_number) marks.no_marks None → ⊥ }
 {}

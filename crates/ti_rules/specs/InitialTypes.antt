@@ -39,12 +39,12 @@ region_type p s None = Some Region
 region_type p s (Some r) = operand_type p s r
 
 -- the type is that of a region
-abbrev pub is_region : ValueType → Bool
-is_region t = same_type t Region
+abbrev pub is_region_type : ValueType → Bool
+is_region_type t = same_type t Region
 
 -- the type of a new object of a class, with an operand of this type as its region
 abbrev pub object_type : ℕ → ValueType → Option ValueType
-object_type class region = where_true (is_region region) (Class class true)
+object_type class region = where_true (is_region_type region) (Class class true)
 
 -- the types in the domain of a new grid: of a domain, or of the bounds and strides of this number of ranges
 pub data Spread : Type 0 where
@@ -68,7 +68,7 @@ grid_over element _ = None
 
 -- the type of a new grid with these elements, with an operand of this type as its region
 abbrev pub new_grid_type : ValueType → ValueType → Spread → Option ValueType
-new_grid_type element region over = if is_region region then option_and_then (grid_over element) (spread_type over) else None
+new_grid_type element region over = if is_region_type region then option_and_then (grid_over element) (spread_type over) else None
 
 -- ---- right sides
 

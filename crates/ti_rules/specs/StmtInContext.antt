@@ -54,13 +54,13 @@ abbrev pub singles_in : ScopeContents → ℕ → Bool
 singles_in s number = option_map_or (λ (v : ScopeVariable). v.is_single) (in_scope s number) false
 
 -- the variables and that of a foreach over a domain with this number of dimensions; without a dimension, none is added
-abbrev pub with_point : List ScopeVariable → ℕ → Bool → Option ℕ → List ScopeVariable
-with_point variables number is_single None = variables
-with_point variables number is_single (Some n) = variables ++ record { number = number; type = Pt n; is_single = is_single } ∷ []
+abbrev pub with_foreach_variable : List ScopeVariable → ℕ → Bool → Option ℕ → List ScopeVariable
+with_foreach_variable variables number is_single None = variables
+with_foreach_variable variables number is_single (Some n) = variables ++ record { number = number; type = Pt n; is_single = is_single } ∷ []
 
 -- the variables in the body of a foreach: its own is single exactly if its domain is
 abbrev pub variables_inside : ProgramView → ScopeContents → ℕ → NumberedExp → List ScopeVariable
-variables_inside p s number domain = with_point s.variables number (is_single_part p s.this_class (singles_in s) domain)
+variables_inside p s number domain = with_foreach_variable s.variables number (is_single_part p s.this_class (singles_in s) domain)
     (option_and_then domain_dim (operand_type p s domain))
 
 -- the context of the body of a foreach

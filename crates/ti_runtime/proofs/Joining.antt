@@ -15,7 +15,7 @@ use Rattle.ti_store.specs.Stores.{log_of}
 use Rattle.ti_runtime.specs.declared.pending.PendingProc.{PendingProc}
 use Rattle.ti_runtime.specs.Mirrors.Tasks.{entries_in}
 use Rattle.ti_runtime.specs.Mirrors.Processes.{IsUpToDate, AllUpToDate}
-use Rattle.ti_runtime.specs.Mirrors.Joined.{at_place, NoneFilled, IsKnown, ArePlaced, IsBack}
+use Rattle.ti_runtime.specs.Mirrors.Joined.{at_place, NoneFilled, IsKnownPass, ArePlaced, IsBack}
 use Rattle.ti_runtime.proofs.Tasks.{seated_inside}
 
 -- one place more, where nobody stands
@@ -57,13 +57,13 @@ module _ {V : Type 0} {g : Ghosts V Entry} (s : RunConfig) (places : List (Optio
   placed_on (x ∷ xs) p e h = (h.0, has_its_place s places count number inside pending (number_of x) h.0 h.1, placed_on xs p e h.2)
 
 module _ {V : Type 0} {g : Ghosts V Entry} (code : Code) (s : RunConfig) where
-  known_left : (k : ℕ) (pending : PendingProc) (ps : List (Pass V Entry g)) (p : Pass V Entry g) → IsKnown code s k pending ps → IsKnown code s k pending (ps ++ p ∷ [])
+  known_left : (k : ℕ) (pending : PendingProc) (ps : List (Pass V Entry g)) (p : Pass V Entry g) → IsKnownPass code s k pending ps → IsKnownPass code s k pending (ps ++ p ∷ [])
   known_left k pending [] p h = absurd h
   known_left k pending (x ∷ xs) p (inl h) = inl h
   known_left k pending (x ∷ xs) p (inr h) = inr (known_left k pending xs p h)
 
   known_right : (k : ℕ) (pending : PendingProc) (ps : List (Pass V Entry g)) (p : Pass V Entry g) → number_of p ≡ k
-      → IsUpToDate code s (entries_in (seen_by p)) k pending → IsKnown code s k pending (ps ++ p ∷ [])
+      → IsUpToDate code s (entries_in (seen_by p)) k pending → IsKnownPass code s k pending (ps ++ p ∷ [])
   known_right k pending [] p e y = inl (e, y)
   known_right k pending (x ∷ xs) p e y = inr (known_right k pending xs p e y)
 
@@ -71,7 +71,7 @@ module _ {V : Type 0} {g : Ghosts V Entry} (code : Code) (s : RunConfig) where
   pub back_on : (places : List (Option PendingProc)) (count : length places ≡ s.procs) (number : ℕ) (inside : number < s.procs) (pending : PendingProc)
       (ps : List (Pass V Entry g)) (p : Pass V Entry g) → number_of p ≡ number
       → IsUpToDate code s (entries_in (seen_by p)) number pending → IsBack code s places ps → IsBack code s (after s places count number inside pending) (ps ++ p ∷ [])
-  back_on places count number inside pending ps p e y back k x l is = elim (ℕ_discrete k number) as (λ _. IsKnown code s k x (ps ++ p ∷ [])) [
+  back_on places count number inside pending ps p e y back k x l is = elim (ℕ_discrete k number) as (λ _. IsKnownPass code s k x (ps ++ p ∷ [])) [
     | yes same ↦
         let one : Some pending ≡ Some x = sym (here s places count number inside pending) ∙ sym (ap (at_place s.procs (after s places count number inside pending)) same) ∙ is in
         let it : pending ≡ x = cc one in
@@ -90,7 +90,7 @@ module _ {V : Type 0} {g : Ghosts V Entry} (code : Code) (s : RunConfig) where
       (placed_on s places count number inside pending ps p same placed, back_on places count number inside pending ps p same seated back)
 
   -- once the turnstile is closed, a process is in all entries where it is in those of its pass
-  known_whole : (es : List Entry) (k : ℕ) (pending : PendingProc) (ps : List (Pass V Entry g)) → AreLegal (log_of es) ps → IsKnown code s k pending ps → IsUpToDate code s es k pending
+  known_whole : (es : List Entry) (k : ℕ) (pending : PendingProc) (ps : List (Pass V Entry g)) → AreLegal (log_of es) ps → IsKnownPass code s k pending ps → IsUpToDate code s es k pending
   known_whole es k pending [] legal h = absurd h
   known_whole es k pending (p ∷ ps) legal (inl h) = seated_inside code s es (number_of p) k (seen_by p) pending h.0 legal.0 h.1
   known_whole es k pending (p ∷ ps) legal (inr h) = known_whole es k pending ps legal.1 h

@@ -23,7 +23,7 @@ use Rattle.ti_align.specs.Slice.{single_value, single_alone, single_statement}
 use Rattle.ti_eval.specs.declared.interrupt.Interrupt.{Interrupt}
 use Rattle.ti_eval.specs.Comes.{ComesAs}
 use Rattle.ti_moves.specs.declared.outcomes.StmtOutcome.{StmtOutcome}
-use Rattle.ti_moves.specs.Outcomes.{outcome_of}
+use Rattle.ti_moves.specs.Outcomes.{move_after}
 use Rattle.ti_moves.specs.Receiving.{receiver_of}
 use Rattle.ti_slice.specs.Mirrors.SingleCalls.{SingleCallComes}
 
@@ -31,13 +31,13 @@ use Rattle.ti_slice.specs.Mirrors.SingleCalls.{SingleCallComes}
 
 -- a right side that is a call
 pub called_first : (E : Env) (x : NumberedStm) (e : NumberedExp) (answers : List Answer) (r : Result (StmtOutcome × Bor (List Answer)) Interrupt) → SingleCallComes E x answers (Some r) (called E e)
-    → ComesAs (outcome_of E x) r (single_value E (receiver_of x) e (called E e) answers)
-called_first E x e answers r h = subst (λ (o : Option Call). ComesAs (outcome_of E x) r (single_value E (receiver_of x) e o answers)) (sym h.1) h.2
+    → ComesAs (move_after E x) r (single_value E (receiver_of x) e (called E e) answers)
+called_first E x e answers r h = subst (λ (o : Option Call). ComesAs (move_after E x) r (single_value E (receiver_of x) e o answers)) (sym h.1) h.2
 
 -- an expression alone that is a call
 pub called_alone : (E : Env) (e : NumberedExp) (answers : List Answer) (r : Result (StmtOutcome × Bor (List Answer)) Interrupt) → SingleCallComes E (stm.Call e) answers (Some r) (called E e)
-    → ComesAs (outcome_of E (stm.Call e)) r (single_alone E e (called E e) answers)
-called_alone E e answers r h = subst (λ (o : Option Call). ComesAs (outcome_of E (stm.Call e)) r (single_alone E e o answers)) (sym h.1) h.2
+    → ComesAs (move_after E (stm.Call e)) r (single_alone E e (called E e) answers)
+called_alone E e answers r h = subst (λ (o : Option Call). ComesAs (move_after E (stm.Call e)) r (single_alone E e o answers)) (sym h.1) h.2
 
 -- ---- statements
 

@@ -23,7 +23,7 @@ ghost use Rattle.ti_eval.specs.declared.frame.Slot.{Slot as Kept};
 ghost use Rattle.ti_eval.specs.Comes.{Comes, ComesAs};
 ghost use Rattle.ti_eval.specs.Envs.{env_of};
 ghost use Rattle.ti_eval.specs.Frames.{method_seen, slot_of, slots_of};
-ghost use Rattle.ti_moves.specs.Outcomes.{method_at, outcome_of, type_given, type_received};
+ghost use Rattle.ti_moves.specs.Outcomes.{method_at, move_after, type_given, type_received};
 ghost use Rattle.ti_moves.specs.Receiving.{stm_seen, dest_seen, receiver_of, right_seen};
 ghost use Rattle.ti_slice.specs.Mirrors.SingleCalls.{SingleCallComes, single_found, single_received};
 
@@ -162,7 +162,7 @@ fn call_method<'a, 'c>(
     args: &[Expr],
     answers: &'a [CanonicalAnswer],
 ) -> Result<(StmtOutcome<'c>, &'a [CanonicalAnswer]), Interrupt>
-    ensures { (object : Option NumberedExp) (x : NumberedStm) → ComesAs (outcome_of (env_of env.now) x) result
+    ensures { (object : Option NumberedExp) (x : NumberedStm) → ComesAs (move_after (env_of env.now) x) result
         (slice.single_calling (env_of env.now) (receiver_of x) (made_call place object (numbered_exps (map expression_of args.now))
         (method_at (program_of env.now.program.now) number)) answers.now) }
 {
@@ -227,7 +227,7 @@ fn receive<'a, 'c>(
     right: RightSide,
     answers: &'a [CanonicalAnswer],
 ) -> Result<(StmtOutcome<'c>, &'a [CanonicalAnswer]), Interrupt>
-    ensures { ComesAs (outcome_of (env_of env.now) (statement_of stmt.now)) result
+    ensures { ComesAs (move_after (env_of env.now) (statement_of stmt.now)) result
         (single_received (env_of env.now) (receiver_of (statement_of stmt.now)) (right_seen (env_of env.now) right.entry) answers.now) }
 {
     let receiver = dest_at(Some(stmt));
@@ -246,7 +246,7 @@ fn assign_value<'a, 'c>(
     expr: &Expr,
     answers: &'a [CanonicalAnswer],
 ) -> Result<(StmtOutcome<'c>, &'a [CanonicalAnswer]), Interrupt>
-    ensures { ComesAs (outcome_of (env_of env.now) (statement_of stmt.now)) result
+    ensures { ComesAs (move_after (env_of env.now) (statement_of stmt.now)) result
         (slice.single_value (env_of env.now) (receiver_of (statement_of stmt.now)) (expression_of expr.now)
         (called (env_of env.now) (expression_of expr.now)) answers.now) }
 {
@@ -263,7 +263,7 @@ fn step<'a, 'c>(
     stmt: &'c Stmt,
     answers: &'a [CanonicalAnswer],
 ) -> Result<(StmtOutcome<'c>, &'a [CanonicalAnswer]), Interrupt>
-    ensures { (at : At) → ComesAs (outcome_of (env_of env.now) (statement_of stmt.now)) result
+    ensures { (at : At) → ComesAs (move_after (env_of env.now) (statement_of stmt.now)) result
         (slice.single_value (env_of env.now) (receiver_of (statement_of stmt.now)) (exp.Int at (pos 1)) None answers.now) }
 {
     let one = VarValue::plain(Value::Int(1));
@@ -280,7 +280,7 @@ fn broadcast<'a, 'c>(
     answers: &'a [CanonicalAnswer],
 ) -> Result<(StmtOutcome<'c>, &'a [CanonicalAnswer]), Interrupt>
     ensures { (x : NumberedStm) (value : NumberedExp) → type_received (env_of env.now) x ≡ type_here (env_of env.now) value
-        → ComesAs (outcome_of (env_of env.now) x) result (slice.single_broadcast (env_of env.now) (receiver_of x) place value
+        → ComesAs (move_after (env_of env.now) x) result (slice.single_broadcast (env_of env.now) (receiver_of x) place value
         (expression_of root.now) answers.now) }
 {
     let (h, answers) = evaluate(alloc, env, root, answers)?;
@@ -309,7 +309,7 @@ fn initialize<'a, 'c>(
     answers: &'a [CanonicalAnswer],
 ) -> Result<(StmtOutcome<'c>, &'a [CanonicalAnswer]), Interrupt>
     requires { type_received (env_of env.now) (statement_of stmt.now) ≡ type_given (env_of env.now) (initial_of value.now) }
-    ensures { ComesAs (outcome_of (env_of env.now) (statement_of stmt.now)) result
+    ensures { ComesAs (move_after (env_of env.now) (statement_of stmt.now)) result
         (slice.single_initial (env_of env.now) (receiver_of (statement_of stmt.now)) (initial_of value.now) answers.now) }
 {
     match value {
@@ -339,7 +339,7 @@ fn initialize<'a, 'c>(
 
 // The arrival at an exchange, without a contribution.
 fn exchange<'c>(place: Place) -> StmtOutcome<'c>
-    ensures { (env : Where) (x : NumberedStm) → outcome_of env x result ≡ move.Meets (slice.exchange_wait place) deposit.Nothing [] }
+    ensures { (env : Where) (x : NumberedStm) → move_after env x result ≡ move.Meets (slice.exchange_wait place) deposit.Nothing [] }
 {
     StmtOutcome::Meets {
         collective: CollectiveCall {
@@ -361,7 +361,7 @@ fn member_statement<'a, 'c>(
     name: u32,
     answers: &'a [CanonicalAnswer],
 ) -> Result<(StmtOutcome<'c>, &'a [CanonicalAnswer]), Interrupt>
-    ensures { (x : NumberedStm) → ComesAs (outcome_of (env_of env.now) x) result
+    ensures { (x : NumberedStm) → ComesAs (move_after (env_of env.now) x) result
         (slice.single_member (env_of env.now) place (expression_of receiver.now)
         (member_called (env_of env.now).program (this_of (env_of env.now).method) (expression_of receiver.now) name) answers.now) }
 {
@@ -383,7 +383,7 @@ fn uncalled_statement<'a, 'c>(
     expr: &Expr,
     answers: &'a [CanonicalAnswer],
 ) -> Result<(StmtOutcome<'c>, &'a [CanonicalAnswer]), Interrupt>
-    ensures { (x : NumberedStm) → ComesAs (outcome_of (env_of env.now) x) result
+    ensures { (x : NumberedStm) → ComesAs (move_after (env_of env.now) x) result
         (slice.single_alone (env_of env.now) (expression_of expr.now) None answers.now) }
 {
     match expr {
@@ -404,7 +404,7 @@ fn expr_statement<'a, 'c>(
     expr: &Expr,
     answers: &'a [CanonicalAnswer],
 ) -> Result<(StmtOutcome<'c>, &'a [CanonicalAnswer]), Interrupt>
-    ensures { ComesAs (outcome_of (env_of env.now) (stm.Call (expression_of expr.now))) result
+    ensures { ComesAs (move_after (env_of env.now) (stm.Call (expression_of expr.now))) result
         (slice.single_alone (env_of env.now) (expression_of expr.now) (called (env_of env.now) (expression_of expr.now)) answers.now) }
 {
     match call(alloc, env, expr, answers) {
@@ -423,7 +423,7 @@ fn return_value<'a, 'c>(
     value: &Option<Expr>,
     answers: &'a [CanonicalAnswer],
 ) -> Result<(StmtOutcome<'c>, &'a [CanonicalAnswer]), Interrupt>
-    ensures { (x : NumberedStm) → ComesAs (outcome_of (env_of env.now) x) result
+    ensures { (x : NumberedStm) → ComesAs (move_after (env_of env.now) x) result
         (slice.single_return (env_of env.now) place (maybe_of expression_of value.now) answers.now) }
 {
     if gives_single(env.method) {
@@ -440,7 +440,7 @@ fn existing_statement<'a, 'c>(
     stmt: &'c Stmt,
     answers: &'a [CanonicalAnswer],
 ) -> Result<(StmtOutcome<'c>, &'a [CanonicalAnswer]), Interrupt>
-    ensures { ComesAs (outcome_of (env_of env.now) (statement_of stmt.now)) result
+    ensures { ComesAs (move_after (env_of env.now) (statement_of stmt.now)) result
         (slice.single_statement (env_of env.now) (statement_of stmt.now) answers.now) }
 {
     match stmt {
@@ -461,7 +461,7 @@ pub fn single_statement<'a, 'c>(
     stmt: Option<&'c Stmt>,
     answers: &'a [CanonicalAnswer],
 ) -> Result<(StmtOutcome<'c>, &'a [CanonicalAnswer]), Interrupt>
-    ensures { ComesAs (outcome_of (env_of env.now) (stm_seen stmt.entry)) result
+    ensures { ComesAs (move_after (env_of env.now) (stm_seen stmt.entry)) result
         (slice.single_statement (env_of env.now) (stm_seen stmt.entry) answers.now) }
 {
     match stmt {

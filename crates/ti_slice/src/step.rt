@@ -6,7 +6,7 @@ ghost use Rattle.ti_lang.specs.Program.Views.{program_of};
 ghost use Rattle.ti_align.specs.Slice.{single_statement as single_statement_spec};
 ghost use Rattle.ti_eval.specs.declared.frame.Resume.TheVariants.{Here};
 ghost use Rattle.ti_eval.specs.Comes.{ComesAs};
-ghost use Rattle.ti_moves.specs.Outcomes.{outcome_of};
+ghost use Rattle.ti_moves.specs.Outcomes.{move_after};
 ghost use Rattle.ti_exec.specs.declared.process.ControlMode.TheVariants.{Walks};
 ghost use Rattle.ti_exec.specs.States.{IsNormalized, IsWalking, IsReceiving, env_in, innermost_stmt};
 ghost use Rattle.ti_slice.specs.Mirrors.Step.{IsSliceTurn, ActsIn};
@@ -28,7 +28,7 @@ fn statement_outcome<'a, 'c>(
     parts: &'c ProgramData,
 ) -> Result<(StmtOutcome<'c>, &'a [CanonicalAnswer]), Interrupt>
     requires { 0 < length machine.now.top.levels.items }
-    ensures { ComesAs (outcome_of (env_in (program_of parts.now) machine.now) (innermost_stmt (program_of parts.now) machine.now.top)) result
+    ensures { ComesAs (move_after (env_in (program_of parts.now) machine.now) (innermost_stmt (program_of parts.now) machine.now.top)) result
         (single_statement_spec (env_in (program_of parts.now) machine.now) (innermost_stmt (program_of parts.now) machine.now.top) machine.now.answers.items) }
 {
     single_statement(

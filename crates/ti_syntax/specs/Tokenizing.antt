@@ -36,8 +36,8 @@ first_passes p [] = false
 first_passes p (b ∷ l) = p b
 
 -- a byte that represents itself in a string: no control byte but the tab, and neither the quote nor the backslash
-abbrev pub is_plain : ℕ → Bool
-is_plain b = b == 9 || is_in_range 32 126 b && not (b == 34) && not (b == 92) || nat_le 128 b
+abbrev pub is_unescaped : ℕ → Bool
+is_unescaped b = b == 9 || is_in_range 32 126 b && not (b == 34) && not (b == 92) || nat_le 128 b
 
 -- the value of a byte after a backslash; None if it is no escape
 abbrev pub escaped : ℕ → Option ℕ
@@ -50,7 +50,7 @@ escaped b =
 
 -- these bytes are one item of a string literal, with this byte as its value
 pub data IsItem : List ℕ → ℕ → Type 0 where
-  plain : (b : ℕ) → is_plain b ≡ true → IsItem (b ∷ []) b
+  plain : (b : ℕ) → is_unescaped b ≡ true → IsItem (b ∷ []) b
   -- an escape: a backslash and a byte
   escape : (b : ℕ) {byte : ℕ} → escaped b ≡ Some byte → IsItem (92 ∷ b ∷ []) byte
 

@@ -10,7 +10,7 @@ use Rattle.ti_base.specs.declared.action.ViewHow.{ViewHow}
 use Rattle.ti_base.specs.Cells.{suits}
 use Rattle.ti_base.specs.Ranges.{Range, is_empty_range, shift_range}
 use Rattle.ti_base.specs.Rects.{first_range, second_range, third_range, is_empty, empty_rect, of_ranges, translate_rect}
-use Rattle.ti_heap.specs.Contents.{Cell, same_cell, GridMap, Made, Contents, empty_contents, with_cell_value, with_thing, dropped_made, without_region, WritesCell}
+use Rattle.ti_heap.specs.Contents.{CellIndex, same_cell, GridMap, Made, Contents, empty_contents, with_cell_value, with_thing, dropped_made, without_region, WritesCell}
 
 -- ---- how much a process has made
 
@@ -38,7 +38,7 @@ one_more_at_most f (Err e) old new values grid ok err q n few =
 pub as_many : (s t : Contents) (region : ℕ) → t ≡ without_region region s → (q n : ℕ) → length (s.made q) ≤ n → length (t.made q) ≤ n
 as_many s t region is q n few = subst (λ (x : Contents). length (x.made q) ≤ n) (sym is) (omega (arith, length-map (s.made q) (dropped_made region), few))
 
-pub as_many_written : (s t : Contents) (o : Option Cell) (v : Value) (r : Result (Unit {0}) FaultKind) → WritesCell s o v r t → (q n : ℕ) → length (s.made q) ≤ n
+pub as_many_written : (s t : Contents) (o : Option CellIndex) (v : Value) (r : Result (Unit {0}) FaultKind) → WritesCell s o v r t → (q n : ℕ) → length (s.made q) ≤ n
     → length (t.made q) ≤ n
 as_many_written s t None v r w q n few = subst (λ (x : Contents). length (x.made q) ≤ n) (sym w.1) few
 as_many_written s t (Some cell) v r w q n few = subst (λ (x : Contents). length (x.made q) ≤ n) (sym w.1) few
@@ -49,7 +49,7 @@ has_serials s q n few small = omega (arith, few, small)
 -- ---- cells
 
 -- a write takes no cell away
-pub still_there : (s t : Contents) (cell : Cell) (v : Value) → t ≡ with_cell_value cell v s → (other : Cell) → IsSome (s.held other) → IsSome (t.held other)
+pub still_there : (s t : Contents) (cell : CellIndex) (v : Value) → t ≡ with_cell_value cell v s → (other : CellIndex) → IsSome (s.held other) → IsSome (t.held other)
 still_there s t cell v is other there = subst (λ (x : Contents). IsSome (x.held other)) (sym is) (by (same_cell other cell))
   where
     by : (b : Bool) → IsSome (if b then Some v else s.held other)

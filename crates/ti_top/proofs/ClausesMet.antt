@@ -38,7 +38,7 @@ use Rattle.ti_top.specs.Mirrors.JobView.{artifacts_in, RanNothing, WasRun, WasRe
 use Rattle.ti_top.specs.CommandCall.{most_read, CommandCall, IsCommand, IsNoCommand, file_in, named_file, SinkRose, ErrRose, IsPreempted, WantsReport}
 use Rattle.ti_top.specs.Clauses.{IsAcceptedIn, IsRefusalIn, InfersMarks, IsReadWhole, IsWholeIn, HasText, ReadsText, MakesText, GetsText}
 use Rattle.ti_top.specs.Clauses.{RefusesExactly, KeepsRun, RunsCode, CountsInstructions, WhereAccepted, WhereRun, WritesAll, WritesOutput}
-use Rattle.ti_top.specs.Clauses.{HasAlignedRun, IsDeterminate, EndsRun, NothingFailed, IsComplete, KeepsContractBesideErr, Says, before_err, KeepsContract}
+use Rattle.ti_top.specs.Clauses.{HasAlignedRun, IsDeterminate, EndsRun, NothingFailed, AnswersCompletely, KeepsContractBesideErr, Says, before_err, KeepsContract}
 use Rattle.ti_top.specs.Traces.{IsWrongTrace, VerifiesTrace, TraceDecides}
 use Rattle.ti_top.specs.Inference.{marks_text}
 use Rattle.ti_top.specs.Mirrors.Compiling.{HasNoProgram}
@@ -238,7 +238,7 @@ pub record Clauses (job : Job) (c : CommandCall) : Type 0 where
   pub end : EndsRun job c
   pub trace : VerifiesTrace job c
   pub inference : InfersMarks job c
-  pub completeness : NothingFailed job c → IsComplete job c
+  pub completeness : NothingFailed job c → AnswersCompletely job c
 
 job_same : (c : CommandCall) (a b : Job) → IsCommand c a → IsCommand c b → a ≡ b
 job_same c a b x y = cc
@@ -314,7 +314,7 @@ whole_read Gen job c named whole = absurd named
 whole_read _ job c named whole = whole
 
 -- behind a text without a refusal the trace is missing
-complete_behind : (job : Job) (c : CommandCall) → HasFile job.mode → StatusFrom CantRead c → NothingFailed job c → LacksBehind job c → IsComplete job c
+complete_behind : (job : Job) (c : CommandCall) → HasFile job.mode → StatusFrom CantRead c → NothingFailed job c → LacksBehind job c → AnswersCompletely job c
 complete_behind job c named from nothing behind = record {
   whole = whole_read job.mode job c named (behind.whole (never CantRead c 3 from (λ e. omega arith) (λ e. omega arith)));
   refused = λ refusal is. absurd (behind.lack.unrefused refusal (refusal_here job.mode c.text refusal (verifies_marked job.mode behind.lack.mode) is));
@@ -1226,7 +1226,7 @@ meets_command before job c command some work leaves written =
       beside_err = beside_command before job c x leaves from;
       err = writes_err c before all.says (beside_command before job (before_err c before) earlier leaves (inl refl)) ended;
       flushes = flushes_err c before ended;
-      completeness = λ other some. subst (λ j. NothingFailed j c → IsComplete j c) (job_same c job other command some) all.clauses.completeness;
+      completeness = λ other some. subst (λ j. NothingFailed j c → AnswersCompletely j c) (job_same c job other command some) all.clauses.completeness;
     }
 
 -- ---- a call whose words weren't read, for want of memory

@@ -20,7 +20,7 @@ use Rattle.ti_top.specs.declared.fault.Fault.{Fault}
 use Rattle.ti_top.specs.Run.{HasFile, RunsProgram, HasCode, Verifies, Infers, HasHistory, run_of, EndsWithFault}
 use Rattle.ti_top.specs.Reports.{wanted_watchers, output}
 use Rattle.ti_top.specs.CommandCall.{most_read, CommandCall, IsCommand, IsNoCommand, SinkRose, IsPreempted, WantsReport}
-use Rattle.ti_top.specs.Clauses.{IsRefusalIn, ReadsText, MakesText, GetsText, WritesAll, NothingFailed, IsComplete, KeepsContract}
+use Rattle.ti_top.specs.Clauses.{IsRefusalIn, ReadsText, MakesText, GetsText, WritesAll, NothingFailed, AnswersCompletely, KeepsContract}
 use Rattle.ti_top.specs.Traces.{LacksTrace, TraceDecides}
 use Rattle.ti_top.specs.Agreement.{IsUndisturbed, AskAlike, IsBySeveral, BothGrew, EndSame, EachSame, EndAlike}
 use Rattle.ti_blame.specs.declared.mark.Mark.{Mark}
@@ -111,7 +111,7 @@ of_run job c m x unverified (inr (inr (inl seven))) = absurd (unverified ((m.bes
 of_run job c m x unverified (inr (inr (inr four))) = absurd (unverified four.1.mode)
 
 -- a text is refused
-refused_alike : (job : Job) (c d : CommandCall) → KeepsContract c → KeepsContract d → IsCommand c job → IsCommand d job → IsComplete job c → IsComplete job d
+refused_alike : (job : Job) (c d : CommandCall) → KeepsContract c → KeepsContract d → IsCommand c job → IsCommand d job → AnswersCompletely job c → AnswersCompletely job d
     → c.text ≡ d.text → (refusal : Refusal) → IsRefusalIn job.mode c.text refusal → EndAlike c d
 refused_alike job c d m n x y whole all same refusal is =
     let is_too : IsRefusalIn job.mode d.text refusal = subst (λ text. IsRefusalIn job.mode text refusal) same is in
@@ -173,7 +173,7 @@ unrun_alike job c d m n x y same a b mode program has = all_alike c d same (code
         ∙ sym ((n.beside_err.code job y).there (done d n y b) has_code program (subst (λ text. HasProgram text program) same has))
 
 -- a text with a program is run
-run_alike : OneAnswer → (job : Job) (c d : CommandCall) → KeepsContract c → KeepsContract d → IsUndisturbed c → IsUndisturbed d → IsCommand c job → IsCommand d job → IsComplete job c → IsComplete job d
+run_alike : OneAnswer → (job : Job) (c d : CommandCall) → KeepsContract c → KeepsContract d → IsUndisturbed c → IsUndisturbed d → IsCommand c job → IsCommand d job → AnswersCompletely job c → AnswersCompletely job d
     → c.text ≡ d.text → (c.status ≡ 0) ⊎ (c.status ≡ 2) → (d.status ≡ 0) ⊎ (d.status ≡ 2) → RunsProgram job.mode
     → (program : ProgramView) → HasProgram c.text program → EndAlike c d
 run_alike known job c d m n u v x y whole all same a b runs program has = record {
@@ -193,7 +193,7 @@ run_alike known job c d m n u v x y whole all same a b runs program has = record
     codes e k z (inl none) p there = (k.beside_err.code job z).there none (runs_has job.mode runs) p there
     codes e k z (inr two) p there = (k.beside_err.code job z).there_at_two two p there
 
-    counts : (e : CommandCall) → KeepsContract e → IsCommand e job → IsComplete job e → (p : ProgramView) → HasProgram e.text p
+    counts : (e : CommandCall) → KeepsContract e → IsCommand e job → AnswersCompletely job e → (p : ProgramView) → HasProgram e.text p
         → AreFinishedCounts (program_code p) (run_of p job) e.history e.done
     counts e k z complete p there = (k.beside_err.count job z).complete runs p there (complete.ended runs p there)
 
@@ -256,7 +256,7 @@ none_some : (bytes : List ℕ) → ◌≡◌ {A = Option (List ℕ)} None (Some 
 none_some bytes e = cc
 
 -- a trace is held against a text with a program
-verified_alike : (job : Job) (c d : CommandCall) → KeepsContract c → KeepsContract d → AskAlike c d → IsUndisturbed c → IsUndisturbed d → IsCommand c job → IsCommand d job → IsComplete job c → IsComplete job d
+verified_alike : (job : Job) (c d : CommandCall) → KeepsContract c → KeepsContract d → AskAlike c d → IsUndisturbed c → IsUndisturbed d → IsCommand c job → IsCommand d job → AnswersCompletely job c → AnswersCompletely job d
     → c.text ≡ d.text → Verifies job.mode → Accepts job c → Accepts job d → (program : ProgramView) → HasProgram c.text program → EndAlike c d
 verified_alike job c d m n ask u v x y whole all same verifies a b program has = by (content_of c.source.files job.against) refl
   where
@@ -318,7 +318,7 @@ verified_alike job c d m n ask u v x y whole all same verifies a b program has =
         decided bytes (record { tells = ask.told; some = e }) (all.verified verifies program has_too bytes (record { tells = told; some = f })) a
 
 -- a text with a program or a refusal, in a mode in which its marks count
-marked_alike : OneAnswer → (job : Job) (c d : CommandCall) → KeepsContract c → KeepsContract d → AskAlike c d → IsUndisturbed c → IsUndisturbed d → IsCommand c job → IsCommand d job → IsComplete job c → IsComplete job d
+marked_alike : OneAnswer → (job : Job) (c d : CommandCall) → KeepsContract c → KeepsContract d → AskAlike c d → IsUndisturbed c → IsUndisturbed d → IsCommand c job → IsCommand d job → AnswersCompletely job c → AnswersCompletely job d
     → c.text ≡ d.text → (Infers job.mode → ⊥) → EndAlike c d
 marked_alike known job c d m n ask u v x y whole all same marked = by (known.some c.text)
   where
@@ -366,7 +366,7 @@ of_two c NoMemory is k = absurd (k.memory is)
 of_two c (NoRun line) is k = absurd (k.not_wrong is)
 
 -- a text whose marks are inferred
-inferred_alike : OneAnswer → (job : Job) (c d : CommandCall) → KeepsContract c → KeepsContract d → IsUndisturbed c → IsUndisturbed d → IsCommand c job → IsCommand d job → IsComplete job c → IsComplete job d
+inferred_alike : OneAnswer → (job : Job) (c d : CommandCall) → KeepsContract c → KeepsContract d → IsUndisturbed c → IsUndisturbed d → IsCommand c job → IsCommand d job → AnswersCompletely job c → AnswersCompletely job d
     → c.text ≡ d.text → job.mode ≡ Infer → (c.status ≡ 4 → ⊥) → EndAlike c d
 inferred_alike known job c d m n u v x y whole all same mode readable =
     elim (of_two c m.beside_err.words.known.0 m.beside_err.words.known.1 kept) [ inl is ↦ accepted is | inr is ↦ refused is ]
@@ -419,7 +419,7 @@ inferred_alike known job c d m n u v x y whole all same mode readable =
         done_too (inr (inr (inr lacks))) = absurd (subst Verifies mode lacks.1.mode)
 
 -- a text that both have read or made whole
-judged_alike : OneAnswer → (job : Job) (c d : CommandCall) → KeepsContract c → KeepsContract d → AskAlike c d → IsUndisturbed c → IsUndisturbed d → IsCommand c job → IsCommand d job → IsComplete job c → IsComplete job d
+judged_alike : OneAnswer → (job : Job) (c d : CommandCall) → KeepsContract c → KeepsContract d → AskAlike c d → IsUndisturbed c → IsUndisturbed d → IsCommand c job → IsCommand d job → AnswersCompletely job c → AnswersCompletely job d
     → c.text ≡ d.text → (Infers job.mode → c.status ≡ 4 → ⊥) → EndAlike c d
 judged_alike known job c d m n ask u v x y whole all same readable = by job.mode refl
   where
@@ -436,7 +436,7 @@ nothing_failed : (job : Job) (c : CommandCall) → IsUndisturbed c → (HasFile 
 nothing_failed job c u there = record { source = u.source; out = u.out; err = u.err; there = there; memory = u.memory }
 
 -- where nothing failed the text was read whole
-read_text : (job : Job) (c : CommandCall) (bytes : List ℕ) → HasFile job.mode → Holds c.source job.file bytes → IsComplete job c → c.text ≡ take most_read bytes
+read_text : (job : Job) (c : CommandCall) (bytes : List ℕ) → HasFile job.mode → Holds c.source job.file bytes → AnswersCompletely job c → c.text ≡ take most_read bytes
 read_text job c bytes named holds whole = (was_read job.mode job c named whole.whole).told bytes holds
 
 read_alike : OneAnswer → (job : Job) (c d : CommandCall) → KeepsContract c → KeepsContract d → AskAlike c d → IsUndisturbed c → IsUndisturbed d → IsCommand c job → IsCommand d job

@@ -3,7 +3,7 @@ use Rattle.std.proofs.Common.{◌≡◌, inl, inr, ℕ, ◌≤◌, ◌*◌, nat_
 use Rattle.std.proofs.lemmas.Bool.Decides.{leb_tells}
 use Rattle.std.proofs.lemmas.Option.{same_Some}
 use Rattle.ti_words.specs.Uses.{Word}
-use Rattle.ti_words.specs.Job.{Values, parse_values, mode_of, file_of, against_of, seed_of, is_number, decimal_value, number_in, number_within, most_total_fuel, procs_of, workers_of, fuel_of, job_by, job_of}
+use Rattle.ti_words.specs.Job.{Values, parse_values, mode_of, file_of, against_of, seed_of, is_number_word, decimal_value, number_in, number_within, most_total_fuel, procs_of, workers_of, fuel_of, job_by, job_of}
 use Rattle.ti_words.specs.declared.job.Job.{Job}
 use Rattle.ti_words.specs.declared.job.Mode.{Mode}
 use Rattle.ti_store.specs.Conditions.{IsWithinRunLimits}
@@ -46,7 +46,7 @@ picked false b c k n e = no_some n e
 -- a number that a word writes
 in_range : (least most : ℕ) (word : Word) (n : ℕ) → number_in least most word ≡ Some n → (least ≤ n) × (n ≤ most)
 in_range least most word n e =
-    let p = picked (is_number word) (nat_le least (decimal_value word)) (nat_le (decimal_value word) most) (decimal_value word) n e in
+    let p = picked (is_number_word word) (nat_le least (decimal_value word)) (nat_le (decimal_value word) most) (decimal_value word) n e in
     (subst (λ k. least ≤ k) p.2 (low least (decimal_value word) p.0), subst (λ k. k ≤ most) p.2 (low (decimal_value word) most p.1))
 
 -- or the default

@@ -13,14 +13,14 @@ use Rattle.ti_rules.specs.RefusalOf.{HasTree, IsRefusal}
 use Rattle.ti_rules.proofs.Lemmas.{first_only, OneReading, one_tree_of, not_among}
 use Rattle.ti_blame.specs.declared.mark.Mark.{Mark}
 use Rattle.ti_infer.specs.Stripped.{stripped}
-use Rattle.ti_infer.specs.Answer.{IsGreatest, IsFirstUnaligned}
+use Rattle.ti_infer.specs.Answer.{IsGreatestMarking, IsFirstUnaligned}
 use Rattle.ti_top.specs.Inference.{HasMarking, IsUnmarkedTreeRefusal, of_names, of_types, of_marks, IsUnmarkedRefusal, of_text, of_tree}
 
 -- that a program has one answer of the inference
 pub record OneInference : Type 0 where
-  pub one_marking : (p : ProgramView) (m n : List Mark) → IsGreatest p m → IsGreatest p n → m ≡ n
+  pub one_marking : (p : ProgramView) (m n : List Mark) → IsGreatestMarking p m → IsGreatestMarking p n → m ≡ n
   pub one_place : (p : ProgramView) (a b : Place) → IsFirstUnaligned p a → IsFirstUnaligned p b → a ≡ b
-  pub never_both : (p : ProgramView) (m : List Mark) (a : Place) → IsGreatest p m → IsFirstUnaligned p a → ⊥
+  pub never_both : (p : ProgramView) (m : List Mark) (a : Place) → IsGreatestMarking p m → IsFirstUnaligned p a → ⊥
 
 -- a text with two trees has one program
 one_program_of : OneReading → (text : List ℕ) (a b : TextTree) (p q : ProgramView) → HasTree text a → HasTree text b → Numbers a p → Numbers b q → p ≡ q
@@ -32,7 +32,7 @@ one_program_of known text a b p q has other numbers others =
 pub one_marking : OneReading → OneInference → (text : List ℕ) (a b : List Mark) → HasMarking text a → HasMarking text b → a ≡ b
 one_marking known infers text a b has other =
     let same : has.program ≡ other.program = one_program_of known text has.tree other.tree has.program other.program has.has_tree other.has_tree has.numbers other.numbers in
-    infers.one_marking (stripped other.program) a b (subst (λ (p : ProgramView). IsGreatest (stripped p) a) same has.greatest) other.greatest
+    infers.one_marking (stripped other.program) a b (subst (λ (p : ProgramView). IsGreatestMarking (stripped p) a) same has.greatest) other.greatest
 
 -- ---- one refusal
 

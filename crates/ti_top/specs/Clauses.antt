@@ -293,7 +293,7 @@ pub record NothingFailed (job : Job) (c : CommandCall) : Type 0 where
 
 -- Completeness: if nothing failed, the whole text is there and decides: a text without a refusal has a program; if the mode runs it, it is run
 -- until all processes have ended or one has a fault; and if a trace is checked against it, the trace decides, unless it is missing.
-pub record IsComplete (job : Job) (c : CommandCall) : Type 0 where
+pub record AnswersCompletely (job : Job) (c : CommandCall) : Type 0 where
   pub whole : HasText job c
   pub refused : (refusal : Refusal) → IsRefusalIn job.mode c.text refusal → c.status ≡ 1
   pub accepted : HasNone (IsRefusalIn job.mode c.text) → (c.status ≡ 0) ⊎ (c.status ≡ 2) ⊎ (c.status ≡ 7)
@@ -308,4 +308,4 @@ pub record KeepsContract (c : CommandCall) : Type 0 where
   pub beside_err : KeepsContractBesideErr c
   pub err : WritesErr c
   pub flushes : FlushesErr c
-  pub completeness : (job : Job) → IsCommand c job → NothingFailed job c → IsComplete job c
+  pub completeness : (job : Job) → IsCommand c job → NothingFailed job c → AnswersCompletely job c

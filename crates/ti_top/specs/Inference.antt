@@ -14,7 +14,7 @@ use Rattle.ti_blame.specs.declared.mark.MarkKind.{MarkKind}
 use Rattle.ti_blame.specs.declared.mark.MarkKind.TheVariants as kind
 use Rattle.ti_blame.specs.declared.mark.Mark.{Mark}
 use Rattle.ti_infer.specs.Stripped.{stripped}
-use Rattle.ti_infer.specs.Answer.{IsGreatest, IsFirstUnaligned}
+use Rattle.ti_infer.specs.Answer.{IsGreatestMarking, IsFirstUnaligned}
 
 -- ---- what is inferred
 
@@ -26,7 +26,7 @@ pub record HasMarking (text : List ℕ) (marks : List Mark) : Type 0 where
   pub program : ProgramView
   pub numbers : Numbers tree program
   pub typed : type_refusals (stripped program) ≡ []
-  pub greatest : IsGreatest (stripped program) marks
+  pub greatest : IsGreatestMarking (stripped program) marks
 
 -- some marking is the greatest
 abbrev pub HasSomeMarking : List ℕ → Type 0

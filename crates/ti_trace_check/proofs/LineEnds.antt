@@ -30,7 +30,7 @@ use Rattle.ti_base.specs.FaultNames.{name_of}
 use Rattle.ti_base.specs.Ranges.{Range}
 use Rattle.ti_base.specs.Rects.{first_range, second_range, third_range, is_empty}
 use Rattle.ti_watch.specs.Texts.{place_text, comma_list, point_text, range_text, range_texts, rect_text, id_text, object_text, grid_text, trace_value_text, zero_text}
-use Rattle.ti_watch.specs.Acts.{action_word, optional, literal_number_text, collective_text, deposit_text, view_text, field_text, element_text, operands_text, act_text, answer_text}
+use Rattle.ti_watch.specs.Acts.{action_word, optional, literal_number_text, collective_text, deposit_text, view_text, field_text, element_text, action_operands_text, act_text, answer_text}
 use Rattle.ti_watch.specs.Reports.{entry_text}
 use Rattle.ti_trace_check.specs.Lines.{has_no_end}
 
@@ -206,7 +206,7 @@ field obj n = two _ _ (object obj) (number n)
 element : (g : Id) (at : Point) → No (element_text g at)
 element g at = two _ _ (grid g) (point at)
 
-operands : (a : Action) → No (operands_text a)
+operands : (a : Action) → No (action_operands_text a)
 operands (act.GetField obj n) = field obj n
 operands (act.PutField obj n x) = plus (field_text obj n ++ codes " ") (trace_value_text x) (plus (field_text obj n) (codes " ") (field obj n) (record { is = refl })) (value x)
 operands (act.NewObj class region) = two _ _ (number class) (number region)

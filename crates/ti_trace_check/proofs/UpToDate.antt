@@ -24,7 +24,7 @@ use Rattle.ti_store.specs.Stores.{StoreState, config_of, next_of, Produces, faul
 use Rattle.ti_store.specs.declared.act_err.ActErr.TheVariants as err
 use Rattle.ti_store.proofs.Lemmas.{next_acts, fault_more, end_more, answers_more, answers_still, world_more}
 use Rattle.ti_trace_check.specs.declared.replayed.ReplayedProc.{ReplayedProc}
-use Rattle.ti_trace_check.specs.Mirrors.Replaying.{action_for, place_of, action_of, standing_of, HoldsNext, IsUpToDate, told_more, TakesAnswer, StepsOnAnswer, steps_left, faults_left, AcceptsActions, TurnLeaves}
+use Rattle.ti_trace_check.specs.Mirrors.Replaying.{action_for, next_action_place, next_action_kind, standing_of, HoldsNext, IsUpToDate, told_more, TakesAnswer, StepsOnAnswer, steps_left, faults_left, AcceptsActions, TurnLeaves}
 use Rattle.ti_trace_check.proofs.ByCode.{OneNext, code_goes_on, seated}
 
 true_false : true ≡ false → ⊥
@@ -87,18 +87,18 @@ module _ (code : Code) (s : RunConfig) (es : List Entry) (i : ℕ) (replayed : R
   few : length replayed.process.answers ≤ s.fuel
   few = subst (λ xs. length xs ≤ s.fuel) (sym (ap (λ (x : ProcView). x.answers) y.process)) (answers_few s i (answers_of i es) y.there y.world)
 
-  next_taken : IsNext y.there (next_of (place_of replayed) (action_of replayed))
+  next_taken : IsNext y.there (next_of (next_action_place replayed) (next_action_kind replayed))
   next_taken = subst (IsNext y.there) (sym (next_back y.there replayed.next y.is_next)) y.is_next
 
   -- an entry that the process can take is that of its next action
-  only_next : (e : Entry) (t : CanTake s es i e) → t.next ≡ next_of (place_of replayed) (action_of replayed)
+  only_next : (e : Entry) (t : CanTake s es i e) → t.next ≡ next_of (next_action_place replayed) (next_action_kind replayed)
   only_next e t =
       let same : t.process ≡ y.there = after_same _ _ _ _ t.world y.world in
       next_same y.there _ _ (subst (λ p. IsNext p t.next) same t.is_next) next_taken
 
 -- the store takes what the process has next
 pub acting : (code : Code) (st : StoreState) (i : ℕ) (replayed : ReplayedProc) → IsUpToDate code (config_of st) st.entries i replayed → replayed.ended ≡ false
-    → store.HasNextAfter (config_of st) i (entries_of i st.entries) (next_of (place_of replayed) (action_of replayed))
+    → store.HasNextAfter (config_of st) i (entries_of i st.entries) (next_of (next_action_place replayed) (next_action_kind replayed))
 acting code st i replayed y u = record { unended = y.ended ∙ u; process = y.there; world = y.world; is_next = next_taken code (config_of st) st.entries i replayed y }
 
 or_none : (a b : Bool) → b ≡ false → (a || b) ≡ a
@@ -110,7 +110,7 @@ or_false a b x y = rw (x, y) refl
 
 -- the entry of what a process does, with its answer
 abbrev entry_with : ℕ → ReplayedProc → Answer → Entry
-entry_with i replayed answer = record { proc = i; place = place_of replayed; act = action_of replayed; answer = answer }
+entry_with i replayed answer = record { proc = i; place = next_action_place replayed; act = next_action_kind replayed; answer = answer }
 
 -- ---- turns
 
@@ -121,14 +121,14 @@ module _ (code : Code) (st : StoreState) (o : AcceptsActions code st) (run : IsR
   abbrev es : List Entry
   es = st.entries
 
-  can_take : (e : Entry) → has_fault es ≡ false → Produces st i (place_of old) (action_of old) e → CanTake s es i e
+  can_take : (e : Entry) → has_fault es ≡ false → Produces st i (next_action_place old) (next_action_kind old) e → CanTake s es i e
   can_take e f b = record {
     within = l;
     goes_on = f;
     unended = y.ended ∙ u;
     process = y.there;
     world = y.world;
-    next = next_of (place_of old) (action_of old);
+    next = next_of (next_action_place old) (next_action_kind old);
     is_next = next_taken code s es i old y;
     ready = b.ready;
     entry = b.entry;
@@ -138,7 +138,7 @@ module _ (code : Code) (st : StoreState) (o : AcceptsActions code st) (run : IsR
   goes true h = cc
   goes false h = h
 
-  module _ (answer : Answer) (new : StoreState) (d : IsDone st i (place_of old) (action_of old) answer new) where
+  module _ (answer : Answer) (new : StoreState) (d : IsDone st i (next_action_place old) (next_action_kind old) answer new) where
     abbrev here : Entry
     here = entry_with i old answer
 
@@ -155,8 +155,8 @@ module _ (code : Code) (st : StoreState) (o : AcceptsActions code st) (run : IsR
     seated_end : is_act old.next ≡ false → IsUpToDate code s all i (record old { ended = true })
     seated_end e =
         let end = end_left old.next e d.no_fault in
-        let still : answers_of i all ≡ answers_of i es = answers_still i es here refl (ap (λ b. not (b || is_fault (action_of old))) end) in
-        seated_with code s es all i old true still (end_more i es here refl ∙ or_right (has_end i es) (is_end (action_of old)) end) y
+        let still : answers_of i all ≡ answers_of i es = answers_still i es here refl (ap (λ b. not (b || is_fault (next_action_kind old))) end) in
+        seated_with code s es all i old true still (end_more i es here refl ∙ or_right (has_end i es) (is_end (next_action_kind old)) end) y
 
     answered : is_act old.next ≡ true → is_answered here ≡ true
     answered e = rw ((answered_act y.there old.next y.is_next e).0, d.no_fault) refl
@@ -184,7 +184,7 @@ module _ (code : Code) (st : StoreState) (o : AcceptsActions code st) (run : IsR
     seated_heard : OneNext → (replayed : ReplayedProc) → is_act old.next ≡ true → TakesAnswer old answer replayed → IsUpToDate code s all i replayed
     seated_heard one replayed e h =
         let q = world_on e in
-        let unended : has_end i all ≡ has_end i es = end_more i es here refl ∙ or_none (has_end i es) (is_end (action_of old)) (answered_act y.there old.next y.is_next e).0 in
+        let unended : has_end i all ≡ has_end i es = end_more i es here refl ∙ or_none (has_end i es) (is_end (next_action_kind old)) (answered_act y.there old.next y.is_next e).0 in
         seated code s o.follows o.within all fit i l q.0 q.1 one replayed (subst (λ t. HoldsNext t replayed) (answers e) h.stands) (unended ∙ y.ended ∙ sym h.ended)
 
     -- fewer steps are left
@@ -202,7 +202,7 @@ module _ (code : Code) (st : StoreState) (o : AcceptsActions code st) (run : IsR
 
     no_fault_here : faults_left new.entries ≡ faults_left es
     no_fault_here =
-        let none : has_fault new.entries ≡ false = ap has_fault after ∙ fault_more es here ∙ or_false (has_fault es) (is_fault (action_of old)) going d.no_fault in
+        let none : has_fault new.entries ≡ false = ap has_fault after ∙ fault_more es here ∙ or_false (has_fault es) (is_fault (next_action_kind old)) going d.no_fault in
         rw (none, going) refl
 
     -- the process went on, and was answered
@@ -228,9 +228,9 @@ module _ (code : Code) (st : StoreState) (o : AcceptsActions code st) (run : IsR
         lighter_on true e = lighter_heard one replayed e (m.hears e)
 
   -- behind a fault it stands where it stood
-  pub faulted : (new : StoreState) (kind : FaultKind) → IsRefused st i (place_of old) (action_of old) (err.Faulted kind) new → TurnLeaves code s es i old new.entries old true
+  pub faulted : (new : StoreState) (kind : FaultKind) → IsRefused st i (next_action_place old) (next_action_kind old) (err.Faulted kind) new → TurnLeaves code s es i old new.entries old true
   faulted new kind r =
-      let e = fault_entry i (place_of old) kind in
+      let e = fault_entry i (next_action_place old) kind in
       let after : new.entries ≡ es ++ e ∷ [] = ap (λ (x : StoreState). x.entries) r.1 in
       let unended : has_end i (es ++ e ∷ []) ≡ old.ended = end_more i es e refl ∙ or_none (has_end i es) false refl ∙ y.ended in
       let going : has_fault es ≡ false = goes st.halted r.0.goes_on in
@@ -247,10 +247,10 @@ module _ (code : Code) (st : StoreState) (o : AcceptsActions code st) (run : IsR
       last a = omega arith
 
   -- one that has to wait, or behind a fault, can take none
-  pub waits : (new : StoreState) → IsRefused st i (place_of old) (action_of old) err.NotYet new → TurnLeaves code s es i old new.entries old false
+  pub waits : (new : StoreState) → IsRefused st i (next_action_place old) (next_action_kind old) err.NotYet new → TurnLeaves code s es i old new.entries old false
   waits new r = (ap (λ (x : StoreState). x.entries) r.2, λ e t. r.1 (subst (IsReady s es i) (only_next code s es i old y e t) t.ready))
 
-  pub stopped : (new : StoreState) → IsRefused st i (place_of old) (action_of old) err.Halted new → TurnLeaves code s es i old new.entries old false
+  pub stopped : (new : StoreState) → IsRefused st i (next_action_place old) (next_action_kind old) err.Halted new → TurnLeaves code s es i old new.entries old false
   stopped new r = (ap (λ (x : StoreState). x.entries) r.1, λ e t. absurd (one_of_two st.halted (has_fault es) o.unhalted t.goes_on r.0))
     where
       one_of_two : (a b : Bool) → a ≡ false → b ≡ false → (a || b) ≡ true → ⊥

@@ -6,7 +6,7 @@ ghost use Rattle.ti_lang.specs.Program.Views.{value_type_of, type_use_of};
 ghost use Rattle.ti_rules.specs.Refusals.{refused_if};
 ghost use Rattle.ti_rules.specs.Mirrors.First.{earliest};
 ghost use Rattle.ti_rules.specs.declared.rule.Rule.TheVariants.{Y7};
-ghost use Rattle.ti_rules.specs.Broken.Words.{repeated_qualifiers, base_of, is_grid, base_word_refusals, grid_word_refusals, grid_refusals, type_word_refusals};
+ghost use Rattle.ti_rules.specs.Broken.Words.{repeated_qualifiers, base_of, is_grid_type, base_word_refusals, grid_word_refusals, grid_refusals, type_word_refusals};
 ghost use Rattle.ti_lang.specs.Typing.Kinds.{is_object};
 ghost use Rattle.ti_types.specs.Mirrors.Words.{qualifiers_again};
 
@@ -71,8 +71,8 @@ fn is_of_class(ty: &Ty) -> bool
     }
 }
 
-fn is_grid(ty: &Ty) -> bool
-    ensures { result ≡ is_grid (value_type_of ty.now) }
+fn is_grid_type(ty: &Ty) -> bool
+    ensures { result ≡ is_grid_type (value_type_of ty.now) }
 {
     matches!(
         ty,
@@ -90,7 +90,7 @@ fn base_word(may_be_single: bool, ty: &Ty, qualifier: Qualifier) -> Option<Refus
     let of_class = is_of_class(ty);
     if is_single_word(qualifier.word) {
         refused_if(
-            of_class || is_grid(ty) || !may_be_single,
+            of_class || is_grid_type(ty) || !may_be_single,
             Rule::Y7,
             qualifier.place,
         )

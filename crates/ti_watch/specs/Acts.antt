@@ -84,26 +84,26 @@ abbrev pub arrival_text : CollKind → Option ℕ → Deposit → List ℕ
 arrival_text kind arg deposit = codes " " ++ collective_text kind ++ codes " " ++ optional decimal arg ++ codes " " ++ deposit_text deposit
 
 -- all operands of an operation
-abbrev pub operands_text : Action → List ℕ
-operands_text (act.GetField obj field) = field_text obj field
-operands_text (act.PutField obj field value) = field_text obj field ++ codes " " ++ trace_value_text value
-operands_text (act.NewObj class region) = codes " " ++ decimal class ++ codes " " ++ decimal region
-operands_text (act.NewGrid zero domain region) = new_grid_text zero domain region
-operands_text (act.GetElem grid at) = element_text grid at
-operands_text (act.PutElem grid at value) = element_text grid at ++ codes " " ++ trace_value_text value
-operands_text (act.MakeView grid how) = view_of_text grid how
-operands_text (act.DomainOf grid) = codes " " ++ grid_text grid
-operands_text (act.Print literal value) = print_text literal value
-operands_text (act.Arrive kind arg deposit) = arrival_text kind arg deposit
-operands_text act.Depart = []
-operands_text (act.Take who) = codes " " ++ decimal who
-operands_text act.End = []
-operands_text (act.Fault kind) = codes " " ++ name_of kind
+abbrev pub action_operands_text : Action → List ℕ
+action_operands_text (act.GetField obj field) = field_text obj field
+action_operands_text (act.PutField obj field value) = field_text obj field ++ codes " " ++ trace_value_text value
+action_operands_text (act.NewObj class region) = codes " " ++ decimal class ++ codes " " ++ decimal region
+action_operands_text (act.NewGrid zero domain region) = new_grid_text zero domain region
+action_operands_text (act.GetElem grid at) = element_text grid at
+action_operands_text (act.PutElem grid at value) = element_text grid at ++ codes " " ++ trace_value_text value
+action_operands_text (act.MakeView grid how) = view_of_text grid how
+action_operands_text (act.DomainOf grid) = codes " " ++ grid_text grid
+action_operands_text (act.Print literal value) = print_text literal value
+action_operands_text (act.Arrive kind arg deposit) = arrival_text kind arg deposit
+action_operands_text act.Depart = []
+action_operands_text (act.Take who) = codes " " ++ decimal who
+action_operands_text act.End = []
+action_operands_text (act.Fault kind) = codes " " ++ name_of kind
 
 -- ---- operations and results
 
 abbrev pub act_text : Action → List ℕ
-act_text a = action_word a ++ operands_text a
+act_text a = action_word a ++ action_operands_text a
 
 abbrev pub answer_text : Answer → List ℕ
 answer_text Done = codes "done"

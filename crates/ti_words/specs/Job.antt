@@ -59,8 +59,8 @@ mode_of (Some word) =
     else None
 
 -- a number is 1 to 10 decimal digits and nothing else
-abbrev pub is_number : Word → Bool
-is_number word = nat_lt 0 (length word) && nat_le (length word) 10 && list_all is_ascii_digit word
+abbrev pub is_number_word : Word → Bool
+is_number_word word = nat_lt 0 (length word) && nat_le (length word) 10 && list_all is_ascii_digit word
 
 -- the number that decimal digits represent
 abbrev pub decimal_value : Word → ℕ
@@ -69,7 +69,7 @@ decimal_value word = digits_value 10 word
 -- the number that an argument represents, if it is one from `least` to `most`
 abbrev pub number_in : ℕ → ℕ → Word → Option ℕ
 number_in least most word =
-    if is_number word && nat_le least (decimal_value word) && nat_le (decimal_value word) most then Some (decimal_value word) else None
+    if is_number_word word && nat_le least (decimal_value word) && nat_le (decimal_value word) most then Some (decimal_value word) else None
 
 -- the number that an argument represents, if it is one from `least` to `most`; the default if there is no argument
 abbrev pub number_within : ℕ → ℕ → ℕ → Option Word → Option ℕ

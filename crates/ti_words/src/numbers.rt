@@ -2,7 +2,7 @@
 ghost use Rattle.std.specs.Prelude.{◌≡◌, ◌≤◌, IfSome, option_map};
 ghost use Rattle.std.specs.Char.{is_ascii_digit};
 ghost use Rattle.std.specs.List.{list_all};
-ghost use Rattle.ti_words.specs.Job.{is_number, number_in, number_within};
+ghost use Rattle.ti_words.specs.Job.{is_number_word, number_in, number_within};
 
 // The maximum number of digits, enough for each `u32`.
 const MOST_DIGITS: usize = 10;
@@ -15,8 +15,8 @@ fn has_digits_alone(word: &str) -> bool
 }
 
 // Whether an argument is a number: 1 to `MOST_DIGITS` decimal digits and nothing else.
-fn is_number(word: &str) -> bool
-    ensures { result ≡ is_number word.now }
+fn is_number_word(word: &str) -> bool
+    ensures { result ≡ is_number_word word.now }
 {
     if word.is_empty() || word.len() > MOST_DIGITS {
         return false;
@@ -28,7 +28,7 @@ fn is_number(word: &str) -> bool
 fn number_in(least: u32, most: u32, word: &str) -> Option<u32>
     ensures { result ≡ number_in least most word.now }
 {
-    if !is_number(word) {
+    if !is_number_word(word) {
         return None;
     }
     let Ok(number) = word.parse::<u32>() else {

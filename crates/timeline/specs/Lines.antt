@@ -21,5 +21,5 @@ rest_text e = codes "p" ++ (decimal e.process ++ (codes " " ++ (decimal e.place.
     ++ (codes ":" ++ (decimal e.place.column ++ (codes " " ++ done_text e))))))
 
 -- the line of an entry with its number
-abbrev pub entry_text : ℕ → TraceEntry → List ℕ
-entry_text number e = decimal number ++ (codes " " ++ rest_text e)
+abbrev pub timeline_line : ℕ → TraceEntry → List ℕ
+timeline_line number e = decimal number ++ (codes " " ++ rest_text e)

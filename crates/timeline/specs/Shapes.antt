@@ -2,7 +2,7 @@
 use Rattle.std.specs.Prelude.{ℕ, ◌==◌, if◌then◌else◌, List, ◌++◌, flat_map, codes}
 use Rattle.std.specs.Char.{encode_utf8}
 use Rattle.timeline.specs.declared.entry.TraceEntry.{TraceEntry}
-use Rattle.timeline.specs.Lines.{entry_text}
+use Rattle.timeline.specs.Lines.{timeline_line}
 
 -- the four bytes with a meaning in SVG are written as character entities, each other as its character
 abbrev pub escape_of : ℕ → List ℕ
@@ -15,4 +15,4 @@ svg_text text = flat_map escape_of text
 
 -- the tooltip of an entry: its line in the trace
 abbrev pub title_text : ℕ → TraceEntry → List ℕ
-title_text number e = codes "<title>" ++ (svg_text (entry_text number e) ++ codes "</title>")
+title_text number e = codes "<title>" ++ (svg_text (timeline_line number e) ++ codes "</title>")

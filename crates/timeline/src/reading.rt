@@ -1,6 +1,6 @@
 // Parses the lines of a trace.
 ghost use Rattle.std.specs.Prelude.{◌≡◌, ◌<◌, ◌++◌, codes, decimal, IfSome};
-ghost use Rattle.timeline.specs.Lines.{rest_text, entry_text};
+ghost use Rattle.timeline.specs.Lines.{rest_text, timeline_line};
 
 use crate::entry::{Act, PROCESSES, TraceEntry};
 use crate::parts::{is_shown, number, place as place_of};
@@ -59,7 +59,7 @@ fn read_rest<'a>(rest: &'a str) -> Option<TraceEntry<'a>>
 
 /// Parses the line of the entry with this number. `None` if it isn't the line of an entry, or is that of another one.
 pub(crate) fn read_entry<'a>(line: &'a str, expected: usize) -> Option<TraceEntry<'a>>
-    ensures { IfSome result (λ e. line.now ≡ entry_text expected e) }
+    ensures { IfSome result (λ e. line.now ≡ timeline_line expected e) }
 {
     let (found, rest) = line.split_once(' ')?;
     if number(found)? as usize == expected && is_shown(line) {

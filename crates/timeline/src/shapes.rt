@@ -1,7 +1,7 @@
 // Parts of the picture's SVG source.
 ghost use Rattle.std.specs.Prelude.{◌≡◌, ◌++◌, string_bytes, IfOk, OnOk};
 ghost use Rattle.timeline.specs.Shapes.{escape_of, svg_text, title_text};
-ghost use Rattle.timeline.specs.Lines.{entry_text};
+ghost use Rattle.timeline.specs.Lines.{timeline_line};
 
 use crate::entry::{Act, SourcePlace, TraceEntry};
 use std::alloc::{AllocError, Global};
@@ -32,7 +32,7 @@ pub(crate) fn svg_text(alloc: Global, text: &str) -> Result<String, AllocError>
 
 /// The line of an entry in the trace.
 fn line_of(alloc: Global, number: usize, entry: &TraceEntry) -> Result<String, AllocError>
-    ensures { IfOk result (λ s. string_bytes s ≡ entry_text number entry.now) }
+    ensures { IfOk result (λ s. string_bytes s ≡ timeline_line number entry.now) }
 {
     let TraceEntry {
         process,

@@ -22,7 +22,7 @@ use Rattle.ti_lang.specs.Meaning.Runs.{ProcAfter, CanTake, IsRun, entry_with, en
 use Rattle.ti_lang.specs.Meaning.Runs as run
 use Rattle.ti_lang.proofs.Lemmas.{after_same, settled_same, fronts, taker}
 use Rattle.ti_align.specs.SinglePart.{SingleFrame}
-use Rattle.ti_align.specs.Alignment.{Arrival, ArrivesAt, ArrivalsAgree, NoneAfterEnd}
+use Rattle.ti_align.specs.Alignment.{SingleArrival, ArrivesAt, ArrivalsAgree, NoneAfterEnd}
 use Rattle.ti_align.proofs.Runs.Ways.{Asked, asking, Meeting, Way, comings, answers_left, answers_at_departures, SameDepartures, last_from}
 use Rattle.ti_align.proofs.Runs.Ways as way
 use Rattle.ti_align.proofs.Runs.Vars.{true_false}
@@ -47,7 +47,7 @@ get_more (x ∷ xs) ys zero r e = e
 get_more (x ∷ xs) ys (suc k) r e = get_more xs ys k r e
 
 -- the way to an arrival
-way_to : (s : RunConfig) (es : List Entry) (i k : ℕ) (a : Arrival) → IsRun s es → (x : ArrivesAt s es i k a)
+way_to : (s : RunConfig) (es : List Entry) (i k : ℕ) (a : SingleArrival) → IsRun s es → (x : ArrivesAt s es i k a)
     → (ms : List Meeting) × Way (begin s i) ms x.settled × (comings ms ≡ k) × ((n : ℕ) (r : Answer) → slice_get (answers_left ms) n ≡ Some r → slice_get (answers_at_departures i es) n ≡ Some r)
 way_to s es i k a w x =
     let before = run_before s es x.before x.rest _ w x.split in
@@ -63,7 +63,7 @@ way_to s es i k a w x =
           (subst (λ z. slice_get z n ≡ Some r) (sym (departures_both i x.before _)) (get_more (answers_at_departures i x.before) _ n r (subst (λ z. slice_get z n ≡ Some r) o.told h))),
     )
 
-arrival_same : (a b : Arrival) → a.place ≡ b.place → a.kind ≡ b.kind → a.arg ≡ b.arg → a.single ≡ b.single → a ≡ b
+arrival_same : (a b : SingleArrival) → a.place ≡ b.place → a.kind ≡ b.kind → a.arg ≡ b.arg → a.single ≡ b.single → a ≡ b
 arrival_same a b x y z w =
     ap₂ (λ (p : Place) (k : CollKind). record { place = p; kind = k; arg = a.arg; single = a.single }) x y
     ∙ ap₂ (λ (g : Option ℕ) (l : List SingleFrame). record { place = b.place; kind = b.kind; arg = g; single = l }) z w
@@ -80,7 +80,7 @@ arrivals_agree s fine es w left i j k a b x y =
 
 -- those who make them stand at one state of the slice
 pub both_arrive : (s : RunConfig) → FineMethods s.program s.program.methods → (es : List Entry) → IsRun s es → SameDepartures es
-    → (i j k : ℕ) (a b : Arrival) (x : ArrivesAt s es i k a) (y : ArrivesAt s es j k b)
+    → (i j k : ℕ) (a b : SingleArrival) (x : ArrivesAt s es i k a) (y : ArrivesAt s es j k b)
     → BothArrive s x.settled y.settled
 both_arrive s fine es w left i j k a b x y =
     let l = way_to s es i k a w x in

@@ -22,7 +22,7 @@ use Rattle.ti_lang.specs.Meaning.Steps.{Step, To, At, Ends, Faults, ticks, step_
 use Rattle.ti_lang.specs.Meaning.Histories.{is_arrival, is_departure}
 use Rattle.ti_lang.specs.Meaning.NextStep.{Reaches, here, later}
 use Rattle.ti_lang.proofs.Lemmas.{Giving}
-use Rattle.ti_rules.specs.InitialTypes.{is_region}
+use Rattle.ti_rules.specs.InitialTypes.{is_region_type}
 use Rattle.ti_align.proofs.Runs.Vars.{true_false}
 use Rattle.ti_align.proofs.Alignment.Stepping.{Alone}
 use Rattle.ti_align.proofs.Runs.Asks.{work_alone}
@@ -36,7 +36,7 @@ use Rattle.ti_align.proofs.Regions.Handing.{MoveIsSuch, OneIsSuch, such_at, perf
 
 abbrev pub FrameIsSuch : ProgramView → Frame → Type 0
 FrameIsSuch p f =
-    AllGood f.variables × WorksAreSuch p f.method f.left × (is_region (received_type f.receiver) ≡ true → is_region (result_type f.method) ≡ true) × ReceiverSuits f.receiver
+    AllGood f.variables × WorksAreSuch p f.method f.left × (is_region_type (received_type f.receiver) ≡ true → is_region_type (result_type f.method) ≡ true) × ReceiverSuits f.receiver
 
 abbrev pub AllSuch : ProgramView → List Frame → Type 0
 AllSuch p [] = Unit {0}
@@ -45,7 +45,7 @@ AllSuch p (f ∷ fs) = FrameIsSuch p f × AllSuch p fs
 -- where a region is waited for, it is made
 abbrev pub WaitIsSuch : Option CollKind → Option Wait → Type 0
 WaitIsSuch last None = Unit {0}
-WaitIsSuch last (Some w) = (last ≡ Some w.kind) × (is_region (received_type w.receiver) ≡ true → w.kind ≡ coll.MakeRegion) × ReceiverSuits w.receiver
+WaitIsSuch last (Some w) = (last ≡ Some w.kind) × (is_region_type (received_type w.receiver) ≡ true → w.kind ≡ coll.MakeRegion) × ReceiverSuits w.receiver
 
 -- a process of this setting, whose last arrival was of this kind
 abbrev pub Hands : RunConfig → Option CollKind → Process → Type 0
@@ -93,7 +93,7 @@ module _ (q : Process) (last : Option CollKind) (methods : MethodsAreSuch q.sett
   p = q.setting.program
 
   module _ (f : Frame) (fs : List Frame) (left : List ContItem) (good : AllGood f.variables) (rest : WorksAreSuch q.setting.program f.method left)
-      (caller : is_region (received_type f.receiver) ≡ true → is_region (result_type f.method) ≡ true) (suits : ReceiverSuits f.receiver) (others : AllSuch q.setting.program fs) where
+      (caller : is_region_type (received_type f.receiver) ≡ true → is_region_type (result_type f.method) ≡ true) (suits : ReceiverSuits f.receiver) (others : AllSuch q.setting.program fs) where
     same_held : (h k : Held) → Some h ≡ Some k → h ≡ k
     same_held h k z = cc
 
@@ -148,7 +148,7 @@ module _ (q : Process) (last : Option CollKind) (methods : MethodsAreSuch q.sett
   valued_such (Fails kind at) go h a Q k f = tt
 
   works_such : (f : Frame) (fs : List Frame) (ws : List ContItem) → Hands q.setting last q → FirstUses f.variables ws → AllGood f.variables → WorksAreSuch q.setting.program f.method ws
-      → (is_region (received_type f.receiver) ≡ true → is_region (result_type f.method) ≡ true) → ReceiverSuits f.receiver → AllSuch q.setting.program fs → StepSuch q.setting last (works q f fs ws)
+      → (is_region_type (received_type f.receiver) ≡ true → is_region_type (result_type f.method) ≡ true) → ReceiverSuits f.receiver → AllSuch q.setting.program fs → StepSuch q.setting last (works q f fs ws)
   works_such f fs [] h u g k c r o = moves_such f fs [] g tt c r o (Returns None) tt
   works_such f fs (w ∷ left) h u g k c r o =
       valued_such (exec_item (env_of q f left) w q.answers) (moves q f fs left) h (work_alone (env_of q f left) w q.answers) (MoveIsSuch q.setting.program f.method)

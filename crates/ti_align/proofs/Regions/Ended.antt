@@ -17,7 +17,7 @@ use Rattle.ti_align.specs.Heap.{Elements, heap_typing_of}
 use Rattle.ti_align.specs.Mirrors.Processes.{FramesFit}
 use Rattle.ti_align.specs.Stopping.{HoldMade, AllHoldMade, RegionsMade, is_delete_arrival, NoneImpossible}
 use Rattle.ti_align.proofs.Regions.Regional.{AllGood}
-use Rattle.ti_rules.specs.InitialTypes.{is_region}
+use Rattle.ti_rules.specs.InitialTypes.{is_region_type}
 use Rattle.ti_align.proofs.Regions.Deleting.{AllSuch}
 use Rattle.ti_align.proofs.Regions.Deleted.{run_hands}
 use Rattle.ti_base.specs.declared.entry.Entry.{Entry}
@@ -54,7 +54,7 @@ made_held w h (r, z, f) (n, y, k) = (r, z, by (subst (IsPlaced w) (same n r (sym
 variables_made : (i : ℕ) (elements : Elements) (h : History) (xs : List Variable) → AllGood xs → VariablesFit (heap_typing_of i elements h) xs → HoldMade h xs
 variables_made i elements h [] g k = tt
 variables_made i elements h (x ∷ xs) g k = (
-  λ z. made_held (heap_typing_of i elements h) x.held (g.0 (ap is_region z))
+  λ z. made_held (heap_typing_of i elements h) x.held (g.0 (ap is_region_type z))
       (subst (λ a. IsOf (heap_typing_of i elements h) a x.held) z (held_of (heap_typing_of i elements h) x.named.declared x.held k.0)),
   variables_made i elements h xs g.1 k.1,
 )

@@ -36,7 +36,7 @@ use Rattle.ti_lang.specs.Meaning.Moves.{Move, Goes, Turns, Breaks, Continues, Ca
 use Rattle.ti_lang.specs.Meaning.Statements.{made_first, valued_or_called, initialized, member_alone, alone, printed, one_more, declared_as, maybe_do, statement}
 use Rattle.ti_lang.specs.Meaning.Performing.{condition, declared_in, exec_item}
 use Rattle.ti_lang.proofs.Lemmas.{Giving, then_giving, guarded_giving}
-use Rattle.ti_rules.specs.InitialTypes.{is_region}
+use Rattle.ti_rules.specs.InitialTypes.{is_region_type}
 use Rattle.ti_align.proofs.Alignment.Fitting.{giving_followed}
 use Rattle.ti_align.proofs.Runs.Vars.{true_false, and_left, and_right}
 use Rattle.ti_align.specs.Scoped.{Names, KnownAs, ExpScoped, ExpsScoped, InitScoped, is_among, StmUses, WorkUses}
@@ -55,7 +55,7 @@ giving_any Q (Asks q) f = tt
 giving_any Q (Fails kind at) f = tt
 
 -- a value of another type
-no_region : (type : ValueType) (h : Held) → is_region type ≡ false → GoodAs type h
+no_region : (type : ValueType) (h : Held) → is_region_type type ≡ false → GoodAs type h
 no_region type h k z = absurd (true_false (sym z ∙ k))
 
 -- a region stays what it is
@@ -73,7 +73,7 @@ converted_good at t.Null h rest g = giving_any _ (converted at t.Null h rest) (�
 converted_good at t.Void h rest g = giving_any _ (converted at t.Void h rest) (λ x. no_region t.Void x refl)
 
 -- a cast to a region
-cast_good : (number : ℕ) (at : Place) (type : ValueType) (h : Held) (rest : List Answer) → is_region type ≡ true → Good h → Giving Good ((converted at type h >>= kept_local number at type) rest)
+cast_good : (number : ℕ) (at : Place) (type : ValueType) (h : Held) (rest : List Answer) → is_region_type type ≡ true → Good h → Giving Good ((converted at type h >>= kept_local number at type) rest)
 cast_good number at t.Region h rest k g = g
 cast_good number at _ h rest k g = absurd (true_false (sym k))
 
@@ -83,20 +83,20 @@ module _ (env : Env) (good : AllGood env.variables) where
   abbrev pub Finding : Names
   Finding = λ x. is_among x env.variables
 
-  variable_good : (d : Declaration) (x : VariableUse) → x.declared ≡ d → KnownAs Finding x d → is_region (declared_type d) ≡ true → Good (value_by d env x)
-  variable_good (t.Typed is_single type) x z k r = find_good x env.variables k good (ap (λ d. is_region (declared_type d)) z ∙ r)
+  variable_good : (d : Declaration) (x : VariableUse) → x.declared ≡ d → KnownAs Finding x d → is_region_type (declared_type d) ≡ true → Good (value_by d env x)
+  variable_good (t.Typed is_single type) x z k r = find_good x env.variables k good (ap (λ d. is_region_type (declared_type d)) z ∙ r)
   variable_good t.Foreach x z k r = absurd (true_false (sym r))
 
   eval_good : (x : NumberedExp) (rest : List Answer) → ExpScoped Finding x → is_region_exp x ≡ true → Giving Good (eval env x rest)
   eval_good (e.Variable at x) rest k r = variable_good x.declared x refl k r
   eval_good (e.Cast at to x) rest k r =
-      giving_followed Good Good (eval env x rest) _ (eval_good x rest k (and_right (is_region to.type) _ r)) (λ h u g. cast_good env.number at to.type h u (and_left (is_region to.type) _ r) g)
+      giving_followed Good Good (eval env x rest) _ (eval_good x rest k (and_right (is_region_type to.type) _ r)) (λ h u g. cast_good env.number at to.type h u (and_left (is_region_type to.type) _ r) g)
   eval_good _ rest k r = absurd (true_false (sym r))
 
   eval_as : (type : ValueType) (x : NumberedExp) (rest : List Answer) → ExpScoped Finding x → IsSuch type x → Giving (GoodAs type) (eval env x rest)
-  eval_as type x rest k f = by (is_region type) refl
+  eval_as type x rest k f = by (is_region_type type) refl
     where
-      by : (b : Bool) → is_region type ≡ b → Giving (GoodAs type) (eval env x rest)
+      by : (b : Bool) → is_region_type type ≡ b → Giving (GoodAs type) (eval env x rest)
       by true z = giving_with Good (GoodAs type) (eval env x rest) (λ h g y. g) (eval_good x rest k (f z))
       by false z = giving_any (GoodAs type) (eval env x rest) (λ h. no_region type h z)
 
@@ -206,11 +206,11 @@ MoveIsSuch p m (Turns at vs works) = AllGood vs × WorksAreSuch p m works
 MoveIsSuch p m Breaks = Unit {0}
 MoveIsSuch p m Continues = Unit {0}
 MoveIsSuch p m (Calls at c this parameters receiver) =
-    AllGood parameters × (is_region (received_type receiver) ≡ true → is_region (result_type c) ≡ true) × ReceiverSuits receiver × StmsAreSuch p c (numbered_stms c.body)
+    AllGood parameters × (is_region_type (received_type receiver) ≡ true → is_region_type (result_type c) ≡ true) × ReceiverSuits receiver × StmsAreSuch p c (numbered_stms c.body)
 MoveIsSuch p m (Returns None) = Unit {0}
 MoveIsSuch p m (Returns (Some h)) = GoodAs (result_type m) h
 MoveIsSuch p m (Meets wait given works) =
-    WorksAreSuch p m works × (is_region (received_type wait.receiver) ≡ true → wait.kind ≡ coll.MakeRegion) × ReceiverSuits wait.receiver × (wait.kind ≡ coll.DeleteRegion → ⊥)
+    WorksAreSuch p m works × (is_region_type (received_type wait.receiver) ≡ true → wait.kind ≡ coll.MakeRegion) × ReceiverSuits wait.receiver × (wait.kind ≡ coll.DeleteRegion → ⊥)
 MoveIsSuch p m (Deletes at region) = region ≡ 0 → ⊥
 
 -- the method that is called is one of the program
@@ -262,7 +262,7 @@ module _ (env : Env) (all : MethodsAreSuch env.program env.program.methods) (goo
   receives_good r right rest k f = giving_followed AllGood Moving (into env r right rest) _ (into_good env good r right rest k f) (λ vs u g. (g, tt))
 
   calling_good : (r : Receiver) (c : Call) (rest : List Answer) → ReceiverSuits r → ArgsAreSuch (parameters_of c.method.params) c.args → ExpsScoped (Finding env good) c.args
-      → (is_region (received_type r) ≡ true → is_region (result_type c.method) ≡ true) → StmsAreSuch env.program c.method (numbered_stms c.method.body) → Giving Moving (calling env r c rest)
+      → (is_region_type (received_type r) ≡ true → is_region_type (result_type c.method) ≡ true) → StmsAreSuch env.program c.method (numbered_stms c.method.body) → Giving Moving (calling env r c rest)
   calling_good r c rest k f x h b =
       then_giving Moving (maybe_eval env c.object rest) _ (λ object u.
       giving_followed AllGood Moving (bind_params env (parameters_of c.method.params) c.args [] u) _ (bound_good env good (parameters_of c.method.params) c.args [] u f x tt) (λ vs w g.
@@ -281,16 +281,16 @@ module _ (env : Env) (all : MethodsAreSuch env.program env.program.methods) (goo
           subst (λ o. Giving Moving (valued_or_called env r x o rest)) (sym q.3)
           (calling_good r q.1 rest k (subst (λ (c : NumberedMethod). ArgsAreSuch (parameters_of c.params) q.1.args) (sym q.4) (subst (ArgsAreSuch (parameters_of q.0.params)) (sym q.5) such.0))
           (subst (ExpsScoped (Finding env good)) (sym q.5) (args_scoped (Finding env good) x sc))
-          (λ z. ap (λ (c : NumberedMethod). is_region (result_type c)) q.4 ∙ such.1 z)
+          (λ z. ap (λ (c : NumberedMethod). is_region_type (result_type c)) q.4 ∙ such.1 z)
           (subst (λ (c : NumberedMethod). StmsAreSuch env.program c (numbered_stms c.body)) (sym q.4) (subst (OneIsSuch env.program) q.2 (such_called env.program (this_of env.method) x all))))
 
-  made_good : (r : Receiver) (new : Comp Held) (rest : List Answer) → ReceiverSuits r → is_region (received_type r) ≡ false → Giving Moving (made_first env r new rest)
+  made_good : (r : Receiver) (new : Comp Held) (rest : List Answer) → ReceiverSuits r → is_region_type (received_type r) ≡ false → Giving Moving (made_first env r new rest)
   made_good r new rest k f = then_giving Moving (new rest) _ (λ h u. receives_good r (gives h) u k (λ w. no_region (received_type r) h f))
 
   no_delete : (k : CollKind) → k ≡ coll.Broadcast → k ≡ coll.DeleteRegion → ⊥
   no_delete k a b = cc
 
-  broadcasts_good : (r : Receiver) (at : Place) (x root : NumberedExp) (rest : List Answer) → ReceiverSuits r → is_region (received_type r) ≡ false → Giving Moving (broadcasts env r at x root rest)
+  broadcasts_good : (r : Receiver) (at : Place) (x root : NumberedExp) (rest : List Answer) → ReceiverSuits r → is_region_type (received_type r) ≡ false → Giving Moving (broadcasts env r at x root rest)
   broadcasts_good r at x root rest k f =
       then_giving Moving (eval env root rest) _ (λ h u.
       then_giving Moving (root_among env.procs at h u) _ (λ n w.

@@ -19,7 +19,7 @@ use Rattle.ti_lang.specs.Meaning.Scoping.{same_variable, declared_type, find_var
 use Rattle.ti_lang.specs.Meaning.Calls.{parameters_of}
 use Rattle.ti_lang.specs.Meaning.Performing.{declared_in}
 use Rattle.ti_lang.specs.Meaning.Jumps.{from_mark, past_mark, variables_at_mark}
-use Rattle.ti_rules.specs.InitialTypes.{is_region}
+use Rattle.ti_rules.specs.InitialTypes.{is_region_type}
 use Rattle.ti_align.proofs.Runs.Vars.{true_false}
 use Rattle.ti_align.specs.Scoped.{is_among}
 use Rattle.ti_align.proofs.Scope.Found.{variable_is}
@@ -33,7 +33,7 @@ Good h = (r : ℕ) × (h ≡ Plain (v.Region r)) × (r ≡ 0 → ⊥)
 
 -- the same, where the type is that of regions
 abbrev pub GoodAs : ValueType → Held → Type 0
-GoodAs type h = is_region type ≡ true → Good h
+GoodAs type h = is_region_type type ≡ true → Good h
 
 pub good_region : (h : Held) → Good h → region_of h ≡ 0 → ⊥
 good_region h g z = g.2 (sym (ap region_of g.1) ∙ z)
@@ -82,13 +82,13 @@ mark_good (TakeAll at grid procs ∷ left) vs g = mark_good left vs g
 
 -- a variable of type SharedRegion, or a cast of one to it
 abbrev pub is_region_exp : NumberedExp → Bool
-is_region_exp (e.Variable at x) = is_region (declared_type x.declared)
-is_region_exp (e.Cast at to x) = is_region to.type && is_region_exp x
+is_region_exp (e.Variable at x) = is_region_type (declared_type x.declared)
+is_region_exp (e.Cast at to x) = is_region_type to.type && is_region_exp x
 is_region_exp x = false
 
 -- such an expression stands wherever a region is wanted
 abbrev pub IsSuch : ValueType → NumberedExp → Type 0
-IsSuch type x = is_region type ≡ true → is_region_exp x ≡ true
+IsSuch type x = is_region_type type ≡ true → is_region_exp x ≡ true
 
 -- also among arguments
 abbrev pub ArgsAreSuch : List VariableUse → NumberedExps → Type 0
@@ -108,20 +108,20 @@ received_type receiver = t.Void
 
 -- no variable of this type is assigned to by an operator
 abbrev pub ReceiverSuits : Receiver → Type 0
-ReceiverSuits (Updated at op target) = is_region (target_type target) ≡ false
+ReceiverSuits (Updated at op target) = is_region_type (target_type target) ≡ false
 ReceiverSuits receiver = Unit {0}
 
 module _ (p : ProgramView) (m : NumberedMethod) where
   -- a call whose value goes to a variable of a type
   abbrev pub CallIsSuch : ValueType → NumberedExp → Type 0
   CallIsSuch type x =
-      (c : NumberedMethod) → called_method p (this_of m) x ≡ Some c → ArgsAreSuch (parameters_of c.params) (args_of x) × (is_region type ≡ true → is_region (result_type c) ≡ true)
+      (c : NumberedMethod) → called_method p (this_of m) x ≡ Some c → ArgsAreSuch (parameters_of c.params) (args_of x) × (is_region_type type ≡ true → is_region_type (result_type c) ≡ true)
 
   -- and any right side
   abbrev pub InitIsSuch : ValueType → NumberedInit → Type 0
   InitIsSuch type (s.Value x) = CallIsSuch type x × (called_method p (this_of m) x ≡ None → IsSuch type x)
   InitIsSuch type (s.NewRegion at) = Unit {0}
-  InitIsSuch type value = is_region type ≡ false
+  InitIsSuch type value = is_region_type type ≡ false
 
   -- what is deleted
   abbrev pub DeletesSuch : NumberedExp → Type 0
@@ -132,8 +132,8 @@ module _ (p : ProgramView) (m : NumberedMethod) where
     pub StmIsSuch : NumberedStm → Type 0
     StmIsSuch (s.Declare at type variable value) = InitIsSuch type.type value
     StmIsSuch (s.Assign at target value) = InitIsSuch (target_type target) value
-    StmIsSuch (s.Update at op target x) = (is_region (target_type target) ≡ false) × InitIsSuch t.Void (s.Value x)
-    StmIsSuch (s.Step at op target) = is_region (target_type target) ≡ false
+    StmIsSuch (s.Update at op target x) = (is_region_type (target_type target) ≡ false) × InitIsSuch t.Void (s.Value x)
+    StmIsSuch (s.Step at op target) = is_region_type (target_type target) ≡ false
     StmIsSuch (s.Call x) = CallIsSuch t.Void x × DeletesSuch x
     StmIsSuch (s.Return at (Some x)) = IsSuch (result_type m) x
     StmIsSuch (s.Block body) = StmsAreSuch body

@@ -24,7 +24,7 @@ use Rattle.ti_lang.specs.Meaning.Calls.{parameters_from, parameters_of}
 use Rattle.ti_lang.specs.Meaning.Processes.{Updated}
 use Rattle.ti_lang.specs.Meaning.Scoping as meant
 use Rattle.ti_lang.specs.Meaning.Statements.{one_more}
-use Rattle.ti_rules.specs.InitialTypes.{can_broadcast, is_region}
+use Rattle.ti_rules.specs.InitialTypes.{can_broadcast, is_region_type}
 use Rattle.ti_rules.specs.Broken.Statements.{narrows}
 use Rattle.ti_rules.specs.StmtInContext.{variables_inside}
 use Rattle.ti_rules.specs.ProgramRefusals.{IsChecked}
@@ -47,18 +47,18 @@ use Rattle.ti_align.proofs.Regions.Regional.{is_region_exp, IsSuch, ArgsAreSuch,
 
 -- ---- types
 
-no_regions : NoneOf is_region
+no_regions : NoneOf is_region_type
 no_regions = record { int = refl; long = refl; truth = refl; point = λ n. refl; rect = λ n. refl; domain = λ n. refl }
 
 -- a type that is none
-other : {A : Type 0} (type : ValueType) → is_region type ≡ false → type ≡ t.Region → A
-other type h z = absurd (true_false (sym (ap is_region z) ∙ h))
+other : {A : Type 0} (type : ValueType) → is_region_type type ≡ false → type ≡ t.Region → A
+other type h z = absurd (true_false (sym (ap is_region_type z) ∙ h))
 
 -- a type is none, where what goes to it is none
-none_such : (type u : ValueType) → is_region u ≡ false → (is_region type ≡ true → u ≡ t.Region) → is_region type ≡ false
-none_such type u h g = by (is_region type) refl
+none_such : (type u : ValueType) → is_region_type u ≡ false → (is_region_type type ≡ true → u ≡ t.Region) → is_region_type type ≡ false
+none_such type u h g = by (is_region_type type) refl
   where
-    by : (b : Bool) → is_region type ≡ b → is_region type ≡ false
+    by : (b : Bool) → is_region_type type ≡ b → is_region_type type ≡ false
     by true z = other u h (g z)
     by false z = z
 
@@ -72,37 +72,37 @@ casts_region t.Region h = refl
 casts_region _ h = absurd (true_false (sym h))
 
 -- what is stored is none, and no reference to it is
-global_other : (type : ValueType) → storable type ≡ true → is_region (as_global type) ≡ false
+global_other : (type : ValueType) → storable type ≡ true → is_region_type (as_global type) ≡ false
 global_other t.Region h = absurd (true_false (sym h))
 global_other _ h = refl
 
-stored_other : (type : ValueType) → storable type ≡ true → is_region type ≡ false
+stored_other : (type : ValueType) → storable type ≡ true → is_region_type type ≡ false
 stored_other t.Region h = absurd (true_false (sym h))
 stored_other _ h = refl
 
-read_other : (l : Bool) (type : ValueType) → storable type ≡ true → is_region (read_through l type) ≡ false
+read_other : (l : Bool) (type : ValueType) → storable type ≡ true → is_region_type (read_through l type) ≡ false
 read_other true type h = stored_other type h
 read_other false type h = global_other type h
 
-sent_other : (type : ValueType) → can_broadcast type ≡ true → is_region (as_global type) ≡ false
+sent_other : (type : ValueType) → can_broadcast type ≡ true → is_region_type (as_global type) ≡ false
 sent_other t.Region h = absurd (true_false (sym h))
 sent_other _ h = refl
 
 -- a member of the language that is a value is none
-member_other : (b : BuiltIn) (a r : ValueType) (ts : List ValueType) → member_type b a ts ≡ Some r → is_region r ≡ false
-member_other Size (t.Rc n) r [] z = subst (λ q. is_region q ≡ false) (some_same t.Int r z) refl
-member_other Size (t.Dm n) r [] z = subst (λ q. is_region q ≡ false) (some_same t.Int r z) refl
-member_other Min (t.Rc n) r [] z = subst (λ q. is_region q ≡ false) (some_same (t.Pt n) r z) refl
-member_other Max (t.Rc n) r [] z = subst (λ q. is_region q ≡ false) (some_same (t.Pt n) r z) refl
-member_other Contains (t.Rc n) r (t.Pt k ∷ []) z = subst (λ q. is_region q ≡ false) (where_some _ t.Boolean r z).1 refl
-member_other Contains (t.Dm n) r (t.Pt k ∷ []) z = subst (λ q. is_region q ≡ false) (where_some _ t.Boolean r z).1 refl
-member_other Domain (t.Grid e n l) r [] z = subst (λ q. is_region q ≡ false) (some_same (t.Rc n) r z) refl
-member_other Restrict (t.Grid e n l) r (t.Rc k ∷ []) z = subst (λ q. is_region q ≡ false) (where_some _ (t.Grid e n l) r z).1 refl
-member_other Translate (t.Grid e n l) r (t.Pt k ∷ []) z = subst (λ q. is_region q ≡ false) (where_some _ (t.Grid e n l) r z).1 refl
-member_other Slice (t.Grid e n l) r (t.Int ∷ t.Int ∷ []) z = subst (λ q. is_region q ≡ false) (where_some _ _ r z).1 refl
-member_other Copy a r (y ∷ []) z = subst (λ q. is_region q ≡ false) (where_some _ t.Void r z).1 refl
-member_other Exchange a r (y ∷ []) z = subst (λ q. is_region q ≡ false) (where_some _ t.Void r z).1 refl
-member_other Delete t.Region r [] z = subst (λ q. is_region q ≡ false) (some_same t.Void r z) refl
+member_other : (b : BuiltIn) (a r : ValueType) (ts : List ValueType) → member_type b a ts ≡ Some r → is_region_type r ≡ false
+member_other Size (t.Rc n) r [] z = subst (λ q. is_region_type q ≡ false) (some_same t.Int r z) refl
+member_other Size (t.Dm n) r [] z = subst (λ q. is_region_type q ≡ false) (some_same t.Int r z) refl
+member_other Min (t.Rc n) r [] z = subst (λ q. is_region_type q ≡ false) (some_same (t.Pt n) r z) refl
+member_other Max (t.Rc n) r [] z = subst (λ q. is_region_type q ≡ false) (some_same (t.Pt n) r z) refl
+member_other Contains (t.Rc n) r (t.Pt k ∷ []) z = subst (λ q. is_region_type q ≡ false) (where_some _ t.Boolean r z).1 refl
+member_other Contains (t.Dm n) r (t.Pt k ∷ []) z = subst (λ q. is_region_type q ≡ false) (where_some _ t.Boolean r z).1 refl
+member_other Domain (t.Grid e n l) r [] z = subst (λ q. is_region_type q ≡ false) (some_same (t.Rc n) r z) refl
+member_other Restrict (t.Grid e n l) r (t.Rc k ∷ []) z = subst (λ q. is_region_type q ≡ false) (where_some _ (t.Grid e n l) r z).1 refl
+member_other Translate (t.Grid e n l) r (t.Pt k ∷ []) z = subst (λ q. is_region_type q ≡ false) (where_some _ (t.Grid e n l) r z).1 refl
+member_other Slice (t.Grid e n l) r (t.Int ∷ t.Int ∷ []) z = subst (λ q. is_region_type q ≡ false) (where_some _ _ r z).1 refl
+member_other Copy a r (y ∷ []) z = subst (λ q. is_region_type q ≡ false) (where_some _ t.Void r z).1 refl
+member_other Exchange a r (y ∷ []) z = subst (λ q. is_region_type q ≡ false) (where_some _ t.Void r z).1 refl
+member_other Delete t.Region r [] z = subst (λ q. is_region_type q ≡ false) (some_same t.Void r z) refl
 member_other _ a r ts z = absurd (none_some r z)
 
 -- what is deleted is one
@@ -113,7 +113,7 @@ deleted_is _ u ts z = absurd (none_some u z)
 -- ---- expressions
 
 module _ (p : ProgramView) (fields : FieldsMeant p) (m : NumberedMethod) (s : ScopeContents) (turns : List ℕ) (around : Surrounds m s turns) where
-  literal : {A : Type 0} (a : ValueType) → is_region a ≡ false → operand (plain (Some a)) ≡ Some t.Region → A
+  literal : {A : Type 0} (a : ValueType) → is_region_type a ≡ false → operand (plain (Some a)) ≡ Some t.Region → A
   literal a h z = other a h (some_same a t.Region (no_call (plain (Some a)) t.Region z).1)
 
   never_called : (o : Option NumberedMethod) (ts : Option (List ValueType)) (r : ValueType) → operand (called o ts) ≡ Some r → ⊥
@@ -121,8 +121,8 @@ module _ (p : ProgramView) (fields : FieldsMeant p) (m : NumberedMethod) (s : Sc
   never_called None (Some ts) r h = none_some r h
   never_called (Some c) (Some ts) r h = none_some r h
 
-  variable_region : (number : ℕ) (d : Declaration) → means m turns number d ≡ true → operand (plain (declared_type s number d)) ≡ Some t.Region → is_region (meant.declared_type d) ≡ true
-  variable_region number (t.Typed is_single type) k z = ap is_region (some_same type t.Region (no_call (plain (Some type)) t.Region z).1)
+  variable_region : (number : ℕ) (d : Declaration) → means m turns number d ≡ true → operand (plain (declared_type s number d)) ≡ Some t.Region → is_region_type (meant.declared_type d) ≡ true
+  variable_region number (t.Typed is_single type) k z = ap is_region_type (some_same type t.Region (no_call (plain (Some type)) t.Region z).1)
   variable_region number t.Foreach k z =
       let q = around.turning number (and_left (among turns number) _ k) in
       let o : declared_type s number t.Foreach ≡ Some (t.Pt q.1) = ap (option_map (λ (v : ScopeVariable). v.type)) q.2 ∙ ap Some q.3 in
@@ -173,19 +173,19 @@ module _ (p : ProgramView) (fields : FieldsMeant p) (m : NumberedMethod) (s : Sc
   region_exp (e.Rect at ranges) k z =
       let o = option_and_then (rect_literal (range_count ranges)) (bounds p s ranges) in
       let q = and_then (rect_literal (range_count ranges)) (bounds p s ranges) t.Region (no_call (plain o) t.Region z).1 in
-      other t.Region (rects_plain is_region no_regions (range_count ranges) q.0 t.Region q.2) refl
+      other t.Region (rects_plain is_region_type no_regions (range_count ranges) q.0 t.Region q.2) refl
   region_exp (e.Unary at op x) k z =
       let q = and_then (unary_type op) (operand_type p s x) t.Region (no_call (plain (option_and_then (unary_type op) (operand_type p s x))) t.Region z).1 in
-      other t.Region (unary_plain is_region no_regions op q.0 t.Region q.2) refl
+      other t.Region (unary_plain is_region_type no_regions op q.0 t.Region q.2) refl
   region_exp (e.Binary at op x y) k z =
       let q = both_there (binary_type op) (operand_type p s x) (operand_type p s y) t.Region (no_call (plain (and_then_both (operand_type p s x) (operand_type p s y) (binary_type op))) t.Region z).1 in
-      other t.Region (row_plain is_region no_regions (row_of op) q.0 q.1 t.Region q.4) refl
+      other t.Region (row_plain is_region_type no_regions (row_of op) q.0 q.1 t.Region q.4) refl
   region_exp (e.Cast at to x) k z =
       let cast = λ (u : ValueType). where_true (casts to.type u) to.type in
       let q = and_then cast (operand_type p s x) t.Region (no_call (plain (option_and_then cast (operand_type p s x))) t.Region z).1 in
       let c = where_some (casts to.type q.0) to.type t.Region q.2 in
       let u : q.0 ≡ t.Region = casts_region q.0 (ap (λ y. casts y q.0) (sym c.1) ∙ c.0) in
-      ap₂ (λ a b. a && b) (ap is_region c.1) (region_exp x k.1 (q.1 ∙ ap Some u))
+      ap₂ (λ a b. a && b) (ap is_region_type c.1) (region_exp x k.1 (q.1 ∙ ap Some u))
   region_exp (e.Select at x name) k z =
       let select = λ (u : ValueType). select_type p u name in
       let q = and_then select (operand_type p s x) t.Region (no_call (plain (option_and_then select (operand_type p s x))) t.Region z).1 in
@@ -225,10 +225,10 @@ module _ (p : ProgramView) (fields : FieldsMeant p) (m : NumberedMethod) (s : Sc
   args_meant _ k = tt
 
   module _ (points : Points m s) where
-    call_such : (type u : ValueType) (x : NumberedExp) → ExpMeant p m turns x → WholeFits p m s x u → (is_region type ≡ true → u ≡ t.Region) → CallIsSuch p m type x
+    call_such : (type u : ValueType) (x : NumberedExp) → ExpMeant p m turns x → WholeFits p m s x u → (is_region_type type ≡ true → u ≡ t.Region) → CallIsSuch p m type x
     call_such type u x k f g c i =
         let q = whole_takes p m s around.this points x u f c i in
-        (params_such c.params (args_of x) q.0 (args_meant x k) q.1 q.2, λ r. ap is_region (q.3 ∙ g r))
+        (params_such c.params (args_of x) q.0 (args_meant x k) q.1 q.2, λ r. ap is_region_type (q.3 ∙ g r))
 
     -- a whole expression that is no call
     some_there : (o : Option ValueType) (u : ValueType) → o ≡ Some u → is_void u ≡ false → operand (plain o) ≡ Some u
@@ -268,38 +268,38 @@ module _ (p : ProgramView) (fields : FieldsMeant p) (m : NumberedMethod) (s : Sc
 
     -- ---- right sides
 
-    init_such : (value : NumberedInit) (type u : ValueType) → InitMeant p m turns value → InitFits p m s value u → (is_region type ≡ true → u ≡ t.Region) → InitIsSuch p m type value
+    init_such : (value : NumberedInit) (type u : ValueType) → InitMeant p m turns value → InitFits p m s value u → (is_region_type type ≡ true → u ≡ t.Region) → InitIsSuch p m type value
     init_such (st.Value x) type u k f g = (call_such type u x k f.0 g, λ c r. region_exp x k (whole_operand x u f.0 f.1 c ∙ ap Some (g r)))
     init_such (st.NewRegion at) type u k f g = tt
-    init_such (st.NewObject at region class) type u k f g = none_such type u (subst (λ y. is_region y ≡ false) (sym f.0) refl) g
-    init_such (st.NewGrid at region element dims_at dims) type u k f g = none_such type u (subst (λ y. is_region y ≡ false) (sym f.1) refl) g
-    init_such (st.Broadcast at x root) type u k f g = none_such type u (subst (λ y. is_region y ≡ false) (sym f.1) (sent_other f.0 f.4)) g
+    init_such (st.NewObject at region class) type u k f g = none_such type u (subst (λ y. is_region_type y ≡ false) (sym f.0) refl) g
+    init_such (st.NewGrid at region element dims_at dims) type u k f g = none_such type u (subst (λ y. is_region_type y ≡ false) (sym f.1) refl) g
+    init_such (st.Broadcast at x root) type u k f g = none_such type u (subst (λ y. is_region_type y ≡ false) (sym f.1) (sent_other f.0 f.4)) g
 
     -- ---- targets
 
-    target_is : (target : NumberedExp) (u : ValueType) → ExpMeant p m turns target → operand_type p s target ≡ Some u → is_region (target_type target) ≡ true → u ≡ t.Region
+    target_is : (target : NumberedExp) (u : ValueType) → ExpMeant p m turns target → operand_type p s target ≡ Some u → is_region_type (target_type target) ≡ true → u ≡ t.Region
     target_is (e.Variable at v) u k z r = by v.declared z r
       where
-        by : (d : Declaration) → operand (plain (declared_type s v.number d)) ≡ Some u → is_region (meant.declared_type d) ≡ true → u ≡ t.Region
+        by : (d : Declaration) → operand (plain (declared_type s v.number d)) ≡ Some u → is_region_type (meant.declared_type d) ≡ true → u ≡ t.Region
         by (t.Typed is_single type) z r = sym (some_same type u (no_call (plain (Some type)) u z).1) ∙ region_is type r
         by t.Foreach z r = absurd (true_false (sym r))
     target_is _ u k z r = absurd (true_false (sym r))
 
     updated_such : (op : BinaryOperator) (target : NumberedExp) (u : ValueType) (at : Place) → ExpMeant p m turns target
-        → ReceiverFits p m s (Updated at op target) u → is_region (target_type target) ≡ false
-    updated_such op target u at k f = by (is_region (target_type target)) refl
+        → ReceiverFits p m s (Updated at op target) u → is_region_type (target_type target) ≡ false
+    updated_such op target u at k f = by (is_region_type (target_type target)) refl
       where
         narrows_none : (r : ValueType) → narrows r t.Region ≡ true → ⊥
         narrows_none t.Long h = true_false (sym h)
         narrows_none _ h = true_false (sym h)
 
-        never : (y r : ValueType) → is_region r ≡ false → y ≡ t.Region → (narrows r y || fits r y) ≡ true → ⊥
+        never : (y r : ValueType) → is_region_type r ≡ false → y ≡ t.Region → (narrows r y || fits r y) ≡ true → ⊥
         never y r n z h =
             elim (or_either (narrows r t.Region) (fits r t.Region) (ap (λ x. narrows r x || fits r x) (sym z) ∙ h))
             [ inl i ↦ narrows_none r i | inr i ↦ other r n (fits_region r i) ]
 
-        by : (b : Bool) → is_region (target_type target) ≡ b → is_region (target_type target) ≡ false
-        by true z = absurd (never f.0 f.1 (row_plain is_region no_regions (row_of op) f.0 u f.1 f.3) (target_is target f.0 k f.2.0.1 z) f.4)
+        by : (b : Bool) → is_region_type (target_type target) ≡ b → is_region_type (target_type target) ≡ false
+        by true z = absurd (never f.0 f.1 (row_plain is_region_type no_regions (row_of op) f.0 u f.1 f.3) (target_is target f.0 k f.2.0.1 z) f.4)
         by false z = z
 
     -- ---- what is deleted

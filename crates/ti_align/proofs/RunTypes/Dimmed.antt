@@ -14,7 +14,7 @@ use Rattle.ti_lang.specs.Typing.TextTypes.{type_at, IsDimOf, AreDims, IsRangeDim
 use Rattle.ti_lang.specs.Meaning.Processes.{While, Foreach, ContItem, Do, End, Before, Behind, Receive, CopyAll, TakeAll}
 use Rattle.ti_lang.specs.Meaning.Turns.{dims_at}
 use Rattle.ti_lang.proofs.Lemmas.{agrees}
-use Rattle.ti_rules.specs.StmtInContext.{singles_in, with_point}
+use Rattle.ti_rules.specs.StmtInContext.{singles_in, with_foreach_variable}
 use Rattle.ti_align.specs.HeapTyping.{HeapTyping}
 use Rattle.ti_align.specs.Mirrors.Fitting.{IsWritten, IsRangeWritten, AreRangesWritten}
 use Rattle.ti_align.specs.Mirrors.ContItem.{may_use, uses_of, WorksFit}
@@ -125,7 +125,7 @@ module _ (p : ProgramView) (m : NumberedMethod) (w : HeapTyping) where
       (dims_at p (this_of m) (Behind (Foreach at own domain points body) ∷ left))
   turned left own n domain type at points body old k z d fresh =
       subst (λ vs. Dimmed m (record (scope left) { variables = vs }) (dims_at p (this_of m) (Behind (Foreach at own domain points body) ∷ left)))
-      (sym (ap (with_point (scope left).variables own (is_single_part p (scope left).this_class (singles_in (scope left)) domain)) (ap (option_and_then domain_dim) z ∙ d)))
+      (sym (ap (with_foreach_variable (scope left).variables own (is_single_part p (scope left).this_class (singles_in (scope left)) domain)) (ap (option_and_then domain_dim) z ∙ d)))
       (one_more m (scope left) (dims_at p (this_of m) left) (dims_at p (this_of m) (Behind (Foreach at own domain points body) ∷ left)) own n _ old (none_when (in_scope (scope left) own) fresh)
       (λ number. ap (λ k. if own == number then k else dims_at p (this_of m) left number)
       (ap dim_of_type (typed_there m (scope left) (dims_at p (this_of m) left) old p

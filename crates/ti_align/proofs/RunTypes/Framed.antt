@@ -14,7 +14,7 @@ use Rattle.ti_lang.specs.Meaning.Held.{Plain}
 use Rattle.ti_lang.specs.Meaning.Turns.{turns_at, point_at}
 use Rattle.ti_lang.specs.Meaning.Processes.{Process, Frame, While, Foreach, ContItem, Do, End, Before, Behind, Receive, CopyAll, TakeAll}
 use Rattle.ti_lang.specs.Meaning.Scoping.{env_of, find_variable, value_by}
-use Rattle.ti_rules.specs.StmtInContext.{singles_in, with_point, variables_inside}
+use Rattle.ti_rules.specs.StmtInContext.{singles_in, with_foreach_variable, variables_inside}
 use Rattle.ti_align.specs.HeapTyping.{HeapTyping, IsOf, DimsFine, VariablesFit, ThisFits}
 use Rattle.ti_align.specs.Mirrors.Fitting.{EnvFits}
 use Rattle.ti_align.specs.Heap.{FieldsFit, FieldsStorable}
@@ -88,7 +88,7 @@ module _ (p : ProgramView) (m : NumberedMethod) (base : ScopeContents) (w : Heap
       single = is_single_part p (scope_over p base left).this_class (singles_in (scope_over p base left)) domain
 
       inside : variables_inside p (scope_over p base left) own domain ≡ (scope_over p base left).variables ++ record { number = own; type = t.Pt n; is_single = single } ∷ []
-      inside = ap (with_point (scope_over p base left).variables own single) (ap (option_and_then domain_dim) f.0.0.0.1.0.1.1 ∙ f.0.0.0.1.0.2)
+      inside = ap (with_foreach_variable (scope_over p base left).variables own single) (ap (option_and_then domain_dim) f.0.0.0.1.0.1.1 ∙ f.0.0.0.1.0.2)
 
       other : (b : Bool) → (own == number) ≡ b → in_scope (scope_over p base left) number ≡ Some v → Stands v left number → (k : ℕ)
           × (v.type ≡ t.Pt k) × IsDim k × IsOf w (t.Pt k) (if b then Plain (val.Pt q) else point_at number (turns_at left))

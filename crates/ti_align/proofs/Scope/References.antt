@@ -19,7 +19,7 @@ use Rattle.ti_lang.specs.Typing.Declared.{in_scope, declared_type, field_type, n
 use Rattle.ti_lang.specs.Typing.Expressions.{plain, operand, and_then_both, all_ints, point_literal, rect_literal, index_type, select_type, called, range_count, operands, bounds, operand_type}
 use Rattle.ti_lang.specs.Typing.TextTypes.{used_type, joined_type, product_type, operator_type, static_field_type, static_element_type, slice_type, built_in_type, static_member_type, syntactic_type}
 use Rattle.ti_lang.specs.Typing.Fits.{casts}
-use Rattle.ti_rules.specs.StmtInContext.{with_point, variables_inside}
+use Rattle.ti_rules.specs.StmtInContext.{with_foreach_variable, variables_inside}
 use Rattle.ti_align.specs.Mirrors.Fitting.{IsWritten}
 use Rattle.ti_align.specs.Mirrors.ContItem.{may_use, uses_of}
 use Rattle.ti_align.proofs.Runs.Vars.{true_false, and_left}
@@ -148,7 +148,7 @@ inside_points p m s number domain f = by _ (option_and_then domain_dim (operand_
     one is_single n true c h = (n, sym (some_same (t.Pt n) c h))
     one is_single n false c h = absurd (none_some c h)
 
-    by : (is_single : Bool) (o : Option ℕ) → Points m (record s { variables = with_point s.variables number is_single o })
+    by : (is_single : Bool) (o : Option ℕ) → Points m (record s { variables = with_foreach_variable s.variables number is_single o })
     by is_single None = f
     by is_single (Some n) = λ k type z h.
         of k type (in_scope s k) _ (λ c i. f k c z i) (one is_single n (number == k))

@@ -12,7 +12,7 @@ use Rattle.ti_lang.proofs.Lemmas.{after_same, fronts, history_grows}
 use Rattle.ti_lang.proofs.Lemmas as limits
 use Rattle.ti_align.specs.declared.slices.SliceStep.{SliceStep}
 use Rattle.ti_align.specs.declared.slices.SliceStep.TheVariants as answer
-use Rattle.ti_align.specs.Alignment.{Arrival, ArrivesAt}
+use Rattle.ti_align.specs.Alignment.{SingleArrival, ArrivesAt}
 use Rattle.ti_align.specs.Slice.{SliceAnswers, AllFit, answers_at_departures, SliceTells}
 use Rattle.ti_align.proofs.Alignment.Slice.{slice}
 use Rattle.ti_align.proofs.Runs.Ways.{Meeting, comings, answers_left, waiting, asking}
@@ -87,7 +87,7 @@ no_waiting : (a b : ℕ) → a ≡ b + 0 → a ≡ b
 no_waiting a b h = omega (arith, h)
 
 -- a process that arrives has left as often as it had arrived before
-left_all : (s : RunConfig) (es : List Entry) (i k : ℕ) (a : Arrival) → IsRun s es → (x : ArrivesAt s es i k a) → length (answers_at_departures i x.before) ≡ k
+left_all : (s : RunConfig) (es : List Entry) (i k : ℕ) (a : SingleArrival) → IsRun s es → (x : ArrivesAt s es i k a) → length (answers_at_departures i x.before) ≡ k
 left_all s es i k a w x =
     let before = run_before s es x.before x.rest _ w x.split in
     let y = way_next s x.before i x.process x.settled before x.world x.settles.reaches in
@@ -98,7 +98,7 @@ left_all s es i k a w x =
     ∙ y.2 ∙ x.count
 
 -- the entry of an arrival
-abbrev arrival_entry : (s : RunConfig) (es : List Entry) (i k : ℕ) (a : Arrival) → ArrivesAt s es i k a → Entry
+abbrev arrival_entry : (s : RunConfig) (es : List Entry) (i k : ℕ) (a : SingleArrival) → ArrivesAt s es i k a → Entry
 arrival_entry s es i k a x = record { proc = i; place = a.place; act = act.Arrive a.kind a.arg x.deposit; answer = x.answer }
 
 no_departure : (i : ℕ) (e : Entry) → (e.proc == i) ≡ true → is_departure e.act ≡ false → answers_at_departures i (e ∷ []) ≡ []
@@ -108,7 +108,7 @@ no_departure i e h d = ap (λ x. map (λ (e : Entry). e.answer) (filter (λ (e :
     none = rw d refl
 
 arrives : (s : RunConfig) → FineMethods s.program s.program.methods → AllSuit s → (es : List Entry) → IsRun s es
-    → (i : ℕ) (outcomes others : List Answer) (x : SliceStep) (a : Arrival) → SliceAnswers s outcomes x → answers_at_departures i es
+    → (i : ℕ) (outcomes others : List Answer) (x : SliceStep) (a : SingleArrival) → SliceAnswers s outcomes x → answers_at_departures i es
     ≡ outcomes ++ others
     → ArrivesAt s es i (length outcomes) a → x ≡ answer.At a.kind a.place a.arg
 arrives s fine suit es w i outcomes others x a ans d y =

@@ -30,9 +30,9 @@ use Rattle.ti_rules.specs.declared.refusal.Refusal.{Refusal}
 use Rattle.ti_rules.specs.Refusals.{refused_if}
 use Rattle.ti_rules.specs.Known.{IsThere, IsKnown, AreKnown, IsKnownRange, AreKnownRanges}
 use Rattle.ti_rules.specs.Parts.{parts_of_ranges}
-use Rattle.ti_rules.specs.InitialTypes.{right_side_type, can_broadcast, broadcast_type, region_type, is_region, object_type, Spread, Over, Ranged, spread, spread_type, grid_over, new_grid_type, initial_type}
+use Rattle.ti_rules.specs.InitialTypes.{right_side_type, can_broadcast, broadcast_type, region_type, is_region_type, object_type, Spread, Over, Ranged, spread, spread_type, grid_over, new_grid_type, initial_type}
 use Rattle.ti_lang.specs.Typing.Singleness.{is_single_part}
-use Rattle.ti_rules.specs.StmtInContext.{singles_in, with_point, variables_inside}
+use Rattle.ti_rules.specs.StmtInContext.{singles_in, with_foreach_variable, variables_inside}
 use Rattle.ti_rules.specs.Broken.Refused.{refusal_at, judged, both_judged, operand_refusal, misfit}
 use Rattle.ti_rules.specs.Broken.Words.{type_word_refusals}
 use Rattle.ti_rules.specs.Broken.Misplaced.{gives_nothing, misplaced, bounds_misplaced}
@@ -128,7 +128,7 @@ found_with s new k = find (λ (v : ScopeVariable). v.number == k) (s.variables +
 
 -- in the body of one foreach more
 surrounds_point : (m : NumberedMethod) (s : ScopeContents) (turns : List ℕ) → Surrounds m s turns → (number : ℕ) → among turns number ≡ false → is_none (in_scope (method_scope m) number) ≡ true
-    → (is_single : Bool) (n : ℕ) → is_dim n ≡ true → Surrounds m (record s { variables = with_point s.variables number is_single (Some n) }) (number ∷ turns)
+    → (is_single : Bool) (n : ℕ) → is_dim n ≡ true → Surrounds m (record s { variables = with_foreach_variable s.variables number is_single (Some n) }) (number ∷ turns)
 surrounds_point m s turns around number apart fresh is_single n dim = record {
   this = around.this;
   turning = λ k h. one_of k (number == k) refl h;
@@ -187,7 +187,7 @@ int_is : (r : ValueType) → is_int r ≡ true → r ≡ t.Int
 int_is t.Int h = refl
 int_is _ h = absurd (true_false (sym h))
 
-pub region_is : (r : ValueType) → is_region r ≡ true → r ≡ t.Region
+pub region_is : (r : ValueType) → is_region_type r ≡ true → r ≡ t.Region
 region_is t.Region h = refl
 region_is _ h = absurd (true_false (sym h))
 
@@ -290,7 +290,7 @@ module _ (p : ProgramView) (fields : FieldsMeant p) (m : NumberedMethod) (s : Sc
       (q.0, (q.1, some), ap (λ o. only_if (λ u. not (is_void u)) o) q.1.0 ∙ ap (λ b. if not b then Some q.0 else None) some)
 
   region_fits : (region : Option NumberedExp) → OptionMeant p m turns region → region_refusals p s region ≡ []
-      → (r : ValueType) × (region_type p s region ≡ Some r) × (is_region r ≡ true → RegionFits p m s region)
+      → (r : ValueType) × (region_type p s region ≡ Some r) × (is_region_type r ≡ true → RegionFits p m s region)
   region_fits None k h = (t.Region, refl, λ i. tt)
   region_fits (Some x) k h = let q = inner_fits x k h in (q.0, q.1.1, λ i. (q.1.0, q.1.1 ∙ ap Some (region_is q.0 i)))
 
@@ -327,18 +327,18 @@ module _ (p : ProgramView) (fields : FieldsMeant p) (m : NumberedMethod) (s : Sc
       )
 
   grid_there : (element r : ValueType) (over : Spread) → is_some (new_grid_type element r over) ≡ true
-      → (n : ℕ) × (is_region r ≡ true) × (spread_type over ≡ Some (t.Rc n)) × (new_grid_type element r over ≡ Some (t.Grid element n true))
-  grid_there element r over h = by (is_region r) refl (spread_type over) refl h
+      → (n : ℕ) × (is_region_type r ≡ true) × (spread_type over ≡ Some (t.Rc n)) × (new_grid_type element r over ≡ Some (t.Grid element n true))
+  grid_there element r over h = by (is_region_type r) refl (spread_type over) refl h
     where
-      of_type : (u : ValueType) → spread_type over ≡ Some u → is_region r ≡ true → is_some (grid_over element u) ≡ true
-          → (n : ℕ) × (is_region r ≡ true) × (spread_type over ≡ Some (t.Rc n))
-          × ((if is_region r then option_and_then (grid_over element) (spread_type over) else None) ≡ Some (t.Grid element n true))
+      of_type : (u : ValueType) → spread_type over ≡ Some u → is_region_type r ≡ true → is_some (grid_over element u) ≡ true
+          → (n : ℕ) × (is_region_type r ≡ true) × (spread_type over ≡ Some (t.Rc n))
+          × ((if is_region_type r then option_and_then (grid_over element) (spread_type over) else None) ≡ Some (t.Grid element n true))
       of_type (t.Rc n) z i h = (n, i, z, ap₂ (λ (b : Bool) (o : Option ValueType). if b then option_and_then (grid_over element) o else None) i z)
       of_type _ z i h = absurd (true_false (sym h))
 
-      by : (b : Bool) → is_region r ≡ b → (o : Option ValueType) → spread_type over ≡ o → is_some (if b then option_and_then (grid_over element) o else None) ≡ true
-          → (n : ℕ) × (is_region r ≡ true) × (spread_type over ≡ Some (t.Rc n))
-          × ((if is_region r then option_and_then (grid_over element) (spread_type over) else None) ≡ Some (t.Grid element n true))
+      by : (b : Bool) → is_region_type r ≡ b → (o : Option ValueType) → spread_type over ≡ o → is_some (if b then option_and_then (grid_over element) o else None) ≡ true
+          → (n : ℕ) × (is_region_type r ≡ true) × (spread_type over ≡ Some (t.Rc n))
+          × ((if is_region_type r then option_and_then (grid_over element) (spread_type over) else None) ≡ Some (t.Grid element n true))
       by true i (Some u) z h = of_type u z i h
       by true i None z h = absurd (true_false (sym h))
       by false i o z h = absurd (true_false (sym h))
@@ -355,9 +355,9 @@ module _ (p : ProgramView) (fields : FieldsMeant p) (m : NumberedMethod) (s : Sc
   init_fits (st.Value x) k h = value_fits x k h
   init_fits (st.NewRegion at) k h = (t.Region, refl, refl)
   init_fits (st.NewObject at region class) k h =
-      let rule = λ (r : ValueType). operand_refusal at (is_region r) false in
+      let rule = λ (r : ValueType). operand_refusal at (is_region_type r) false in
       let q = region_fits region k.0 (nil_left (region_refusals p s region) (judged (region_type p s region) rule) h) in
-      let i = not_mistaken at (is_region q.0) false (judged_at (region_type p s region) rule q.0 q.1 (nil_right (region_refusals p s region) (judged (region_type p s region) rule) h)) in
+      let i = not_mistaken at (is_region_type q.0) false (judged_at (region_type p s region) rule q.0 q.1 (nil_right (region_refusals p s region) (judged (region_type p s region) rule) h)) in
       let c = there_is (slice_get p.classes class) k.1 in (
         t.Class class true,
         (refl, q.2 i, (_, ap (option_map (λ (c : NumberedClass). map (λ (f : NumberedField). zero_of_type f.ty.type) c.fields)) c.1)),
@@ -430,7 +430,7 @@ pub surrounds_inside : (p : ProgramView) (m : NumberedMethod) (s : ScopeContents
     → Surrounds m (record s { variables = variables_inside p s number domain }) (number ∷ turns)
 surrounds_inside p m s turns around number domain n apart fresh h dim =
     let is_single = is_single_part p s.this_class (singles_in s) domain in
-    subst (λ o. Surrounds m (record s { variables = with_point s.variables number is_single o }) (number ∷ turns)) (sym h) (surrounds_point m s turns around number apart fresh is_single n dim)
+    subst (λ o. Surrounds m (record s { variables = with_foreach_variable s.variables number is_single o }) (number ∷ turns)) (sym h) (surrounds_point m s turns around number apart fresh is_single n dim)
 
 pub same_step : (op : StepOperator) → operator_of op ≡ one_more op
 same_step Increment = refl

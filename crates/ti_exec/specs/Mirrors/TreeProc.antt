@@ -33,10 +33,10 @@ pub record Awaits (c : ProgramView) (w : TreeMachine) (on_answer : OnAnswer) : T
   pub room : vec_len w.answers < vec_capacity w.answers
 
 -- The internal state of the process agrees with what contracts see.
-abbrev pub Agrees : TreeProcView → TreeMachine → TreeProcState → Type 0
-Agrees s w state.Running = CorrespondsTo s w
-Agrees s w (state.Suspended asking) = CorrespondsTo s w × Awaits (program_of s.program) w asking.value.on_answer
-Agrees s w state.Poisoned = Unit {0}
+abbrev pub AgreesWithTree : TreeProcView → TreeMachine → TreeProcState → Type 0
+AgreesWithTree s w state.Running = CorrespondsTo s w
+AgreesWithTree s w (state.Suspended asking) = CorrespondsTo s w × Awaits (program_of s.program) w asking.value.on_answer
+AgreesWithTree s w state.Poisoned = Unit {0}
 
 abbrev pub IsSound : Inside → Type 0
-IsSound t = Agrees (view_in t) t.machine t.state
+IsSound t = AgreesWithTree (view_in t) t.machine t.state

@@ -13,7 +13,7 @@ use Rattle.ti_lang.specs.Typing.Kinds.{domain_dim}
 use Rattle.ti_lang.specs.Typing.Expressions.{operand_type}
 use Rattle.ti_lang.specs.Typing.Called.{called_method, member_called}
 use Rattle.ti_lang.specs.Typing.Effects.{doings, doings_of_maybe}
-use Rattle.ti_rules.specs.StmtInContext.{with_point}
+use Rattle.ti_rules.specs.StmtInContext.{with_foreach_variable}
 use Rattle.ti_rules.specs.SingleRules.{is_delete}
 use Rattle.ti_blame.specs.declared.reason.Reason.{Reason}
 use Rattle.ti_blame.specs.declared.reason.Reason.TheVariants.{OfVariable, OfCollective, Always}
@@ -135,7 +135,7 @@ module _ (p : ProgramView) (m : NumberedMethod) (whole : Conclusion) where
 
   abbrev pub variables_foreach : List ScopeVariable → ℕ → NumberedExp → List ScopeVariable
   variables_foreach ws variable domain =
-      with_point ws variable false (option_and_then domain_dim (operand_type p (record { this_class = this_of m; variables = ws }) domain))
+      with_foreach_variable ws variable false (option_and_then domain_dim (operand_type p (record { this_class = this_of m; variables = ws }) domain))
 
   abbrev mutual
     -- of a statement and those in it, whose reasons begin at index i

@@ -9,7 +9,7 @@ use Rattle.std.specs.Str.{bytes_eq}
 use Rattle.std.specs.Map.{lookup}
 use Rattle.ti_syntax.specs.declared.token.TokenKind.{TokenKind}
 use Rattle.ti_syntax.specs.declared.token.TokenKind.TheVariants as k
-use Rattle.ti_syntax.specs.Tokenizing.{Piece, Space, Lexeme, Flaw, StrayByte, OpenComment, OpenString, WrongNumber, is_blank, begins_name, is_name_byte, is_long_letter, first_passes, is_plain, escaped}
+use Rattle.ti_syntax.specs.Tokenizing.{Piece, Space, Lexeme, Flaw, StrayByte, OpenComment, OpenString, WrongNumber, is_blank, begins_name, is_name_byte, is_long_letter, first_passes, is_unescaped, escaped}
 use Rattle.ti_lex.specs.declared.byte_class.ByteClass.{ByteClass}
 use Rattle.ti_lex.specs.declared.byte_class.ByteClass.TheVariants as c
 
@@ -146,7 +146,7 @@ item [] = Breaks
 item (b ∷ l) =
     if b == 34 then Closes
     else (if b == 92 then escape l
-    else (if is_plain b then Gives b 1
+    else (if is_unescaped b then Gives b 1
     else (if b == 10 || b == 13 then Breaks
     else Strays)))
 
@@ -157,7 +157,7 @@ abbrev mutual
   string_from quote bytes at (b ∷ l) =
       if b == 34 then Matches (Lexeme (k.Str bytes)) (at + 1)
       else (if b == 92 then escape_from quote bytes at l
-      else (if is_plain b then string_from quote (bytes ++ b ∷ []) (at + 1) l
+      else (if is_unescaped b then string_from quote (bytes ++ b ∷ []) (at + 1) l
       else (if b == 10 || b == 13 then Rejects OpenString quote
       else Rejects StrayByte at)))
 

@@ -9,7 +9,7 @@ use Rattle.ti_syntax.specs.Trees.Types.{TypeTree}
 use Rattle.ti_syntax.specs.Trees.Classes.{ParamTree, ParamsTree, ResultTree, MemberTree, ClassTree, TextTree}
 use Rattle.ti_syntax.specs.Trees.Classes as c
 use Rattle.ti_syntax.specs.Spelling.Operators.{modifier_of, class_modifier_of}
-use Rattle.ti_parse_expr.specs.Mirrors.Input.{Parser, At, OutOfFuel, ◌>>=◌, ◌>>◌, ◌<$>◌, pure, peek, next_place, kind, next_is, expect, any_name, take_token}
+use Rattle.ti_parse_expr.specs.Mirrors.Input.{Parser, At, OutOfFuel, ◌>>=◌, ◌>>◌, ◌<$>◌, pure, peek, place_of_next, kind, next_is, expect, any_name, take_token}
 use Rattle.ti_parse.specs.Mirrors.ParserParams.{ParserParams}
 use Rattle.ti_parse.specs.Mirrors.Parts.{is_wide, wide, field, any_type}
 use Rattle.ti_parse.specs.Mirrors.Statements.{body}
@@ -22,7 +22,7 @@ module _ (w : ParserParams) (fuel : ℕ) where
   more_params zero found = λ i. Err OutOfFuel
   more_params (suc n) found = do
     ty ← any_type w fuel
-    at ← next_place
+    at ← place_of_next
     name ← any_name
     is_more ← (λ i. Ok (next_is k.Comma i, i))
     if is_more then take_token >> more_params n (found ++ record { ty = ty; place = at; name = name } ∷ []) else pure (found
@@ -33,7 +33,7 @@ module _ (w : ParserParams) (fuel : ℕ) where
   words = do
     expect k.LeftBracket
     expect k.RightBracket
-    at ← next_place
+    at ← place_of_next
     name ← any_name
     pure (c.MainArgs at name)
 
@@ -54,7 +54,7 @@ module _ (w : ParserParams) (fuel : ℕ) where
     expect k.RightParen
     expect k.LeftBrace
     xs ← body w fuel
-    end_at ← next_place
+    end_at ← place_of_next
     expect k.RightBrace
     pure (c.MethodMember (record { modifiers = ms; result = result; place = at; name = name; params = ps; body = xs; end = end_at }))
 
@@ -63,14 +63,14 @@ module _ (w : ParserParams) (fuel : ℕ) where
   -- a method, after its result type
   unfoldable pub method_named : List Modifier → ResultTree → Parser MemberTree
   method_named ms result = do
-    at ← next_place
+    at ← place_of_next
     name ← any_name
     method ms result at name
 
   -- a field or a method, after the type
   unfoldable pub field_or_method : List Modifier → TypeTree → Parser MemberTree
   field_or_method ms ty = do
-    at ← next_place
+    at ← place_of_next
     name ← any_name
     is_field ← (λ i. Ok (next_is k.Semicolon i, i))
     if is_field then take_token >> pure (c.FieldMember (record { modifiers = ms; ty = ty; place = at; name = name })) else method ms
@@ -81,7 +81,7 @@ module _ (w : ParserParams) (fuel : ℕ) where
   typed_member ms false = field w fuel >>= field_or_method ms
 
   abbrev pub member_by : List Modifier → TokenKind → Parser MemberTree
-  member_by ms k.KeywordVoid = (do at ← next_place; take_token; method_named ms (c.Void at))
+  member_by ms k.KeywordVoid = (do at ← place_of_next; take_token; method_named ms (c.Void at))
   member_by ms kind = typed_member ms (is_wide kind)
 
   -- a member, after its modifiers
@@ -90,7 +90,7 @@ module _ (w : ParserParams) (fuel : ℕ) where
 
   abbrev pub modifiers_if : (List Modifier → Parser (List Modifier)) → List Modifier → Option ModifierWord → Parser (List Modifier)
   modifiers_if more found None = pure found
-  modifiers_if more found (Some word) = (do at ← next_place; take_token; more (found ++ record { word = word; place = at } ∷ []))
+  modifiers_if more found (Some word) = (do at ← place_of_next; take_token; more (found ++ record { word = word; place = at } ∷ []))
 
   -- all modifiers that follow, with fuel
   unfoldable pub modifiers : (TokenKind → Option ModifierWord) → ℕ → List Modifier → Parser (List Modifier)
@@ -111,9 +111,9 @@ module _ (w : ParserParams) (fuel : ℕ) where
   -- a class, after its modifiers
   unfoldable pub class_from : List Modifier → Parser ClassTree
   class_from ms = do
-    word ← next_place
+    word ← place_of_next
     expect k.KeywordClass
-    at ← next_place
+    at ← place_of_next
     name ← any_name
     expect k.LeftBrace
     xs ← members fuel []

@@ -17,7 +17,7 @@ use Rattle.ti_syntax.specs.Spelling.Operators.{update_of, step_of, qualifier_of}
 use Rattle.ti_syntax.specs.Spelling.Expressions.{Ending, Target, Call}
 use Rattle.ti_syntax.specs.Spelling.Statements.{starts}
 use Rattle.ti_parse_expr.specs.declared.parse.Form.TheVariants as form
-use Rattle.ti_parse_expr.specs.Mirrors.Input.{Parser, ◌>>=◌, ◌>>◌, ◌<$>◌, pure, refuse, peek, next_place, kind, next_is, expect, expect_word, any_name, take_token}
+use Rattle.ti_parse_expr.specs.Mirrors.Input.{Parser, ◌>>=◌, ◌>>◌, ◌<$>◌, pure, refuse, peek, place_of_next, kind, next_is, expect, expect_word, any_name, take_token}
 use Rattle.ti_parse_expr.specs.Mirrors.Types.{arity, base, qualifiers, grid, grids, field_type}
 use Rattle.ti_parse_expr.specs.Mirrors.Exprs.{Operand, is_dim_token}
 use Rattle.ti_parse.specs.Mirrors.ParserParams.{ParserParams}
@@ -56,8 +56,8 @@ module _ (w : ParserParams) (fuel : ℕ) where
   -- ---- types
 
   abbrev pub wide_by : TokenKind → Parser TypeTree
-  wide_by k.KeywordDomain = (do at ← next_place; take_token; n ← arity; qs ← qualifiers fuel []; pure (record { base = b.Domain at n; qualifiers = qs; grids = [] }))
-  wide_by k.KeywordSharedRegion = (do at ← next_place; take_token; qs ← qualifiers fuel []; pure (record { base = b.SharedRegion at; qualifiers = qs; grids = [] }))
+  wide_by k.KeywordDomain = (do at ← place_of_next; take_token; n ← arity; qs ← qualifiers fuel []; pure (record { base = b.Domain at n; qualifiers = qs; grids = [] }))
+  wide_by k.KeywordSharedRegion = (do at ← place_of_next; take_token; qs ← qualifiers fuel []; pure (record { base = b.SharedRegion at; qualifiers = qs; grids = [] }))
   wide_by _ = refuse
 
   unfoldable pub wide : Parser TypeTree
@@ -111,7 +111,7 @@ module _ (w : ParserParams) (fuel : ℕ) where
   unfoldable pub new_grid : Place → Option Exp → Base → Parser InitTree
   new_grid at owner begin = do
     qs ← qualifiers fuel []
-    dims_at ← next_place
+    dims_at ← place_of_next
     expect k.LeftBracket
     d ← dims
     expect k.RightBracket
@@ -125,7 +125,7 @@ module _ (w : ParserParams) (fuel : ℕ) where
     if is_object then (do take_token; expect k.RightParen; pure (s.NewObject at owner name_at name)) else new_grid at owner (b.Named name_at name)
 
   abbrev pub new_object_or_grid_by : Place → Option Exp → TokenKind → Parser InitTree
-  new_object_or_grid_by at owner (k.Name name) = (do name_at ← next_place; take_token; new_named at owner name_at name)
+  new_object_or_grid_by at owner (k.Name name) = (do name_at ← place_of_next; take_token; new_named at owner name_at name)
   new_object_or_grid_by at owner _ = base >>= new_grid at owner
 
   -- a new object or grid, after `new` and the optional region
@@ -149,8 +149,8 @@ module _ (w : ParserParams) (fuel : ℕ) where
     pure (s.Broadcast at x root)
 
   abbrev pub initial_by : TokenKind → Parser InitTree
-  initial_by k.KeywordNew = (do at ← next_place; take_token; new_thing at)
-  initial_by k.KeywordBroadcast = (do at ← next_place; take_token; broadcast at)
+  initial_by k.KeywordNew = (do at ← place_of_next; take_token; new_thing at)
+  initial_by k.KeywordBroadcast = (do at ← place_of_next; take_token; broadcast at)
   initial_by _ = s.Value <$> w.full form.Whole
 
   unfoldable pub initial : Parser InitTree
@@ -161,7 +161,7 @@ module _ (w : ParserParams) (fuel : ℕ) where
   -- a declaration, after its type
   unfoldable pub declared : TypeTree → Parser Stm
   declared ty = do
-    at ← next_place
+    at ← place_of_next
     name ← any_name
     expect k.Assign
     value ← initial
@@ -176,12 +176,12 @@ module _ (w : ParserParams) (fuel : ℕ) where
   compound_assignment at op target = (do x ← w.full form.Whole; pure (s.Update at op target x))
 
   abbrev pub update_if : Exp → Option BinaryOperator → Option StepOperator → Parser Stm
-  update_if target (Some op) step = (do at ← next_place; take_token; compound_assignment at op target)
-  update_if target None (Some op) = (do at ← next_place; take_token; pure (s.Step at op target))
+  update_if target (Some op) step = (do at ← place_of_next; take_token; compound_assignment at op target)
+  update_if target None (Some op) = (do at ← place_of_next; take_token; pure (s.Step at op target))
   update_if target None None = refuse
 
   abbrev pub change_of_by : Exp → TokenKind → Parser Stm
-  change_of_by target k.Assign = (do at ← next_place; take_token; assignment at target)
+  change_of_by target k.Assign = (do at ← place_of_next; take_token; assignment at target)
   change_of_by target kind = update_if target (update_of kind) (step_of kind)
 
   abbrev pub change_of_if : Exp → Ending → Parser Stm
@@ -222,7 +222,7 @@ module _ (w : ParserParams) (fuel : ℕ) where
 
   abbrev pub name_start_by : Place → List ℕ → TokenKind → Parser NameStart
   name_start_by at name (k.Name next) = pure (DeclaredType (class_name_type at name))
-  name_start_by at name k.LeftBracket = (do bracket_at ← next_place; take_token; bracket_start at name bracket_at)
+  name_start_by at name k.LeftBracket = (do bracket_at ← place_of_next; take_token; bracket_start at name bracket_at)
   name_start_by at name kind = name_start_if at name (qualifier_of kind)
 
   -- the start of a statement, after its name
@@ -232,8 +232,8 @@ module _ (w : ParserParams) (fuel : ℕ) where
   -- ---- prints and barriers
 
   abbrev pub printer_by : TokenKind → Parser Place
-  printer_by k.KeywordSystem = (do take_token; expect k.Dot; expect_word (codes "out"); expect k.Dot; at ← next_place; expect k.KeywordPrintln; pure at)
-  printer_by _ = (do at ← next_place; expect k.KeywordPrintln; pure at)
+  printer_by k.KeywordSystem = (do take_token; expect k.Dot; expect_word (codes "out"); expect k.Dot; at ← place_of_next; expect k.KeywordPrintln; pure at)
+  printer_by _ = (do at ← place_of_next; expect k.KeywordPrintln; pure at)
 
   -- `println` or `System.out.println`; the value is the position of `println`
   unfoldable pub printer : Parser Place
@@ -267,7 +267,7 @@ module _ (w : ParserParams) (fuel : ℕ) where
   unfoldable pub barrier : Parser Stm
   barrier = do
     expect k.Dot
-    at ← next_place
+    at ← place_of_next
     expect_word (codes "barrier")
     expect k.LeftParen
     expect k.RightParen
@@ -278,14 +278,14 @@ module _ (w : ParserParams) (fuel : ℕ) where
 
   unfoldable pub break_out : Parser Stm
   break_out = do
-    at ← next_place
+    at ← place_of_next
     take_token
     expect k.Semicolon
     pure (s.Break at)
 
   unfoldable pub continue_on : Parser Stm
   continue_on = do
-    at ← next_place
+    at ← place_of_next
     take_token
     expect k.Semicolon
     pure (s.Continue at)
@@ -298,7 +298,7 @@ module _ (w : ParserParams) (fuel : ℕ) where
 
   unfoldable pub return_from : Parser Stm
   return_from = do
-    at ← next_place
+    at ← place_of_next
     take_token
     value ← optional_expr
     expect k.Semicolon
@@ -319,7 +319,7 @@ module _ (w : ParserParams) (fuel : ℕ) where
 
   abbrev pub first_by : TokenKind → Parser MaybeStm
   first_by k.Semicolon = pure s.NoStm
-  first_by (k.Name name) = (do at ← next_place; take_token; x ← name_start at name; first ← first_of x; pure (s.SomeStm first))
+  first_by (k.Name name) = (do at ← place_of_next; take_token; x ← name_start at name; first ← first_of x; pure (s.SomeStm first))
   first_by kind = (do first ← (if begins_declaration kind then any_type >>= declared else change); pure (s.SomeStm first))
 
   -- the first part of a `for` head

@@ -10,7 +10,7 @@ use Rattle.ti_syntax.specs.Trees.Expressions.{Exp}
 use Rattle.ti_syntax.specs.Trees.Statements.{DimsTree, InitTree, Stm, MaybeStm}
 use Rattle.ti_syntax.specs.Trees.Classes.{ParamsTree}
 use Rattle.ti_syntax.specs.Trees.Views.{maybe_of, exp_of, dims_of, init_of, stms_of}
-use Rattle.ti_parse_expr.specs.Mirrors.Input.{Parser, ◌>>=◌, ◌>>◌, pure, next_place, expect}
+use Rattle.ti_parse_expr.specs.Mirrors.Input.{Parser, ◌>>=◌, ◌>>◌, pure, place_of_next, expect}
 use Rattle.ti_parse_expr.specs.Mirrors.Types.{grids}
 use Rattle.ti_parse_expr.specs.Mirrors.Seen.{grids_of}
 use Rattle.ti_parse.specs.declared.exprs.Sizes.{Sizes}
@@ -26,7 +26,7 @@ module _ (w : ParserParams) (fuel : ℕ) where
   -- of a new grid: the position of its bracket, its domain, and the grid brackets of its element type
   unfoldable pub sizes : Parser (Place × DimsTree × List GridTree)
   sizes = do
-    at ← next_place
+    at ← place_of_next
     expect k.LeftBracket
     d ← dims w fuel
     expect k.RightBracket
@@ -58,7 +58,7 @@ module _ (w : ParserParams) (fuel : ℕ) where
   method_body = do
     expect k.LeftBrace
     xs ← body w fuel
-    end_at ← next_place
+    end_at ← place_of_next
     expect k.RightBrace
     pure (xs, end_at)
 

@@ -8,7 +8,7 @@ use Rattle.ti_syntax.specs.Trees.Statements.{Stm}
 use Rattle.ti_syntax.specs.Trees.Statements as s
 use Rattle.ti_syntax.specs.Spelling.Statements.{starts}
 use Rattle.ti_parse_expr.specs.declared.parse.Form.TheVariants as form
-use Rattle.ti_parse_expr.specs.Mirrors.Input.{Parser, Over, OutOfFuel, ◌>>=◌, ◌>>◌, pure, refuse, peek, next_place, kind, next_is, expect, expect_word, any_name, take_token}
+use Rattle.ti_parse_expr.specs.Mirrors.Input.{Parser, Over, OutOfFuel, ◌>>=◌, ◌>>◌, pure, refuse, peek, place_of_next, kind, next_is, expect, expect_word, any_name, take_token}
 use Rattle.ti_parse.specs.Mirrors.ParserParams.{ParserParams}
 use Rattle.ti_parse.specs.Mirrors.Parts.{NameStart, DeclaredType, PostfixStart, begins_declaration, any_type, declared, expr_stmt, name_start, print, barrier, break_out, continue_on, return_from, condition, first, optional_expr, update}
 
@@ -35,7 +35,7 @@ module _ (w : ParserParams) (fuel : ℕ) where
     named_item (PostfixStart o) = expr_stmt w fuel o
 
     abbrev pub item_by : TokenKind → Parser Stm
-    item_by (k.Name name) = (do at ← next_place; take_token; x ← name_start w fuel at name; named_item x)
+    item_by (k.Name name) = (do at ← place_of_next; take_token; x ← name_start w fuel at name; named_item x)
     item_by kind = if begins_declaration kind then (do ty ← any_type w fuel; x ← declared w fuel ty; expect k.Semicolon; pure x) else stmt
 
     -- an item: a declaration or a statement
@@ -93,7 +93,7 @@ module _ (w : ParserParams) (fuel : ℕ) where
     unfoldable pub foreach_loop : Place → Parser Stm
     foreach_loop at = do
       expect k.LeftParen
-      name_at ← next_place
+      name_at ← place_of_next
       name ← any_name
       expect_word (codes "in")
       domain ← w.full form.Whole
@@ -132,7 +132,7 @@ module _ (w : ParserParams) (fuel : ℕ) where
     if is_deep then too_deep else simple_stmt
   stmt (suc n) = do
     begin ← peek
-    at ← next_place
+    at ← place_of_next
     if is_compound begin then take_token >> compound (stmt n) at begin else simple_stmt
 
   -- the items of a method body, without its braces

@@ -13,7 +13,7 @@ use Rattle.ti_syntax.specs.Trees.Expressions.{Exp, RangeTree}
 use Rattle.ti_syntax.specs.Trees.Expressions as e
 use Rattle.ti_syntax.specs.Spelling.Operators.{prefix_of, infix_of, strength, qualifier_of}
 use Rattle.ti_syntax.specs.Spelling.Expressions.{Ending, Target, Call, Other}
-use Rattle.ti_parse_expr.specs.Mirrors.Input.{Parser, OutOfFuel, ◌>>=◌, ◌>>◌, ◌<$>◌, pure, refuse, peek, next_place, next_is, next_is_name, expect, take_token, any_name}
+use Rattle.ti_parse_expr.specs.Mirrors.Input.{Parser, OutOfFuel, ◌>>=◌, ◌>>◌, ◌<$>◌, pure, refuse, peek, place_of_next, next_is, next_is_name, expect, take_token, any_name}
 use Rattle.ti_parse_expr.specs.declared.parse.Form.{Form}
 use Rattle.ti_parse_expr.specs.declared.parse.Form.TheVariants as form
 use Rattle.ti_parse_expr.specs.Mirrors.Types.{base as type_base, grid, grids, field_type}
@@ -128,7 +128,7 @@ module _ (fuel : ℕ) (expr : ℕ → Parser Exp) where
   -- a member selection or method call, after the dot
   unfoldable pub member : Exp → Parser Operand
   member left = do
-    at ← next_place
+    at ← place_of_next
     name ← any_name
     is_call ← (λ i. Ok (next_is k.LeftParen i, i))
     if is_call then take_token >> (λ xs. (e.member at left name xs, Call)) <$> args else pure (e.Select at left name, Target)
@@ -139,7 +139,7 @@ module _ (fuel : ℕ) (expr : ℕ → Parser Exp) where
 
   abbrev pub postfix_by : (Operand → Parser Operand) → Operand → TokenKind → Parser Operand
   postfix_by more left k.Dot = take_token >> member left.0 >>= more
-  postfix_by more left k.LeftBracket = (do at ← next_place; take_token; x ← index at left.0; more x)
+  postfix_by more left k.LeftBracket = (do at ← place_of_next; take_token; x ← index at left.0; more x)
   postfix_by more left _ = pure left
 
   -- the postfix parts that follow an operand
@@ -155,16 +155,16 @@ module _ (fuel : ℕ) (expr : ℕ → Parser Exp) where
     postfix fuel (x, Other)
 
   abbrev pub operand_by : TokenKind → Parser Operand
-  operand_by (k.Int n) = (do at ← next_place; take_token; postfix fuel (e.Int at n, Other))
-  operand_by (k.LongInt n) = (do at ← next_place; take_token; postfix fuel (e.Long at n, Other))
-  operand_by k.KeywordTrue = (do at ← next_place; take_token; postfix fuel (e.Truth at true, Other))
-  operand_by k.KeywordFalse = (do at ← next_place; take_token; postfix fuel (e.Truth at false, Other))
-  operand_by k.KeywordNull = (do at ← next_place; take_token; postfix fuel (e.Null at, Other))
-  operand_by k.KeywordThis = (do at ← next_place; take_token; postfix fuel (e.This at, Other))
-  operand_by (k.Name name) = (do at ← next_place; take_token; first ← name_or_call at name; postfix fuel first)
+  operand_by (k.Int n) = (do at ← place_of_next; take_token; postfix fuel (e.Int at n, Other))
+  operand_by (k.LongInt n) = (do at ← place_of_next; take_token; postfix fuel (e.Long at n, Other))
+  operand_by k.KeywordTrue = (do at ← place_of_next; take_token; postfix fuel (e.Truth at true, Other))
+  operand_by k.KeywordFalse = (do at ← place_of_next; take_token; postfix fuel (e.Truth at false, Other))
+  operand_by k.KeywordNull = (do at ← place_of_next; take_token; postfix fuel (e.Null at, Other))
+  operand_by k.KeywordThis = (do at ← place_of_next; take_token; postfix fuel (e.This at, Other))
+  operand_by (k.Name name) = (do at ← place_of_next; take_token; first ← name_or_call at name; postfix fuel first)
   operand_by k.LeftParen = take_token >> group
-  operand_by k.LeftBracket = (do at ← next_place; take_token; x ← bracket at; postfix fuel (x, Other))
-  operand_by k.KeywordTi = (do at ← next_place; take_token; x ← process at; postfix fuel (x, Other))
+  operand_by k.LeftBracket = (do at ← place_of_next; take_token; x ← bracket at; postfix fuel (x, Other))
+  operand_by k.KeywordTi = (do at ← place_of_next; take_token; x ← process at; postfix fuel (x, Other))
   operand_by _ = refuse
 
   unfoldable pub operand : Parser Operand
@@ -175,7 +175,7 @@ module _ (fuel : ℕ) (expr : ℕ → Parser Exp) where
   -- an operator and its right operand
   unfoldable pub operation : Exp → BinaryOperator → Parser Exp
   operation left op = do
-    at ← next_place
+    at ← place_of_next
     take_token
     right ← expr (strength op + 1)
     pure (e.Binary at op left right)
@@ -215,7 +215,7 @@ module _ (fuel : ℕ) (expr : ℕ → Parser Exp) where
   -- a cast or a group, at `[` after `(` and a name
   unfoldable pub paren_name_bracket : Place → Place → List ℕ → Parser Exp
   paren_name_bracket at name_at name = do
-    bracket_at ← next_place
+    bracket_at ← place_of_next
     take_token
     kind ← peek
     if is_dim_token kind then cast_from_grid at (b.Named name_at name) else (index bracket_at (e.Name name_at name) >>= group_from)
@@ -230,7 +230,7 @@ module _ (fuel : ℕ) (expr : ℕ → Parser Exp) where
   paren_name at name_at name = peek >>= paren_name_by at name_at name
 
   abbrev pub paren_by : Place → TokenKind → Parser Exp
-  paren_by at (k.Name name) = (do name_at ← next_place; take_token; paren_name at name_at name)
+  paren_by at (k.Name name) = (do name_at ← place_of_next; take_token; paren_name at name_at name)
   paren_by at kind = if begins_type kind then (type_base >>= cast_from at) else ((λ x. x.0) <$> group)
 
   -- a cast, or a group and its postfix parts, after `(`
@@ -239,7 +239,7 @@ module _ (fuel : ℕ) (expr : ℕ → Parser Exp) where
 
   unfoldable pub unary : UnaryOperator → Parser Exp
   unary op = do
-    at ← next_place
+    at ← place_of_next
     take_token
     e.Unary at op <$> expr 11
 
@@ -248,7 +248,7 @@ module _ (fuel : ℕ) (expr : ℕ → Parser Exp) where
   unary_or None = (λ x. x.0) <$> operand
 
   abbrev pub prefix_by : TokenKind → Parser Exp
-  prefix_by k.LeftParen = (do at ← next_place; take_token; paren at)
+  prefix_by k.LeftParen = (do at ← place_of_next; take_token; paren at)
   prefix_by kind = unary_or (prefix_of kind)
 
   unfoldable pub prefix : Parser Exp

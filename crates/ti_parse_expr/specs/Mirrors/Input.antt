@@ -63,8 +63,8 @@ refuse = λ i. Err (At i)
 abbrev pub peek : Parser TokenKind
 peek = λ i. Ok (kind i, i)
 
-abbrev pub next_place : Parser Place
-next_place = λ i. Ok (place i, i)
+abbrev pub place_of_next : Parser Place
+place_of_next = λ i. Ok (place i, i)
 
 -- ---- consuming tokens
 

@@ -8,7 +8,7 @@ use Rattle.ti_syntax.specs.declared.tree.types.Qualifier.{Qualifier}
 use Rattle.ti_syntax.specs.declared.tree.types.QualifierWord.{QualifierWord}
 use Rattle.ti_syntax.specs.Trees.Types.{GridTree, TypeTree}
 use Rattle.ti_syntax.specs.Spelling.Operators.{qualifier_of}
-use Rattle.ti_parse_expr.specs.Mirrors.Input.{Parser, OutOfFuel, ◌>>=◌, ◌>>◌, pure, refuse, peek, next_place, next_is, expect, take_token}
+use Rattle.ti_parse_expr.specs.Mirrors.Input.{Parser, OutOfFuel, ◌>>=◌, ◌>>◌, pure, refuse, peek, place_of_next, next_is, expect, take_token}
 
 -- a number of dimensions, from 1 to 3
 abbrev pub dim_from_int : ℤ → Option ℕ
@@ -36,12 +36,12 @@ arity = do
   pure n
 
 abbrev pub base_by : TokenKind → Parser Base
-base_by k.KeywordInt = (do at ← next_place; take_token; pure (b.Int at))
-base_by k.KeywordLong = (do at ← next_place; take_token; pure (b.Long at))
-base_by k.KeywordBoolean = (do at ← next_place; take_token; pure (b.Boolean at))
-base_by k.KeywordPoint = (do at ← next_place; take_token; n ← arity; pure (b.Point at n))
-base_by k.KeywordRectDomain = (do at ← next_place; take_token; n ← arity; pure (b.RectDomain at n))
-base_by (k.Name name) = (do at ← next_place; take_token; pure (b.Named at name))
+base_by k.KeywordInt = (do at ← place_of_next; take_token; pure (b.Int at))
+base_by k.KeywordLong = (do at ← place_of_next; take_token; pure (b.Long at))
+base_by k.KeywordBoolean = (do at ← place_of_next; take_token; pure (b.Boolean at))
+base_by k.KeywordPoint = (do at ← place_of_next; take_token; n ← arity; pure (b.Point at n))
+base_by k.KeywordRectDomain = (do at ← place_of_next; take_token; n ← arity; pure (b.RectDomain at n))
+base_by (k.Name name) = (do at ← place_of_next; take_token; pure (b.Named at name))
 base_by _ = refuse
 
 unfoldable pub base : Parser Base
@@ -49,7 +49,7 @@ base = peek >>= base_by
 
 abbrev pub qualifiers_if : (List Qualifier → Parser (List Qualifier)) → List Qualifier → Option QualifierWord → Parser (List Qualifier)
 qualifiers_if more found None = pure found
-qualifiers_if more found (Some word) = (do at ← next_place; take_token; more (found ++ record { word = word; place = at } ∷ []))
+qualifiers_if more found (Some word) = (do at ← place_of_next; take_token; more (found ++ record { word = word; place = at } ∷ []))
 
 -- all qualifiers that follow, with fuel
 unfoldable pub qualifiers : ℕ → List Qualifier → Parser (List Qualifier)

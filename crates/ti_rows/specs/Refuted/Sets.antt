@@ -37,17 +37,17 @@ abbrev pub all_to_four : Range
 all_to_four = record { low = pos 0; high = pos 4; step = 1 }
 
 -- the one-dimensional points of a range
-abbrev pub line : Range → Rect
-line r = record { dim = 1; lo = on_line r.low; hi = on_line r.high; step = r.step ∷ 1 ∷ 1 ∷ [] }
+abbrev pub line_rect : Range → Rect
+line_rect r = record { dim = 1; lo = on_line r.low; hi = on_line r.high; step = r.step ∷ 1 ∷ 1 ∷ [] }
 
 -- the points 0, 2 and 4
 abbrev pub evens : Rect
-evens = line (twos_to (pos 4))
+evens = line_rect (twos_to (pos 4))
 
 -- the points 0, 2 and 4, with an upper end that is none of them
 abbrev pub loose : Rect
-loose = line (twos_to (pos 5))
+loose = line_rect (twos_to (pos 5))
 
 -- the points 0, 1, 2, 3 and 4
 abbrev pub all : Rect
-all = line all_to_four
+all = line_rect all_to_four

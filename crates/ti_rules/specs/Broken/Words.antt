@@ -49,14 +49,14 @@ base_of (Grid t n local) = base_of t
 base_of t = t
 
 -- the type is a grid
-abbrev pub is_grid : ValueType → Bool
-is_grid (Grid t n local) = true
-is_grid _ = false
+abbrev pub is_grid_type : ValueType → Bool
+is_grid_type (Grid t n local) = true
+is_grid_type _ = false
 
 -- a qualifier of the base of a type: `single` is allowed if the type may be single and is neither a class nor a grid, `local` on a class
 abbrev pub base_word_refusals : Bool → ValueType → Qualifier → List Refusal
 base_word_refusals may_be_single t q =
-    refused_if (if qualifier.is_single_word q.word then (is_object (base_of t) || is_grid t) || not may_be_single else not
+    refused_if (if qualifier.is_single_word q.word then (is_object (base_of t) || is_grid_type t) || not may_be_single else not
     (is_object (base_of t))) Y7 q.place
 
 -- a qualifier after a bracket: a grid can't be single

@@ -18,9 +18,9 @@ abbrev pub NoneFilled : List (Option PendingProc) → Type 0
 NoneFilled places = (i : ℕ) → slice_index_or places i None ≡ None
 
 -- one of the passes has the number k, and the process is up to date with what that pass has seen
-abbrev pub IsKnown : {V : Type 0} {g : _} → Code → RunConfig → ℕ → PendingProc → List (Pass V Entry g) → Type 0
-IsKnown code s k pending [] = ⊥
-IsKnown code s k pending (p ∷ ps) = ((number_of p ≡ k) × IsUpToDate code s (entries_in (seen_by p)) k pending) ⊎ IsKnown code s k pending ps
+abbrev pub IsKnownPass : {V : Type 0} {g : _} → Code → RunConfig → ℕ → PendingProc → List (Pass V Entry g) → Type 0
+IsKnownPass code s k pending [] = ⊥
+IsKnownPass code s k pending (p ∷ ps) = ((number_of p ≡ k) × IsUpToDate code s (entries_in (seen_by p)) k pending) ⊎ IsKnownPass code s k pending ps
 
 -- the process of each pass is in its place
 abbrev pub ArePlaced : {V : Type 0} {g : _} → ℕ → List (Option PendingProc) → List (Pass V Entry g) → Type 0
@@ -31,4 +31,4 @@ ArePlaced procs places (p ∷ ps) =
 -- for each process that is in its place a pass came back
 abbrev pub IsBack : {V : Type 0} {g : _} → Code → RunConfig → List (Option PendingProc) → List (Pass V Entry g) → Type 0
 IsBack code s places passes =
-    (k : ℕ) (pending : PendingProc) → k < s.procs → at_place s.procs places k ≡ Some pending → IsKnown code s k pending passes
+    (k : ℕ) (pending : PendingProc) → k < s.procs → at_place s.procs places k ≡ Some pending → IsKnownPass code s k pending passes

@@ -18,7 +18,7 @@ use Rattle.ti_eval.specs.declared.interrupt.Interrupt.{Interrupt}
 use Rattle.ti_eval.specs.Comes.{ComesAs}
 use Rattle.ti_moves.specs.declared.outcomes.StmtOutcome.{StmtOutcome}
 use Rattle.ti_moves.specs.Arguments.{bound_argument}
-use Rattle.ti_moves.specs.Outcomes.{outcome_of}
+use Rattle.ti_moves.specs.Outcomes.{move_after}
 use Rattle.ti_moves.specs.Receiving.{receiver_of}
 
 -- A parameter with the value of its argument is added to those found so far, if it is single.
@@ -29,7 +29,7 @@ single_found env p x found = if is_single_declared p.declared then (bound_argume
 abbrev pub SingleCallComes : Env → NumberedStm → List Answer → Option (Result (StmtOutcome × Bor (List Answer)) Interrupt) → Option Call → Type 0
 SingleCallComes env x answers None call = call ≡ None
 SingleCallComes env x answers (Some r) call =
-    (c : Call) × (call ≡ Some c) × ComesAs (outcome_of env x) r (single_calling env (receiver_of x) c answers)
+    (c : Call) × (call ≡ Some c) × ComesAs (move_after env x) r (single_calling env (receiver_of x) c answers)
 
 -- The value of a right side is stored if its receiver is single.
 abbrev pub single_received : Env → Receiver → Comp Held → Comp move.Move

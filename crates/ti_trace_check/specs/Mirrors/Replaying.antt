@@ -36,11 +36,11 @@ action_for (next.Act at a) = (at, a)
 action_for (next.End at) = (at, act.End)
 action_for (next.Fault kind at) = (at, act.Fault kind)
 
-abbrev pub place_of : ReplayedProc → Place
-place_of replayed = (action_for replayed.next).0
+abbrev pub next_action_place : ReplayedProc → Place
+next_action_place replayed = (action_for replayed.next).0
 
-abbrev pub action_of : ReplayedProc → Action
-action_of replayed = (action_for replayed.next).1
+abbrev pub next_action_kind : ReplayedProc → Action
+next_action_kind replayed = (action_for replayed.next).1
 
 -- the next action that is kept is the one that this process has next
 pub record HoldsNext (t : ProcView) (replayed : ReplayedProc) : Type 0 where

@@ -4,7 +4,7 @@ use Rattle.ti_lang.specs.declared.program.classes.Method.{Method}
 use Rattle.ti_lang.specs.Program.Views.{program_of, numbered_method_of}
 use Rattle.ti_code.specs.declared.code.MethodCode.{MethodCode}
 use Rattle.ti_code.specs.JumpRule.{keep_jump_rule}
-use Rattle.ti_code.specs.Forms.{AreFormed}
+use Rattle.ti_code.specs.Forms.{AreFormedMethods}
 use Rattle.ti_code.specs.Programs.{Code}
 use Rattle.ti_code.specs.Follows.{Follows}
 use Rattle.ti_lower.specs.Programs.{methods_code, program_code}
@@ -23,7 +23,7 @@ new-requires-clause-rule c =
 pub new-requires-clause-formed : goal.new-requires-clause-formed
 new-requires-clause-formed c =
     let program = program_of c.program.result.now.parts in
-    subst AreFormed
+    subst AreFormedMethods
     (sym (c.in_ok-methods.ensures ∙ ap (λ (xs : List Method). methods_code program 0 (map numbered_method_of xs)) c.deref.ensures.value))
     (program_formed program)
 

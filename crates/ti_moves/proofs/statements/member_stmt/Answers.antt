@@ -11,7 +11,7 @@ use Rattle.ti_lang.specs.Meaning.Moves.{Move, receives}
 use Rattle.ti_lang.specs.Meaning.Processes.{Nowhere}
 use Rattle.ti_eval.specs.Comes.{ComesAs}
 use Rattle.ti_eval.specs.Envs.{env_of}
-use Rattle.ti_moves.specs.Outcomes.{outcome_of}
+use Rattle.ti_moves.specs.Outcomes.{move_after}
 use Rattle.ti_moves.proofs.Coming.{member_comes, member_dropped}
 use Rattle.ti_moves.proofs.statements.member_stmt.Goals as goal
 
@@ -42,7 +42,7 @@ returns-in_default c =
     let d = c.in_default in
     let e = member_dropped E c.args.place x xs (receives E Nowhere (eval E (expression_of c.args.expr.now))) c.in-Some.member d.not-Copy d.not-Exchange d.not-Delete in
     member_comes E (expression_of c.args.expr.now) c.args.place x c.args.name xs (Some (built_in_of c.in-Some.member)) c.args.answers.now _ c.requires c.in-Some.ensures
-    (subst (λ (go : Comp Move). ComesAs (outcome_of E s) c.evaluate_and_drop.result (go c.args.answers.now)) e (c.evaluate_and_drop.ensures s))
+    (subst (λ (go : Comp Move). ComesAs (move_after E s) c.evaluate_and_drop.result (go c.args.answers.now)) e (c.evaluate_and_drop.ensures s))
 
 pub returns-in-None : goal.returns-in-None
 returns-in-None c =

@@ -10,7 +10,7 @@ use Rattle.ti_lang.specs.Meaning.Statements as statements
 use Rattle.ti_eval.specs.Comes.{ComesAs, Stops}
 use Rattle.ti_eval.specs.Envs.{env_of}
 use Rattle.ti_eval.proofs.Lemmas.{then_stops}
-use Rattle.ti_moves.specs.Outcomes.{outcome_of, type_given, type_received}
+use Rattle.ti_moves.specs.Outcomes.{move_after, type_given, type_received}
 use Rattle.ti_moves.specs.Receiving.{receiver_of}
 use Rattle.ti_moves.proofs.statements.store_init.Goals as goal
 
@@ -27,16 +27,16 @@ returns-in_ok-h-in-NewObject c =
     let E = env_of c.args.env.now in
     let x = statement_of c.args.stmt.now in
     let r = c.store_received.result in
-    subst (λ (v : Init). ComesAs (outcome_of E x) r (statements.initialized E (receiver_of x) (initial_of v) c.args.answers.now)) (sym c.in-NewObject.is)
-    (subst (λ (g : CompResult Held). ComesAs (outcome_of E x) r (bind_result g (λ h. receives E (receiver_of x) (gives h)))) (sym c.in_ok-h-in-NewObject.ensures) c.store_received.ensures)
+    subst (λ (v : Init). ComesAs (move_after E x) r (statements.initialized E (receiver_of x) (initial_of v) c.args.answers.now)) (sym c.in-NewObject.is)
+    (subst (λ (g : CompResult Held). ComesAs (move_after E x) r (bind_result g (λ h. receives E (receiver_of x) (gives h)))) (sym c.in_ok-h-in-NewObject.ensures) c.store_received.ensures)
 
 pub returns-in_ok-h-in-NewGrid : goal.returns-in_ok-h-in-NewGrid
 returns-in_ok-h-in-NewGrid c =
     let E = env_of c.args.env.now in
     let x = statement_of c.args.stmt.now in
     let r = c.store_received-in-NewGrid.result in
-    subst (λ (v : Init). ComesAs (outcome_of E x) r (statements.initialized E (receiver_of x) (initial_of v) c.args.answers.now)) (sym c.in-NewGrid.is)
-    (subst (λ (g : CompResult Held). ComesAs (outcome_of E x) r (bind_result g (λ h. receives E (receiver_of x) (gives h)))) (sym c.in_ok-h-in-NewGrid.ensures) c.store_received-in-NewGrid.ensures)
+    subst (λ (v : Init). ComesAs (move_after E x) r (statements.initialized E (receiver_of x) (initial_of v) c.args.answers.now)) (sym c.in-NewGrid.is)
+    (subst (λ (g : CompResult Held). ComesAs (move_after E x) r (bind_result g (λ h. receives E (receiver_of x) (gives h)))) (sym c.in_ok-h-in-NewGrid.ensures) c.store_received-in-NewGrid.ensures)
 
 pub returns-in_err-h-in-NewGrid : goal.returns-in_err-h-in-NewGrid
 returns-in_err-h-in-NewGrid c =
@@ -53,5 +53,5 @@ returns-in-Broadcast c =
     let E = env_of c.args.env.now in
     let x = statement_of c.args.stmt.now in
     let type = c.requires ∙ ap (λ (v : Init). type_given E (initial_of v)) c.in-Broadcast.is in
-    subst (λ (v : Init). ComesAs (outcome_of E x) c.broadcasts.result (statements.initialized E (receiver_of x) (initial_of v) c.args.answers.now)) (sym c.in-Broadcast.is)
+    subst (λ (v : Init). ComesAs (move_after E x) c.broadcasts.result (statements.initialized E (receiver_of x) (initial_of v) c.args.answers.now)) (sym c.in-Broadcast.is)
     (c.broadcasts.ensures x type)

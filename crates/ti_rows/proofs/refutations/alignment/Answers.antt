@@ -13,7 +13,7 @@ use Rattle.ti_lang.specs.Meaning.Processes.{RunConfig, Variable}
 use Rattle.ti_lang.specs.Meaning.Runs.{CanTake}
 use Rattle.ti_align.specs.SinglePart.{SingleFrame}
 use Rattle.ti_align.specs.declared.slices.SliceStep.TheVariants as answer
-use Rattle.ti_align.specs.Alignment.{Arrival, ArrivalsAgree, NoneAfterEnd, NoneStuck, IsAlignedRun}
+use Rattle.ti_align.specs.Alignment.{SingleArrival, ArrivalsAgree, NoneAfterEnd, NoneStuck, IsAlignedRun}
 use Rattle.ti_align.specs.Slice.{SliceTells}
 use Rattle.ti_rows.specs.Texts.{pl}
 use Rattle.ti_rows.specs.Failing.{by_two}
@@ -43,7 +43,7 @@ returns-clause-arrivals_at_two_places c = fails ArrivalsAgree programs.barriers_
     let s : RunConfig = by_two 1000 programs.barriers_at_two_places in
     let first = arrives s (solo s 2) [] _ 0 0 _ (pl 1 89) coll.Barrier None deposit.Nothing Done refl refl refl refl in
     let second = arrives s (solo s 2) (solo s 1) _ 1 0 _ (pl 1 108) coll.Barrier None deposit.Nothing Done refl refl refl refl in
-    let k : 89 ≡ 108 = ap (λ (a : Arrival). a.place.col) (f 0 1 0 _ _ first second) in
+    let k : 89 ≡ 108 = ap (λ (a : SingleArrival). a.place.col) (f 0 1 0 _ _ first second) in
     omega (arith, k))
 
 -- what the newest single variable of the innermost call holds
@@ -61,7 +61,7 @@ returns-clause-arrivals_with_two_numbers c = fails ArrivalsAgree programs.a_barr
     let s : RunConfig = by_two 1000 programs.a_barrier_behind_own_numbers in
     let first = arrives s (solo s 2) [] _ 0 0 _ (pl 1 95) coll.Barrier None deposit.Nothing Done refl refl refl refl in
     let second = arrives s (solo s 2) (solo s 1) _ 1 0 _ (pl 1 95) coll.Barrier None deposit.Nothing Done refl refl refl refl in
-    let k : 0 ≡ 1 = ap (λ (a : Arrival). nat_abs (newest_number a.single)) (f 0 1 0 _ _ first second) in
+    let k : 0 ≡ 1 = ap (λ (a : SingleArrival). nat_abs (newest_number a.single)) (f 0 1 0 _ _ first second) in
     omega (arith, k))
 
 pub returns-clause-an_arrival_after_an_end : goal.returns-clause-an_arrival_after_an_end

@@ -5,7 +5,7 @@ use Rattle.ti_lang.specs.Meaning.Calls as calls
 use Rattle.ti_align.specs.Slice.{single_alone}
 use Rattle.ti_eval.specs.Comes.{ComesAs}
 use Rattle.ti_eval.specs.Envs.{env_of}
-use Rattle.ti_moves.specs.Outcomes.{outcome_of}
+use Rattle.ti_moves.specs.Outcomes.{move_after}
 use Rattle.ti_slice.proofs.StatedForms.{called_alone}
 use Rattle.ti_slice.proofs.single_stmt.expr_statement.Goals as goal
 
@@ -18,5 +18,5 @@ pub returns-in-None : goal.returns-in-None
 returns-in-None c =
     let E = env_of c.args.env.now in
     let x = expression_of c.args.expr.now in
-    subst (λ (o : Option calls.Call). ComesAs (outcome_of E (Call x)) c.uncalled_statement.result (single_alone E x o c.args.answers.now))
+    subst (λ (o : Option calls.Call). ComesAs (move_after E (Call x)) c.uncalled_statement.result (single_alone E x o c.args.answers.now))
     (sym (c.in-None.ensures (Call x))) (c.uncalled_statement.ensures (Call x))

@@ -7,7 +7,7 @@ use Rattle.ti_lang.specs.Meaning.Processes.{Receiver}
 use Rattle.ti_align.specs.Slice.{is_single_receiver}
 use Rattle.ti_eval.specs.Comes.{ComesAs}
 use Rattle.ti_eval.specs.Envs.{env_of}
-use Rattle.ti_moves.specs.Outcomes.{outcome_of}
+use Rattle.ti_moves.specs.Outcomes.{move_after}
 use Rattle.ti_moves.specs.Receiving.{receiver_of, right_seen}
 use Rattle.ti_slice.proofs.single_stmt.receive.Goals as goal
 
@@ -17,9 +17,9 @@ returns-then-is_single_receiver c =
     let x = statement_of c.args.stmt.now in
     let right = right_seen E c.args.right in
     let answers = c.args.answers.now in
-    subst (λ (b : Bool). ComesAs (outcome_of E x) c.store_value.result ((if b then receives E (receiver_of x) right else goes_on E) answers))
+    subst (λ (b : Bool). ComesAs (move_after E x) c.store_value.result ((if b then receives E (receiver_of x) right else goes_on E) answers))
     (sym c.if-is_single_receiver.true ∙ c.is_single_receiver.ensures ∙ ap is_single_receiver c.dest_at-receiver.ensures)
-    (subst (λ (r : Receiver). ComesAs (outcome_of E x) c.store_value.result (receives E r right answers)) c.dest_at-receiver.ensures (c.store_value.ensures x))
+    (subst (λ (r : Receiver). ComesAs (move_after E x) c.store_value.result (receives E r right answers)) c.dest_at-receiver.ensures (c.store_value.ensures x))
 
 pub returns-else-is_single_receiver : goal.returns-else-is_single_receiver
 returns-else-is_single_receiver c =

@@ -6,7 +6,7 @@ use Rattle.ti_lang.specs.Meaning.Moves.{Move}
 use Rattle.ti_lang.specs.Meaning.Processes.{ContItem, Do}
 use Rattle.ti_lang.specs.Meaning.Steps.{Step, step_of_result}
 use Rattle.ti_eval.specs.Comes.{Stops}
-use Rattle.ti_moves.specs.Outcomes.{outcome_of}
+use Rattle.ti_moves.specs.Outcomes.{move_after}
 use Rattle.ti_exec.specs.States.{IsStep, IsApplied, process_of, env_in, innermost_stmt, rest}
 use Rattle.ti_exec.proofs.Lemmas.{valued_gives, of_result}
 use Rattle.ti_slice.specs.Mirrors.Step.{IsSliceTurn}
@@ -19,7 +19,7 @@ returns-in-Ok c =
     let w = c.args.machine.now in
     let new = c.apply_outcome.new.self in
     let ws : List ContItem = Do (innermost_stmt p w.top) ∷ rest p w.rank.procs w.top in
-    of_result c.apply_outcome.result (λ t. IsApplied p w (outcome_of (env_in p w) (innermost_stmt p w.top) c.in-Ok.m) t new) (λ t. IsSliceTurn p w t new)
+    of_result c.apply_outcome.result (λ t. IsApplied p w (move_after (env_in p w) (innermost_stmt p w.top) c.in-Ok.m) t new) (λ t. IsSliceTurn p w t new)
     (λ t h. slice_turn_at p w new _ t (stating p w c.requires.inner c.requires.mode c.requires.acts c.requires.new)
     (valued_gives p (process_of p w) _ _ _ _ _ _ c.in-Ok.ensures (h ws))) c.apply_outcome.ensures
 

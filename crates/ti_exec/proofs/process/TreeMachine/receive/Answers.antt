@@ -6,7 +6,7 @@ use Rattle.ti_lang.specs.Meaning.Moves.{Move}
 use Rattle.ti_lang.specs.Meaning.Processes.{ContItem, Receive}
 use Rattle.ti_lang.specs.Meaning.Steps.{Step, step_of_result}
 use Rattle.ti_eval.specs.Comes.{Stops}
-use Rattle.ti_moves.specs.Outcomes.{outcome_of}
+use Rattle.ti_moves.specs.Outcomes.{move_after}
 use Rattle.ti_moves.specs.Receiving.{receiver_of}
 use Rattle.ti_exec.specs.States.{IsStep, IsStepOutcome, IsApplied, process_of, env_in, innermost_stmt, rest}
 use Rattle.ti_exec.proofs.Asked.{valued_gives}
@@ -19,7 +19,7 @@ returns-in-Ok c =
     let w = c.args.self.now in
     let new = c.apply_outcome.new.self in
     let ws : List ContItem = Receive (receiver_of (innermost_stmt p w.top)) c.in-Receives.h ∷ rest p w.rank.procs w.top in
-    of_result c.apply_outcome.result (λ t. IsApplied p w (outcome_of (env_in p w) (innermost_stmt p w.top) c.in-Ok.m) t new) (λ t. IsStepOutcome p w t new)
+    of_result c.apply_outcome.result (λ t. IsApplied p w (move_after (env_in p w) (innermost_stmt p w.top) c.in-Ok.m) t new) (λ t. IsStepOutcome p w t new)
     (λ t h. turn_at p w new _ t (receives_at p w _ c.in-Receives.is) (valued_gives p (process_of p w) _ _ _ _ _ _ c.in-Ok.ensures (h ws))) c.apply_outcome.ensures
 
 pub returns-in-Err : goal.returns-in-Err

@@ -3,7 +3,7 @@ use Rattle.ti_lang.specs.declared.program.numbered.Program.{Program}
 use Rattle.ti_lang.specs.Program.Views.{program_of}
 use Rattle.ti_exec.specs.Standing.{TreeProcView, HasNext}
 use Rattle.ti_exec.specs.Mirrors.RunLoop.{RunsToNext}
-use Rattle.ti_exec.specs.Mirrors.TreeProc.{view_in, Agrees}
+use Rattle.ti_exec.specs.Mirrors.TreeProc.{view_in, AgreesWithTree}
 use Rattle.ti_exec.proofs.Standings.{unspent, has_next, agrees}
 use Rattle.ti_exec.proofs.tree_proc.TreeProc.advance.Goals as goal
 
@@ -16,7 +16,7 @@ invariant_of-self-2 c =
     let goes = subst (λ p. RunsToNext p t.machine c.in_ok-next.next c.in_ok-next.state c.run_to_suspension.new.self) same c.in_ok-next.ensures in
     let room : vec_len c.reserve.new.self < vec_capacity c.reserve.new.self = omega (arith, c.in_ok-reserve.ensures.ok) in
     let follows = unspent s t.machine t.state c.self.invariant (sym c.is_poisoned.ensures ∙ c.if-is_poisoned.false) in
-    subst (λ st. Agrees (view_in (record t { state = st })) (record c.run_to_suspension.new.self { answers = c.reserve.new.self }) st) (sym c.set-2.ensures)
+    subst (λ st. AgreesWithTree (view_in (record t { state = st })) (record c.run_to_suspension.new.self { answers = c.reserve.new.self }) st) (sym c.set-2.ensures)
     (agrees s t.machine c.run_to_suspension.new.self c.reserve.new.self c.in_ok-next.next c.in_ok-next.state c.reserve.ensures.items room follows goes)
 
 pub returns-clause-next : goal.returns-clause-next

@@ -3,7 +3,7 @@ use Rattle.std.proofs.Math.Numerals.{add-one}
 use Rattle.std.proofs.lemmas.Option.{slice_get_read}
 use Rattle.ti_heap.specs.declared.allocation.Allocation.{Allocation}
 use Rattle.ti_heap.specs.Contents.{without_region}
-use Rattle.ti_heap.specs.Things.{drop_if_in, changed_at, thing_at, contents, IsSound}
+use Rattle.ti_heap.specs.Things.{drop_if_in, changed_at, thing_at, contents, HaveBlocks}
 use Rattle.ti_heap.proofs.Lists.{front_mapped, length_front, front_more, front_all, set_changed}
 use Rattle.ti_heap.proofs.Dropping.{drop_contents, drop_sound}
 use Rattle.ti_heap.proofs.heap.Heap.drop_region.Goals as goal
@@ -25,7 +25,7 @@ invariant_of-self c =
     let f : List Allocation → List Allocation = map (drop_if_in c.args.region) in
     let items = c.self.inside.shares.items in
     let e : c.loop-i.self-inside.shares.items ≡ map f items = c.loop-i.invariant ∙ front_all f c.loop-i.i items (omega (arith, c.self.inside.shares.ok.0)) in
-    subst (λ (h : List (List Allocation)). IsSound (thing_at h)) (sym e) (drop_sound c.args.region items c.self.invariant)
+    subst (λ (h : List (List Allocation)). HaveBlocks (thing_at h)) (sym e) (drop_sound c.args.region items c.self.invariant)
 
 pub returns : goal.returns
 returns c =
