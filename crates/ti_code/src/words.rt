@@ -70,7 +70,7 @@ fn member_word(member: Member) -> &'static [u8]
 
 /// The name of an instruction.
 pub fn instr_word(instr: &Instr) -> &'static [u8]
-    ensures word { result.now ≡ text.word_of instr.now }
+    ensures word { result.now ≡ text.instr_name instr.now }
     ensures short { length result.now ≤ 14 }
 {
     match instr {

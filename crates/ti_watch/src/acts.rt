@@ -176,7 +176,7 @@ impl Line {
     // Appends all operands of an operation.
     fn operands(&mut self, act: Action)
         requires { length self.old + 171 ≤ line_room }
-        ensures text { self.new ≡ self.old ++ spec.operands_text act }
+        ensures text { self.new ≡ self.old ++ spec.action_operands_text act }
         ensures bound { length self.new ≤ length self.old + 171 }
     {
         match act {

@@ -254,7 +254,7 @@ arrival_is _ x h = absurd (none_arrival x h)
     none_arrival : (b : Arrival) → ◌≡◌ {A = Option Arrival} None (Some b) → ⊥
     none_arrival b h = cc
 
-unfoldable pub extended : (s : RunConfig) (es all : List Entry) (e : Entry) (i k : ℕ) (a : aligned.Arrival) → all ≡ es ++ e ∷ [] → ArrivesAt s es i k a → ArrivesAt s all i k a
+unfoldable pub extended : (s : RunConfig) (es all : List Entry) (e : Entry) (i k : ℕ) (a : aligned.SingleArrival) → all ≡ es ++ e ∷ [] → ArrivesAt s es i k a → ArrivesAt s all i k a
 extended s es all e i k a z x = record {
   before = x.before;
   rest = x.rest ++ e ∷ [];
@@ -291,7 +291,7 @@ arrives_now s es all e i k kind arg deposit_from t z is c =
 
 -- an arrival of the history, as one of the run
 abbrev pub Seen : RunConfig → List Entry → ℕ → ℕ → Arrival → Type 0
-Seen s es i k a = (x : aligned.Arrival) × ArrivesAt s es i k x × (x.kind ≡ a.kind) × (x.arg ≡ a.arg)
+Seen s es i k a = (x : aligned.SingleArrival) × ArrivesAt s es i k x × (x.kind ≡ a.kind) × (x.arg ≡ a.arg)
 
 seen_now : (s : RunConfig) (es all : List Entry) (e : Entry) (i k : ℕ) (a : Arrival) → CanTake s es i e → all ≡ es ++ e ∷ []
     → is_arrival e.act ≡ true → arrival_in e.act ≡ Some a → arrivals i es ≡ k → Seen s all i k a
@@ -350,7 +350,7 @@ alike s es w f i j k a b x y =
     let l = seen s es w i k a x in
     let r = seen s es w j k b y in
     let z = f i j k l.0 r.0 l.1 r.1 in
-    (sym l.2 ∙ ap (λ (q : aligned.Arrival). q.kind) z ∙ r.2, sym l.3 ∙ ap (λ (q : aligned.Arrival). q.arg) z ∙ r.3)
+    (sym l.2 ∙ ap (λ (q : aligned.SingleArrival). q.kind) z ∙ r.2, sym l.3 ∙ ap (λ (q : aligned.SingleArrival). q.arg) z ∙ r.3)
 
 told_same : (s : RunConfig) (es : List Entry) → IsRun s es → ArrivalsAgree s es → (i j k : ℕ) (r t : Answer) → Told (history_of es) i (suc k) r → Told (history_of es) j (suc k) t → r ≡ t
 told_same s es w f i j k r t x y =
