@@ -3,6 +3,7 @@
 #![tactic(auto)]
 
 mod asked;
+mod debug_text;
 mod evaluation;
 mod known;
 mod no_result;

@@ -4,9 +4,11 @@
 ghost use Rattle.std.specs.Prelude.{IfOk};
 ghost use Rattle.ti_parse_expr.specs.Answers.{EndsAtEnd};
 
+use crate::debug_text::debug_text;
 use crate::no_result::{NO_ROW, NoResult};
+use crate::program_text::ProgramNode;
+use crate::tree_text::TreeNode;
 use crate::typing::type_printed;
-use crate::{program_text, tree_text};
 use std::alloc::{AllocError, Global};
 use ti_base::Place;
 use ti_check::check;
@@ -91,7 +93,7 @@ fn with_weight(alloc: Global, text: &str, behind: usize, used: u32) -> Result<St
 /// The tree of the longest expression of a form at the start of a source, with the number of its tokens and the weight used.
 fn expression(alloc: Global, text: &[u8], form: Form, weight: u32) -> Result<String, NoResult> {
     let (tree, behind, used) = read_expr(alloc, text, form, 0, weight)?;
-    let text = tree_text::text_of(alloc, tree_text::TreeItem::Expr(&tree))?;
+    let text = debug_text(alloc, TreeNode::Expr(&tree))?;
     Ok(with_weight(alloc, text.as_str(), behind, used)?)
 }
 
@@ -110,7 +112,7 @@ fn body(alloc: Global, tree: &Tree) -> Result<String, AllocError> {
     let [Member::Method(method)] = members.as_slice() else {
         return Ok(String::new(alloc));
     };
-    tree_text::text_of(alloc, tree_text::TreeItem::Stmts(&method.body))
+    debug_text(alloc, TreeNode::Stmts(&method.body))
 }
 
 /// Row kind `statements`: the trees of the statements of a source whose only class has one method and no other member.
@@ -122,17 +124,14 @@ fn statements(alloc: Global, text: &[u8]) -> Result<String, NoResult> {
 /// Row kind `tree`: the syntax tree of a source.
 fn tree(alloc: Global, text: &[u8]) -> Result<String, NoResult> {
     let tree = parse_source(alloc, text)?;
-    let classes = tree_text::text_of(alloc, tree_text::TreeItem::Classes(&tree.classes))?;
+    let classes = debug_text(alloc, TreeNode::Classes(&tree.classes))?;
     Ok(format!(in alloc; "Tree {{ classes: {classes} }}")?)
 }
 
 /// Row kind `program`: the parts of a program after name resolution.
 fn program(alloc: Global, text: &[u8]) -> Result<String, NoResult> {
     let program = resolve_source(alloc, text)?;
-    Ok(program_text::text_of(
-        alloc,
-        program_text::ProgramItem::ProgramData(&program.parts),
-    )?)
+    Ok(debug_text(alloc, ProgramNode::ProgramData(&program.parts))?)
 }
 
 /// Compares a copy with its original as they are printed: `the same`, or else the printed copy.
@@ -141,8 +140,8 @@ fn compare_copy(
     parts: &ProgramData,
     copy: &ProgramData,
 ) -> Result<String, AllocError> {
-    let original = program_text::text_of(alloc, program_text::ProgramItem::ProgramData(parts))?;
-    let copied = program_text::text_of(alloc, program_text::ProgramItem::ProgramData(copy))?;
+    let original = debug_text(alloc, ProgramNode::ProgramData(parts))?;
+    let copied = debug_text(alloc, ProgramNode::ProgramData(copy))?;
     if copied == original {
         String::from_str(alloc, "the same")
     } else {
@@ -235,7 +234,7 @@ fn first_scope(alloc: Global, text: &[u8]) -> Result<Scope, NoResult> {
 /// Adds variable 2, a boolean that isn't single, and prints the scope.
 fn grown(alloc: Global, scope: &mut Scope) -> Result<String, NoResult> {
     scope.push(2, Ty::Bool, false)?;
-    Ok(program_text::text_of(alloc, program_text::ProgramItem::Scope(scope))?)
+    Ok(debug_text(alloc, ProgramNode::Scope(scope))?)
 }
 
 /// Truncates a scope to its first variable, sets an innermost loop and resets it. Appends to `grown` the scope after that, the previous
@@ -244,7 +243,7 @@ fn cut(alloc: Global, scope: &mut Scope, grown: &str) -> Result<String, AllocErr
     scope.cut(1);
     let none = scope.set_loop(Some(Place { line: 2, col: 3 }));
     let set = scope.set_loop(None);
-    let left = program_text::text_of(alloc, program_text::ProgramItem::Scope(scope))?;
+    let left = debug_text(alloc, ProgramNode::Scope(scope))?;
     format!(in alloc;
         "{grown}; {left}; {none:?} {set:?} {:?}",
         scope.innermost_loop

@@ -1,30 +1,18 @@
-// Prints resolved programs in the format of a derived `Debug`, which ti_lang doesn't derive since that would slow down its proof.
-// An explicit stack of pending items takes the place of recursion: a node is replaced by its parts and the literals between them. So each
-// kind of node has one short function without recursion, which is cheap to prove.
+// The forms in which resolved programs are printed.
 
+use crate::debug_text::{Form, Leaf, Node, Shape, leaf_text};
 use std::alloc::{AllocError, Global};
-use ti_base::Place;
 use ti_lang::program::{
     Class, Declared, Dims, Expr, Field, InScope, Init, Method, Param, Params, Printed, ProgramData,
     Range, ResultType, Scope, Stmt, Ty, TypeUse, Variable,
 };
 use ti_syntax::Spelled;
-use ti_syntax::tree::{BinaryOperator, Brackets, Modifier, Qualifier, StepOperator, UnaryOperator};
+use ti_syntax::tree::{Brackets, Modifier, Qualifier};
 
-/// A pending item of the output: a literal, a value, a node of the tree or a list of nodes.
+/// A node of the tree, or a list of nodes.
 #[derive(Clone, Copy)]
-pub(crate) enum ProgramItem<'a> {
-    /// Literal output, such as the name of a variant.
-    Text(&'static str),
-    Number(i64),
-    Truth(bool),
-    Place(Place),
-    Spelled(&'a Spelled),
-    Unary(UnaryOperator),
-    Binary(BinaryOperator),
-    StepOperator(StepOperator),
-    Modifier(Modifier),
-    Qualifier(Qualifier),
+pub(crate) enum ProgramNode<'a> {
+    Leaf(Leaf<'a>),
     Ty(&'a Ty),
     TypeUse(&'a TypeUse),
     Declared(&'a Declared),
@@ -59,902 +47,581 @@ pub(crate) enum ProgramItem<'a> {
     InScopes(&'a [InScope]),
     MaybeExpr(&'a Option<Expr>),
     MaybeStmt(&'a Option<Box<Stmt>>),
-    MaybeNumber(Option<u32>),
-    MaybePlace(Option<Place>),
+    /// The part of a method from its name on.
+    MethodEnd(&'a Method),
 }
 
-/// The items that are still to be written.
-#[derive(Drop)]
-pub(crate) struct ProgramStack<'a> {
-    /// The last item is written next.
-    items: Vec<ProgramItem<'a>>,
-}
-
-impl<'a> ProgramStack<'a> {
-    /// Pushes items in reverse, so that they are written next and in the given order.
-    pub(crate) fn put(&mut self, items: &[ProgramItem<'a>]) -> Result<(), AllocError> {
-        for item in items.iter().rev() {
-            self.items.push(*item)?;
-        }
-        Ok(())
-    }
-
-    /// Pushes a list, with its brackets and the commas between its elements, so that it is written next.
-    fn list<T: ProgramPart>(&mut self, parts: &'a [T]) -> Result<(), AllocError> {
-        self.items.push(ProgramItem::Text("]"))?;
-        for (number, part) in parts.iter().enumerate().rev() {
-            self.items.push(part.item())?;
-            if number > 0 {
-                self.items.push(ProgramItem::Text(", "))?;
-            }
-        }
-        self.items.push(ProgramItem::Text("["))?;
-        Ok(())
-    }
-}
-
-/// A node that occurs in lists.
-trait ProgramPart {
-    /// The item that writes this node.
-    fn item(&self) -> ProgramItem<'_>;
-}
-
-impl ProgramPart for Expr {
-    fn item(&self) -> ProgramItem<'_> {
-        ProgramItem::Expr(self)
-    }
-}
-
-impl ProgramPart for Range {
-    fn item(&self) -> ProgramItem<'_> {
-        ProgramItem::Range(self)
-    }
-}
-
-impl ProgramPart for Stmt {
-    fn item(&self) -> ProgramItem<'_> {
-        ProgramItem::Stmt(self)
-    }
-}
-
-impl ProgramPart for Modifier {
-    fn item(&self) -> ProgramItem<'_> {
-        ProgramItem::Modifier(*self)
-    }
-}
-
-impl ProgramPart for Qualifier {
-    fn item(&self) -> ProgramItem<'_> {
-        ProgramItem::Qualifier(*self)
-    }
-}
-
-impl ProgramPart for Brackets {
-    fn item(&self) -> ProgramItem<'_> {
-        ProgramItem::Brackets(self)
-    }
-}
-
-impl ProgramPart for Param {
-    fn item(&self) -> ProgramItem<'_> {
-        ProgramItem::Param(self)
-    }
-}
-
-impl ProgramPart for Field {
-    fn item(&self) -> ProgramItem<'_> {
-        ProgramItem::Field(self)
-    }
-}
-
-impl ProgramPart for Class {
-    fn item(&self) -> ProgramItem<'_> {
-        ProgramItem::Class(self)
-    }
-}
-
-impl ProgramPart for Method {
-    fn item(&self) -> ProgramItem<'_> {
-        ProgramItem::Method(self)
-    }
-}
-
-impl ProgramPart for Spelled {
-    fn item(&self) -> ProgramItem<'_> {
-        ProgramItem::Spelled(self)
-    }
-}
-
-impl ProgramPart for InScope {
-    fn item(&self) -> ProgramItem<'_> {
-        ProgramItem::InScope(self)
-    }
-}
-
-/// Writes a literal or a value. Writes nothing for any other item.
-fn write_leaf(alloc: Global, out: &mut String, item: ProgramItem) -> Result<(), AllocError> {
-    match item {
-        ProgramItem::Text(text) => out.push_str(text),
-        ProgramItem::Number(number) => out.push_str(&format!(in alloc; "{number}")?),
-        ProgramItem::Truth(truth) => out.push_str(&format!(in alloc; "{truth}")?),
-        ProgramItem::Place(place) => out.push_str(&format!(in alloc; "{place:?}")?),
-        ProgramItem::Spelled(spelled) => out.push_str(&format!(in alloc; "{spelled:?}")?),
-        ProgramItem::Unary(operator) => out.push_str(&format!(in alloc; "{operator:?}")?),
-        ProgramItem::Binary(operator) => out.push_str(&format!(in alloc; "{operator:?}")?),
-        ProgramItem::StepOperator(operator) => out.push_str(&format!(in alloc; "{operator:?}")?),
-        ProgramItem::Modifier(modifier) => out.push_str(&format!(in alloc; "{modifier:?}")?),
-        ProgramItem::Qualifier(qualifier) => out.push_str(&format!(in alloc; "{qualifier:?}")?),
-        ProgramItem::MaybeNumber(maybe) => out.push_str(&format!(in alloc; "{maybe:?}")?),
-        ProgramItem::MaybePlace(maybe) => out.push_str(&format!(in alloc; "{maybe:?}")?),
-        _ => Ok(()),
-    }
-}
-
-/// Processes one item: pushes the parts of a node, list or option, and writes a literal or a value.
-fn write_item<'a>(
-    alloc: Global,
-    stack: &mut ProgramStack<'a>,
-    out: &mut String,
-    item: ProgramItem<'a>,
-) -> Result<(), AllocError> {
-    match item {
-        ProgramItem::Ty(node) => ty(stack, node),
-        ProgramItem::TypeUse(node) => type_use(stack, node),
-        ProgramItem::Declared(node) => push_declared(stack, node),
-        ProgramItem::Variable(node) => variable(stack, node),
-        ProgramItem::Brackets(node) => brackets(stack, node),
-        ProgramItem::Expr(node) => expr(stack, node),
-        ProgramItem::Range(node) => range(stack, node),
-        ProgramItem::Dims(node) => dims(stack, node),
-        ProgramItem::Init(node) => init(stack, node),
-        ProgramItem::Printed(node) => push_printed(stack, node),
-        ProgramItem::Stmt(node) => stmt(stack, node),
-        ProgramItem::Field(node) => field(stack, node),
-        ProgramItem::Class(node) => class(stack, node),
-        ProgramItem::Param(node) => param(stack, node),
-        ProgramItem::Params(node) => params(stack, node),
-        ProgramItem::ResultType(node) => result_type(stack, node),
-        ProgramItem::Method(node) => method(stack, node),
-        ProgramItem::InScope(node) => in_scope(stack, node),
-        ProgramItem::Scope(node) => scope(stack, node),
-        ProgramItem::ProgramData(node) => parts(stack, node),
-        ProgramItem::Exprs(list) => stack.list(list),
-        ProgramItem::Ranges(list) => stack.list(list),
-        ProgramItem::Stmts(list) => stack.list(list),
-        ProgramItem::Modifiers(list) => stack.list(list),
-        ProgramItem::Qualifiers(list) => stack.list(list),
-        ProgramItem::Grids(list) => stack.list(list),
-        ProgramItem::ParamList(list) => stack.list(list),
-        ProgramItem::Fields(list) => stack.list(list),
-        ProgramItem::Classes(list) => stack.list(list),
-        ProgramItem::Methods(list) => stack.list(list),
-        ProgramItem::Names(list) => stack.list(list),
-        ProgramItem::InScopes(list) => stack.list(list),
-        ProgramItem::MaybeExpr(Some(node)) => stack.put(&[
-            ProgramItem::Text("Some("),
-            ProgramItem::Expr(node),
-            ProgramItem::Text(")"),
-        ]),
-        ProgramItem::MaybeExpr(None) => stack.put(&[ProgramItem::Text("None")]),
-        ProgramItem::MaybeStmt(Some(node)) => stack.put(&[
-            ProgramItem::Text("Some("),
-            ProgramItem::Stmt(node),
-            ProgramItem::Text(")"),
-        ]),
-        ProgramItem::MaybeStmt(None) => stack.put(&[ProgramItem::Text("None")]),
-        leaf => write_leaf(alloc, out, leaf),
-    }
-}
-
-// Upper bound on the number of items that are processed, so that the loop in `text_of` is bounded.
-const MOST: u32 = 100_000_000;
-
-/// An item in the format of a derived `Debug`. The output is cut off after `MOST` items.
-pub(crate) fn text_of(alloc: Global, item: ProgramItem) -> Result<String, AllocError> {
-    let mut stack = ProgramStack {
-        items: Vec::new(alloc),
-    };
-    stack.put(&[item])?;
-    let mut out = String::new(alloc);
-    for _ in 0..MOST {
-        match stack.items.pop() {
-            Some(item) => write_item(alloc, &mut stack, &mut out, item)?,
-            None => return Ok(out),
+impl<'a> ProgramNode<'a> {
+    /// How this node is printed, with its parts.
+    fn form(self) -> Form<ProgramNode<'a>> {
+        match self {
+            ProgramNode::Leaf(_) => Form::leaf(),
+            ProgramNode::Ty(node) => ty(node),
+            ProgramNode::TypeUse(node) => type_use(node),
+            ProgramNode::Declared(node) => declared(node),
+            ProgramNode::Variable(node) => variable(node),
+            ProgramNode::Brackets(node) => brackets(node),
+            ProgramNode::Expr(node) => expr(node),
+            ProgramNode::Range(node) => range(node),
+            ProgramNode::Dims(node) => dims(node),
+            ProgramNode::Init(node) => init(node),
+            ProgramNode::Printed(node) => printed(node),
+            ProgramNode::Stmt(node) => stmt(node),
+            ProgramNode::Field(node) => field(node),
+            ProgramNode::Class(node) => class(node),
+            ProgramNode::Param(node) => param(node),
+            ProgramNode::Params(node) => params(node),
+            ProgramNode::ResultType(node) => result_type(node),
+            ProgramNode::Method(node) => method(node),
+            ProgramNode::InScope(node) => in_scope(node),
+            ProgramNode::Scope(node) => scope(node),
+            ProgramNode::ProgramData(node) => parts(node),
+            ProgramNode::MethodEnd(method) => method_end(method),
+            ProgramNode::MaybeExpr(node) => maybe_expr(node),
+            ProgramNode::MaybeStmt(node) => maybe_stmt(node),
+            _ => Form::list(),
         }
     }
-    Ok(out)
 }
 
-/// Pushes the parts of a resolved type.
-fn ty<'a>(stack: &mut ProgramStack<'a>, ty: &'a Ty) -> Result<(), AllocError> {
+impl<'a> Node for ProgramNode<'a> {
+    fn shape(self) -> Shape {
+        self.form().shape()
+    }
+
+    fn leaf(self, alloc: Global) -> Result<String, AllocError> {
+        match self {
+            ProgramNode::Leaf(leaf) => leaf_text(alloc, leaf),
+            _ => Ok(String::new(alloc)),
+        }
+    }
+
+    fn part(self, index: usize) -> Option<ProgramNode<'a>> {
+        self.form().part(index)
+    }
+
+    fn element(self, index: usize) -> Option<ProgramNode<'a>> {
+        match self {
+            ProgramNode::Exprs(list) => Some(ProgramNode::Expr(list.get(index)?)),
+            ProgramNode::Ranges(list) => Some(ProgramNode::Range(list.get(index)?)),
+            ProgramNode::Stmts(list) => Some(ProgramNode::Stmt(list.get(index)?)),
+            ProgramNode::Modifiers(list) => Some(ProgramNode::Leaf(Leaf::Modifier(*list.get(
+                index,
+            )?))),
+            ProgramNode::Qualifiers(list) => Some(ProgramNode::Leaf(Leaf::Qualifier(*list.get(
+                index,
+            )?))),
+            ProgramNode::Grids(list) => Some(ProgramNode::Brackets(list.get(index)?)),
+            ProgramNode::ParamList(list) => Some(ProgramNode::Param(list.get(index)?)),
+            ProgramNode::Fields(list) => Some(ProgramNode::Field(list.get(index)?)),
+            ProgramNode::Classes(list) => Some(ProgramNode::Class(list.get(index)?)),
+            ProgramNode::Methods(list) => Some(ProgramNode::Method(list.get(index)?)),
+            ProgramNode::Names(list) => Some(ProgramNode::Leaf(Leaf::Spelled(list.get(index)?))),
+            ProgramNode::InScopes(list) => Some(ProgramNode::InScope(list.get(index)?)),
+            _ => None,
+        }
+    }
+}
+
+/// The form of a resolved type.
+fn ty(ty: &Ty) -> Form<ProgramNode<'_>> {
     match ty {
-        Ty::Int => stack.put(&[ProgramItem::Text("Int")]),
-        Ty::Long => stack.put(&[ProgramItem::Text("Long")]),
-        Ty::Bool => stack.put(&[ProgramItem::Text("Bool")]),
-        Ty::Pt(dim) => stack.put(&[
-            ProgramItem::Text("Pt("),
-            ProgramItem::Number(i64::from(*dim)),
-            ProgramItem::Text(")"),
-        ]),
-        Ty::Rc(dim) => stack.put(&[
-            ProgramItem::Text("Rc("),
-            ProgramItem::Number(i64::from(*dim)),
-            ProgramItem::Text(")"),
-        ]),
-        Ty::Dm(dim) => stack.put(&[
-            ProgramItem::Text("Dm("),
-            ProgramItem::Number(i64::from(*dim)),
-            ProgramItem::Text(")"),
-        ]),
-        Ty::Region => stack.put(&[ProgramItem::Text("Region")]),
-        Ty::Class { class, local } => stack.put(&[
-            ProgramItem::Text("Class { class: "),
-            ProgramItem::Number(i64::from(*class)),
-            ProgramItem::Text(", local: "),
-            ProgramItem::Truth(*local),
-            ProgramItem::Text(" }"),
-        ]),
-        Ty::Grid { elem, dim, local } => stack.put(&[
-            ProgramItem::Text("Grid { elem: "),
-            ProgramItem::Ty(elem),
-            ProgramItem::Text(", dim: "),
-            ProgramItem::Number(i64::from(*dim)),
-            ProgramItem::Text(", local: "),
-            ProgramItem::Truth(*local),
-            ProgramItem::Text(" }"),
-        ]),
-        Ty::Null => stack.put(&[ProgramItem::Text("Null")]),
-        Ty::Void => stack.put(&[ProgramItem::Text("Void")]),
+        Ty::Int => Form::of0("Int"),
+        Ty::Long => Form::of0("Long"),
+        Ty::Bool => Form::of0("Bool"),
+        Ty::Pt(dim) => Form::of1("Pt(@)", ProgramNode::Leaf(Leaf::Number(i64::from(*dim)))),
+        Ty::Rc(dim) => Form::of1("Rc(@)", ProgramNode::Leaf(Leaf::Number(i64::from(*dim)))),
+        Ty::Dm(dim) => Form::of1("Dm(@)", ProgramNode::Leaf(Leaf::Number(i64::from(*dim)))),
+        Ty::Region => Form::of0("Region"),
+        Ty::Class { class, local } => Form::of2(
+            "Class { class: @, local: @ }",
+            ProgramNode::Leaf(Leaf::Number(i64::from(*class))),
+            ProgramNode::Leaf(Leaf::Truth(*local)),
+        ),
+        Ty::Grid { elem, dim, local } => Form::of3(
+            "Grid { elem: @, dim: @, local: @ }",
+            ProgramNode::Ty(elem),
+            ProgramNode::Leaf(Leaf::Number(i64::from(*dim))),
+            ProgramNode::Leaf(Leaf::Truth(*local)),
+        ),
+        Ty::Null => Form::of0("Null"),
+        Ty::Void => Form::of0("Void"),
     }
 }
 
-/// Pushes the parts of a type as the source uses it, with its qualifiers and brackets.
-fn type_use<'a>(stack: &mut ProgramStack<'a>, ty: &'a TypeUse) -> Result<(), AllocError> {
-    stack.put(&[
-        ProgramItem::Text("TypeUse { ty: "),
-        ProgramItem::Ty(&ty.ty),
-        ProgramItem::Text(", single: "),
-        ProgramItem::Truth(ty.single),
-        ProgramItem::Text(", qualifiers: "),
-        ProgramItem::Qualifiers(&ty.qualifiers),
-        ProgramItem::Text(", grids: "),
-        ProgramItem::Grids(&ty.grids),
-        ProgramItem::Text(" }"),
-    ])
+/// The form of a type as the source uses it, with its qualifiers and brackets.
+fn type_use(ty: &TypeUse) -> Form<ProgramNode<'_>> {
+    Form::of4(
+        "TypeUse { ty: @, single: @, qualifiers: @, grids: @ }",
+        ProgramNode::Ty(&ty.ty),
+        ProgramNode::Leaf(Leaf::Truth(ty.single)),
+        ProgramNode::Qualifiers(&ty.qualifiers),
+        ProgramNode::Grids(&ty.grids),
+    )
 }
 
-/// Pushes the parts of how a variable was declared: with a type, or by `foreach`.
-fn push_declared<'a>(
-    stack: &mut ProgramStack<'a>,
-    declared: &'a Declared,
-) -> Result<(), AllocError> {
+/// The form of how a variable was declared: with a type, or by `foreach`.
+fn declared(declared: &Declared) -> Form<ProgramNode<'_>> {
     match declared {
-        Declared::Typed { single, ty } => stack.put(&[
-            ProgramItem::Text("Typed { single: "),
-            ProgramItem::Truth(*single),
-            ProgramItem::Text(", ty: "),
-            ProgramItem::Ty(ty),
-            ProgramItem::Text(" }"),
-        ]),
-        Declared::Foreach => stack.put(&[ProgramItem::Text("Foreach")]),
+        Declared::Typed { single, ty } => Form::of2(
+            "Typed { single: @, ty: @ }",
+            ProgramNode::Leaf(Leaf::Truth(*single)),
+            ProgramNode::Ty(ty),
+        ),
+        Declared::Foreach => Form::of0("Foreach"),
     }
 }
 
-/// Pushes the parts of a use of a variable: its number and its declaration.
-fn variable<'a>(stack: &mut ProgramStack<'a>, variable: &'a Variable) -> Result<(), AllocError> {
-    stack.put(&[
-        ProgramItem::Text("Variable { number: "),
-        ProgramItem::Number(i64::from(variable.number)),
-        ProgramItem::Text(", declared: "),
-        ProgramItem::Declared(&variable.declared),
-        ProgramItem::Text(" }"),
-    ])
+/// The form of a use of a variable: its number and its declaration.
+fn variable(variable: &Variable) -> Form<ProgramNode<'_>> {
+    Form::of2(
+        "Variable { number: @, declared: @ }",
+        ProgramNode::Leaf(Leaf::Number(i64::from(variable.number))),
+        ProgramNode::Declared(&variable.declared),
+    )
 }
 
-/// Pushes the parts of an expression.
-fn expr<'a>(stack: &mut ProgramStack<'a>, e: &'a Expr) -> Result<(), AllocError> {
+/// The form of an expression.
+fn expr(e: &Expr) -> Form<ProgramNode<'_>> {
     match e {
-        Expr::Int(place, n) => stack.put(&[
-            ProgramItem::Text("Int("),
-            ProgramItem::Place(*place),
-            ProgramItem::Text(", "),
-            ProgramItem::Number(i64::from(*n)),
-            ProgramItem::Text(")"),
-        ]),
-        Expr::Long(place, n) => stack.put(&[
-            ProgramItem::Text("Long("),
-            ProgramItem::Place(*place),
-            ProgramItem::Text(", "),
-            ProgramItem::Number(*n),
-            ProgramItem::Text(")"),
-        ]),
-        Expr::Bool(place, truth) => stack.put(&[
-            ProgramItem::Text("Truth("),
-            ProgramItem::Place(*place),
-            ProgramItem::Text(", "),
-            ProgramItem::Truth(*truth),
-            ProgramItem::Text(")"),
-        ]),
-        Expr::Null(place) => stack.put(&[
-            ProgramItem::Text("Null("),
-            ProgramItem::Place(*place),
-            ProgramItem::Text(")"),
-        ]),
-        Expr::This(place) => stack.put(&[
-            ProgramItem::Text("This("),
-            ProgramItem::Place(*place),
-            ProgramItem::Text(")"),
-        ]),
-        Expr::Variable(place, variable) => stack.put(&[
-            ProgramItem::Text("Variable("),
-            ProgramItem::Place(*place),
-            ProgramItem::Text(", "),
-            ProgramItem::Variable(variable),
-            ProgramItem::Text(")"),
-        ]),
-        Expr::OwnField(place, field) => stack.put(&[
-            ProgramItem::Text("OwnField("),
-            ProgramItem::Place(*place),
-            ProgramItem::Text(", "),
-            ProgramItem::Number(i64::from(*field)),
-            ProgramItem::Text(")"),
-        ]),
+        Expr::Int(place, n) => Form::of2(
+            "Int(@, @)",
+            ProgramNode::Leaf(Leaf::Place(*place)),
+            ProgramNode::Leaf(Leaf::Number(i64::from(*n))),
+        ),
+        Expr::Long(place, n) => Form::of2(
+            "Long(@, @)",
+            ProgramNode::Leaf(Leaf::Place(*place)),
+            ProgramNode::Leaf(Leaf::Number(*n)),
+        ),
+        Expr::Bool(place, truth) => Form::of2(
+            "Truth(@, @)",
+            ProgramNode::Leaf(Leaf::Place(*place)),
+            ProgramNode::Leaf(Leaf::Truth(*truth)),
+        ),
+        Expr::Null(place) => Form::of1("Null(@)", ProgramNode::Leaf(Leaf::Place(*place))),
+        Expr::This(place) => Form::of1("This(@)", ProgramNode::Leaf(Leaf::Place(*place))),
+        Expr::Variable(place, variable) => Form::of2(
+            "Variable(@, @)",
+            ProgramNode::Leaf(Leaf::Place(*place)),
+            ProgramNode::Variable(variable),
+        ),
+        Expr::OwnField(place, field) => Form::of2(
+            "OwnField(@, @)",
+            ProgramNode::Leaf(Leaf::Place(*place)),
+            ProgramNode::Leaf(Leaf::Number(i64::from(*field))),
+        ),
         Expr::Call {
             place,
             method,
             args,
-        } => stack.put(&[
-            ProgramItem::Text("Call { place: "),
-            ProgramItem::Place(*place),
-            ProgramItem::Text(", method: "),
-            ProgramItem::Number(i64::from(*method)),
-            ProgramItem::Text(", args: "),
-            ProgramItem::Exprs(args),
-            ProgramItem::Text(" }"),
-        ]),
+        } => Form::of3(
+            "Call { place: @, method: @, args: @ }",
+            ProgramNode::Leaf(Leaf::Place(*place)),
+            ProgramNode::Leaf(Leaf::Number(i64::from(*method))),
+            ProgramNode::Exprs(args),
+        ),
         Expr::OwnCall {
             place,
             method,
             args,
-        } => stack.put(&[
-            ProgramItem::Text("OwnCall { place: "),
-            ProgramItem::Place(*place),
-            ProgramItem::Text(", method: "),
-            ProgramItem::Number(i64::from(*method)),
-            ProgramItem::Text(", args: "),
-            ProgramItem::Exprs(args),
-            ProgramItem::Text(" }"),
-        ]),
-        Expr::ThisProc(place) => stack.put(&[
-            ProgramItem::Text("ThisProc("),
-            ProgramItem::Place(*place),
-            ProgramItem::Text(")"),
-        ]),
-        Expr::NumProcs(place) => stack.put(&[
-            ProgramItem::Text("NumProcs("),
-            ProgramItem::Place(*place),
-            ProgramItem::Text(")"),
-        ]),
-        Expr::Point(place, parts) => stack.put(&[
-            ProgramItem::Text("Point("),
-            ProgramItem::Place(*place),
-            ProgramItem::Text(", "),
-            ProgramItem::Exprs(parts),
-            ProgramItem::Text(")"),
-        ]),
-        Expr::Rect(place, ranges) => stack.put(&[
-            ProgramItem::Text("Rect("),
-            ProgramItem::Place(*place),
-            ProgramItem::Text(", "),
-            ProgramItem::Ranges(ranges),
-            ProgramItem::Text(")"),
-        ]),
+        } => Form::of3(
+            "OwnCall { place: @, method: @, args: @ }",
+            ProgramNode::Leaf(Leaf::Place(*place)),
+            ProgramNode::Leaf(Leaf::Number(i64::from(*method))),
+            ProgramNode::Exprs(args),
+        ),
+        Expr::ThisProc(place) => Form::of1("ThisProc(@)", ProgramNode::Leaf(Leaf::Place(*place))),
+        Expr::NumProcs(place) => Form::of1("NumProcs(@)", ProgramNode::Leaf(Leaf::Place(*place))),
+        Expr::Point(place, parts) => Form::of2(
+            "Point(@, @)",
+            ProgramNode::Leaf(Leaf::Place(*place)),
+            ProgramNode::Exprs(parts),
+        ),
+        Expr::Rect(place, ranges) => Form::of2(
+            "Rect(@, @)",
+            ProgramNode::Leaf(Leaf::Place(*place)),
+            ProgramNode::Ranges(ranges),
+        ),
         Expr::Unary {
             place,
             operator,
             operand,
-        } => stack.put(&[
-            ProgramItem::Text("Unary { place: "),
-            ProgramItem::Place(*place),
-            ProgramItem::Text(", operator: "),
-            ProgramItem::Unary(*operator),
-            ProgramItem::Text(", operand: "),
-            ProgramItem::Expr(operand),
-            ProgramItem::Text(" }"),
-        ]),
+        } => Form::of3(
+            "Unary { place: @, operator: @, operand: @ }",
+            ProgramNode::Leaf(Leaf::Place(*place)),
+            ProgramNode::Leaf(Leaf::Unary(*operator)),
+            ProgramNode::Expr(operand),
+        ),
         Expr::Binary {
             place,
             operator,
             left,
             right,
-        } => stack.put(&[
-            ProgramItem::Text("Binary { place: "),
-            ProgramItem::Place(*place),
-            ProgramItem::Text(", operator: "),
-            ProgramItem::Binary(*operator),
-            ProgramItem::Text(", left: "),
-            ProgramItem::Expr(left),
-            ProgramItem::Text(", right: "),
-            ProgramItem::Expr(right),
-            ProgramItem::Text(" }"),
-        ]),
-        Expr::Cast { place, to, operand } => stack.put(&[
-            ProgramItem::Text("Cast { place: "),
-            ProgramItem::Place(*place),
-            ProgramItem::Text(", to: "),
-            ProgramItem::TypeUse(to),
-            ProgramItem::Text(", operand: "),
-            ProgramItem::Expr(operand),
-            ProgramItem::Text(" }"),
-        ]),
+        } => Form::of4(
+            "Binary { place: @, operator: @, left: @, right: @ }",
+            ProgramNode::Leaf(Leaf::Place(*place)),
+            ProgramNode::Leaf(Leaf::Binary(*operator)),
+            ProgramNode::Expr(left),
+            ProgramNode::Expr(right),
+        ),
+        Expr::Cast { place, to, operand } => Form::of3(
+            "Cast { place: @, to: @, operand: @ }",
+            ProgramNode::Leaf(Leaf::Place(*place)),
+            ProgramNode::TypeUse(to),
+            ProgramNode::Expr(operand),
+        ),
         Expr::Select {
             place,
             receiver,
             name,
-        } => stack.put(&[
-            ProgramItem::Text("Select { place: "),
-            ProgramItem::Place(*place),
-            ProgramItem::Text(", receiver: "),
-            ProgramItem::Expr(receiver),
-            ProgramItem::Text(", name: "),
-            ProgramItem::Number(i64::from(*name)),
-            ProgramItem::Text(" }"),
-        ]),
+        } => Form::of3(
+            "Select { place: @, receiver: @, name: @ }",
+            ProgramNode::Leaf(Leaf::Place(*place)),
+            ProgramNode::Expr(receiver),
+            ProgramNode::Leaf(Leaf::Number(i64::from(*name))),
+        ),
         Expr::Member {
             place,
             receiver,
             name,
             args,
-        } => stack.put(&[
-            ProgramItem::Text("Member { place: "),
-            ProgramItem::Place(*place),
-            ProgramItem::Text(", receiver: "),
-            ProgramItem::Expr(receiver),
-            ProgramItem::Text(", name: "),
-            ProgramItem::Number(i64::from(*name)),
-            ProgramItem::Text(", args: "),
-            ProgramItem::Exprs(args),
-            ProgramItem::Text(" }"),
-        ]),
+        } => Form::of4(
+            "Member { place: @, receiver: @, name: @, args: @ }",
+            ProgramNode::Leaf(Leaf::Place(*place)),
+            ProgramNode::Expr(receiver),
+            ProgramNode::Leaf(Leaf::Number(i64::from(*name))),
+            ProgramNode::Exprs(args),
+        ),
         Expr::Index {
             place,
             receiver,
             indices,
-        } => stack.put(&[
-            ProgramItem::Text("Index { place: "),
-            ProgramItem::Place(*place),
-            ProgramItem::Text(", receiver: "),
-            ProgramItem::Expr(receiver),
-            ProgramItem::Text(", indices: "),
-            ProgramItem::Exprs(indices),
-            ProgramItem::Text(" }"),
-        ]),
+        } => Form::of3(
+            "Index { place: @, receiver: @, indices: @ }",
+            ProgramNode::Leaf(Leaf::Place(*place)),
+            ProgramNode::Expr(receiver),
+            ProgramNode::Exprs(indices),
+        ),
     }
 }
 
-/// Pushes the parts of a range, which is one dimension of a rectangular domain.
-fn range<'a>(stack: &mut ProgramStack<'a>, range: &'a Range) -> Result<(), AllocError> {
+/// The form of a range, which is one dimension of a rectangular domain.
+fn range(range: &Range) -> Form<ProgramNode<'_>> {
     match range {
-        Range::Plain { low, high } => stack.put(&[
-            ProgramItem::Text("Plain { low: "),
-            ProgramItem::Expr(low),
-            ProgramItem::Text(", high: "),
-            ProgramItem::Expr(high),
-            ProgramItem::Text(" }"),
-        ]),
-        Range::Stepped { low, high, step } => stack.put(&[
-            ProgramItem::Text("Stepped { low: "),
-            ProgramItem::Expr(low),
-            ProgramItem::Text(", high: "),
-            ProgramItem::Expr(high),
-            ProgramItem::Text(", step: "),
-            ProgramItem::Expr(step),
-            ProgramItem::Text(" }"),
-        ]),
+        Range::Plain { low, high } => Form::of2(
+            "Plain { low: @, high: @ }",
+            ProgramNode::Expr(low),
+            ProgramNode::Expr(high),
+        ),
+        Range::Stepped { low, high, step } => Form::of3(
+            "Stepped { low: @, high: @, step: @ }",
+            ProgramNode::Expr(low),
+            ProgramNode::Expr(high),
+            ProgramNode::Expr(step),
+        ),
     }
 }
 
-/// Pushes the parts of the domain in a grid creation: an expression or a list of ranges.
-fn dims<'a>(stack: &mut ProgramStack<'a>, dims: &'a Dims) -> Result<(), AllocError> {
+/// The form of the domain in a grid creation: an expression or a list of ranges.
+fn dims(dims: &Dims) -> Form<ProgramNode<'_>> {
     match dims {
-        Dims::Domain(e) => stack.put(&[
-            ProgramItem::Text("Domain("),
-            ProgramItem::Expr(e),
-            ProgramItem::Text(")"),
-        ]),
-        Dims::Ranges(ranges) => stack.put(&[
-            ProgramItem::Text("Ranges("),
-            ProgramItem::Ranges(ranges),
-            ProgramItem::Text(")"),
-        ]),
+        Dims::Domain(e) => Form::of1("Domain(@)", ProgramNode::Expr(e)),
+        Dims::Ranges(ranges) => Form::of1("Ranges(@)", ProgramNode::Ranges(ranges)),
     }
 }
 
-/// Pushes the parts of an initializer, which is the right-hand side of a declaration or assignment.
-fn init<'a>(stack: &mut ProgramStack<'a>, init: &'a Init) -> Result<(), AllocError> {
+/// The form of an initializer, which is the right-hand side of a declaration or assignment.
+fn init(init: &Init) -> Form<ProgramNode<'_>> {
     match init {
-        Init::Value(e) => stack.put(&[
-            ProgramItem::Text("Value("),
-            ProgramItem::Expr(e),
-            ProgramItem::Text(")"),
-        ]),
-        Init::NewRegion(place) => stack.put(&[
-            ProgramItem::Text("NewRegion("),
-            ProgramItem::Place(*place),
-            ProgramItem::Text(")"),
-        ]),
+        Init::Value(e) => Form::of1("Value(@)", ProgramNode::Expr(e)),
+        Init::NewRegion(place) => Form::of1("NewRegion(@)", ProgramNode::Leaf(Leaf::Place(*place))),
         Init::NewObject {
             place,
             region,
             class,
-        } => stack.put(&[
-            ProgramItem::Text("NewObject { place: "),
-            ProgramItem::Place(*place),
-            ProgramItem::Text(", region: "),
-            ProgramItem::MaybeExpr(region),
-            ProgramItem::Text(", class: "),
-            ProgramItem::Number(i64::from(*class)),
-            ProgramItem::Text(" }"),
-        ]),
+        } => Form::of3(
+            "NewObject { place: @, region: @, class: @ }",
+            ProgramNode::Leaf(Leaf::Place(*place)),
+            ProgramNode::MaybeExpr(region),
+            ProgramNode::Leaf(Leaf::Number(i64::from(*class))),
+        ),
         Init::NewGrid {
             place,
             region,
             element,
             bracket,
             dims,
-        } => stack.put(&[
-            ProgramItem::Text("NewGrid { place: "),
-            ProgramItem::Place(*place),
-            ProgramItem::Text(", region: "),
-            ProgramItem::MaybeExpr(region),
-            ProgramItem::Text(", element: "),
-            ProgramItem::TypeUse(element),
-            ProgramItem::Text(", bracket: "),
-            ProgramItem::Place(*bracket),
-            ProgramItem::Text(", dims: "),
-            ProgramItem::Dims(dims),
-            ProgramItem::Text(" }"),
-        ]),
-        Init::Broadcast { place, value, root } => stack.put(&[
-            ProgramItem::Text("Broadcast { place: "),
-            ProgramItem::Place(*place),
-            ProgramItem::Text(", value: "),
-            ProgramItem::Expr(value),
-            ProgramItem::Text(", root: "),
-            ProgramItem::Expr(root),
-            ProgramItem::Text(" }"),
-        ]),
+        } => Form::of5(
+            "NewGrid { place: @, region: @, element: @, bracket: @, dims: @ }",
+            ProgramNode::Leaf(Leaf::Place(*place)),
+            ProgramNode::MaybeExpr(region),
+            ProgramNode::TypeUse(element),
+            ProgramNode::Leaf(Leaf::Place(*bracket)),
+            ProgramNode::Dims(dims),
+        ),
+        Init::Broadcast { place, value, root } => Form::of3(
+            "Broadcast { place: @, value: @, root: @ }",
+            ProgramNode::Leaf(Leaf::Place(*place)),
+            ProgramNode::Expr(value),
+            ProgramNode::Expr(root),
+        ),
     }
 }
 
-/// Pushes the parts of the argument of a print statement.
-fn push_printed<'a>(stack: &mut ProgramStack<'a>, printed: &'a Printed) -> Result<(), AllocError> {
+/// The form of the argument of a print statement.
+fn printed(printed: &Printed) -> Form<ProgramNode<'_>> {
     match printed {
-        Printed::Nothing => stack.put(&[ProgramItem::Text("Nothing")]),
-        Printed::Text(text) => stack.put(&[
-            ProgramItem::Text("Text("),
-            ProgramItem::Number(i64::from(*text)),
-            ProgramItem::Text(")"),
-        ]),
-        Printed::Value(e) => stack.put(&[
-            ProgramItem::Text("Value("),
-            ProgramItem::Expr(e),
-            ProgramItem::Text(")"),
-        ]),
-        Printed::TextAndValue(text, e) => stack.put(&[
-            ProgramItem::Text("TextAndValue("),
-            ProgramItem::Number(i64::from(*text)),
-            ProgramItem::Text(", "),
-            ProgramItem::Expr(e),
-            ProgramItem::Text(")"),
-        ]),
+        Printed::Nothing => Form::of0("Nothing"),
+        Printed::Text(text) => Form::of1(
+            "Text(@)",
+            ProgramNode::Leaf(Leaf::Number(i64::from(*text))),
+        ),
+        Printed::Value(e) => Form::of1("Value(@)", ProgramNode::Expr(e)),
+        Printed::TextAndValue(text, e) => Form::of2(
+            "TextAndValue(@, @)",
+            ProgramNode::Leaf(Leaf::Number(i64::from(*text))),
+            ProgramNode::Expr(e),
+        ),
     }
 }
 
-/// Pushes the parts of a statement.
-fn stmt<'a>(stack: &mut ProgramStack<'a>, stmt: &'a Stmt) -> Result<(), AllocError> {
+/// The form of a statement.
+fn stmt(stmt: &Stmt) -> Form<ProgramNode<'_>> {
     match stmt {
-        Stmt::Empty => stack.put(&[ProgramItem::Text("Empty")]),
+        Stmt::Empty => Form::of0("Empty"),
         Stmt::Declare {
             place,
             ty,
             variable,
             value,
-        } => stack.put(&[
-            ProgramItem::Text("Declare { place: "),
-            ProgramItem::Place(*place),
-            ProgramItem::Text(", ty: "),
-            ProgramItem::TypeUse(ty),
-            ProgramItem::Text(", variable: "),
-            ProgramItem::Number(i64::from(*variable)),
-            ProgramItem::Text(", value: "),
-            ProgramItem::Init(value),
-            ProgramItem::Text(" }"),
-        ]),
+        } => Form::of4(
+            "Declare { place: @, ty: @, variable: @, value: @ }",
+            ProgramNode::Leaf(Leaf::Place(*place)),
+            ProgramNode::TypeUse(ty),
+            ProgramNode::Leaf(Leaf::Number(i64::from(*variable))),
+            ProgramNode::Init(value),
+        ),
         Stmt::Assign {
             place,
             target,
             value,
-        } => stack.put(&[
-            ProgramItem::Text("Assign { place: "),
-            ProgramItem::Place(*place),
-            ProgramItem::Text(", target: "),
-            ProgramItem::Expr(target),
-            ProgramItem::Text(", value: "),
-            ProgramItem::Init(value),
-            ProgramItem::Text(" }"),
-        ]),
+        } => Form::of3(
+            "Assign { place: @, target: @, value: @ }",
+            ProgramNode::Leaf(Leaf::Place(*place)),
+            ProgramNode::Expr(target),
+            ProgramNode::Init(value),
+        ),
         Stmt::Update {
             place,
             operator,
             target,
             value,
-        } => stack.put(&[
-            ProgramItem::Text("Update { place: "),
-            ProgramItem::Place(*place),
-            ProgramItem::Text(", operator: "),
-            ProgramItem::Binary(*operator),
-            ProgramItem::Text(", target: "),
-            ProgramItem::Expr(target),
-            ProgramItem::Text(", value: "),
-            ProgramItem::Expr(value),
-            ProgramItem::Text(" }"),
-        ]),
+        } => Form::of4(
+            "Update { place: @, operator: @, target: @, value: @ }",
+            ProgramNode::Leaf(Leaf::Place(*place)),
+            ProgramNode::Leaf(Leaf::Binary(*operator)),
+            ProgramNode::Expr(target),
+            ProgramNode::Expr(value),
+        ),
         Stmt::Step {
             place,
             operator,
             target,
-        } => stack.put(&[
-            ProgramItem::Text("Step { place: "),
-            ProgramItem::Place(*place),
-            ProgramItem::Text(", operator: "),
-            ProgramItem::StepOperator(*operator),
-            ProgramItem::Text(", target: "),
-            ProgramItem::Expr(target),
-            ProgramItem::Text(" }"),
-        ]),
-        Stmt::Call(e) => stack.put(&[
-            ProgramItem::Text("Call("),
-            ProgramItem::Expr(e),
-            ProgramItem::Text(")"),
-        ]),
-        Stmt::Print(place, printed) => stack.put(&[
-            ProgramItem::Text("Print("),
-            ProgramItem::Place(*place),
-            ProgramItem::Text(", "),
-            ProgramItem::Printed(printed),
-            ProgramItem::Text(")"),
-        ]),
-        Stmt::Barrier(place) => stack.put(&[
-            ProgramItem::Text("Barrier("),
-            ProgramItem::Place(*place),
-            ProgramItem::Text(")"),
-        ]),
-        Stmt::Break(place) => stack.put(&[
-            ProgramItem::Text("Break("),
-            ProgramItem::Place(*place),
-            ProgramItem::Text(")"),
-        ]),
-        Stmt::Continue(place) => stack.put(&[
-            ProgramItem::Text("Continue("),
-            ProgramItem::Place(*place),
-            ProgramItem::Text(")"),
-        ]),
-        Stmt::Return(place, value) => stack.put(&[
-            ProgramItem::Text("Return("),
-            ProgramItem::Place(*place),
-            ProgramItem::Text(", "),
-            ProgramItem::MaybeExpr(value),
-            ProgramItem::Text(")"),
-        ]),
-        Stmt::Block(body) => stack.put(&[
-            ProgramItem::Text("Block("),
-            ProgramItem::Stmts(body),
-            ProgramItem::Text(")"),
-        ]),
+        } => Form::of3(
+            "Step { place: @, operator: @, target: @ }",
+            ProgramNode::Leaf(Leaf::Place(*place)),
+            ProgramNode::Leaf(Leaf::StepOperator(*operator)),
+            ProgramNode::Expr(target),
+        ),
+        Stmt::Call(e) => Form::of1("Call(@)", ProgramNode::Expr(e)),
+        Stmt::Print(place, printed) => Form::of2(
+            "Print(@, @)",
+            ProgramNode::Leaf(Leaf::Place(*place)),
+            ProgramNode::Printed(printed),
+        ),
+        Stmt::Barrier(place) => Form::of1("Barrier(@)", ProgramNode::Leaf(Leaf::Place(*place))),
+        Stmt::Break(place) => Form::of1("Break(@)", ProgramNode::Leaf(Leaf::Place(*place))),
+        Stmt::Continue(place) => Form::of1("Continue(@)", ProgramNode::Leaf(Leaf::Place(*place))),
+        Stmt::Return(place, value) => Form::of2(
+            "Return(@, @)",
+            ProgramNode::Leaf(Leaf::Place(*place)),
+            ProgramNode::MaybeExpr(value),
+        ),
+        Stmt::Block(body) => Form::of1("Block(@)", ProgramNode::Stmts(body)),
         Stmt::If {
             place,
             condition,
             then,
             otherwise,
-        } => stack.put(&[
-            ProgramItem::Text("If { place: "),
-            ProgramItem::Place(*place),
-            ProgramItem::Text(", condition: "),
-            ProgramItem::Expr(condition),
-            ProgramItem::Text(", then: "),
-            ProgramItem::Stmt(then),
-            ProgramItem::Text(", otherwise: "),
-            ProgramItem::MaybeStmt(otherwise),
-            ProgramItem::Text(" }"),
-        ]),
+        } => Form::of4(
+            "If { place: @, condition: @, then: @, otherwise: @ }",
+            ProgramNode::Leaf(Leaf::Place(*place)),
+            ProgramNode::Expr(condition),
+            ProgramNode::Stmt(then),
+            ProgramNode::MaybeStmt(otherwise),
+        ),
         Stmt::While {
             place,
             condition,
             body,
-        } => stack.put(&[
-            ProgramItem::Text("While { place: "),
-            ProgramItem::Place(*place),
-            ProgramItem::Text(", condition: "),
-            ProgramItem::Expr(condition),
-            ProgramItem::Text(", body: "),
-            ProgramItem::Stmt(body),
-            ProgramItem::Text(" }"),
-        ]),
+        } => Form::of3(
+            "While { place: @, condition: @, body: @ }",
+            ProgramNode::Leaf(Leaf::Place(*place)),
+            ProgramNode::Expr(condition),
+            ProgramNode::Stmt(body),
+        ),
         Stmt::For {
             place,
             first,
             condition,
             update,
             body,
-        } => stack.put(&[
-            ProgramItem::Text("For { place: "),
-            ProgramItem::Place(*place),
-            ProgramItem::Text(", first: "),
-            ProgramItem::MaybeStmt(first),
-            ProgramItem::Text(", condition: "),
-            ProgramItem::MaybeExpr(condition),
-            ProgramItem::Text(", update: "),
-            ProgramItem::MaybeStmt(update),
-            ProgramItem::Text(", body: "),
-            ProgramItem::Stmt(body),
-            ProgramItem::Text(" }"),
-        ]),
+        } => Form::of5(
+            "For { place: @, first: @, condition: @, update: @, body: @ }",
+            ProgramNode::Leaf(Leaf::Place(*place)),
+            ProgramNode::MaybeStmt(first),
+            ProgramNode::MaybeExpr(condition),
+            ProgramNode::MaybeStmt(update),
+            ProgramNode::Stmt(body),
+        ),
         Stmt::Foreach {
             place,
             variable,
             domain,
             body,
-        } => stack.put(&[
-            ProgramItem::Text("Foreach { place: "),
-            ProgramItem::Place(*place),
-            ProgramItem::Text(", variable: "),
-            ProgramItem::Number(i64::from(*variable)),
-            ProgramItem::Text(", domain: "),
-            ProgramItem::Expr(domain),
-            ProgramItem::Text(", body: "),
-            ProgramItem::Stmt(body),
-            ProgramItem::Text(" }"),
-        ]),
+        } => Form::of4(
+            "Foreach { place: @, variable: @, domain: @, body: @ }",
+            ProgramNode::Leaf(Leaf::Place(*place)),
+            ProgramNode::Leaf(Leaf::Number(i64::from(*variable))),
+            ProgramNode::Expr(domain),
+            ProgramNode::Stmt(body),
+        ),
     }
 }
 
-/// Pushes the parts of a field declaration.
-fn field<'a>(stack: &mut ProgramStack<'a>, field: &'a Field) -> Result<(), AllocError> {
-    stack.put(&[
-        ProgramItem::Text("Field { modifiers: "),
-        ProgramItem::Modifiers(&field.modifiers),
-        ProgramItem::Text(", ty: "),
-        ProgramItem::TypeUse(&field.ty),
-        ProgramItem::Text(", name: "),
-        ProgramItem::Number(i64::from(field.name)),
-        ProgramItem::Text(" }"),
-    ])
+/// The form of a field declaration.
+fn field(field: &Field) -> Form<ProgramNode<'_>> {
+    Form::of3(
+        "Field { modifiers: @, ty: @, name: @ }",
+        ProgramNode::Modifiers(&field.modifiers),
+        ProgramNode::TypeUse(&field.ty),
+        ProgramNode::Leaf(Leaf::Number(i64::from(field.name))),
+    )
 }
 
-/// Pushes the parts of a class.
-fn class<'a>(stack: &mut ProgramStack<'a>, class: &'a Class) -> Result<(), AllocError> {
-    stack.put(&[
-        ProgramItem::Text("Class { modifiers: "),
-        ProgramItem::Modifiers(&class.modifiers),
-        ProgramItem::Text(", fields: "),
-        ProgramItem::Fields(&class.fields),
-        ProgramItem::Text(" }"),
-    ])
+/// The form of a class.
+fn class(class: &Class) -> Form<ProgramNode<'_>> {
+    Form::of2(
+        "Class { modifiers: @, fields: @ }",
+        ProgramNode::Modifiers(&class.modifiers),
+        ProgramNode::Fields(&class.fields),
+    )
 }
 
-/// Pushes the parts of a parameter declaration.
-fn param<'a>(stack: &mut ProgramStack<'a>, param: &'a Param) -> Result<(), AllocError> {
-    stack.put(&[
-        ProgramItem::Text("Param { place: "),
-        ProgramItem::Place(param.place),
-        ProgramItem::Text(", ty: "),
-        ProgramItem::TypeUse(&param.ty),
-        ProgramItem::Text(" }"),
-    ])
+/// The form of a parameter declaration.
+fn param(param: &Param) -> Form<ProgramNode<'_>> {
+    Form::of2(
+        "Param { place: @, ty: @ }",
+        ProgramNode::Leaf(Leaf::Place(param.place)),
+        ProgramNode::TypeUse(&param.ty),
+    )
 }
 
-/// Pushes the parts of a parameter list: typed parameters, or `String[] x`.
-fn params<'a>(stack: &mut ProgramStack<'a>, params: &'a Params) -> Result<(), AllocError> {
+/// The form of a parameter list: typed parameters, or `String[] x`.
+fn params(params: &Params) -> Form<ProgramNode<'_>> {
     match params {
-        Params::MainArgs => stack.put(&[ProgramItem::Text("Words")]),
-        Params::Typed(params) => stack.put(&[
-            ProgramItem::Text("Typed("),
-            ProgramItem::ParamList(params),
-            ProgramItem::Text(")"),
-        ]),
+        Params::MainArgs => Form::of0("Words"),
+        Params::Typed(params) => Form::of1("Typed(@)", ProgramNode::ParamList(params)),
     }
 }
 
-/// Pushes the parts of the result type of a method, which may be `void`.
-fn result_type<'a>(stack: &mut ProgramStack<'a>, ty: &'a ResultType) -> Result<(), AllocError> {
+/// The form of the result type of a method, which may be `void`.
+fn result_type(ty: &ResultType) -> Form<ProgramNode<'_>> {
     match ty {
-        ResultType::Void => stack.put(&[ProgramItem::Text("Void")]),
-        ResultType::Typed(ty) => stack.put(&[
-            ProgramItem::Text("Typed("),
-            ProgramItem::TypeUse(ty),
-            ProgramItem::Text(")"),
-        ]),
+        ResultType::Void => Form::of0("Void"),
+        ResultType::Typed(ty) => Form::of1("Typed(@)", ProgramNode::TypeUse(ty)),
     }
 }
 
-/// Pushes the parts of a method.
-fn method<'a>(stack: &mut ProgramStack<'a>, method: &'a Method) -> Result<(), AllocError> {
-    stack.put(&[
-        ProgramItem::Text("Method { class: "),
-        ProgramItem::Number(i64::from(method.class)),
-        ProgramItem::Text(", modifiers: "),
-        ProgramItem::Modifiers(&method.modifiers),
-        ProgramItem::Text(", single: "),
-        ProgramItem::Truth(method.single),
-        ProgramItem::Text(", result: "),
-        ProgramItem::ResultType(&method.result),
-        ProgramItem::Text(", place: "),
-        ProgramItem::Place(method.place),
-        ProgramItem::Text(", name: "),
-        ProgramItem::Number(i64::from(method.name)),
-        ProgramItem::Text(", params: "),
-        ProgramItem::Params(&method.params),
-        ProgramItem::Text(", body: "),
-        ProgramItem::Stmts(&method.body),
-        ProgramItem::Text(", end: "),
-        ProgramItem::Place(method.end),
-        ProgramItem::Text(" }"),
-    ])
+/// The form of a method.
+fn method(method: &Method) -> Form<ProgramNode<'_>> {
+    Form::of6(
+        "Method { class: @, modifiers: @, single: @, result: @, place: @@",
+        ProgramNode::Leaf(Leaf::Number(i64::from(method.class))),
+        ProgramNode::Modifiers(&method.modifiers),
+        ProgramNode::Leaf(Leaf::Truth(method.single)),
+        ProgramNode::ResultType(&method.result),
+        ProgramNode::Leaf(Leaf::Place(method.place)),
+        ProgramNode::MethodEnd(method),
+    )
 }
 
-/// Pushes the parts of an entry of a scope.
-fn in_scope<'a>(stack: &mut ProgramStack<'a>, variable: &'a InScope) -> Result<(), AllocError> {
-    stack.put(&[
-        ProgramItem::Text("InScope { number: "),
-        ProgramItem::Number(i64::from(variable.number)),
-        ProgramItem::Text(", ty: "),
-        ProgramItem::Ty(&variable.ty),
-        ProgramItem::Text(", single: "),
-        ProgramItem::Truth(variable.single),
-        ProgramItem::Text(" }"),
-    ])
+/// The form of a method from its name on.
+fn method_end(method: &Method) -> Form<ProgramNode<'_>> {
+    Form::of4(
+        ", name: @, params: @, body: @, end: @ }",
+        ProgramNode::Leaf(Leaf::Number(i64::from(method.name))),
+        ProgramNode::Params(&method.params),
+        ProgramNode::Stmts(&method.body),
+        ProgramNode::Leaf(Leaf::Place(method.end)),
+    )
 }
 
-/// Pushes the parts of a scope.
-fn scope<'a>(stack: &mut ProgramStack<'a>, scope: &'a Scope) -> Result<(), AllocError> {
-    stack.put(&[
-        ProgramItem::Text("Scope { this: "),
-        ProgramItem::MaybeNumber(scope.this),
-        ProgramItem::Text(", variables: "),
-        ProgramItem::InScopes(&scope.variables),
-        ProgramItem::Text(", method: "),
-        ProgramItem::Number(i64::from(scope.method)),
-        ProgramItem::Text(", innermost_loop: "),
-        ProgramItem::MaybePlace(scope.innermost_loop),
-        ProgramItem::Text(" }"),
-    ])
+/// The form of an entry of a scope.
+fn in_scope(variable: &InScope) -> Form<ProgramNode<'_>> {
+    Form::of3(
+        "InScope { number: @, ty: @, single: @ }",
+        ProgramNode::Leaf(Leaf::Number(i64::from(variable.number))),
+        ProgramNode::Ty(&variable.ty),
+        ProgramNode::Leaf(Leaf::Truth(variable.single)),
+    )
 }
 
-/// Pushes the parts of a program: its classes, its methods, the number of `main`, and its names and literals.
-fn parts<'a>(stack: &mut ProgramStack<'a>, parts: &'a ProgramData) -> Result<(), AllocError> {
-    stack.put(&[
-        ProgramItem::Text("Parts { classes: "),
-        ProgramItem::Classes(&parts.classes),
-        ProgramItem::Text(", methods: "),
-        ProgramItem::Methods(&parts.methods),
-        ProgramItem::Text(", main: "),
-        ProgramItem::Number(i64::from(parts.main)),
-        ProgramItem::Text(", names: "),
-        ProgramItem::Names(&parts.names),
-        ProgramItem::Text(", literals: "),
-        ProgramItem::Names(&parts.literals),
-        ProgramItem::Text(" }"),
-    ])
+/// The form of a scope.
+fn scope(scope: &Scope) -> Form<ProgramNode<'_>> {
+    Form::of4(
+        "Scope { this: @, variables: @, method: @, innermost_loop: @ }",
+        ProgramNode::Leaf(Leaf::MaybeNumber(scope.this)),
+        ProgramNode::InScopes(&scope.variables),
+        ProgramNode::Leaf(Leaf::Number(i64::from(scope.method))),
+        ProgramNode::Leaf(Leaf::MaybePlace(scope.innermost_loop)),
+    )
 }
 
-/// Pushes the parts of one pair of brackets of a grid type: its number of dimensions and the qualifiers of the grid.
-fn brackets<'a>(stack: &mut ProgramStack<'a>, brackets: &'a Brackets) -> Result<(), AllocError> {
-    stack.put(&[
-        ProgramItem::Text("Brackets { dim: "),
-        ProgramItem::Number(i64::from(brackets.dim)),
-        ProgramItem::Text(", qualifiers: "),
-        ProgramItem::Qualifiers(&brackets.qualifiers),
-        ProgramItem::Text(" }"),
-    ])
+/// The form of a program: its classes, its methods, the number of `main`, and its names and literals.
+fn parts(parts: &ProgramData) -> Form<ProgramNode<'_>> {
+    Form::of5(
+        "Parts { classes: @, methods: @, main: @, names: @, literals: @ }",
+        ProgramNode::Classes(&parts.classes),
+        ProgramNode::Methods(&parts.methods),
+        ProgramNode::Leaf(Leaf::Number(i64::from(parts.main))),
+        ProgramNode::Names(&parts.names),
+        ProgramNode::Names(&parts.literals),
+    )
+}
+
+/// The form of one pair of brackets of a grid type: its number of dimensions and the qualifiers of the grid.
+fn brackets(brackets: &Brackets) -> Form<ProgramNode<'_>> {
+    Form::of2(
+        "Brackets { dim: @, qualifiers: @ }",
+        ProgramNode::Leaf(Leaf::Number(i64::from(brackets.dim))),
+        ProgramNode::Qualifiers(&brackets.qualifiers),
+    )
+}
+
+/// The form of an optional expression.
+fn maybe_expr(maybe: &Option<Expr>) -> Form<ProgramNode<'_>> {
+    match maybe {
+        Some(node) => Form::of1("Some(@)", ProgramNode::Expr(node)),
+        None => Form::of0("None"),
+    }
+}
+
+/// The form of an optional statement.
+fn maybe_stmt(maybe: &Option<Box<Stmt>>) -> Form<ProgramNode<'_>> {
+    match maybe {
+        Some(node) => Form::of1("Some(@)", ProgramNode::Stmt(node)),
+        None => Form::of0("None"),
+    }
 }

@@ -1,10 +1,11 @@
 // Row kind `type`: the static type of an expression that a source prints.
 
+use crate::debug_text::debug_text;
 use crate::evaluation::printed_expr;
 use crate::known::is_known;
 use crate::no_result::{NO_ROW, NoResult};
 use crate::phases::{resolve_source, scope_of};
-use crate::program_text::{ProgramItem, text_of};
+use crate::program_text::ProgramNode;
 use std::alloc::Global;
 use ti_base::Memory;
 use ti_lang::program::{Expr, Method, Program, Scope, Stmt};
@@ -33,7 +34,7 @@ fn type_in_scope(
         return Err(NO_ROW);
     }
     let ty = type_of(alloc, program, scope, e)?;
-    Ok(text_of(alloc, ProgramItem::Ty(&ty))?)
+    Ok(debug_text(alloc, ProgramNode::Ty(&ty))?)
 }
 
 /// The type of the expression that the last statement of a program's only method prints. `NO_ROW` if there is no such expression.
