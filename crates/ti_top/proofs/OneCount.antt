@@ -36,5 +36,5 @@ one_count c s es ds xs ys same x y = ext_get_or 0 xs ys (x.count ∙ sym y.count
     let under : i < length ys = subst (λ (n : ℕ). i < n) (x.count ∙ sym y.count) below in
     finished_same (proc_view_after c s es i) (get_or xs i 0) (get_or ys i 0) (x.each i (get_or xs i 0) (slice_get-get_or xs i 0 below))
     (subst (λ (own : List Entry). HasFinished (record (proc_view_after c s es i)
-    { told = map (λ (e : Entry). e.answer) (filter is_answered own) }) (get_or ys i 0)) (sym (same i))
+    { answers = map (λ (e : Entry). e.answer) (filter is_answered own) }) (get_or ys i 0)) (sym (same i))
     (y.each i (get_or ys i 0) (slice_get-get_or ys i 0 under))))
