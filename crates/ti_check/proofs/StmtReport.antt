@@ -15,11 +15,11 @@ use Rattle.ti_rules.specs.SingleRules.{single_refusals_at, standing_single_refus
 use Rattle.ti_rules.proofs.Lemmas.{sooner_none, sooner_assoc, first_cons_each, first_append_each}
 use Rattle.ti_types.proofs.Lemmas.{drop_next, each_step}
 use Rattle.ti_check.specs.declared.reports.Refusals.{Refusals}
-use Rattle.ti_check.specs.Mirrors.Refusals.{AreFirstRefusals, AreStmtRefusals, below}
+use Rattle.ti_check.specs.Mirrors.Refusals.{AreFirstRefusals, AreStmtRefusals, inner_statements}
 
 -- ---- one statement
 
-inside_is : (p : ProgramView) (around : StmtContext) (x : NumberedStm) → inside p around x ≡ stands around x ∷ below p around x
+inside_is : (p : ProgramView) (around : StmtContext) (x : NumberedStm) → inside p around x ≡ stands around x ∷ inner_statements p around x
 inside_is p around (st.Block body) = refl
 inside_is p around (st.If at c a) = refl
 inside_is p around (st.IfElse at c a b) = refl
@@ -34,12 +34,12 @@ in_front g y ys a b r is is_a is_b = is ∙ ap (λ z. earlier_of z b) is_a ∙ a
 
 -- a statement with those in it
 pub whole_found : (p : ProgramView) (around : StmtContext) (x : NumberedStm) (own inner f : Refusals)
-    → AreFirstRefusals (statement_refusals p around x) (single_refusals_at p around x) own → AreStmtRefusals p (below p around x) inner
+    → AreFirstRefusals (statement_refusals p around x) (single_refusals_at p around x) own → AreStmtRefusals p (inner_statements p around x) inner
     → f.types ≡ earlier_of own.types inner.types → f.single ≡ earlier_of own.single inner.single → AreStmtRefusals p (inside p around x) f
 whole_found p around x own inner f is_own is_inner types single =
     subst (λ l. AreStmtRefusals p l f) (sym (inside_is p around x)) (
-      in_front (standing_refusals p) (stands around x) (below p around x) own.types inner.types f.types types is_own.0 is_inner.0,
-      in_front (standing_single_refusals p) (stands around x) (below p around x) own.single inner.single f.single single is_own.1 is_inner.1,
+      in_front (standing_refusals p) (stands around x) (inner_statements p around x) own.types inner.types f.types types is_own.0 is_inner.0,
+      in_front (standing_single_refusals p) (stands around x) (inner_statements p around x) own.single inner.single f.single single is_own.1 is_inner.1,
     )
 
 -- ---- several

@@ -24,7 +24,7 @@ use Rattle.ti_single.specs.EffectsAt.{effects_in_loop}
 use Rattle.ti_single.specs.Mirrors.Maybe.{maybe_in}
 use Rattle.ti_single.proofs.Lemmas.{together_nothing}
 use Rattle.ti_check.specs.declared.reports.StmtReport.{StmtReport}
-use Rattle.ti_check.specs.Mirrors.Refusals.{AreFirstRefusals, below, is_simple}
+use Rattle.ti_check.specs.Mirrors.Refusals.{AreFirstRefusals, inner_statements, is_simple}
 use Rattle.ti_check.specs.Mirrors.Contexts.{jump_in}
 use Rattle.ti_check.specs.Mirrors.StmtReport.{with_effects, single_where, found_where, IsStmtReport, doings_inside}
 use Rattle.ti_check.proofs.StmtReport.{whole_found, both_found, LeftOf, left_first, left_next, left_last}
@@ -79,7 +79,7 @@ single_both a b f single jumping true = jumping
 -- a statement with those in it
 pub whole_walked : (p : ProgramView) (around : Bool → StmtContext) (x : NumberedStm) (own inner f : StmtReport)
     → ((jump_has : Bool) → AreFirstRefusals (statement_refusals p (around jump_has) x) (single_refusals_at p (around jump_has) x)
-    (found_where own jump_has)) → IsStmtReport p (λ jump_has. below p (around jump_has) x) inner
+    (found_where own jump_has)) → IsStmtReport p (λ jump_has. inner_statements p (around jump_has) x) inner
     → f.types ≡ earlier_of own.types inner.types → f.single ≡ earlier_of own.single inner.single → f.jumping ≡ earlier_of own.jumping inner.jumping → IsStmtReport p (λ jump_has. inside p (around jump_has) x) f
 whole_walked p around x own inner f is_own is_inner types single jumping =
     λ jump_has. whole_found p (around jump_has) x (found_where own jump_has) (found_where inner jump_has) (found_where f jump_has)
@@ -159,7 +159,7 @@ alone_does p m body d u w f is_u none w_does is = is ∙ ap kept_in_loop (inside
 not_simple : {A : Type 0} → false ≡ true → A
 not_simple is = absurd (true≢false (sym is))
 
-pub simple_below : (p : ProgramView) (around : StmtContext) (x : NumberedStm) → is_simple x ≡ true → [] ≡ below p around x
+pub simple_below : (p : ProgramView) (around : StmtContext) (x : NumberedStm) → is_simple x ≡ true → [] ≡ inner_statements p around x
 simple_below p around (st.Block body) is = not_simple is
 simple_below p around (st.If at c a) is = not_simple is
 simple_below p around (st.IfElse at c a b) is = not_simple is
@@ -178,7 +178,7 @@ simple_no_loop p m (st.Foreach at number domain body) is = not_simple is
 simple_no_loop p m x is = refl
 
 pub if_below : (p : ProgramView) (around : StmtContext) (at : Place) (c : Expr) (a : Box Stmt Global) (b : Option (Box Stmt Global))
-    → inside p around (statement_of a.value) ++ inside_maybe p around (maybe_in b) ≡ below p around (statement_of (If at c a b))
+    → inside p around (statement_of a.value) ++ inside_maybe p around (maybe_in b) ≡ inner_statements p around (statement_of (If at c a b))
 if_below p around at c a None = append-nil (inside p around (statement_of a.value))
 if_below p around at c a (Some b) = refl
 

@@ -13,7 +13,7 @@ ghost use Rattle.ti_rules.specs.SingleRules.{single_refusals_at};
 ghost use Rattle.ti_single.specs.Effects.{effects_of};
 ghost use Rattle.ti_single.specs.EffectsAt.{effects_in_loop};
 ghost use Rattle.ti_single.specs.Mirrors.Maybe.{maybe_in};
-ghost use Rattle.ti_check.specs.Mirrors.Refusals.{below as below_one, is_simple};
+ghost use Rattle.ti_check.specs.Mirrors.Refusals.{inner_statements, is_simple};
 ghost use Rattle.ti_check.specs.Mirrors.Contexts.{program_at, around_where, around_of, scope_at};
 ghost use Rattle.ti_check.specs.Mirrors.StmtReport.{single_where, IsStmtReport, doings_inside, jump_acts_inside};
 
@@ -140,7 +140,7 @@ impl<'a> CheckContext<'a> {
     // The result for a statement, given that of the statements in it, whose effect summary is also its own. `inside` is the effect
     // summary of its update and body if it is a loop.
     fn stmt_report(self, stmt: &'a Stmt, below: StmtReport, inside: Effects) -> StmtReport
-        requires below { IsStmtReport (program_at self) (λ jump_has. below_one (program_at self) (around_where self jump_has)
+        requires below { IsStmtReport (program_at self) (λ jump_has. inner_statements (program_at self) (around_where self jump_has)
             (statement_of stmt.now)) below }
         requires own { effects_of below.doings ≡ doings (program_at self) (this_of (around_of self).method) (statement_of stmt.now) }
         requires inside { effects_of inside ≡ effects_in_loop (program_at self) (around_of self).method (statement_of stmt.now) }

@@ -13,7 +13,7 @@ use Rattle.ti_syntax.specs.Tokenizing.{Piece, Space, Lexeme, StrayByte, IsPiece,
 use Rattle.ti_syntax.specs.Tokenizing as pieces
 use Rattle.ti_lex.specs.declared.byte_class.ByteClass.{ByteClass}
 use Rattle.ti_lex.specs.declared.byte_class.ByteClass.TheVariants as c
-use Rattle.ti_lex.specs.Mirrors.Reading.{Reading, Matches, Rejects, class_of_byte, comment_from, line_left, word, slash, sign, first_by, first}
+use Rattle.ti_lex.specs.Mirrors.Reading.{Reading, Matches, Rejects, class_of_byte, comment_from, line_left, word, slash, sign, first_by, first_lexeme}
 use Rattle.ti_lex.proofs.Bytes.{class_of_byte-blank, class_of_byte-letter, class_of_byte-digit, IsOfClass, class_of_is}
 use Rattle.ti_lex.proofs.Comments.{line_beats, line_sound, comment_taken, comment_sound}
 use Rattle.ti_lex.proofs.Fronts.{Beats, IsSound}
@@ -42,10 +42,10 @@ abbrev IsFront : TokenKind → Option (List ℕ) → Type 0
 IsFront kind None = Unit {0}
 IsFront kind (Some spelling) =
     (at : ℕ) (rest : List ℕ) → (OpensComment (spelling ++ rest) → ⊥) → Beats at (length spelling) (Lexeme kind) (sign at (spelling ++ rest))
-    → Beats at (length spelling) (Lexeme kind) (first at (spelling ++ rest))
+    → Beats at (length spelling) (Lexeme kind) (first_lexeme at (spelling ++ rest))
 
 all_fronts : (kind : TokenKind) → IsFront kind (sign_of kind)
-unfolding first
+unfolding first_lexeme
 all_fronts k.Plus = λ at rest no_comment h. h
 all_fronts k.Minus = λ at rest no_comment h. h
 all_fronts k.Star = λ at rest no_comment h. h
@@ -93,8 +93,8 @@ all_fronts k.Dot = λ at rest no_comment h. h
 all_fronts k.Colon = λ at rest no_comment h. h
 all_fronts _ = tt
 
-reserved_beats : (at : ℕ) (kind : TokenKind) (word rest : List ℕ) → word_of kind ≡ Some word → Beats at (length word) (Lexeme kind) (first at (word ++ rest))
-unfolding first
+reserved_beats : (at : ℕ) (kind : TokenKind) (word rest : List ℕ) → word_of kind ≡ Some word → Beats at (length word) (Lexeme kind) (first_lexeme at (word ++ rest))
+unfolding first_lexeme
 reserved_beats at kind [] rest h = let (letter, all, found) = reserved_found kind [] h in cc
 reserved_beats at kind (b ∷ more) rest h =
     let (letter, all, found) = reserved_found kind (b ∷ more) h in
@@ -104,8 +104,8 @@ digit_of : (n : ℕ) → n ≤ 3 → is_ascii_digit (n + 48) ≡ true
 digit_of n h = grind (arith, nat_tests)
 
 -- where a piece stands at the front, that piece or a longer one is read
-first_beats : {front rest : List ℕ} {piece : Piece} → IsPiece front rest piece → (at : ℕ) → Beats at (length front) piece (first at (front ++ rest))
-unfolding first
+first_beats : {front rest : List ℕ} {piece : Piece} → IsPiece front rest piece → (at : ℕ) → Beats at (length front) piece (first_lexeme at (front ++ rest))
+unfolding first_lexeme
 first_beats (pieces.blank b {rest = rest} h) at =
     subst (λ q. Beats at 1 Space (first_by q at (b ∷ rest))) (sym (class_of_byte-blank b h)) (inr (refl, refl))
 first_beats (pieces.line_comment inner {rest = rest} h) at = line_beats at inner rest h
@@ -162,8 +162,8 @@ slash_sound at l =
         subst (λ d. IsSound at (47 ∷ d ∷ l) (comment_from at false (at + 2) l)) (sym (eqb-true b 42 h)) (comment_sound at l)
 
 -- what is read at the front stands there
-first_sound : (at b : ℕ) (l : List ℕ) → IsSound at (b ∷ l) (first at (b ∷ l))
-unfolding first
+first_sound : (at b : ℕ) (l : List ℕ) → IsSound at (b ∷ l) (first_lexeme at (b ∷ l))
+unfolding first_lexeme
 first_sound at b l = by (class_of_byte b) (class_of_is b)
   where
     by : (q : ByteClass) → IsOfClass b q → IsSound at (b ∷ l) (first_by q at (b ∷ l))
@@ -178,14 +178,14 @@ first_sound at b l = by (class_of_byte b) (class_of_is b)
         sign_sound at b l no_comment (λ none. (0, omega arith, pieces.stray_byte b l no_comment quote digit))
 
 -- a piece at the front by its size, and the same or a longer one that is read
-sized_beats : (at : ℕ) (l : List ℕ) (size : ℕ) (piece : Piece) → size ≤ length l → IsPiece (take size l) (drop size l) piece → Beats at size piece (first at l)
+sized_beats : (at : ℕ) (l : List ℕ) (size : ℕ) (piece : Piece) → size ≤ length l → IsPiece (take size l) (drop size l) piece → Beats at size piece (first_lexeme at l)
 sized_beats at l size piece within is =
     let long : length (take size l) ≡ size = omega (arith, length-take size l) in
-    subst (λ n. Beats at n piece (first at l)) long (subst (λ t. Beats at (length (take size l)) piece (first at t)) (take-append-drop size l) (first_beats is at))
+    subst (λ n. Beats at n piece (first_lexeme at l)) long (subst (λ t. Beats at (length (take size l)) piece (first_lexeme at t)) (take-append-drop size l) (first_beats is at))
 
 -- nothing is read of the empty list
 pub none_empty : BeginsNoPiece []
-unfolding first
+unfolding first_lexeme
 none_empty size piece within is = sized_beats 0 [] size piece within is
 
 -- a reading of a list says that its piece is the longest, or what is wrong where there is none
@@ -194,11 +194,11 @@ Tells at l (Matches piece end) = (size : ℕ) × (end ≡ at + size) × (0 < siz
 Tells at l (Rejects flaw fault) =
     BeginsNoPiece l × ((before : ℕ) × (fault ≡ at + before) × HasFlaw l flaw before)
 
-pub first_tells : (at : ℕ) (l : List ℕ) → 0 < length l → Tells at l (first at l)
+pub first_tells : (at : ℕ) (l : List ℕ) → 0 < length l → Tells at l (first_lexeme at l)
 first_tells at [] some = absurd (omega arith)
-first_tells at (b ∷ l) some = by (first at (b ∷ l)) (first_sound at b l) refl
+first_tells at (b ∷ l) some = by (first_lexeme at (b ∷ l)) (first_sound at b l) refl
   where
-    by : (r : Reading) → IsSound at (b ∷ l) r → first at (b ∷ l) ≡ r → Tells at (b ∷ l) r
+    by : (r : Reading) → IsSound at (b ∷ l) r → first_lexeme at (b ∷ l) ≡ r → Tells at (b ∷ l) r
     by (Matches piece end) (front, rest, is, some, to, stands) h =
         let taken : take (length front) (b ∷ l) ≡ front = ap (take (length front)) is ∙ take-append_seam front rest in
         let left : drop (length front) (b ∷ l) ≡ rest = ap (drop (length front)) is ∙ drop-append_seam front rest in
@@ -225,11 +225,11 @@ longest_some [] size piece longest = absurd (none_empty size piece longest.withi
 longest_some (b ∷ l) size piece longest = omega arith
 
 -- the longest piece at the front is read
-pub longest_read : (at : ℕ) (l : List ℕ) (size : ℕ) (piece : Piece) → IsLongest l size piece → first at l ≡ Matches piece (at + size)
+pub longest_read : (at : ℕ) (l : List ℕ) (size : ℕ) (piece : Piece) → IsLongest l size piece → first_lexeme at l ≡ Matches piece (at + size)
 longest_read at l size piece longest =
-    by (first at l) refl (sized_beats at l size piece longest.within longest.is_piece)
+    by (first_lexeme at l) refl (sized_beats at l size piece longest.within longest.is_piece)
   where
-    by : (r : Reading) → first at l ≡ r → Beats at size piece r → r ≡ Matches piece (at + size)
+    by : (r : Reading) → first_lexeme at l ≡ r → Beats at size piece r → r ≡ Matches piece (at + size)
     by (Matches other end) h (inl longer) =
         let (n, to, some, told) = subst (Tells at l) h (first_tells at l (longest_some l size piece longest)) in
         let le : n ≤ size = longest.longest n other told.within told.is_piece in

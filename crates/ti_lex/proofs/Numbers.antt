@@ -14,7 +14,7 @@ use Rattle.std.specs.Str.Parse.{digits_value, digits_value_after}
 use Rattle.ti_syntax.specs.declared.token.TokenKind.TheVariants as k
 use Rattle.ti_syntax.specs.Tokenizing.{Piece, Lexeme, WrongNumber, IsPiece, HasFlaw, first_passes, is_name_byte, is_long_letter, goes_on_number}
 use Rattle.ti_syntax.specs.Tokenizing as pieces
-use Rattle.ti_lex.specs.Mirrors.Reading.{Matches, Rejects, dimension, too_large, value_from, most_of, kind_of_number, letters, is_number, number_reading, digits, number}
+use Rattle.ti_lex.specs.Mirrors.Reading.{Matches, Rejects, dimension, too_large, value_from, most_of, kind_of_number, letters, is_number, number_reading, digits, number_lexeme}
 use Rattle.ti_lex.proofs.Fronts.{Beats, IsSound}
 use Rattle.ti_lex.proofs.Runs.{run_ends, run_passes, run_stops}
 
@@ -128,7 +128,7 @@ module _ (at digit : ℕ) (more rest : List ℕ) (long : Bool) (all : list_all i
 module _ (at digit : ℕ) (more rest : List ℕ) (all : list_all is_ascii_digit (digit ∷ more) ≡ true) (no_zero : digit ≡ 48 → more ≡ []) where
   -- where a list begins with a whole number, that number is read, or a dimension that is longer
   pub number_beats : first_passes goes_on_number rest ≡ false → digits_value 10 (digit ∷ more) ≤ 2147483647
-      → Beats at (length (digit ∷ more)) (Lexeme (k.Int (pos (digits_value 10 (digit ∷ more))))) (number at (digit ∷ (more ++ rest)))
+      → Beats at (length (digit ∷ more)) (Lexeme (k.Int (pos (digits_value 10 (digit ∷ more))))) (number_lexeme at (digit ∷ (more ++ rest)))
   number_beats stop fits = by (dimension (digit ∷ (more ++ rest))) (dimension_is digit (more ++ rest))
     where
       by : (found : Option ℕ) → IsDimension digit (more ++ rest) found
@@ -145,9 +145,9 @@ module _ (at digit : ℕ) (more rest : List ℕ) (all : list_all is_ascii_digit 
 
   -- where a list begins with a long number, that number is read
   pub long_beats : (letter : ℕ) → is_long_letter letter ≡ true → digits_value 10 (digit ∷ more) ≤ 9223372036854775807
-      → Beats at (length ((digit ∷ more) ++ letter ∷ [])) (Lexeme (k.LongInt (pos (digits_value 10 (digit ∷ more))))) (number at (((digit ∷ more) ++ letter ∷ []) ++ rest))
+      → Beats at (length ((digit ∷ more) ++ letter ∷ [])) (Lexeme (k.LongInt (pos (digits_value 10 (digit ∷ more))))) (number_lexeme at (((digit ∷ more) ++ letter ∷ []) ++ rest))
   long_beats letter is fits =
-      subst (λ l. Beats at (length ((digit ∷ more) ++ letter ∷ [])) (Lexeme (k.LongInt (pos (digits_value 10 (digit ∷ more))))) (number at l)) (sym (append_assoc (digit ∷ more) (letter ∷ []) rest))
+      subst (λ l. Beats at (length ((digit ∷ more) ++ letter ∷ [])) (Lexeme (k.LongInt (pos (digits_value 10 (digit ∷ more))))) (number_lexeme at l)) (sym (append_assoc (digit ∷ more) (letter ∷ []) rest))
       (by (dimension (digit ∷ (more ++ letter ∷ rest))) (dimension_is digit (more ++ letter ∷ rest)))
     where
       stop : first_passes is_ascii_digit (letter ∷ rest) ≡ false
@@ -167,7 +167,7 @@ module _ (at digit : ℕ) (more rest : List ℕ) (all : list_all is_ascii_digit 
           (sym (digits_read at digit more (letter ∷ rest) true all stop is no_zero fits)) (inr (omega arith, refl))
 
 -- where a list begins with a dimension, that dimension is read
-pub dimension_beats : (at n : ℕ) (rest : List ℕ) → 1 ≤ n → n ≤ 3 → first_passes is_name_byte rest ≡ false → Beats at 2 (Lexeme (k.Dim n)) (number at ((n + 48) ∷ 100 ∷ rest))
+pub dimension_beats : (at n : ℕ) (rest : List ℕ) → 1 ≤ n → n ≤ 3 → first_passes is_name_byte rest ≡ false → Beats at 2 (Lexeme (k.Dim n)) (number_lexeme at ((n + 48) ∷ 100 ∷ rest))
 dimension_beats at zero rest low high stop = absurd (omega arith)
 dimension_beats at (suc zero) rest low high stop =
     subst (λ t. Beats at 2 (Lexeme (k.Dim 1)) (option_map_or (λ n. Matches (Lexeme (k.Dim n)) (at + 2)) (if not t then Some 1 else None) (digits at (49 ∷ 100 ∷ rest)))) (sym stop) (inr (refl, refl))
@@ -247,7 +247,7 @@ module _ (at b : ℕ) (l : List ℕ) (first : is_ascii_digit b ≡ true) where
       (b ∷ e ∷ [], rest, refl, omega arith, omega arith, subst (λ x. IsPiece (b ∷ x ∷ []) rest (Lexeme (k.Dim n))) (sym (eqb-true e 100 d)) at_b)
 
   -- a number or a dimension that is read stands at the front
-  pub number_sound : IsSound at (b ∷ l) (number at (b ∷ l))
+  pub number_sound : IsSound at (b ∷ l) (number_lexeme at (b ∷ l))
   number_sound = by (dimension (b ∷ l)) (dimension_is b l)
     where
       by : (found : Option ℕ) → IsDimension b l found → IsSound at (b ∷ l) (option_map_or (λ n. Matches (Lexeme (k.Dim n)) (at + 2)) found (digits at (b ∷ l)))

@@ -22,7 +22,7 @@ use Rattle.ti_lex.specs.declared.error.LexErr.TheVariants as e
 use Rattle.ti_lex.specs.Answer.{Lexes, GivesOnly, RefusesOnly}
 use Rattle.ti_lex.specs.declared.byte_class.ByteClass.{ByteClass}
 use Rattle.ti_lex.specs.declared.byte_class.ByteClass.TheVariants as c
-use Rattle.ti_lex.specs.Mirrors.Reading.{Reading, Matches, Rejects, class_of_byte, dimension, value_from, most_of, kind_of_number, letters, is_number, digits, number, string_from, escape_from, slash, first_by, first}
+use Rattle.ti_lex.specs.Mirrors.Reading.{Reading, Matches, Rejects, class_of_byte, dimension, value_from, most_of, kind_of_number, letters, is_number, digits, number_lexeme, string_from, escape_from, slash, first_by, first_lexeme}
 use Rattle.ti_lex.proofs.Bytes.{IsOfClass, class_of_is, class_of_byte-digit}
 use Rattle.ti_lex.proofs.Comments.{only_open}
 use Rattle.ti_lex.proofs.Fronts.{IsRefusal}
@@ -30,7 +30,7 @@ use Rattle.ti_lex.proofs.Longest.{Tells, first_tells, longest_read, none_empty, 
 use Rattle.ti_lex.proofs.Signs.{sign_refusal}
 use Rattle.ti_lex.proofs.StringPieces.{items_read}
 
-number_refusal : (at : ℕ) (l : List ℕ) → IsRefusal WrongNumber at (number at l)
+number_refusal : (at : ℕ) (l : List ℕ) → IsRefusal WrongNumber at (number_lexeme at l)
 number_refusal at l = by (dimension l)
   where
     cases : (taken : Reading) (t : Bool) → IsRefusal WrongNumber at taken → IsRefusal WrongNumber at (cond t taken (Rejects WrongNumber at))
@@ -81,8 +81,8 @@ slash_refusal at l no_comment =
     let P : Reading → Type 0 = IsRefusal StrayByte at in
     cond_both (first_passes (λ b. b == 47) l) _ _ P (λ _. tt) (λ _. cond_both (first_passes (λ b. b == 42) l) _ _ P (λ star. absurd (no_comment (opens l star))) (λ _. sign_refusal at 47 l))
 
-byte_refusal : (at b : ℕ) (l : List ℕ) → (OpensComment (b ∷ l) → ⊥) → b ≢ 34 → is_ascii_digit b ≡ false → IsRefusal StrayByte at (first at (b ∷ l))
-unfolding first
+byte_refusal : (at b : ℕ) (l : List ℕ) → (OpensComment (b ∷ l) → ⊥) → b ≢ 34 → is_ascii_digit b ≡ false → IsRefusal StrayByte at (first_lexeme at (b ∷ l))
+unfolding first_lexeme
 byte_refusal at b l no_comment quote no_digit = by (class_of_byte b) (class_of_is b)
   where
     by : (q : ByteClass) → IsOfClass b q → IsRefusal StrayByte at (first_by q at (b ∷ l))
@@ -94,22 +94,22 @@ byte_refusal at b l no_comment quote no_digit = by (class_of_byte b) (class_of_i
         subst (λ d. IsRefusal StrayByte at (slash at (d ∷ l))) (sym h) (slash_refusal at l (subst (λ d. OpensComment (d ∷ l) → ⊥) h no_comment))
     by c.Other h = sign_refusal at b l
 
-digit_refusal : (at b : ℕ) (l : List ℕ) → is_ascii_digit b ≡ true → IsRefusal WrongNumber at (first at (b ∷ l))
-unfolding first
+digit_refusal : (at b : ℕ) (l : List ℕ) → is_ascii_digit b ≡ true → IsRefusal WrongNumber at (first_lexeme at (b ∷ l))
+unfolding first_lexeme
 digit_refusal at b l h =
     subst (λ q. IsRefusal WrongNumber at (first_by q at (b ∷ l))) (sym (class_of_byte-digit b h)) (number_refusal at (b ∷ l))
 
-comment_refusal : (at : ℕ) (l : List ℕ) → IsRefusal OpenComment at (first at (codes "/*" ++ l))
-unfolding first
+comment_refusal : (at : ℕ) (l : List ℕ) → IsRefusal OpenComment at (first_lexeme at (codes "/*" ++ l))
+unfolding first_lexeme
 comment_refusal at l = only_open at l
 
-string_read : (at : ℕ) (l : List ℕ) → first at (34 ∷ l) ≡ string_from at [] (at + 1) l
-unfolding first
+string_read : (at : ℕ) (l : List ℕ) → first_lexeme at (34 ∷ l) ≡ string_from at [] (at + 1) l
+unfolding first_lexeme
 string_read at l = refl
 
 -- a list at whose front no piece stands is refused
-stuck_refused : (at : ℕ) (l : List ℕ) → 0 < length l → BeginsNoPiece l → (flaw : Flaw) (fault : ℕ) → IsRefusal flaw fault (first at l) → first at l ≡ Rejects flaw fault
-stuck_refused at l some stuck flaw fault h = by (first at l) (first_tells at l some) h
+stuck_refused : (at : ℕ) (l : List ℕ) → 0 < length l → BeginsNoPiece l → (flaw : Flaw) (fault : ℕ) → IsRefusal flaw fault (first_lexeme at l) → first_lexeme at l ≡ Rejects flaw fault
+stuck_refused at l some stuck flaw fault h = by (first_lexeme at l) (first_tells at l some) h
   where
     by : (r : Reading) → Tells at l r → IsRefusal flaw fault r → r ≡ Rejects flaw fault
     by (Matches piece end) (size, to, positive, longest) h =
@@ -118,7 +118,7 @@ stuck_refused at l some stuck flaw fault h = by (first at l) (first_tells at l s
         ap (λ f. Rejects f x) same ∙ ap (Rejects flaw) there
 
 -- what is wrong with a list is what is refused
-flaw_refused : {l : List ℕ} {flaw : Flaw} {before : ℕ} → HasFlaw l flaw before → BeginsNoPiece l → (at : ℕ) → first at l ≡ Rejects flaw (at + before)
+flaw_refused : {l : List ℕ} {flaw : Flaw} {before : ℕ} → HasFlaw l flaw before → BeginsNoPiece l → (at : ℕ) → first_lexeme at l ≡ Rejects flaw (at + before)
 flaw_refused (pieces.open_comment rest) stuck at =
     stuck_refused at (codes "/*" ++ rest) (omega arith) stuck OpenComment at (comment_refusal at rest) ∙ ap (Rejects OpenComment) (omega arith)
 flaw_refused (pieces.open_string {items = items} {bytes = bytes} rest are breaks) stuck at =
@@ -198,9 +198,9 @@ never_both text tokens refusal short this (refusals.flawed {flaw = flaw} {at = a
 one_flaw : (text : List ℕ) (flaw other : Flaw) (at place : ℕ) → IsFlawed text flaw at → IsFlawed text other place → (flaw ≡ other) × (at ≡ place)
 one_flaw text flaw other at place this that =
     let (same, to) = same_pieces this.pieces this.stuck that.pieces that.stuck in
-    let here : first this.end (drop this.end text) ≡ Rejects flaw at = flaw_refused this.flawed this.stuck this.end ∙ ap (Rejects flaw) (sym this.place) in
-    let there : first that.end (drop that.end text) ≡ Rejects other place = flaw_refused that.flawed that.stuck that.end ∙ ap (Rejects other) (sym that.place) in
-    let both : Rejects flaw at ≡ Rejects other place = sym here ∙ ap (λ x. first x (drop x text)) to ∙ there in
+    let here : first_lexeme this.end (drop this.end text) ≡ Rejects flaw at = flaw_refused this.flawed this.stuck this.end ∙ ap (Rejects flaw) (sym this.place) in
+    let there : first_lexeme that.end (drop that.end text) ≡ Rejects other place = flaw_refused that.flawed that.stuck that.end ∙ ap (Rejects other) (sym that.place) in
+    let both : Rejects flaw at ≡ Rejects other place = sym here ∙ ap (λ x. first_lexeme x (drop x text)) to ∙ there in
     (cc, ap end_of both)
 
 -- a text has one refusal
@@ -235,7 +235,7 @@ goes_on text zero i within near =
     inl ([], subst (Pieces text i []) at_end pieces.no_piece)
 goes_on text (suc left) i within near =
     elim (cases_lt i (length text)) [
-      | inl more ↦ by (first i (drop i text))
+      | inl more ↦ by (first_lexeme i (drop i text))
           (first_tells i (drop i text) (omega (arith, length-drop i text)))
           (λ size some fits. goes_on text left (i + size) (omega (arith, length-drop i text)) (omega arith))
       | inr done ↦ (let at_end : i

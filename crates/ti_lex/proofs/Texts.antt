@@ -17,7 +17,7 @@ use Rattle.ti_lex.specs.declared.input_element.InputElement.TheVariants as p
 use Rattle.ti_lex.specs.Answer.{Lexes}
 use Rattle.ti_lex.specs.Mirrors.Answers.{Scans}
 use Rattle.ti_lex.specs.Mirrors.Cursor.{CursorView, rest}
-use Rattle.ti_lex.specs.Mirrors.Reading.{Reading, Matches, Rejects, first}
+use Rattle.ti_lex.specs.Mirrors.Reading.{Reading, Matches, Rejects, first_lexeme}
 use Rattle.ti_lex.proofs.Longest.{Tells, first_tells}
 
 -- one more piece behind others
@@ -66,9 +66,9 @@ module _ (text : List ℕ) (tokens : List Token) (spot new : CursorView) (before
   front_is : rest spot ≡ front
   front_is = ap (drop spot.at) before.same
 
-  told : (r : Reading) → first spot.at (rest spot) ≡ r → Tells spot.at front r
+  told : (r : Reading) → first_lexeme spot.at (rest spot) ≡ r → Tells spot.at front r
   told r h =
-      subst (Tells spot.at front) (ap (first spot.at) (sym front_is) ∙ h) (first_tells spot.at front (subst (λ l. 0 < length l) front_is more))
+      subst (Tells spot.at front) (ap (first_lexeme spot.at) (sym front_is) ∙ h) (first_tells spot.at front (subst (λ l. 0 < length l) front_is more))
 
   moves : (end size : ℕ) → end ≡ spot.at + size → size ≤ length front → new ≡ record spot { at = end } → (new.text ≡ text) × (new.at ≤ length text) × (spot.at + size ≡ new.at)
   moves end size to within h =
@@ -77,10 +77,10 @@ module _ (text : List ℕ) (tokens : List Token) (spot new : CursorView) (before
       (ap (λ (z : CursorView). z.text) h ∙ before.same, omega (arith, length-drop spot.at text), sym to ∙ sym there)
 
   -- a blank or a comment is passed over
-  pub space_read : Scans (first spot.at (rest spot)) spot new (Ok p.Space) → IsReadTo text tokens new
-  space_read h = by (first spot.at (rest spot)) refl h
+  pub space_read : Scans (first_lexeme spot.at (rest spot)) spot new (Ok p.Space) → IsReadTo text tokens new
+  space_read h = by (first_lexeme spot.at (rest spot)) refl h
     where
-      by : (r : Reading) → first spot.at (rest spot) ≡ r → Scans r spot new (Ok p.Space) → IsReadTo text tokens new
+      by : (r : Reading) → first_lexeme spot.at (rest spot) ≡ r → Scans r spot new (Ok p.Space) → IsReadTo text tokens new
       by (Matches piece end) is (found, to_new) =
           let (size, to, positive, longest) = told (Matches piece end) is in
           let (same, within, there) = moves end size to longest.within to_new in
@@ -88,10 +88,10 @@ module _ (text : List ℕ) (tokens : List Token) (spot new : CursorView) (before
       by (Rejects flaw fault) is h = absurd h
 
   -- a token is added
-  pub token_read : (kind : TokenKind) → Scans (first spot.at (rest spot)) spot new (Ok (p.Token kind)) → IsReadTo text (tokens ++ record { kind = kind; place = place_of text spot.at } ∷ []) new
-  token_read kind h = by (first spot.at (rest spot)) refl h
+  pub token_read : (kind : TokenKind) → Scans (first_lexeme spot.at (rest spot)) spot new (Ok (p.Token kind)) → IsReadTo text (tokens ++ record { kind = kind; place = place_of text spot.at } ∷ []) new
+  token_read kind h = by (first_lexeme spot.at (rest spot)) refl h
     where
-      by : (r : Reading) → first spot.at (rest spot) ≡ r → Scans r spot new (Ok (p.Token kind)) → IsReadTo text (tokens ++ record { kind = kind; place = place_of text spot.at } ∷ []) new
+      by : (r : Reading) → first_lexeme spot.at (rest spot) ≡ r → Scans r spot new (Ok (p.Token kind)) → IsReadTo text (tokens ++ record { kind = kind; place = place_of text spot.at } ∷ []) new
       by (Matches piece end) is (found, to_new) =
           let (size, to, positive, longest) = told (Matches piece end) is in
           let (same, within, there) = moves end size to longest.within to_new in
@@ -105,10 +105,10 @@ module _ (text : List ℕ) (tokens : List Token) (spot new : CursorView) (before
       by (Rejects flaw fault) is h = absurd h
 
   -- a refusal is that of the text
-  pub refusal_read : length text ≤ most_bytes → (refusal : Refusal) → Scans (first spot.at (rest spot)) spot new (Err (e.Refused refusal)) → IsLexicalRefusal text refusal
-  refusal_read short refusal h = by (first spot.at (rest spot)) refl h
+  pub refusal_read : length text ≤ most_bytes → (refusal : Refusal) → Scans (first_lexeme spot.at (rest spot)) spot new (Err (e.Refused refusal)) → IsLexicalRefusal text refusal
+  refusal_read short refusal h = by (first_lexeme spot.at (rest spot)) refl h
     where
-      by : (r : Reading) → first spot.at (rest spot) ≡ r → Scans r spot new (Err (e.Refused refusal)) → IsLexicalRefusal text refusal
+      by : (r : Reading) → first_lexeme spot.at (rest spot) ≡ r → Scans r spot new (Err (e.Refused refusal)) → IsLexicalRefusal text refusal
       by (Matches piece end) is h = absurd h
       by (Rejects flaw fault) is refused =
           let (stuck, (back, to, flawed)) = told (Rejects flaw fault) is in
@@ -125,15 +125,15 @@ module _ (text : List ℕ) (tokens : List Token) (spot new : CursorView) (before
           }))
 
   -- so is any error that isn't want of memory
-  pub error_read : length text ≤ most_bytes → (error : LexErr) → Scans (first spot.at (rest spot)) spot new (Err error) → Lexes text (Err error)
+  pub error_read : length text ≤ most_bytes → (error : LexErr) → Scans (first_lexeme spot.at (rest spot)) spot new (Err error) → Lexes text (Err error)
   error_read short (e.Refused refusal) h = refusal_read short refusal h
   error_read short e.Memory h = tt
 
   -- what is read makes the rest shorter
-  pub reads_further : (found : read.InputElement) → Scans (first spot.at (rest spot)) spot new (Ok found) → length (rest new) < length (rest spot)
-  reads_further found h = by (first spot.at (rest spot)) refl h
+  pub reads_further : (found : read.InputElement) → Scans (first_lexeme spot.at (rest spot)) spot new (Ok found) → length (rest new) < length (rest spot)
+  reads_further found h = by (first_lexeme spot.at (rest spot)) refl h
     where
-      by : (r : Reading) → first spot.at (rest spot) ≡ r → Scans r spot new (Ok found) → length (rest new) < length (rest spot)
+      by : (r : Reading) → first_lexeme spot.at (rest spot) ≡ r → Scans r spot new (Ok found) → length (rest new) < length (rest spot)
       by (Matches piece end) is (found, to_new) =
           let (size, to, positive, longest) = told (Matches piece end) is in
           let there : rest new ≡ drop end spot.text = ap rest to_new in

@@ -7,7 +7,7 @@ ghost use Rattle.ti_rules.specs.LexicalRefusals.{most_bytes, IsLexicalRefusal};
 ghost use Rattle.ti_lex.specs.Answer.{Lexes, GivesOnly, RefusesOnly};
 ghost use Rattle.ti_lex.specs.Mirrors.Answers.{Scans};
 ghost use Rattle.ti_lex.specs.Mirrors.Cursor.{rest};
-ghost use Rattle.ti_lex.specs.Mirrors.Reading.{first};
+ghost use Rattle.ti_lex.specs.Mirrors.Reading.{first_lexeme};
 
 use crate::byte_class::{ByteClass, class_of_byte};
 use crate::cursor::Cursor;
@@ -23,10 +23,10 @@ const MOST_BYTES: usize = 1048576;
 
 impl Cursor<'_> {
     /// Reads the lexical element that begins with `byte`, the next byte.
-    #[tactic(auto, unfolding(crate::specs::Mirrors::Reading::first))]
+    #[tactic(auto, unfolding(crate::specs::Mirrors::Reading::first_lexeme))]
     fn input_element(&mut self, alloc: Global, byte: u8) -> Result<InputElement, LexErr>
         requires { rest self.old ≡ byte ∷ drop 1 (rest self.old) }
-        ensures { Scans (first self.old.at (rest self.old)) self.old self.new result }
+        ensures { Scans (first_lexeme self.old.at (rest self.old)) self.old self.new result }
     {
         match class_of_byte(byte) {
             ByteClass::Blank => {

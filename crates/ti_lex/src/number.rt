@@ -5,7 +5,7 @@ ghost use Rattle.std.specs.Char.{is_ascii_digit};
 ghost use Rattle.ti_lex.specs.Mirrors.Answers.{Scans};
 ghost use Rattle.ti_lex.specs.Mirrors.Cursor.{rest, skip_bytes};
 ghost use Rattle.ti_syntax.specs.Tokenizing.{first_passes, is_long_letter};
-ghost use Rattle.ti_lex.specs.Mirrors.Reading.{dimension, digits, number, value_from, too_large, most_of, kind_of_number, letters};
+ghost use Rattle.ti_lex.specs.Mirrors.Reading.{dimension, digits, number_lexeme, value_from, too_large, most_of, kind_of_number, letters};
 
 use crate::byte_class::{is_long_letter, is_name_byte};
 use crate::cursor::Cursor;
@@ -106,7 +106,7 @@ impl Cursor<'_> {
 
     /// Reads a dimension or a number literal.
     pub fn number(&mut self) -> Result<InputElement, LexErr>
-        ensures { Scans (number self.old.at (rest self.old)) self.old self.new result }
+        ensures { Scans (number_lexeme self.old.at (rest self.old)) self.old self.new result }
     {
         match dimension(self.unread()) {
             Some(number) => {

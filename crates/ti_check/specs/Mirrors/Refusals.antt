@@ -19,15 +19,15 @@ abbrev pub AreStmtRefusals : ProgramView → List StmtInContext → Refusals →
 AreStmtRefusals p xs f = AreFirstRefusals (flat_map (standing_refusals p) xs) (flat_map (standing_single_refusals p) xs) f
 
 -- the statements in a statement, without itself
-abbrev pub below : ProgramView → StmtContext → NumberedStm → List StmtInContext
-below p around (st.Block body) = inside_all p around body
-below p around (st.If at c a) = inside p around a
-below p around (st.IfElse at c a b) = inside p around a ++ inside p around b
-below p around (st.While at c body) = inside p (in_loop p around st.NoStm body) body
-below p around (st.For at first c update body) =
+abbrev pub inner_statements : ProgramView → StmtContext → NumberedStm → List StmtInContext
+inner_statements p around (st.Block body) = inside_all p around body
+inner_statements p around (st.If at c a) = inside p around a
+inner_statements p around (st.IfElse at c a b) = inside p around a ++ inside p around b
+inner_statements p around (st.While at c body) = inside p (in_loop p around st.NoStm body) body
+inner_statements p around (st.For at first c update body) =
     inside_maybe p around first ++ (inside_maybe p around update ++ inside p (in_loop p around update body) body)
-below p around (st.Foreach at number domain body) = inside p (in_foreach p around number domain body) body
-below p around x = []
+inner_statements p around (st.Foreach at number domain body) = inside p (in_foreach p around number domain body) body
+inner_statements p around x = []
 
 -- whether the statement is of a form without statements in it
 abbrev pub is_simple : NumberedStm → Bool

@@ -125,8 +125,8 @@ digits at l =
     (first_passes is_long_letter (drop size l))
 
 -- the dimension or the number literal at the start
-abbrev pub number : ℕ → List ℕ → Reading
-number at l = option_map_or (λ n. Matches (Lexeme (k.Dim n)) (at + 2)) (dimension l) (digits at l)
+abbrev pub number_lexeme : ℕ → List ℕ → Reading
+number_lexeme at l = option_map_or (λ n. Matches (Lexeme (k.Dim n)) (at + 2)) (dimension l) (digits at l)
 
 -- the next part of a string: an item with its value, the closing quote, or an error
 pub data Item : Type 0 where
@@ -251,12 +251,12 @@ slash at l =
 abbrev pub first_by : ByteClass → ℕ → List ℕ → Reading
 first_by c.Blank at l = Matches Space (at + 1)
 first_by c.Letter at l = word at l
-first_by c.Digit at l = number at l
+first_by c.Digit at l = number_lexeme at l
 first_by c.Quote at l = string_from at [] (at + 1) (drop 1 l)
 first_by c.Slash at l = slash at l
 first_by c.Other at l = sign at l
 
 -- the lexical element at the start
-unfoldable pub first : ℕ → List ℕ → Reading
-first at [] = Rejects StrayByte at
-first at (b ∷ l) = first_by (class_of_byte b) at (b ∷ l)
+unfoldable pub first_lexeme : ℕ → List ℕ → Reading
+first_lexeme at [] = Rejects StrayByte at
+first_lexeme at (b ∷ l) = first_by (class_of_byte b) at (b ∷ l)

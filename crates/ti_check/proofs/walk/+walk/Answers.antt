@@ -10,7 +10,7 @@ use Rattle.ti_single.specs.EffectsAt.{effects_in_loop}
 use Rattle.ti_single.specs.Mirrors.Maybe.{maybe_in}
 use Rattle.ti_single.proofs.Lemmas.{doings_step, doings_end}
 use Rattle.ti_check.specs.declared.reports.StmtReport.{StmtReport}
-use Rattle.ti_check.specs.Mirrors.Refusals.{below}
+use Rattle.ti_check.specs.Mirrors.Refusals.{inner_statements}
 use Rattle.ti_check.specs.Mirrors.Contexts.{program_at, around_where, around_of}
 use Rattle.ti_check.specs.Mirrors.StmtReport.{IsStmtReport}
 use Rattle.ti_check.proofs.Where.{where_first, where_next, where_last, both_walked, same_walked, moved_walked, moved_doings, nothing_walked, loop_walked, inside_does, alone_walked, alone_does, if_below, if_does, for_is}
@@ -55,9 +55,9 @@ compound-stmt_report-requires-clause-below t c =
     let p = program_at c.args.site in
     let around = around_where c.args.site in
     same_walked p (λ jump_has. inside_all p (around jump_has) (numbered_stms (map statement_of c.deref_stmts.result.now)))
-    (λ jump_has. below p (around jump_has) (statement_of c.args.stmt.now)) c.in_ok-below-in-Block.below
+    (λ jump_has. inner_statements p (around jump_has) (statement_of c.args.stmt.now)) c.in_ok-below-in-Block.below
     (ap (λ l jump_has. inside_all p (around jump_has) (numbered_stms (map statement_of l))) c.deref_stmts.ensures
-    ∙ sym (ap (λ z jump_has. below p (around jump_has) z) (seen_numbered_block c.args.stmt.now c.in-Block.body c.in-Block.is)))
+    ∙ sym (ap (λ z jump_has. inner_statements p (around jump_has) z) (seen_numbered_block c.args.stmt.now c.in-Block.body c.in-Block.is)))
     c.in_ok-below-in-Block.ensures.found
 
 pub compound-stmt_report-requires-clause-own : goal.compound-stmt_report-requires-clause-own
@@ -75,10 +75,10 @@ compound-stmt_report-requires-in-If-clause-below t c =
     let around = around_where c.args.site in
     let then = λ (jump_has : Bool). inside p (around jump_has) (statement_of c.deref_stmt.result.now) in
     let otherwise = λ (jump_has : Bool). inside_maybe p (around jump_has) (maybe_in c.in-If.otherwise) in
-    same_walked p (λ jump_has. then jump_has ++ otherwise jump_has) (λ jump_has. below p (around jump_has) (statement_of c.args.stmt.now)) c.and.result
+    same_walked p (λ jump_has. then jump_has ++ otherwise jump_has) (λ jump_has. inner_statements p (around jump_has) (statement_of c.args.stmt.now)) c.and.result
     (λ j jump_has. (ap (λ z. inside p (around jump_has) (statement_of z) ++ otherwise jump_has) c.deref_stmt.ensures
     ∙ if_below p (around jump_has) c.in-If.place c.in-If.condition c.in-If.then c.in-If.otherwise
-    ∙ sym (ap (λ z. below p (around jump_has) (statement_of z)) c.in-If.is)) j)
+    ∙ sym (ap (λ z. inner_statements p (around jump_has) (statement_of z)) c.in-If.is)) j)
     (both_walked p then otherwise c.in_ok-then-in-If.then c.in_ok-otherwise-in-If.otherwise c.and.result c.in_ok-then-in-If.ensures.found
     c.in_ok-otherwise-in-If.ensures.found c.and.ensures.types c.and.ensures.single
     c.and.ensures.jumping)
@@ -108,7 +108,7 @@ compound-stmt_report-requires-in-While-clause-below t c =
     let does = moved_doings p (program_at c.in_loop.result) (around_where c.in_loop.result) within
     (statement_of c.deref_stmt-in-While.result.now) body (effects_of c.in_ok-body-in-While.body.doings) c.in_loop.ensures.program
     c.in_loop.ensures.around (ap statement_of c.deref_stmt-in-While.ensures) c.in_ok-body-in-While.ensures.doings in
-    subst (λ z. IsStmtReport p (λ jump_has. below p (around_where c.args.site jump_has) (statement_of z)) c.loop_report-below.result) (sym c.in-While.is)
+    subst (λ z. IsStmtReport p (λ jump_has. inner_statements p (around_where c.args.site jump_has) (statement_of z)) c.loop_report-below.result) (sym c.in-While.is)
     (alone_walked p around.method within body c.none-in-While.result c.with_effects.result c.in_ok-body-in-While.body c.loop_report-below.result
     c.with_effects.ensures c.none-in-While.ensures found does c.loop_report-below.ensures.types
     c.loop_report-below.ensures.single c.loop_report-below.ensures.jumping)
@@ -157,8 +157,8 @@ compound-stmt_report-requires-in-For-clause-below t c =
     c.in_ok-update-in-For.ensures.found c.in_ok-update-in-For.ensures.doings found does
     c.loop_report.ensures.types c.loop_report.ensures.single c.loop_report.ensures.jumping in
     same_walked p (λ jump_has. first jump_has ++ (updates jump_has ++ inside p (within (loop_acts p m update body)) body))
-    (λ jump_has. below p (around_where c.args.site jump_has) (statement_of c.args.stmt.now)) c.and-below.result
-    (sym (ap (λ z jump_has. below p (around_where c.args.site jump_has) z) (ap statement_of c.in-For.is ∙ for_is c.in-For.place c.in-For.first c.in-For.condition c.in-For.update c.in-For.body)))
+    (λ jump_has. inner_statements p (around_where c.args.site jump_has) (statement_of c.args.stmt.now)) c.and-below.result
+    (sym (ap (λ z jump_has. inner_statements p (around_where c.args.site jump_has) z) (ap statement_of c.in-For.is ∙ for_is c.in-For.place c.in-For.first c.in-For.condition c.in-For.update c.in-For.body)))
     (both_walked p first (λ jump_has. updates jump_has ++ inside p (within (loop_acts p m update body)) body) c.in_ok-first-in-For.first
     c.loop_report.result c.and-below.result c.in_ok-first-in-For.ensures.found others
     c.and-below.ensures.types c.and-below.ensures.single c.and-below.ensures.jumping)
@@ -212,7 +212,7 @@ compound-stmt_report-requires-in-Foreach-clause-below t c =
     let does = moved_doings p (program_at c.with_scope-inside.result) (around_where c.with_scope-inside.result) within
     (statement_of c.deref_stmt-in-Foreach.result.now) body (effects_of c.in_ok-body-in-Foreach.body.doings) is_program is_around
     (ap statement_of c.deref_stmt-in-Foreach.ensures) c.in_ok-body-in-Foreach.ensures.doings in
-    subst (λ z. IsStmtReport p (λ jump_has. below p (around_where c.args.site jump_has) (statement_of z)) c.loop_report-below-in-Foreach.result) (sym c.in-Foreach.is)
+    subst (λ z. IsStmtReport p (λ jump_has. inner_statements p (around_where c.args.site jump_has) (statement_of z)) c.loop_report-below-in-Foreach.result) (sym c.in-Foreach.is)
     (alone_walked p around.method within body c.none-in-Foreach.result c.with_effects-in-Foreach.result c.in_ok-body-in-Foreach.body
     c.loop_report-below-in-Foreach.result c.with_effects-in-Foreach.ensures c.none-in-Foreach.ensures found does
     c.loop_report-below-in-Foreach.ensures.types c.loop_report-below-in-Foreach.ensures.single c.loop_report-below-in-Foreach.ensures.jumping)

@@ -4,7 +4,7 @@ use Rattle.ti_lang.specs.Program.Views.{statement_of}
 use Rattle.ti_lang.specs.Typing.Effects.{doings}
 use Rattle.ti_rules.proofs.Lemmas.{sooner_none}
 use Rattle.ti_check.specs.declared.reports.StmtReport.{StmtReport}
-use Rattle.ti_check.specs.Mirrors.Refusals.{below}
+use Rattle.ti_check.specs.Mirrors.Refusals.{inner_statements}
 use Rattle.ti_check.specs.Mirrors.Contexts.{program_at, around_where, around_of}
 use Rattle.ti_check.specs.Mirrors.StmtReport.{with_effects}
 use Rattle.ti_check.proofs.Where.{own_first, whole_walked, same_walked, nothing_walked, simple_below, simple_no_loop}
@@ -33,7 +33,7 @@ returns-clause-found c =
     let does = c.stmt_effects-does.result in
     let own : StmtReport = record { types = c.types.result; single = c.single-single.result; jumping = c.single_jumping.result; doings = does } in
     whole_walked p (around_where c.args.self) x own (with_effects does) own (own_first p m variables c.args.self.is_in_loop x own c.types.ensures c.single-single.ensures c.single_jumping.ensures)
-    (same_walked p (λ jump_has. []) (λ jump_has. below p (around_where c.args.self jump_has) x) (with_effects does)
+    (same_walked p (λ jump_has. []) (λ jump_has. inner_statements p (around_where c.args.self jump_has) x) (with_effects does)
     (λ j jump_has. simple_below p (around_where c.args.self jump_has) x c.requires j) (nothing_walked p does))
     (sym (sooner_none own.types)) (sym (sooner_none own.single)) (sym (sooner_none own.jumping))
 
