@@ -1,5 +1,5 @@
--- Mirrors the code: how the functions that generate code extend it. No public claim depends on it: `Calling`, `Receivers`, `Laying` and
--- `Programs` say what the code of a program is, and the contract of `lower` refers to them.
+-- Mirrors the code: how the functions that generate code extend it. No public claim depends on it: `Calling`, `Receivers`, `StmtCode`
+-- and `Programs` say what the code of a program is, and the contract of `lower` refers to them.
 pub mod Positions
 pub mod Values
 pub mod Statements

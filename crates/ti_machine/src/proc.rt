@@ -21,7 +21,7 @@ pub enum ProcState {
     Running,
     /// Suspended with this next. If that is an action, its answer is used as `AnswerUse` says.
     Suspended(Next, AnswerUse),
-    /// Unusable, after out of memory or after `advance_within` gave up.
+    /// Unusable, after out of memory or after `advance_bounded` gave up.
     Poisoned,
 }
 
