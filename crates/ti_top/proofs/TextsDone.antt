@@ -1,23 +1,21 @@
 -- From what was done with a program to what became of its text.
-use Rattle.std.proofs.Common.{◌≡◌, ◌⊎◌, inl, inr, ℕ, List, [], None, Err, sym, subst}
+use Rattle.std.proofs.Common.{◌≡◌, ◌⊎◌, inl, inr, ℕ, List, [], None, sym, subst}
+use Rattle.ti_io.specs.Source.{SourceState}
 use Rattle.ti_io.specs.Sink.{SinkState}
 use Rattle.ti_lang.specs.Program.Classes.{ProgramView}
 use Rattle.ti_rules.specs.declared.refusal.Refusal.{Refusal}
 use Rattle.ti_blame.specs.declared.mark.Mark.{Mark}
 use Rattle.ti_words.specs.declared.job.Job.{Job}
 use Rattle.ti_words.specs.declared.job.Mode.{Mode}
-use Rattle.ti_words.specs.declared.job.Mode.TheVariants.{Run, Check, Code, Gen, Verify, Infer}
-use Rattle.ti_top.specs.declared.compiling.CompileErr.{CompileErr}
-use Rattle.ti_top.specs.declared.compiling.CompileErr.TheVariants as error
+use Rattle.ti_words.specs.declared.job.Mode.TheVariants.{Run, Check, Code, Gen, Infer}
 use Rattle.ti_top.specs.declared.fault.Fault.{Fault}
 use Rattle.ti_top.specs.declared.exit.Exit.{Exit}
 use Rattle.ti_top.specs.declared.exit.Exit.TheVariants.{Done, Refused, Faulted, NoCommand, CantRead, CantWrite, NoMemory, NoRun}
-use Rattle.ti_top.specs.Run.{RunsProgram}
 use Rattle.ti_top.specs.Reports.{Watcher}
 use Rattle.ti_top.specs.Mirrors.Coding.{CodeSays}
-use Rattle.ti_top.specs.Mirrors.Compiling.{IsCompiled, Compiles, ending_by}
-use Rattle.ti_top.specs.Mirrors.Inferring.{IsOnlyMarking, Infers, MarksSay}
-use Rattle.ti_top.specs.Mirrors.JobView.{Artifacts, RanNothing, RunSays, RunTextSays, CheckTextSays, CodeTextSays, InferTextSays, TextSays, JobView, FileDone, SeedDone, TraceDone, JobSays}
+use Rattle.ti_top.specs.Mirrors.Compiling.{IsCompiled}
+use Rattle.ti_top.specs.Mirrors.Inferring.{IsOnlyMarking, MarksSay}
+use Rattle.ti_top.specs.Mirrors.JobView.{Artifacts, RunSays, RunTextSays, CodeTextSays, InferTextSays, JobView, FileDone, SeedDone, JobSays}
 
 -- the endings of a run
 abbrev IsOfRun : Exit → Type 0
@@ -71,11 +69,6 @@ coded_text CantWrite p text out after k compiled none uncounted says = record { 
 coded_text NoMemory p text out after k compiled none uncounted says = record { unwritten = says.0; no_entry = none; no_code = says.1; no_count = uncounted }
 coded_text (NoRun line) p text out after k compiled none uncounted says = absurd says
 
--- the modes that run
-pub run_or_gen : (mode : Mode) → (mode ≡ Run) ⊎ (mode ≡ Gen) → RunsProgram mode
-run_or_gen m (inl is) = subst RunsProgram (sym is) tt
-run_or_gen m (inr is) = subst RunsProgram (sym is) tt
-
 -- what was done where a file is named
 pub done_by_file : (mode : Mode) (job : Job) (ending : Exit) (w : JobView) → (mode ≡ Run) ⊎ (mode ≡ Check) ⊎ (mode ≡ Code) ⊎ (mode ≡ Infer)
     → FileDone job ending w → JobSays mode job ending w
@@ -87,61 +80,6 @@ done_by_file m job ending w (inr (inr (inr is))) done = subst (λ (m : Mode). Jo
 -- and where none is
 pub done_by_seed : (mode : Mode) (job : Job) (ending : Exit) (w : JobView) → mode ≡ Gen → SeedDone job ending w → JobSays mode job ending w
 done_by_seed m job ending w is done = subst (λ (m : Mode). JobSays m job ending w) (sym is) done
-
--- and where a trace is named as well
-pub done_by_trace : (mode : Mode) (job : Job) (ending : Exit) (w : JobView) → mode ≡ Verify → TraceDone job ending w → JobSays mode job ending w
-done_by_trace m job ending w is done = subst (λ (m : Mode). JobSays m job ending w) (sym is) done
-
--- what a run says is said in its mode
-pub run_in_mode : (mode : Mode) (ending : Exit) (job : Job) (ws : List Watcher) (text : List ℕ) (out after : SinkState) (k : Artifacts) → RunsProgram mode
-    → RunTextSays ending job ws text out after k → TextSays mode ending job ws text out after k
-run_in_mode Run ending job ws text out after k runs says = says
-run_in_mode Gen ending job ws text out after k runs says = says
-run_in_mode _ ending job ws text out after k runs says = absurd runs
-
--- what was checked is said in the modes that do no more with a text
-pub checked_in_mode : (mode : Mode) (ending : Exit) (job : Job) (ws : List Watcher) (text : List ℕ) (out after : SinkState) (k : Artifacts)
-    → (mode ≡ Check) ⊎ (mode ≡ Verify) → CheckTextSays ending text out after k → TextSays mode ending job ws text out after k
-checked_in_mode m ending job ws text out after k (inl is) says = subst (λ (m : Mode). TextSays m ending job ws text out after k) (sym is) says
-checked_in_mode m ending job ws text out after k (inr is) says = subst (λ (m : Mode). TextSays m ending job ws text out after k) (sym is) says
-
--- so it is with code
-pub coded_in_mode : (mode : Mode) (ending : Exit) (job : Job) (ws : List Watcher) (text : List ℕ) (out after : SinkState) (k : Artifacts) → mode ≡ Code
-    → CodeTextSays ending text out after k → TextSays mode ending job ws text out after k
-coded_in_mode m ending job ws text out after k is says = subst (λ (m : Mode). TextSays m ending job ws text out after k) (sym is) says
-
--- and with marks
-pub inferred_in_mode : (mode : Mode) (ending : Exit) (job : Job) (ws : List Watcher) (text : List ℕ) (out after : SinkState) (k : Artifacts) → mode ≡ Infer
-    → InferTextSays ending text out after k → TextSays mode ending job ws text out after k
-inferred_in_mode m ending job ws text out after k is says = subst (λ (m : Mode). TextSays m ending job ws text out after k) (sym is) says
-
--- ---- a text without a program
-
-pub not_run : (e : CompileErr) (job : Job) (ws : List Watcher) (text : List ℕ) (out after : SinkState) (k : Artifacts) → Compiles text (Err e) → RanNothing out after k
-    → RunTextSays (ending_by e) job ws text out after k
-not_run (error.Refused refusal) job ws text out after k is nothing = record { is = is.0; no_program = is.1; nothing = nothing }
-not_run error.Memory job ws text out after k is nothing = inl nothing
-
-pub not_checked : (e : CompileErr) (text : List ℕ) (out after : SinkState) (k : Artifacts) → Compiles text (Err e) → RanNothing out after k
-    → CheckTextSays (ending_by e) text out after k
-not_checked (error.Refused refusal) text out after k is nothing = record { is = is.0; no_program = is.1; nothing = nothing }
-not_checked error.Memory text out after k is nothing = nothing
-
-pub not_coded : (e : CompileErr) (text : List ℕ) (out after : SinkState) (k : Artifacts) → Compiles text (Err e) → RanNothing out after k
-    → CodeTextSays (ending_by e) text out after k
-not_coded (error.Refused refusal) text out after k is nothing = record { is = is.0; no_program = is.1; nothing = nothing }
-not_coded error.Memory text out after k is nothing = nothing
-
-pub not_inferred : (e : CompileErr) (text : List ℕ) (out after : SinkState) (k : Artifacts) → Infers text (Err e) → RanNothing out after k
-    → InferTextSays (ending_by e) text out after k
-not_inferred (error.Refused refusal) text out after k is nothing = record { is = is.0; nothing = nothing }
-not_inferred error.Memory text out after k is nothing = nothing
-
--- ---- a text with one
-
--- it is checked alone
-pub checked_text : (p : ProgramView) (text : List ℕ) (out after : SinkState) (k : Artifacts) → IsCompiled text p → RanNothing out after k → CheckTextSays Done text out after k
-checked_text p text out after k compiled nothing = record { program = p; compiled = compiled; nothing = nothing }
 
 -- its marks were inferred
 pub inferred_text : (ending : Exit) (marks : List Mark) (text : List ℕ) (out after : SinkState) (k : Artifacts) → IsOnlyMarking text marks → k.history ≡ [] → k.code ≡ None → k.done ≡ []
@@ -156,3 +94,12 @@ inferred_text CantWrite marks text out after k has none uncoded uncounted says =
     record { marks = marks; inferred = has; wrote = says; no_entry = none; no_code = uncoded; no_count = uncounted }
 inferred_text NoMemory marks text out after k has none uncoded uncounted says = record { unwritten = says; no_entry = none; no_code = uncoded; no_count = uncounted }
 inferred_text (NoRun line) marks text out after k has none uncoded uncounted says = absurd says
+
+-- the same of a job, where what it leaves is kept in another place
+pub kept_elsewhere : (mode : Mode) (job : Job) (ending : Exit) (ws : List Watcher) (source source_after : SourceState) (out after : SinkState)
+    (text : List ℕ) (a b : Artifacts) → b ≡ a
+    → JobSays mode job ending (record { watchers = ws; source = source; source_after = source_after; out = out; out_after = after; text = text; artifacts = a })
+    → JobSays mode job ending (record { watchers = ws; source = source; source_after = source_after; out = out; out_after = after; text = text; artifacts = b })
+kept_elsewhere mode job ending ws source source_after out after text a b same says =
+    subst (λ (k : Artifacts). JobSays mode job ending
+    (record { watchers = ws; source = source; source_after = source_after; out = out; out_after = after; text = text; artifacts = k })) (sym same) says

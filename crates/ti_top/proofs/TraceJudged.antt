@@ -1,7 +1,6 @@
 -- From the verdict of the check of a trace to what became of the trace.
-use Rattle.std.proofs.Common.{◌≡◌, ◌⊎◌, ℕ, ◌<◌, true, List, [], Option, Some, None, sym, ◌∙◌, subst}
+use Rattle.std.proofs.Common.{◌≡◌, ℕ, ◌<◌, true, List, Option, Some, None, Ok, sym, ◌∙◌, subst}
 use Rattle.ti_base.specs.declared.entry.Entry.{Entry}
-use Rattle.ti_io.specs.Faults.{Rose}
 use Rattle.ti_io.specs.Source.{SourceState, IsMissing, Holds, content_of}
 use Rattle.ti_lang.specs.Meaning.Processes.{RunConfig}
 use Rattle.ti_lang.specs.Meaning.Races.{races}
@@ -10,8 +9,6 @@ use Rattle.ti_lang.specs.Meaning.Runs.{IsRun}
 use Rattle.ti_trace_check.specs.declared.verdict.Verdict.{Verdict}
 use Rattle.ti_trace_check.specs.declared.verdict.Verdict.TheVariants.{Run, NoRun}
 use Rattle.ti_trace_check.specs.Verdicts.{IsTraceOf, IsWrongAt, HasRun, Judges}
-use Rattle.ti_top.specs.declared.exit.Exit.{Exit}
-use Rattle.ti_top.specs.declared.exit.Exit.TheVariants as ending
 use Rattle.ti_top.specs.Mirrors.Verifying.{ending_by, run_by, HasOneVerdict, TraceSays, WasRead, HeldTrace}
 
 -- the thing with this name was found
@@ -36,7 +33,7 @@ pub record Laws (s : RunConfig) : Type 0 where
   pub alone : HasOneVerdict s
 
 says_by : (s : RunConfig) (name : List ℕ) (old new : SourceState) (v : Verdict) → IsFound old name → Laws s → HasRun s v → (old.tells ≡ true → Judges s old.left v)
-    → TraceSays (ending_by v) s name old new (run_by v)
+    → TraceSays (ending_by (Ok v)) s name old new (run_by (Ok v))
 says_by s name old new (Run es) found laws keeps judges = record {
   found = record { there = not_missing old name found; run = keeps.0; listed = laws.listed es.items keeps.0; alone = laws.alone };
   complete = keeps.1;
@@ -49,30 +46,7 @@ says_by s name old new (NoRun line es) found laws keeps judges = record {
 }
 
 -- there is a verdict
-pub judged : (s : RunConfig) (name : List ℕ) (old new : SourceState) (v : Verdict) (ends : Exit) (es : List Entry) → WasRead old new → IsFound old name → Laws s → HasRun s v
-    → (old.tells ≡ true → Judges s old.left v) → ends ≡ ending_by v → es ≡ run_by v → (old.faults < new.faults → ⊥) → HeldTrace ends s name old new es
-judged s name old new v ends es read found laws keeps judges is are unfailed = record {
-  read = read;
-  failed = λ rose. absurd (unfailed rose);
-  says = subst (λ (e : Exit). TraceSays e s name old new es) (sym is)
-      (subst (λ (xs : List Entry). TraceSays (ending_by v) s name old new xs) (sym are) (says_by s name old new v found laws keeps judges));
-}
-
--- the source failed, or the trace is missing
-pub unread : (s : RunConfig) (name : List ℕ) (old new : SourceState) (ends : Exit) (es : List Entry) → WasRead old new → IsMissing old name
-    ⊎ Rose old.faults new.faults → ends ≡ ending.CantRead → es ≡ []
-    → HeldTrace ends s name old new es
-unread s name old new ends es read cause is none = record {
-  read = read;
-  failed = λ _. is;
-  says = subst (λ (e : Exit). TraceSays e s name old new es) (sym is) (cause, none);
-}
-
--- it ran out of memory
-pub unjudged : (s : RunConfig) (name : List ℕ) (old new : SourceState) (ends : Exit) (es : List Entry) → WasRead old new → ends ≡ ending.NoMemory → es ≡ []
-    → (old.faults < new.faults → ⊥) → HeldTrace ends s name old new es
-unjudged s name old new ends es read is none unfailed = record {
-  read = read;
-  failed = λ rose. absurd (unfailed rose);
-  says = subst (λ (e : Exit). TraceSays e s name old new es) (sym is) none;
-}
+pub judged : (s : RunConfig) (name : List ℕ) (old new : SourceState) (v : Verdict) → WasRead old new → IsFound old name → Laws s → HasRun s v
+    → (old.tells ≡ true → Judges s old.left v) → (old.faults < new.faults → ⊥) → HeldTrace (ending_by (Ok v)) s name old new (run_by (Ok v))
+judged s name old new v read found laws keeps judges unfailed =
+    record { read = read; failed = λ rose. absurd (unfailed rose); says = says_by s name old new v found laws keeps judges }

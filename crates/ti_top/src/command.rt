@@ -4,6 +4,7 @@ ghost use Rattle.ti_top.specs.Clauses.{KeepsContract};
 ghost use Rattle.ti_top.specs.Reports.{Watcher};
 
 use crate::exit::{Exit, end_with};
+use crate::job_result::JobResult;
 use crate::run_job::run_job;
 use std::alloc::{AllocGlobal, Global};
 use std::sync::Wait;
@@ -102,13 +103,15 @@ pub fn titan_top<R: AllocGlobal + Threads + Wait + Sync, S: Source, K: Sink, G: 
             return Outcome::nothing(alloc, end_with(err, Exit::NoMemory, ""));
         }
     };
-    let job_result = run_job(rt, alloc, &job, source, out, gate, watchers);
-    let status = end_with(err, job_result.ending, job.file.as_str());
+    let mut text = Vec::new(alloc);
+    let job_result = run_job(rt, alloc, &job, source, out, gate, watchers, &mut text);
+    let result = JobResult::of(alloc, job_result);
+    let status = end_with(err, result.ending, job.file.as_str());
     Outcome {
         status,
-        text: job_result.text,
-        code: job_result.artifacts.code,
-        history: job_result.artifacts.history,
-        done: job_result.artifacts.done,
+        text,
+        code: result.code,
+        history: result.history,
+        done: result.done,
     }
 }

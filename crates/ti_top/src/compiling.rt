@@ -24,15 +24,14 @@ pub enum CompileErr {
     Memory,
 }
 
-impl CompileErr {
+impl From<CompileErr> for Exit {
     ghost use Rattle.std.specs.Prelude.{◌≡◌};
     ghost use Rattle.ti_top.specs.Mirrors.Compiling.{ending_by};
 
-    /// The ending that this error leads to.
-    pub fn ending(self) -> Exit
-        ensures { result ≡ ending_by self }
-    {
-        match self {
+    ghost from_gives = { λ e found. found ≡ ending_by e };
+
+    fn from(error: CompileErr) -> Exit {
+        match error {
             CompileErr::Refused(refusal) => Exit::Refused(refusal),
             CompileErr::Memory => Exit::NoMemory,
         }

@@ -8,7 +8,7 @@ ghost use Rattle.ti_top.specs.Mirrors.Leaving.{HasNoFailure};
 ghost use Rattle.ti_top.specs.Exit.{status_of, refused_as, fault_line as fault_spec, no_run_line as no_run_spec, err_line};
 
 use crate::fault::Fault;
-use ti_base::{FaultKind, fault_name};
+use ti_base::{FaultKind, Memory, fault_name};
 use ti_io::{Failed, Sink, write_piece};
 use ti_rules::{Refusal, Rule, rule_text};
 use ti_watch::Line;
@@ -49,6 +49,28 @@ impl Exit {
             Exit::NoMemory => 6,
             Exit::NoRun(_) => 7,
         }
+    }
+}
+
+impl From<Memory> for Exit {
+    ghost use Rattle.std.specs.Prelude.{◌≡◌};
+    ghost use Rattle.ti_top.specs.declared.exit.Exit.TheVariants.{NoMemory};
+
+    ghost from_gives = { λ _ found. found ≡ NoMemory };
+
+    fn from(_: Memory) -> Exit {
+        Exit::NoMemory
+    }
+}
+
+impl From<Failed> for Exit {
+    ghost use Rattle.std.specs.Prelude.{◌≡◌};
+    ghost use Rattle.ti_top.specs.declared.exit.Exit.TheVariants.{CantWrite};
+
+    ghost from_gives = { λ _ found. found ≡ CantWrite };
+
+    fn from(_: Failed) -> Exit {
+        Exit::CantWrite
     }
 }
 

@@ -3,7 +3,7 @@ ghost use Rattle.std.specs.Prelude.{◌≡◌, ◌≤◌, ◌++◌, ℕ, List, l
 ghost use Rattle.ti_blame.specs.declared.mark.Mark.{Mark as MarkSeen};
 ghost use Rattle.ti_rules.specs.declared.refusal.Refusal.{Refusal as RefusalSeen};
 ghost use Rattle.ti_top.specs.Inference.{HasMarking, IsUnmarkedRefusal, kind_name, mark_line as line_spec, marks_text as text_spec};
-ghost use Rattle.ti_top.specs.Mirrors.Inferring.{Infers, MarksSay};
+ghost use Rattle.ti_top.specs.Mirrors.Inferring.{Infers, MarksSay, exit_of};
 ghost use Rattle.ti_top.specs.Mirrors.Leaving.{LeavesOut};
 
 use crate::compiling::{CompileErr, one_answer, read_program};
@@ -111,15 +111,11 @@ fn marks_text(alloc: Global, marks: &[Mark]) -> Result<Vec<u8>, Memory>
 }
 
 /// Writes a line for each mark, all in one write. Out of memory, nothing is written.
-pub fn write_marks<K: Sink>(alloc: Global, marking: &Marking, out: &mut K) -> Exit
-    ensures says { MarksSay result marking.now (K.state out.old) (K.state out.new) }
-    ensures leaves { LeavesOut result (K.state out.old) (K.state out.new) }
+pub fn write_marks<K: Sink>(alloc: Global, marking: &Marking, out: &mut K) -> Result<(), Exit>
+    ensures says { MarksSay (exit_of result) marking.now (K.state out.old) (K.state out.new) }
+    ensures leaves { LeavesOut (exit_of result) (K.state out.old) (K.state out.new) }
 {
-    match marks_text(alloc, marking.marks()) {
-        Ok(text) => match write_text(out, &text) {
-            Ok(()) => Exit::Done,
-            Err(_) => Exit::CantWrite,
-        },
-        Err(Memory) => Exit::NoMemory,
-    }
+    let text = marks_text(alloc, marking.marks())?;
+    write_text(out, &text)?;
+    Ok(())
 }

@@ -2,13 +2,13 @@
 //! this call and nothing else, so the call's contract is that of the command.
 #![tactic(auto)]
 
-mod artifacts;
 mod coding;
 mod command;
 mod compiling;
 mod exit;
 mod fault;
 mod inferring;
+mod job_result;
 mod laws;
 mod printing;
 mod reading;

@@ -1,5 +1,5 @@
 // Each mode's work, up to the line on standard error.
-ghost use Rattle.std.specs.Prelude.{◌≡◌, ℕ, List, [], None, Some, IfOk, map};
+ghost use Rattle.std.specs.Prelude.{◌≡◌, ℕ, [], None, Ok, map};
 ghost use Rattle.ti_align.specs.Alignment.{IsAligned};
 ghost use Rattle.ti_code.specs.Follows.{Follows};
 ghost use Rattle.ti_lang.specs.Meaning.Determinacy.{Determines};
@@ -10,31 +10,30 @@ ghost use Rattle.ti_lang.specs.Meaning.Spots.{races_told};
 ghost use Rattle.ti_lang.specs.Program.Views.{program_of};
 ghost use Rattle.ti_lower.specs.Programs.{program_code};
 ghost use Rattle.ti_runtime.specs.Ran.{Ran};
-ghost use Rattle.ti_top.specs.Mirrors.Compiling.{IsCompiled};
 ghost use Rattle.ti_top.specs.Mirrors.Leaving.{LeavesOut};
 ghost use Rattle.ti_top.specs.Mirrors.Line.{HasLineRoom};
 ghost use Rattle.ti_top.specs.Mirrors.RunEnds.{RunEnds};
-ghost use Rattle.ti_top.specs.Mirrors.Verifying.{VerifyResult as VerifiedBy};
-ghost use Rattle.ti_top.specs.Mirrors.JobView.{IsInRanges, artifacts_of, ending_after as after_spec, ReportsAfter, RunSays, RunTextSays, CheckTextSays, CodeTextSays, InferTextSays, TextSays, SeedSays, FileDone, JobSays};
+ghost use Rattle.ti_top.specs.Mirrors.Verifying.{VerifyResult};
+ghost use Rattle.ti_top.specs.Mirrors.JobView.{IsInRanges, artifacts_of, ending_of, ending_after as after_spec, ReportsAfter, RunSays, RunTextSays, CheckTextSays, CodeTextSays, InferTextSays, TextSays, SeedSays, FileDone, JobSays};
 ghost use Rattle.ti_top.specs.Reports.{Watcher, wanted_watchers};
 ghost use Rattle.ti_top.specs.Run.{RunsProgram, run_of};
 
-use crate::artifacts::Artifacts;
 use crate::coding::write_code;
 use crate::compiling::compile;
 use crate::exit::Exit;
 use crate::fault::Fault;
 use crate::inferring::{infer_marks, write_marks};
+use crate::job_result::JobResult;
 use crate::printing::write_head;
 use crate::reading::{ReadEnd, read_whole};
 use crate::reports::{ReportEnd, keep_wanted, write_reports};
 use crate::run_line::RunLine;
-use crate::verifying::{VerifyResult, verify_file};
+use crate::verifying::verify_file;
 use std::alloc::Global;
 use std::sync::Wait;
 use std::thread::Threads;
 use ti_align::actions_formed;
-use ti_base::{Entry, Memory};
+use ti_base::Entry;
 use ti_code::Code;
 use ti_gen::gen_source;
 use ti_io::{Gate, Sink, Source};
@@ -45,43 +44,8 @@ use ti_runtime::{How, RunEnd, run};
 use ti_watch::Watch;
 use ti_words::{Job, Mode};
 
-/// The result of a job: its ending, the text that was read or generated, and what the job leaves.
-#[derive(Drop)]
-pub struct JobResult {
-    pub ending: Exit,
-    pub text: Vec<u8>,
-    pub artifacts: Artifacts,
-}
-
-// The result of a mode on a whole text.
-#[derive(Drop)]
-struct TextResult {
-    ending: Exit,
-    artifacts: Artifacts,
-}
-
-impl TextResult {
-    // Nothing was run and nothing was written.
-    fn nothing(alloc: Global, ending: Exit) -> Self
-        ensures ending { result.ending ≡ ending }
-        ensures artifacts { artifacts_of result.artifacts ≡ record { code = None; history = []; done = [] } }
-    {
-        TextResult {
-            ending,
-            artifacts: Artifacts::nothing(alloc),
-        }
-    }
-}
-
-// What a run needs: the code, and the buffer of a line.
-#[derive(Drop)]
-struct PreparedRun {
-    code: Code,
-    line: RunLine,
-}
-
 // The ending of a run whose output was written completely.
-fn ending_of(end: &RunEnd, code: &Code) -> Exit
+fn ending_of_run(end: &RunEnd, code: &Code) -> Exit
     requires { (s : RunConfig) × (workers : ℕ) × Ran code.now s workers end.now }
     ensures { (s : RunConfig) (workers : ℕ) → Ran code.now s workers end.now → RunEnds s end.now.history.items result }
 {
@@ -163,108 +127,35 @@ fn run_program<R: Threads + Wait + Sync, K: Sink, G: Gate + Sync>(
     alloc: Global,
     job: &Job,
     checked: &Checked,
-    ready: PreparedRun,
+    code: Code,
+    line: &mut RunLine,
     gate: &G,
     watchers: Vec<Box<dyn Watch>>,
     out: &mut K,
-) -> TextResult
+) -> JobResult
     requires ranges { IsInRanges job.now }
     requires mode { RunsProgram job.now.mode }
     requires aligned { IsAligned (program_of checked.now.program.parts) }
-    requires room { HasLineRoom checked.now.program.parts.literals.items ready.line }
-    requires code { ready.code ≡ program_code (program_of checked.now.program.parts) }
-    requires follows { Follows ready.code (program_of checked.now.program.parts) }
+    requires room { HasLineRoom checked.now.program.parts.literals.items line.old }
+    requires code { code ≡ program_code (program_of checked.now.program.parts) }
+    requires follows { Follows code (program_of checked.now.program.parts) }
     ensures says { RunSays (program_of checked.now.program.parts) job.now
         (map {B = Watcher} (λ w. record { kind = kind_of w; told = told w }) watchers.items) (K.state out.old) (K.state out.new)
-        (artifacts_of result.artifacts) result.ending }
+        (artifacts_of (Ok result)) result.ending }
     ensures leaves { LeavesOut result.ending (K.state out.old) (K.state out.new) }
 {
-    let PreparedRun { code, mut line } = ready;
     let end = run_by_code(rt, alloc, job, checked, &code, gate);
-    let ended = ending_of(&end, &code);
-    match write_head(
-        out,
-        &mut line,
-        job.mode,
-        ended,
-        &checked.program,
-        &end.history,
-    ) {
-        Ok(()) => TextResult {
-            ending: report_after(alloc, ended, &end.history, watchers, out),
-            artifacts: artifacts_of_run(code, end),
-        },
-        Err(_) => TextResult {
-            ending: Exit::CantWrite,
-            artifacts: artifacts_of_run(code, end),
-        },
+    let ended = ending_of_run(&end, &code);
+    match write_head(out, line, job.mode, ended, &checked.program, &end.history) {
+        Ok(()) => {
+            let ending = report_after(alloc, ended, &end.history, watchers, out);
+            JobResult::of_run(ending, code, end)
+        }
+        Err(_) => JobResult::of_run(Exit::CantWrite, code, end),
     }
 }
 
-// What a run by this code leaves.
-fn artifacts_of_run(code: Code, end: RunEnd) -> Artifacts
-    ensures { artifacts_of result ≡ record { code = Some code; history = end.history.items; done = end.done.items } }
-{
-    Artifacts {
-        code: Some(code),
-        history: end.history,
-        done: end.done,
-    }
-}
-
-// Makes a program's code, and allocates the buffer of its lines.
-fn prepare_run(alloc: Global, checked: &Checked) -> Result<PreparedRun, Memory>
-    ensures code { IfOk result (λ r. r.code ≡ program_code (program_of checked.now.program.parts)) }
-    ensures follows { IfOk result (λ r. Follows r.code (program_of checked.now.program.parts)) }
-    ensures room { IfOk result (λ r. HasLineRoom checked.now.program.parts.literals.items r.line) }
-{
-    let code = lower(alloc, checked)?;
-    let line = RunLine::with_room(alloc, &checked.program.parts.literals)?;
-    Ok(PreparedRun { code, line })
-}
-
-// Runs a compiled program. All that its output needs is allocated before the run.
-fn run_compiled<R: Threads + Wait + Sync, K: Sink, G: Gate + Sync>(
-    rt: &R,
-    alloc: Global,
-    job: &Job,
-    checked: &Checked,
-    gate: &G,
-    watchers: Vec<Box<dyn Watch>>,
-    out: &mut K,
-) -> TextResult
-    requires ranges { IsInRanges job.now }
-    requires mode { RunsProgram job.now.mode }
-    requires aligned { IsAligned (program_of checked.now.program.parts) }
-    ensures says { (text : List ℕ) → IsCompiled text (program_of checked.now.program.parts)
-        → RunTextSays result.ending job.now (map {B = Watcher} (λ w. record { kind = kind_of w; told = told w }) watchers.items) text
-        (K.state out.old) (K.state out.new) (artifacts_of result.artifacts) }
-    ensures leaves { LeavesOut result.ending (K.state out.old) (K.state out.new) }
-{
-    match prepare_run(alloc, checked) {
-        Ok(ready) => run_program(rt, alloc, job, checked, ready, gate, watchers, out),
-        Err(Memory) => TextResult::nothing(alloc, Exit::NoMemory),
-    }
-}
-
-// Writes the code of a compiled program.
-fn code_compiled<K: Sink>(alloc: Global, checked: &Checked, out: &mut K) -> TextResult
-    ensures says { (text : List ℕ) → IsCompiled text (program_of checked.now.program.parts)
-        → CodeTextSays result.ending text (K.state out.old) (K.state out.new) (artifacts_of result.artifacts) }
-    ensures leaves { LeavesOut result.ending (K.state out.old) (K.state out.new) }
-{
-    let coded = write_code(alloc, checked, out);
-    TextResult {
-        ending: coded.ending,
-        artifacts: Artifacts {
-            code: coded.code,
-            history: Vec::new(alloc),
-            done: Vec::new(alloc),
-        },
-    }
-}
-
-// Mode run and gen: compiles a whole text and runs its program.
+// Mode run and gen: compiles a whole text and runs its program. All that its output needs is allocated before the run.
 fn run_text<R: Threads + Wait + Sync, K: Sink, G: Gate + Sync>(
     rt: &R,
     alloc: Global,
@@ -273,50 +164,51 @@ fn run_text<R: Threads + Wait + Sync, K: Sink, G: Gate + Sync>(
     gate: &G,
     watchers: Vec<Box<dyn Watch>>,
     out: &mut K,
-) -> TextResult
+) -> Result<JobResult, Exit>
     requires ranges { IsInRanges job.now }
     requires mode { RunsProgram job.now.mode }
-    ensures says { RunTextSays result.ending job.now (map {B = Watcher} (λ w. record { kind = kind_of w; told = told w }) watchers.items)
-        text.now (K.state out.old) (K.state out.new) (artifacts_of result.artifacts) }
-    ensures leaves { LeavesOut result.ending (K.state out.old) (K.state out.new) }
+    ensures says { RunTextSays (ending_of result) job.now
+        (map {B = Watcher} (λ w. record { kind = kind_of w; told = told w }) watchers.items)
+        text.now (K.state out.old) (K.state out.new) (artifacts_of result) }
+    ensures leaves { LeavesOut (ending_of result) (K.state out.old) (K.state out.new) }
 {
-    match compile(alloc, text) {
-        Ok(checked) => run_compiled(rt, alloc, job, &checked, gate, watchers, out),
-        Err(e) => TextResult::nothing(alloc, e.ending()),
-    }
+    let checked = compile(alloc, text)?;
+    let code = lower(alloc, &checked)?;
+    let mut line = RunLine::with_room(alloc, &checked.program.parts.literals)?;
+    Ok(run_program(
+        rt, alloc, job, &checked, code, &mut line, gate, watchers, out,
+    ))
 }
 
 // Mode check: compiles a whole text.
-fn check_text(alloc: Global, text: &[u8]) -> TextResult
-    ensures says { (out : SinkState) → CheckTextSays result.ending text.now out out (artifacts_of result.artifacts) }
-    ensures leaves { (out : SinkState) → LeavesOut result.ending out out }
+fn check_text(alloc: Global, text: &[u8]) -> Result<JobResult, Exit>
+    ensures says { (out : SinkState) → CheckTextSays (ending_of result) text.now out out
+        (artifacts_of result) }
+    ensures leaves { (out : SinkState) → LeavesOut (ending_of result) out out }
 {
-    match compile(alloc, text) {
-        Ok(_) => TextResult::nothing(alloc, Exit::Done),
-        Err(e) => TextResult::nothing(alloc, e.ending()),
-    }
+    compile(alloc, text)?;
+    Ok(JobResult::nothing(alloc, Exit::Done))
 }
 
 // Mode code: compiles a whole text and writes its code.
-fn code_text<K: Sink>(alloc: Global, text: &[u8], out: &mut K) -> TextResult
-    ensures says { CodeTextSays result.ending text.now (K.state out.old) (K.state out.new) (artifacts_of result.artifacts) }
-    ensures leaves { LeavesOut result.ending (K.state out.old) (K.state out.new) }
+fn code_text<K: Sink>(alloc: Global, text: &[u8], out: &mut K) -> Result<JobResult, Exit>
+    ensures says { CodeTextSays (ending_of result) text.now (K.state out.old) (K.state out.new)
+        (artifacts_of result) }
+    ensures leaves { LeavesOut (ending_of result) (K.state out.old) (K.state out.new) }
 {
-    match compile(alloc, text) {
-        Ok(checked) => code_compiled(alloc, &checked, out),
-        Err(e) => TextResult::nothing(alloc, e.ending()),
-    }
+    let checked = compile(alloc, text)?;
+    write_code(alloc, &checked, out)
 }
 
 // Mode infer: infers the marks of a whole text, and writes them.
-fn infer_text<K: Sink>(alloc: Global, text: &[u8], out: &mut K) -> TextResult
-    ensures says { InferTextSays result.ending text.now (K.state out.old) (K.state out.new) (artifacts_of result.artifacts) }
-    ensures leaves { LeavesOut result.ending (K.state out.old) (K.state out.new) }
+fn infer_text<K: Sink>(alloc: Global, text: &[u8], out: &mut K) -> Result<JobResult, Exit>
+    ensures says { InferTextSays (ending_of result) text.now (K.state out.old) (K.state out.new)
+        (artifacts_of result) }
+    ensures leaves { LeavesOut (ending_of result) (K.state out.old) (K.state out.new) }
 {
-    match infer_marks(alloc, text) {
-        Ok(marking) => TextResult::nothing(alloc, write_marks(alloc, &marking, out)),
-        Err(e) => TextResult::nothing(alloc, e.ending()),
-    }
+    let marking = infer_marks(alloc, text)?;
+    write_marks(alloc, &marking, out)?;
+    Ok(JobResult::nothing(alloc, Exit::Done))
 }
 
 // What the mode of a job does with a whole text.
@@ -328,12 +220,12 @@ fn do_text<R: Threads + Wait + Sync, K: Sink, G: Gate + Sync>(
     gate: &G,
     watchers: Vec<Box<dyn Watch>>,
     out: &mut K,
-) -> TextResult
+) -> Result<JobResult, Exit>
     requires { IsInRanges job.now }
-    ensures says { TextSays job.now.mode result.ending job.now (map {B = Watcher}
-        (λ w. record { kind = kind_of w; told = told w }) watchers.items) text.now (K.state out.old) (K.state out.new)
-        (artifacts_of result.artifacts) }
-    ensures leaves { LeavesOut result.ending (K.state out.old) (K.state out.new) }
+    ensures says { TextSays job.now.mode (ending_of result) job.now
+        (map {B = Watcher} (λ w. record { kind = kind_of w; told = told w }) watchers.items)
+        text.now (K.state out.old) (K.state out.new) (artifacts_of result) }
+    ensures leaves { LeavesOut (ending_of result) (K.state out.old) (K.state out.new) }
 {
     match job.mode {
         Mode::Run | Mode::Gen => run_text(rt, alloc, job, text, gate, watchers, out),
@@ -352,29 +244,25 @@ fn run_file_job<R: Threads + Wait + Sync, S: Source, K: Sink, G: Gate + Sync>(
     out: &mut K,
     gate: &G,
     watchers: Vec<Box<dyn Watch>>,
-) -> JobResult
-    requires { IsInRanges job.now }
-    ensures done { FileDone job.now result.ending (record {
+    text: &mut Vec<u8>,
+) -> Result<JobResult, Exit>
+    requires ranges { IsInRanges job.now }
+    requires none { text.old.items ≡ [] }
+    ensures done { FileDone job.now (ending_of result) (record {
       watchers = map {B = Watcher} (λ w. record { kind = kind_of w; told = told w }) watchers.items;
       source = S.state source.old;
       source_after = S.state source.new;
       out = K.state out.old;
       out_after = K.state out.new;
-      text = result.text.items;
-      artifacts = artifacts_of result.artifacts;
+      text = text.new.items;
+      artifacts = artifacts_of result;
     }) }
-    ensures leaves { LeavesOut result.ending (K.state out.old) (K.state out.new) }
+    ensures leaves { LeavesOut (ending_of result) (K.state out.old) (K.state out.new) }
 {
-    let mut text = Vec::new(alloc);
-    let written = match read_whole(source, job.file.as_str(), &mut text) {
-        ReadEnd::Whole => do_text(rt, alloc, job, &text, gate, watchers, out),
-        ReadEnd::CantRead => TextResult::nothing(alloc, Exit::CantRead),
-        ReadEnd::NoMemory => TextResult::nothing(alloc, Exit::NoMemory),
-    };
-    JobResult {
-        ending: written.ending,
-        text,
-        artifacts: written.artifacts,
+    match read_whole(source, job.file.as_str(), text) {
+        ReadEnd::Whole => do_text(rt, alloc, job, text, gate, watchers, out),
+        ReadEnd::CantRead => Err(Exit::CantRead),
+        ReadEnd::NoMemory => Err(Exit::NoMemory),
     }
 }
 
@@ -386,52 +274,40 @@ fn run_seed_job<R: Threads + Wait + Sync, K: Sink, G: Gate + Sync>(
     out: &mut K,
     gate: &G,
     watchers: Vec<Box<dyn Watch>>,
-) -> JobResult
-    requires { IsInRanges job.now }
-    ensures says { SeedSays result.ending job.now (map {B = Watcher} (λ w. record { kind = kind_of w; told = told w }) watchers.items)
-        result.text.items (K.state out.old) (K.state out.new) (artifacts_of result.artifacts) }
-    ensures leaves { LeavesOut result.ending (K.state out.old) (K.state out.new) }
+    text: &mut Vec<u8>,
+) -> Result<JobResult, Exit>
+    requires ranges { IsInRanges job.now }
+    requires none { text.old.items ≡ [] }
+    ensures says { SeedSays (ending_of result) job.now
+        (map {B = Watcher} (λ w. record { kind = kind_of w; told = told w }) watchers.items)
+        text.new.items (K.state out.old) (K.state out.new) (artifacts_of result) }
+    ensures leaves { LeavesOut (ending_of result) (K.state out.old) (K.state out.new) }
 {
-    match gen_source(alloc, job.seed) {
-        Ok(text) => {
-            let written = do_text(rt, alloc, job, &text, gate, watchers, out);
-            JobResult {
-                ending: written.ending,
-                text,
-                artifacts: written.artifacts,
-            }
-        }
-        Err(Memory) => JobResult {
-            ending: Exit::NoMemory,
-            text: Vec::new(alloc),
-            artifacts: Artifacts::nothing(alloc),
-        },
-    }
+    *text = gen_source(alloc, job.seed)?;
+    do_text(rt, alloc, job, text, gate, watchers, out)
 }
 
 // Mode verify.
-fn run_trace_job<S: Source>(alloc: Global, job: &Job, source: &mut S) -> JobResult
-    requires { IsInRanges job.now }
-    ensures verified { VerifiedBy job.now result.ending (S.state source.old)
-        (S.state source.new) result.text.items result.artifacts.history.items }
-    ensures no_code { result.artifacts.code ≡ None }
-    ensures no_count { result.artifacts.done.items ≡ [] }
+fn run_trace_job<S: Source>(
+    alloc: Global,
+    job: &Job,
+    source: &mut S,
+    text: &mut Vec<u8>,
+) -> Result<JobResult, Exit>
+    requires ranges { IsInRanges job.now }
+    requires none { text.old.items ≡ [] }
+    ensures verified { VerifyResult job.now (ending_of result) (S.state source.old)
+        (S.state source.new) text.new.items (artifacts_of result).history }
+    ensures no_code { (artifacts_of result).code ≡ None }
+    ensures no_count { (artifacts_of result).done ≡ [] }
+    ensures leaves { (out : SinkState) → LeavesOut (ending_of result) out out }
 {
-    let mut text = Vec::new(alloc);
-    let VerifyResult { ending, history } = verify_file(alloc, job, source, &mut text);
-    JobResult {
-        ending,
-        text,
-        artifacts: Artifacts {
-            code: None,
-            history,
-            done: Vec::new(alloc),
-        },
-    }
+    let verdict = verify_file(alloc, job, source, text)?;
+    Ok(JobResult::by_verdict(alloc, verdict))
 }
 
 /// Does the work of a job, up to the line on standard error: reads its file, or in mode gen generates the text of its seed, and then does what
-/// the mode does. Watchers whose option isn't given are dropped first.
+/// the mode does. Watchers whose option isn't given are dropped first. Whatever the result, `text` has the text that was read or generated.
 pub fn run_job<R: Threads + Wait + Sync, S: Source, K: Sink, G: Gate + Sync>(
     rt: &R,
     alloc: Global,
@@ -440,26 +316,28 @@ pub fn run_job<R: Threads + Wait + Sync, S: Source, K: Sink, G: Gate + Sync>(
     out: &mut K,
     gate: &G,
     watchers: Vec<Box<dyn Watch>>,
-) -> JobResult
+    text: &mut Vec<u8>,
+) -> Result<JobResult, Exit>
     requires ranges { IsInRanges job.now }
-    ensures says { JobSays job.now.mode job.now result.ending (record {
+    requires none { text.old.items ≡ [] }
+    ensures says { JobSays job.now.mode job.now (ending_of result) (record {
       watchers = wanted_watchers job.now (map {B = Watcher} (λ w. record { kind = kind_of w; told = told w }) watchers.items);
       source = S.state source.old;
       source_after = S.state source.new;
       out = K.state out.old;
       out_after = K.state out.new;
-      text = result.text.items;
-      artifacts = artifacts_of result.artifacts;
+      text = text.new.items;
+      artifacts = artifacts_of result;
     }) }
-    ensures leaves { LeavesOut result.ending (K.state out.old) (K.state out.new) }
+    ensures leaves { LeavesOut (ending_of result) (K.state out.old) (K.state out.new) }
 {
     let mut watchers = watchers;
     keep_wanted(&mut watchers, job);
     match job.mode {
         Mode::Run | Mode::Check | Mode::Code | Mode::Infer => run_file_job(
-            rt, alloc, job, source, out, gate, watchers,
+            rt, alloc, job, source, out, gate, watchers, text,
         ),
-        Mode::Gen => run_seed_job(rt, alloc, job, out, gate, watchers),
-        Mode::Verify => run_trace_job(alloc, job, source),
+        Mode::Gen => run_seed_job(rt, alloc, job, out, gate, watchers, text),
+        Mode::Verify => run_trace_job(alloc, job, source, text),
     }
 }

@@ -4,54 +4,30 @@ ghost use Rattle.ti_io.specs.Source.{content_of};
 ghost use Rattle.ti_lang.specs.Program.Views.{program_of};
 ghost use Rattle.ti_store.specs.Conditions.{IsWithinRunLimits};
 ghost use Rattle.ti_top.specs.declared.exit.Exit.TheVariants.{CantRead};
-ghost use Rattle.ti_top.specs.Mirrors.Verifying.{ending_by, run_by, HeldTrace, HeldSays, WasRead, VerifyResult as VerifiedBy};
+ghost use Rattle.ti_top.specs.Mirrors.Verifying.{ending_by, run_by, HeldTrace, HeldSays, WasRead, VerifyResult};
 ghost use Rattle.ti_top.specs.Run.{run_of};
 
-use crate::compiling::{CompileErr, compile};
+use crate::compiling::compile;
 use crate::exit::Exit;
 use crate::reading::{ReadEnd, read_whole};
 use std::alloc::Global;
 use ti_align::actions_formed;
-use ti_base::Entry;
 use ti_io::Source;
 use ti_race::races_are_told;
 use ti_rules::Checked;
 use ti_trace_check::{TraceErr, Verdict, check_trace, one_verdict};
 use ti_words::Job;
 
-/// The ending of mode verify, and the run of the trace.
-#[derive(Drop)]
-pub struct VerifyResult {
-    pub ending: Exit,
-    pub history: Vec<Entry>,
-}
+impl From<TraceErr> for Exit {
+    ghost use Rattle.std.specs.Prelude.{◌≡◌};
+    ghost use Rattle.ti_top.specs.Mirrors.Verifying.{of_trace};
 
-impl VerifyResult {
-    // No verdict was reached.
-    fn without(alloc: Global, ending: Exit) -> Self
-        ensures ending { result.ending ≡ ending }
-        ensures history { result.history.items ≡ [] }
-    {
-        VerifyResult {
-            ending,
-            history: Vec::new(alloc),
-        }
-    }
+    ghost from_gives = { λ e found. found ≡ of_trace e };
 
-    // The ending that a verdict leads to.
-    fn by(verdict: Verdict) -> Self
-        ensures ending { result.ending ≡ ending_by verdict }
-        ensures history { result.history.items ≡ run_by verdict }
-    {
-        match verdict {
-            Verdict::Run(entries) => VerifyResult {
-                ending: Exit::Done,
-                history: entries,
-            },
-            Verdict::NoRun(line, entries) => VerifyResult {
-                ending: Exit::NoRun(line),
-                history: entries,
-            },
+    fn from(error: TraceErr) -> Exit {
+        match error {
+            TraceErr::Read => Exit::CantRead,
+            TraceErr::Memory => Exit::NoMemory,
         }
     }
 }
@@ -62,21 +38,18 @@ fn verify_found<S: Source>(
     job: &Job,
     checked: &Checked,
     source: &mut S,
-) -> VerifyResult
+) -> Result<Verdict, Exit>
     requires within { IsWithinRunLimits job.now.procs job.now.fuel }
     requires found { (S.state source.old).tells ≡ true → content_of (S.state source.old).files job.now.against
         ≡ Some (S.state source.old).left }
-    ensures { HeldTrace result.ending (run_of (program_of checked.now.program.parts) job.now) job.now.against (S.state source.old)
-        (S.state source.new) result.history.items }
+    ensures { HeldTrace (ending_by result) (run_of (program_of checked.now.program.parts) job.now)
+        job.now.against (S.state source.old) (S.state source.new) (run_by result) }
 {
     actions_formed(checked);
     races_are_told();
     one_verdict();
-    match check_trace(alloc, checked, job.procs, job.fuel, source) {
-        Ok(verdict) => VerifyResult::by(verdict),
-        Err(TraceErr::Read) => VerifyResult::without(alloc, Exit::CantRead),
-        Err(TraceErr::Memory) => VerifyResult::without(alloc, Exit::NoMemory),
-    }
+    let verdict = check_trace(alloc, checked, job.procs, job.fuel, source)?;
+    Ok(verdict)
 }
 
 // Opens the trace that a job names, and checks it against a program.
@@ -85,49 +58,52 @@ fn verify_named<S: Source>(
     job: &Job,
     checked: &Checked,
     source: &mut S,
-) -> VerifyResult
+) -> Result<Verdict, Exit>
     requires { IsWithinRunLimits job.now.procs job.now.fuel }
-    ensures { HeldTrace result.ending (run_of (program_of checked.now.program.parts) job.now) job.now.against (S.state source.old)
-        (S.state source.new) result.history.items }
+    ensures { HeldTrace (ending_by result) (run_of (program_of checked.now.program.parts) job.now)
+        job.now.against (S.state source.old) (S.state source.new) (run_by result) }
 {
     match source.find(job.against.as_str()) {
         Ok(true) => verify_found(alloc, job, checked, source),
-        Ok(false) => VerifyResult::without(alloc, Exit::CantRead),
-        Err(_) => VerifyResult::without(alloc, Exit::CantRead),
+        Ok(false) => Err(Exit::CantRead),
+        Err(_) => Err(Exit::CantRead),
     }
 }
 
 // Compiles a whole text, and checks the trace that a job names against its program.
-fn verify_text<S: Source>(alloc: Global, job: &Job, text: &[u8], source: &mut S) -> VerifyResult
+fn verify_text<S: Source>(
+    alloc: Global,
+    job: &Job,
+    text: &[u8],
+    source: &mut S,
+) -> Result<Verdict, Exit>
     requires { IsWithinRunLimits job.now.procs job.now.fuel }
     ensures read { WasRead (S.state source.old) (S.state source.new) }
-    ensures failed { (S.state source.old).faults < (S.state source.new).faults → result.ending ≡ CantRead }
-    ensures says { HeldSays result.ending job.now text.now (S.state source.old) (S.state source.new) result.history.items }
+    ensures failed { (S.state source.old).faults < (S.state source.new).faults
+        → ending_by result ≡ CantRead }
+    ensures says { HeldSays (ending_by result) job.now text.now (S.state source.old)
+        (S.state source.new) (run_by result) }
 {
-    match compile(alloc, text) {
-        Ok(checked) => verify_named(alloc, job, &checked, source),
-        Err(CompileErr::Refused(refusal)) => {
-            VerifyResult::without(alloc, Exit::Refused(refusal))
-        }
-        Err(CompileErr::Memory) => VerifyResult::without(alloc, Exit::NoMemory),
-    }
+    let checked = compile(alloc, text)?;
+    verify_named(alloc, job, &checked, source)
 }
 
-/// Reads the file of a job, compiles it, and checks the trace that the job names against its program. Whatever the ending, `text` has what was
-/// read of the file.
+/// Reads the file of a job, compiles it, and checks the trace that the job names against its program. Whatever the result, `text` has what
+/// was read of the file.
 pub fn verify_file<S: Source>(
     alloc: Global,
     job: &Job,
     source: &mut S,
     text: &mut Vec<u8>,
-) -> VerifyResult
+) -> Result<Verdict, Exit>
     requires within { IsWithinRunLimits job.now.procs job.now.fuel }
     requires none { text.old.items ≡ [] }
-    ensures { VerifiedBy job.now result.ending (S.state source.old) (S.state source.new) text.new.items result.history.items }
+    ensures { VerifyResult job.now (ending_by result) (S.state source.old) (S.state source.new)
+        text.new.items (run_by result) }
 {
     match read_whole(source, job.file.as_str(), text) {
         ReadEnd::Whole => verify_text(alloc, job, text, source),
-        ReadEnd::CantRead => VerifyResult::without(alloc, Exit::CantRead),
-        ReadEnd::NoMemory => VerifyResult::without(alloc, Exit::NoMemory),
+        ReadEnd::CantRead => Err(Exit::CantRead),
+        ReadEnd::NoMemory => Err(Exit::NoMemory),
     }
 }

@@ -37,6 +37,11 @@ pub record WroteMarks (marks : List Mark) (out out_after : SinkState) (ending : 
   pub all : ending ≡ Done → out.tells ≡ true → GrewBy out out_after (marks_text marks)
   pub part : out.tells ≡ true → GrewByFront out out_after (marks_text marks)
 
+-- how writing them ended
+abbrev pub exit_of : {T : Type 0} → Result T Exit → Exit
+exit_of (Ok x) = Done
+exit_of (Err ending) = ending
+
 -- what became of marks that are to be written
 abbrev pub MarksSay : Exit → List Mark → SinkState → SinkState → Type 0
 MarksSay Done marks out out_after = WroteMarks marks out out_after Done

@@ -1,6 +1,6 @@
 -- Nobody has to believe this: it mirrors code, and only contracts of private functions speak of it.
 -- What was done before the line on err, for each way in which it may end.
-use Rattle.std.specs.Prelude.{◌≡◌, ◌⊎◌, ℕ, ◌≤◌, true, false, List, [], ◌++◌, Option, None, Some}
+use Rattle.std.specs.Prelude.{◌≡◌, ◌⊎◌, ℕ, ◌≤◌, true, false, List, [], ◌++◌, Option, None, Some, Result, Ok, Err}
 use Rattle.ti_gen.specs.Source.{source_text}
 use Rattle.ti_base.specs.declared.entry.Entry.{Entry}
 use Rattle.ti_io.specs.Faults.{Rose}
@@ -14,7 +14,7 @@ use Rattle.ti_lang.specs.Meaning.Races.{races}
 use Rattle.ti_lang.specs.Meaning.Spots.{races_told}
 use Rattle.ti_lang.specs.Meaning.Runs.{AllEnded, IsComplete, IsRun, IsSolo}
 use Rattle.ti_top.specs.declared.fault.Fault.{Fault}
-use Rattle.ti_top.specs.declared.artifacts.Artifacts.{Artifacts as ArtifactsHere}
+use Rattle.ti_top.specs.declared.job_result.JobResult.{JobResult}
 use Rattle.ti_top.specs.declared.reading.ReadEnd.{ReadEnd}
 use Rattle.ti_top.specs.declared.reading.ReadEnd.TheVariants as Read
 use Rattle.ti_top.specs.declared.reports.ReportEnd.{ReportEnd}
@@ -55,8 +55,15 @@ pub record Artifacts : Type 0 where
   pub history : List Entry
   pub done : List ℕ
 
-abbrev pub artifacts_of : ArtifactsHere → Artifacts
-artifacts_of k = record { code = k.code; history = k.history.items; done = k.done.items }
+-- what a job leaves: nothing, unless it has a result
+abbrev pub artifacts_of : Result JobResult Exit → Artifacts
+artifacts_of (Ok r) = record { code = r.code; history = r.history.items; done = r.done.items }
+artifacts_of (Err ending) = record { code = None; history = []; done = [] }
+
+-- how it ends
+abbrev pub ending_of : Result JobResult Exit → Exit
+ending_of (Ok r) = r.ending
+ending_of (Err ending) = ending
 
 -- the watchers that are wanted, the source and out before and after, what was read or made, and what is kept
 pub record JobView : Type 0 where

@@ -1,6 +1,6 @@
 -- Nobody has to believe this: it mirrors code, and only contracts of private functions speak of it.
 -- What holding a trace against the program of a text leaves.
-use Rattle.std.specs.Prelude.{◌≡◌, ◌⊎◌, ℕ, ◌+◌, ◌<◌, ◌≤◌, List, [], length}
+use Rattle.std.specs.Prelude.{◌≡◌, ◌⊎◌, ℕ, ◌+◌, ◌<◌, ◌≤◌, List, [], length, Result, Ok, Err}
 use Rattle.ti_base.specs.declared.entry.Entry.{Entry}
 use Rattle.ti_io.specs.Faults.{Rose}
 use Rattle.ti_io.specs.Source.{SourceState, SameFiles, IsMissing, Holds}
@@ -10,6 +10,8 @@ use Rattle.ti_lang.specs.Meaning.Races.{races}
 use Rattle.ti_lang.specs.Meaning.Spots.{races_told}
 use Rattle.ti_lang.specs.Meaning.Runs.{IsComplete, IsRun}
 use Rattle.ti_rules.specs.RefusalOf.{IsRefusal}
+use Rattle.ti_trace_check.specs.declared.error.TraceErr.{TraceErr}
+use Rattle.ti_trace_check.specs.declared.error.TraceErr.TheVariants as trace
 use Rattle.ti_trace_check.specs.declared.verdict.Verdict.{Verdict}
 use Rattle.ti_trace_check.specs.declared.verdict.Verdict.TheVariants as verdict
 use Rattle.ti_trace_check.specs.Verdicts.{IsTraceOf, IsWrongAt}
@@ -22,15 +24,22 @@ use Rattle.ti_top.specs.Run.{run_of}
 use Rattle.ti_top.specs.Mirrors.Compiling.{IsCompiled, HasNoProgram}
 use Rattle.ti_top.specs.Mirrors.Reading.{ReadsWhole}
 
--- how the work ends with a verdict
-abbrev pub ending_by : Verdict → Exit
-ending_by (verdict.Run es) = Done
-ending_by (verdict.NoRun line es) = NoRun line
+-- how the work ends: with a verdict, or without
+abbrev pub ending_by : Result Verdict Exit → Exit
+ending_by (Ok (verdict.Run es)) = Done
+ending_by (Ok (verdict.NoRun line es)) = NoRun line
+ending_by (Err ending) = ending
 
 -- the run that a verdict gives
-abbrev pub run_by : Verdict → List Entry
-run_by (verdict.Run es) = es.items
-run_by (verdict.NoRun line es) = es.items
+abbrev pub run_by : Result Verdict Exit → List Entry
+run_by (Ok (verdict.Run es)) = es.items
+run_by (Ok (verdict.NoRun line es)) = es.items
+run_by (Err ending) = []
+
+-- how it ends with an error of the trace
+abbrev pub of_trace : TraceErr → Exit
+of_trace trace.Read = CantRead
+of_trace trace.Memory = NoMemory
 
 -- a text has one verdict
 pub record HasOneVerdict (s : RunConfig) : Type 0 where

@@ -1,8 +1,10 @@
-use Rattle.std.proofs.Common.{ℕ, List, [], map, string_bytes, Global, refl, sym, subst}
+use Rattle.std.proofs.Common.{ℕ, [], map, string_bytes, Global, refl, sym, subst}
 use Rattle.ti_top.specs.declared.exit.Exit.TheVariants.{NoCommand, NoMemory}
 use Rattle.ti_top.specs.Mirrors.EndsWithLine.{EndsWithLine}
+use Rattle.ti_top.specs.Mirrors.JobView.{ending_of}
 use Rattle.ti_top.proofs.ClausesMet.{meets_no_command, meets_command, meets_unread}
 use Rattle.ti_top.proofs.JobRanges.{in_ranges}
+use Rattle.ti_top.proofs.TextsDone.{kept_elsewhere}
 use Rattle.ti_top.proofs.command.titan_top.Goals as goal
 
 pub returns-in-Err-Usage : goal.returns-in-Err-Usage
@@ -41,8 +43,7 @@ run_job-job_result-requires-clause-ranges g c = λ _ _. in_ranges (map (string_b
 
 pub returns : goal.returns
 returns g c =
-    meets_command c.run_job-job_result.result.ending c.in-Ok.job _ c.in-Ok.ensures.job
+    meets_command (ending_of c.run_job-job_result.result) c.in-Ok.job _ c.in-Ok.ensures.job
     (in_ranges (map (string_bytes {Z = Global}) c.args.words.now) c.in-Ok.job c.in-Ok.ensures.job).within.some
-    c.run_job-job_result.ensures.says c.run_job-job_result.ensures.leaves
-    (subst (λ (file : List ℕ). EndsWithLine c.run_job-job_result.result.ending file (g.K.Sink.state c.args.err.now)
-    (g.K.Sink.state c.end_with-status.new.err) c.end_with-status.result) c.as_str.ensures c.end_with-status.ensures)
+    (kept_elsewhere c.in-Ok.job.mode c.in-Ok.job (ending_of c.run_job-job_result.result) _ _ _ _ _ _ _ _ c.of-result.ensures.artifacts c.run_job-job_result.ensures.says) c.run_job-job_result.ensures.leaves
+    (rw (c.of-result.ensures.ending, c.as_str.ensures) at c.end_with-status.ensures)

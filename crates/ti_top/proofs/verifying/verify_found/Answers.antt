@@ -5,8 +5,8 @@ use Rattle.ti_top.specs.Run.{run_of}
 use Rattle.ti_top.proofs.TraceJudged.{Laws, judged}
 use Rattle.ti_top.proofs.verifying.verify_found.Goals as goal
 
-pub returns-in-Ok : goal.returns-in-Ok
-returns-in-Ok g c =
+pub returns : goal.returns
+returns g c =
     let job = c.args.job.now in
     let s : RunConfig = run_of (program_of c.args.checked.now.program.parts) job in
     let within = c.requires.within in
@@ -20,6 +20,5 @@ returns-in-Ok g c =
         one_line = λ text j k es ds a b. one.one_line s text j k es ds few a b;
       };
     } in
-    judged s job.against _ _ c.in-Ok.verdict c.by.result.ending c.by.result.history.items (record { never_falls = c.in-Ok.ensures.never_falls; same = c.in-Ok.ensures.same }) c.requires.found laws
-    c.in-Ok.ensures.keeps c.in-Ok.ensures.judges c.by.ensures.ending c.by.ensures.history
-    (λ rose. let e = c.in-Ok.ensures.failed rose in cc)
+    judged s job.against _ _ c.in_ok-verdict.verdict (record { never_falls = c.in_ok-verdict.ensures.never_falls; same = c.in_ok-verdict.ensures.same }) c.requires.found laws
+    c.in_ok-verdict.ensures.keeps c.in_ok-verdict.ensures.judges (λ rose. let e = c.in_ok-verdict.ensures.failed rose in cc)

@@ -1,6 +1,6 @@
 use Rattle.std.proofs.Common.{sym, ◌∙◌}
 use Rattle.ti_top.proofs.FaultFound.{run_faulted, fault_found}
-use Rattle.ti_top.proofs.run_job.ending_of.Goals as goal
+use Rattle.ti_top.proofs.run_job.ending_of_run.Goals as goal
 
 pub unreachable-requires : goal.unreachable-requires
 unreachable-requires c =
