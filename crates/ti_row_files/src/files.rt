@@ -1,83 +1,115 @@
 // Runs files of rows and prints the results.
 
-use crate::judge::Judge;
-use crate::judging::judge_row;
-use crate::lines::{RowLine, read_line};
+use crate::error::RowErr;
+use crate::judge::{Judge, Row};
+use crate::judging::{RowInput, input_of, mismatch};
+use crate::lines::{FileLine, FileRow, lines_of};
 use std::env::Env;
 use std::rt::Files;
 use std::{env, fs, io};
 
-/// Checks a row, prints it with its actual result or error if it fails, and returns whether it passes.
-fn row_holds<R: Files + Print + AllocGlobal, J: Judge>(
+/// The contents of a file after an empty line; `None` if it can't be read, which is printed.
+pub fn contents<R: Files + Print + AllocGlobal>(rt: &R, file: &str) -> io::Result<Option<String>> {
+    match fs::read_to_string(rt, file) {
+        Ok(text) => Ok(Some(["\n", text.as_str()].concat(rt.alloc())?)),
+        Err(_) => {
+            println!(rt; "{file}: can't be read")?;
+            Ok(None)
+        }
+    }
+}
+
+/// The difference of a result from what its row expects: the result in the notation of rows; `None` if it is as expected.
+fn difference<R: AllocGlobal>(
     rt: &R,
-    judge: &J,
-    heading: &str,
-    row: &str,
-    expected: &str,
+    row: FileRow,
+    found: Result<Vec<u8>, RowErr>,
+) -> Result<Option<String>, RowErr> {
+    mismatch(rt.alloc(), &found?, row.expected)
+}
+
+/// Compares a result with what its row expects, prints the row if it fails, and returns whether it passes.
+pub fn report<R: Print + AllocGlobal>(
+    rt: &R,
+    row: FileRow,
+    found: Result<Vec<u8>, RowErr>,
 ) -> io::Result<bool> {
-    match judge_row(rt, judge, heading, row, expected) {
+    let FileRow {
+        row: input,
+        expected,
+        ..
+    } = row;
+    match difference(rt, row, found) {
         Ok(None) => return Ok(true),
         Ok(Some(found)) => {
-            println!(rt; "{row}\n  expected {expected}\n  found    {found}")?;
+            println!(rt; "{input}\n  expected {expected}\n  found    {found}")?;
         }
-        Err(error) => println!(rt; "{row}\n  expected {expected}\n  {error}")?,
+        Err(error) => println!(rt; "{input}\n  expected {expected}\n  {error}")?,
     }
     Ok(false)
 }
 
-/// Checks the rows of a section, whose first line is the rest of its heading, and returns how many pass.
-fn judge_section<R: Files + Print + AllocGlobal, J: Judge>(
+/// Prints a line that is neither a row nor a comment. Returns `false`, since no row passes there.
+pub fn report_line<R: Print>(rt: &R, file: &str, line: &str) -> io::Result<bool> {
+    println!(rt; "{file}: no row: {line}")?;
+    Ok(false)
+}
+
+/// The result of a row by a judge.
+fn row_result<R: Files + AllocGlobal, J: Judge>(
+    rt: &R,
+    judge: &J,
+    row: FileRow,
+) -> Result<Vec<u8>, RowErr> {
+    let RowInput {
+        asked,
+        given,
+        spelled,
+        text,
+    } = input_of(rt, row)?;
+    let text = text.as_slice();
+    judge.answer(
+        asked,
+        Row {
+            given,
+            spelled,
+            text,
+        },
+    )
+}
+
+/// Judges a line of a file, and returns whether it is a row that passes.
+fn line_holds<R: Files + Print + AllocGlobal, J: Judge>(
     rt: &R,
     judge: &J,
     file: &str,
-    section: &str,
-) -> io::Result<u64> {
-    let (heading, rows) = section.split_once('\n').unwrap_or((section, ""));
-    let mut holding = 0u64;
-    for line in rows.lines() {
-        match read_line(line) {
-            RowLine::Row(row, expected) => {
-                if row_holds(rt, judge, heading, row, expected)? {
-                    holding = holding.wrapping_add(1);
-                }
-            }
-            RowLine::Comment => {}
-            RowLine::Other => println!(rt; "{file}: no row: {line}")?,
-        }
+    line: FileLine,
+) -> io::Result<bool> {
+    match line {
+        FileLine::Row(row) => report(rt, row, row_result(rt, judge, row)),
+        FileLine::Other(line) => report_line(rt, file, line),
     }
-    Ok(holding)
 }
 
-/// Checks the rows of a file's contents, which begin with an empty line, so that each heading follows a line end. Prints how many pass.
-fn judge_text<R: Files + Print + AllocGlobal, J: Judge>(
-    rt: &R,
-    judge: &J,
-    file: &str,
-    text: &str,
-) -> io::Result<()> {
-    let mut holding = 0u64;
-    for section in text.split("\nask ") {
-        holding = holding.wrapping_add(judge_section(rt, judge, file, section)?);
-    }
-    println!(rt; "{file}: {holding} rows hold")
-}
-
-/// Checks the rows of a file, or prints that it can't be read.
+/// Judges the rows of a file, and prints how many pass.
 fn judge_file<R: Files + Print + AllocGlobal, J: Judge>(
     rt: &R,
     judge: &J,
     file: &str,
 ) -> io::Result<()> {
-    match fs::read_to_string(rt, file) {
-        Ok(text) => {
-            let text = ["\n", text.as_str()].concat(rt.alloc())?;
-            judge_text(rt, judge, file, text.as_str())
+    let Some(text) = contents(rt, file)? else {
+        return Ok(());
+    };
+    let mut holding = 0u64;
+    for line in &lines_of(rt.alloc(), text.as_str())? {
+        if line_holds(rt, judge, file, *line)? {
+            holding = holding.wrapping_add(1);
         }
-        Err(_) => println!(rt; "{file}: can't be read"),
     }
+    println!(rt; "{file}: {holding} rows hold")
 }
 
-/// Checks the rows of the files that the program's arguments name, one after the other.
+/// Judges the rows of the files that the program's arguments name, one after the other.
 pub fn judge_files<R: Files + Print + Env + AllocGlobal, J: Judge>(
     rt: &R,
     judge: &J,

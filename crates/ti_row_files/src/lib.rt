@@ -11,8 +11,8 @@ mod lines;
 mod texts;
 
 pub use error::RowErr;
-pub use files::judge_files;
+pub use files::{contents, judge_files, report, report_line};
 pub use judge::{Judge, Row};
-pub use judging::mismatch;
-pub use lines::{RowLine, read_line, split_row};
-pub use texts::{bytes_of, text_of};
+pub use judging::{RowInput, input_of};
+pub use lines::{FileLine, FileRow, lines_of};
+pub use texts::bytes_of;

@@ -1,27 +1,70 @@
 // The lines of files of rows.
 
-/// A line below a heading: a row such as `: a b => 1:1=Name(a) 1:3=Name(b) 1:4=End`, as its input and its expected result; an empty line
-/// or a comment; or neither.
-pub enum RowLine<'a> {
-    Row(&'a str, &'a str),
-    Comment,
-    Other,
+use std::alloc::{AllocError, Global};
+
+/// A row with the heading above it.
+#[derive(Clone, Copy)]
+pub struct FileRow<'a> {
+    /// What follows `ask ` in the last heading before the row; empty if there is none.
+    pub heading: &'a str,
+    /// The input, with what is given for it.
+    pub row: &'a str,
+    pub expected: &'a str,
 }
 
-/// Classifies a line below a heading.
-pub fn read_line(line: &str) -> RowLine {
+/// A line of a file other than headings, empty lines and comments: a row such as `: a b => 1:1=Name(a) 1:3=Name(b) 1:4=End`, or a line that
+/// has no meaning.
+#[derive(Clone, Copy)]
+pub enum FileLine<'a> {
+    Row(FileRow<'a>),
+    Other(&'a str),
+}
+
+/// The line `line` below a heading. `None` for an empty line and a comment.
+fn line_of<'a>(heading: &'a str, line: &'a str) -> Option<FileLine<'a>> {
+    if line.is_empty() || line.starts_with('#') {
+        return None;
+    }
     match line.strip_prefix(": ") {
         Some(row) => match row.split_once(" => ") {
-            Some((text, expected)) => RowLine::Row(text, expected),
-            None => RowLine::Other,
+            Some((row, expected)) => Some(FileLine::Row(FileRow {
+                heading,
+                row,
+                expected,
+            })),
+            None => Some(FileLine::Other(line)),
         },
-        None if line.is_empty() || line.starts_with('#') => RowLine::Comment,
-        None => RowLine::Other,
+        None => Some(FileLine::Other(line)),
     }
 }
 
+/// Appends the rows below a heading, and the lines without a meaning.
+fn push_lines<'a>(
+    found: &mut Vec<FileLine<'a>>,
+    heading: &'a str,
+    rows: &'a str,
+) -> Result<(), AllocError> {
+    for line in rows.lines() {
+        if let Some(line) = line_of(heading, line) {
+            found.push(line)?;
+        }
+    }
+    Ok(())
+}
+
+/// The rows of a file's contents, each with its heading, and the lines without a meaning, in order. The contents begin with an empty line,
+/// so that each heading follows a line end.
+pub fn lines_of(alloc: Global, text: &str) -> Result<Vec<FileLine<'_>>, AllocError> {
+    let mut found = Vec::new(alloc);
+    for section in text.split("\nask ") {
+        let (heading, rows) = section.split_once('\n').unwrap_or((section, ""));
+        push_lines(&mut found, heading, rows)?;
+    }
+    Ok(found)
+}
+
 /// What a row's input has before `<-`, if there is one, and the input proper.
-pub fn split_row(row: &str) -> (Option<&str>, &str) {
+pub(crate) fn split_row(row: &str) -> (Option<&str>, &str) {
     if let Some(text) = row.strip_prefix("<- ") {
         return (Some(""), text);
     }

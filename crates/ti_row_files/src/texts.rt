@@ -209,7 +209,7 @@ fn in_frame(alloc: Global, ends: SourceFrame, spelled: &str) -> Result<Vec<u8>, 
 }
 
 /// The bytes of an input in the named context; in the context `file`, the contents of the file that the input names.
-pub fn text_of<R: Files + AllocGlobal>(
+pub(crate) fn text_of<R: Files + AllocGlobal>(
     rt: &R,
     frame: &str,
     spelled: &str,
