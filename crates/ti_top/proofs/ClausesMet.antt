@@ -30,7 +30,7 @@ use Rattle.ti_words.specs.declared.job.Mode.TheVariants.{Run, Check, Code, Gen, 
 use Rattle.ti_top.specs.Reports.{wanted_watchers, output_in, output, WroteFew}
 use Rattle.ti_top.specs.Mirrors.Reading.{ReadsWhole}
 use Rattle.ti_top.specs.Exit.{status_of}
-use Rattle.ti_top.specs.Summary.{summary}
+use Rattle.ti_top.specs.Summary.{summary_text}
 use Rattle.ti_top.specs.Mirrors.EndsWithLine.{EndsWithLine}
 use Rattle.ti_top.specs.Mirrors.Leaving.{LeavesOut}
 use Rattle.ti_top.specs.Run.{HasFile, RunsProgram, HasCode, Verifies, Infers, HasHistory, run_of, fault_entry, EndsWithFault}
@@ -72,7 +72,7 @@ calm before c (inr cut) h = absurd (h cut.1)
 -- of a run that hasn't begun nothing is written
 nothing_of_unbegun : (mode : Mode) (run : RunConfig) → RunsProgram mode → (IsCompleteRun run [] → ⊥) → output_in mode run [] [] ≡ []
 nothing_of_unbegun Run run runs cut = refl
-nothing_of_unbegun Gen run runs cut = append-nil (summary run []) ∙ no_summary run [] (λ ended. cut (inr ended))
+nothing_of_unbegun Gen run runs cut = append-nil (summary_text run []) ∙ no_summary run [] (λ ended. cut (inr ended))
 nothing_of_unbegun _ run runs cut = absurd runs
 
 -- where nothing was written, the status owes nothing, and an empty history isn't complete

@@ -7,7 +7,7 @@ use Rattle.ti_lang.specs.Meaning.Histories.{has_end}
 use Rattle.ti_lang.specs.Meaning.Runs.{IsRun, AllEnded}
 use Rattle.ti_top.specs.declared.exit.Exit.{Exit}
 use Rattle.ti_top.specs.declared.exit.Exit.TheVariants.{Done, Refused, Faulted, NoCommand, CantRead, CantWrite, NoMemory, NoRun}
-use Rattle.ti_top.specs.Summary.{summary_line, have_ended, summary}
+use Rattle.ti_top.specs.Summary.{summary_line, have_ended, summary_text}
 use Rattle.ti_top.specs.Mirrors.RunEnds.{RunEnds}
 use Rattle.ti_top.specs.Mirrors.JobView.{summary_after}
 use Rattle.ti_top.proofs.FaultLast.{fault_is_there, not_all_ended}
@@ -50,15 +50,15 @@ some_has_not s es unended = decided (have_ended s es) (λ all. unended (λ i bel
 -- ---- the summary
 
 -- that of a run in which all processes have their end
-there : (s : RunConfig) (es : List Entry) → AllEnded s es → summary s es ≡ summary_line es
+there : (s : RunConfig) (es : List Entry) → AllEnded s es → summary_text s es ≡ summary_line es
 there s es ended = ap (λ (b : Bool). if b then summary_line es else []) (all_have s es ended)
 
 -- any other has none
-pub no_summary : (s : RunConfig) (es : List Entry) → (AllEnded s es → ⊥) → summary s es ≡ []
+pub no_summary : (s : RunConfig) (es : List Entry) → (AllEnded s es → ⊥) → summary_text s es ≡ []
 no_summary s es unended = ap (λ (b : Bool). if b then summary_line es else []) (some_has_not s es unended)
 
 -- that of a run that ended so
-pub summary_is : (ended : Exit) (s : RunConfig) (es : List Entry) → IsRun s es → RunEnds s es ended → summary s es ≡ summary_after ended es
+pub summary_is : (ended : Exit) (s : RunConfig) (es : List Entry) → IsRun s es → RunEnds s es ended → summary_text s es ≡ summary_after ended es
 summary_is Done s es run ends = there s es ends.0
 summary_is (Refused refusal) s es run ends = absurd ends
 summary_is (Faulted fault) s es run ends = no_summary s es (not_all_ended s es run (fault_is_there es fault ends))

@@ -13,7 +13,7 @@ use Rattle.ti_words.specs.declared.job.Job.{Job}
 use Rattle.ti_words.specs.declared.job.Mode.{Mode}
 use Rattle.ti_words.specs.declared.job.Mode.TheVariants.{Run, Code, Gen}
 use Rattle.ti_top.specs.Run.{run_of}
-use Rattle.ti_top.specs.Summary.{summary}
+use Rattle.ti_top.specs.Summary.{summary_text}
 
 -- a watcher: its kind, and the entries that it has seen before the call
 pub record Watcher : Type 0 where
@@ -45,7 +45,7 @@ reports watchers history = flat_map (watcher_report history) watchers
 abbrev pub output_in : Mode → RunConfig → List Entry → List Watcher → List ℕ
 output_in Run run history watchers = lines_of run.program history ++ reports watchers history
 output_in Code run history watchers = code_text (program_code run.program)
-output_in Gen run history watchers = summary run history ++ reports watchers history
+output_in Gen run history watchers = summary_text run history ++ reports watchers history
 output_in _ run history watchers = []
 
 -- what is written for a job and a program

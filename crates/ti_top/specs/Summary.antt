@@ -40,5 +40,5 @@ abbrev pub have_ended : RunConfig → List Entry → Bool
 have_ended run es = list_all (λ i. has_end i es) (range_with_len 0 run.procs)
 
 -- the summary of a run in which all processes have ended; any other run has none
-abbrev pub summary : RunConfig → List Entry → List ℕ
-summary run es = if have_ended run es then summary_line es else []
+abbrev pub summary_text : RunConfig → List Entry → List ℕ
+summary_text run es = if have_ended run es then summary_line es else []
