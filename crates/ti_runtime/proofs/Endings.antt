@@ -1,8 +1,8 @@
 -- How a run begins and ends.
-use Rattle.std.proofs.Common.{◌≡◌, ℕ, ◌+◌, ◌<◌, ◌≤◌, nat_lt, ◌==◌, Bool, true, false, List, [], ◌∷◌, ◌++◌, length, get_or, slice_set, Some, refl, sym, ◌∙◌, subst, arith, eqb-true, ltb-true, length-append, get_or-set_same, get_or-set_other}
+use Rattle.std.proofs.Common.{◌≡◌, ℕ, ◌+◌, ◌<◌, ◌≤◌, ◌==◌, Bool, true, false, List, [], ◌∷◌, length, get_or, slice_set, Some, refl, sym, ◌∙◌, subst, arith, eqb-true, get_or-set_same, get_or-set_other}
 use Rattle.std.specs.Prelude.{slice_get}
-use Rattle.std.proofs.lemmas.Bool.{eqb-false, ltb-false}
-use Rattle.std.proofs.lemmas.List.{get_or_append_left, get_or_default, get_or_push}
+use Rattle.std.proofs.lemmas.Bool.{eqb-false}
+use Rattle.std.proofs.lemmas.List.{get_or_default}
 use Rattle.std.proofs.lemmas.Option.{get_or_from_slice_get, slice_get_within}
 use Rattle.ti_base.specs.declared.entry.Entry.{Entry}
 use Rattle.ti_lang.specs.Meaning.Processes.{RunConfig}
@@ -13,31 +13,20 @@ use Rattle.ti_align.specs.Alignment.{NoneStuck}
 use Rattle.ti_code.specs.Programs.{Code}
 use Rattle.ti_machine.specs.ProcView.{HasFinished}
 use Rattle.ti_runtime.specs.declared.cursor.SoloCursor.{SoloCursor}
-use Rattle.ti_runtime.specs.declared.pending.PendingProc.{PendingProc}
-use Rattle.ti_runtime.specs.declared.pending.RunStop.TheVariants as stop
+use Rattle.ti_pending.specs.declared.pending.PendingProc.{PendingProc}
+use Rattle.ti_runtime.specs.declared.step.RunStop.TheVariants as stop
 use Rattle.ti_runtime.specs.declared.runner.How.TheVariants as how
 use Rattle.ti_runtime.specs.declared.runner.RunEnd.{RunEnd}
-use Rattle.ti_runtime.specs.Ran.{proc_view_after, AreFinishedCounts, Ran}
-use Rattle.ti_runtime.specs.Mirrors.Waiting.{IsBlocked, IsBlockedOrEnded}
-use Rattle.ti_runtime.specs.Mirrors.Processes.{IsUpToDate, AllUpToDate, IsSoloState, HasStopped, SoloOutcome}
+use Rattle.ti_pending.specs.UpToDate.{proc_view_after, IsBlocked, AllUpToDate}
+use Rattle.ti_runtime.specs.Ran.{AreFinishedCounts, Ran}
+use Rattle.ti_runtime.specs.Mirrors.Waiting.{IsBlockedOrEnded}
+use Rattle.ti_runtime.specs.Mirrors.Processes.{IsSoloState, HasStopped, SoloOutcome}
 use Rattle.ti_runtime.proofs.Waiting.{rest_takes_none}
 
 true_false : true ≡ false → ⊥
 true_false e = cc
 
 -- ---- the beginning
-
--- one process more
-pub seated_more : (code : Code) (s : RunConfig) (xs : List PendingProc) (x : PendingProc) → IsUpToDate code s [] (length xs) x → AllUpToDate code s [] xs → AllUpToDate code s [] (xs ++ x ∷ [])
-seated_more code s xs x y seated d i l = by (nat_lt i (length xs)) refl
-  where
-    by : (b : Bool) → nat_lt i (length xs) ≡ b → IsUpToDate code s [] i (get_or (xs ++ x ∷ []) i d)
-    by true h =
-        let before = ltb-true i (length xs) h in
-        subst (IsUpToDate code s [] i) (sym (get_or_append_left xs (x ∷ []) d i before)) (seated d i before)
-    by false h =
-        let last : length xs ≡ i = omega (arith, ltb-false i (length xs) h, length-append xs (x ∷ [])) in
-        subst (IsUpToDate code s [] i) (sym (get_or_push xs x d i last)) (subst (λ k. IsUpToDate code s [] k x) last y)
 
 pub none_below : (P : ℕ → Type 0) (i : ℕ) → i < 0 → P i
 none_below P i l = absurd (omega arith)

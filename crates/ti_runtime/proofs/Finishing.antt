@@ -13,9 +13,10 @@ use Rattle.ti_lang.proofs.Lemmas.{taker}
 use Rattle.ti_store.proofs.Lemmas.{fault_more, end_more}
 use Rattle.ti_code.specs.Programs.{Code}
 use Rattle.ti_runtime.specs.declared.cursor.SoloCursor.{SoloCursor}
-use Rattle.ti_runtime.specs.declared.pending.PendingProc.{PendingProc}
+use Rattle.ti_pending.specs.declared.pending.PendingProc.{PendingProc}
 use Rattle.ti_runtime.specs.declared.runner.How.TheVariants as how
-use Rattle.ti_runtime.specs.Mirrors.Processes.{AllUpToDate, IsSoloState, SoloOutcome}
+use Rattle.ti_pending.specs.UpToDate.{AllUpToDate}
+use Rattle.ti_runtime.specs.Mirrors.Processes.{IsSoloState, SoloOutcome}
 use Rattle.ti_runtime.proofs.Endings.{some_pending, starts}
 
 true_false : true ≡ false → ⊥

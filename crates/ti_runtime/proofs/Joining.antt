@@ -12,9 +12,9 @@ use Rattle.ti_turnstile.specs.declared.turnstile.Pass.{Pass}
 use Rattle.ti_turnstile.specs.PassViews.{HasNumber}
 use Rattle.ti_turnstile.specs.Turnstiles.{turnstile_of, number_of, seen_by, pass_view_of, AreOf, AreLegal}
 use Rattle.ti_store.specs.Stores.{log_of}
-use Rattle.ti_runtime.specs.declared.pending.PendingProc.{PendingProc}
+use Rattle.ti_pending.specs.declared.pending.PendingProc.{PendingProc}
 use Rattle.ti_runtime.specs.Mirrors.Tasks.{entries_in}
-use Rattle.ti_runtime.specs.Mirrors.Processes.{IsUpToDate, AllUpToDate}
+use Rattle.ti_pending.specs.UpToDate.{IsUpToDate, AllUpToDate}
 use Rattle.ti_runtime.specs.Mirrors.Joined.{at_place, NoneFilled, IsKnownPass, ArePlaced, IsBack}
 use Rattle.ti_runtime.proofs.Tasks.{seated_inside}
 

@@ -1,7 +1,6 @@
 mod Endings
 mod Finishing
-mod Following
-mod Seats
+mod Steps
 mod Turns
 mod Waiting
 pub mod Crossing

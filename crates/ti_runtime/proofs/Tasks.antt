@@ -7,7 +7,7 @@ use Rattle.ti_base.specs.declared.entry.Answer.{Answer}
 use Rattle.ti_base.specs.declared.entry.Entry.{Entry}
 use Rattle.ti_base.specs.declared.entry.Next.{Next}
 use Rattle.ti_lang.specs.Meaning.Processes.{RunConfig}
-use Rattle.ti_lang.specs.Meaning.Histories.{entries_of, has_end, has_fault}
+use Rattle.ti_lang.specs.Meaning.Histories.{entries_of, has_end}
 use Rattle.ti_lang.specs.Meaning.Runs.{IsRun}
 use Rattle.ti_turnstile.specs.Passes.{items_of, GrownBy, IsLegal}
 use Rattle.ti_store.specs.declared.act_err.ActErr.{ActErr}
@@ -16,13 +16,12 @@ use Rattle.ti_store.specs.Stores.{StoreState, config_of, log_of, fault_entry, Is
 use Rattle.ti_store.proofs.Lemmas.{end_more, answers_still}
 use Rattle.ti_code.specs.Programs.{Code}
 use Rattle.ti_machine.specs.ProcView.{HasNext}
-use Rattle.ti_runtime.specs.declared.cursor.TurnOutcome.{TurnOutcome}
-use Rattle.ti_runtime.specs.declared.pending.PendingProc.{PendingProc}
+use Rattle.ti_pending.specs.declared.pending.PendingProc.{PendingProc}
 use Rattle.ti_runtime.specs.Mirrors.Tasks.{entries_in}
-use Rattle.ti_runtime.specs.Mirrors.Processes.{next_place, next_action, with_awaits, IsUpToDate, ReceivesAnswer, RunPremises, IsOpen}
-use Rattle.ti_runtime.proofs.Following.{OneNext}
-use Rattle.ti_runtime.proofs.Seats.{seated_with, seated_asking, went_with}
-use Rattle.ti_runtime.proofs.Turns.{seated_still}
+use Rattle.ti_pending.specs.UpToDate.{with_awaits, IsUpToDate}
+use Rattle.ti_pending.specs.Acting.{next_place, next_action, ReceivesAnswer, RunsCode}
+use Rattle.ti_runtime.specs.Mirrors.Processes.{RunPremises}
+use Rattle.ti_pending.proofs.Lemmas.{OneNext, seated_with, seated_asking, seated_still, gone}
 
 -- ---- logs of entries
 
@@ -79,23 +78,16 @@ grown_acted st new k at a (Err err.Memory) d r = grown_by_none k (log_of st.entr
 
 -- ---- what a try makes of it
 
-or_second : (a b : Bool) → (a || b) ≡ false → b ≡ false
-or_second true b h = cc
-or_second false b h = h
-
 -- it did what it had next, and heard the answer
 pub seated_gone : (code : Code) (s : RunConfig) (st new : StoreState) (i : ℕ) (old : PendingProc) → RunPremises code s → config_of st ≡ s → IsRun (config_of st) st.entries → i < s.procs
     → old.ended ≡ false → IsUpToDate code s st.entries i old → OneNext → (n : Next) → HasNext old.process n → (answer : Answer)
-    → IsDone st i (next_place n) (next_action n) answer new → (asks : Bool) (pending : PendingProc) (t : TurnOutcome) → ReceivesAnswer (with_awaits asks old) n answer pending t
+    → IsDone st i (next_place n) (next_action n) answer new → (asks : Bool) (pending : PendingProc) → ReceivesAnswer (with_awaits asks old) n answer pending
     → IsUpToDate code s new.entries i pending
-seated_gone code s st new i old may same run l u y one n has answer d asks pending t m =
-    let opened : IsOpen code st = record {
-      goes_on = or_second st.halted (has_fault st.entries) d.becomes.goes_on;
-      may = subst (RunPremises code) (sym same) may;
-    } in
-    let here = subst (λ v. IsUpToDate code v st.entries i old) (sym same) y in
+seated_gone code s st new i old may same run l u y one n has answer d asks pending m =
+    let runs : RunsCode code (config_of st) = subst (RunsCode code) (sym same) may.runs in
+    let here = seated_asking code (config_of st) st.entries i old (subst (λ v. IsUpToDate code v st.entries i old) (sym same) y) asks in
     let inside = subst (λ (v : RunConfig). i < v.procs) (sym same) l in
-    subst (λ v. IsUpToDate code v new.entries i pending) same (went_with code st opened run i inside old here u one n has asks answer new d pending t m _ refl).seated
+    subst (λ v. IsUpToDate code v new.entries i pending) same (gone code st runs run i inside (with_awaits asks old) here u one n has answer new d pending m)
 
 -- it is where it was
 pub seated_refused : (code : Code) (s : RunConfig) (st new : StoreState) (i : ℕ) (pending : PendingProc) (n : Next) (why : ActErr)

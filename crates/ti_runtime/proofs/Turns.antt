@@ -1,13 +1,11 @@
 -- What one step does to the scheduler.
-use Rattle.std.proofs.Common.{◌≡◌, ℕ, ◌+◌, ◌-◌, ◌*◌, ◌<◌, ◌≤◌, max, nat_lt, ◌==◌, Bool, true, false, ◌||◌, map, filter, inl, inr, Ok, List, length, get_or, slice_set, refl, sym, ap, ◌∙◌, subst, arith, eqb-true, ltb-true, length-set, get_or-set_same, get_or-set_other}
-use Rattle.std.specs.List.{list_any}
-use Rattle.std.proofs.lemmas.Bool.{eqb-false, ltb-false}
-use Rattle.std.proofs.lemmas.List.Sums.{sum_by-set}
+use Rattle.std.proofs.Common.{◌≡◌, ℕ, ◌+◌, ◌-◌, ◌*◌, ◌<◌, ◌≤◌, max, nat_lt, ◌==◌, Bool, true, false, ◌||◌, inl, inr, Ok, List, length, get_or, slice_set, refl, sym, ap, ◌∙◌, subst, arith, eqb-true, ltb-true, length-set}
+use Rattle.std.proofs.lemmas.Bool.{ltb-false}
 use Rattle.ti_base.specs.declared.action.Action.{Action}
 use Rattle.ti_base.specs.declared.action.Action.TheVariants as act
 use Rattle.ti_base.specs.declared.entry.Entry.{Entry}
 use Rattle.ti_lang.specs.Meaning.Processes.{RunConfig}
-use Rattle.ti_lang.specs.Meaning.Histories.{is_end, is_fault, is_arrival, is_answered, entries_of, has_end, has_fault}
+use Rattle.ti_lang.specs.Meaning.Histories.{is_end, is_fault, is_arrival, has_end, has_fault}
 use Rattle.ti_lang.specs.Meaning.Runs.{IsRun, IsSolo, more}
 use Rattle.ti_lang.proofs.Lemmas.{taker}
 use Rattle.ti_align.specs.Alignment.{OfEveryRun}
@@ -15,17 +13,19 @@ use Rattle.ti_align.specs.Stopping.{RoundsBalance}
 use Rattle.ti_align.proofs.Lemmas.{or_right}
 use Rattle.ti_store.specs.Conditions.{IsWithinRunLimits}
 use Rattle.ti_store.specs.Stores.{StoreState, config_of}
-use Rattle.ti_store.proofs.Lemmas.{fault_more, end_more, other_more}
+use Rattle.ti_store.proofs.Lemmas.{fault_more, end_more}
 use Rattle.ti_code.specs.Programs.{Code}
 use Rattle.ti_runtime.specs.declared.cursor.SoloCursor.{SoloCursor}
 use Rattle.ti_runtime.specs.declared.cursor.TurnOutcome.{TurnOutcome}
 use Rattle.ti_runtime.specs.declared.cursor.TurnOutcome.TheVariants as turn
-use Rattle.ti_runtime.specs.declared.pending.PendingProc.{PendingProc}
-use Rattle.ti_runtime.specs.declared.pending.RunStop.{RunStop}
-use Rattle.ti_runtime.specs.declared.pending.RunStop.TheVariants as stop
-use Rattle.ti_runtime.specs.Mirrors.Waiting.{IsBlocked, IsBlockedOrEnded}
-use Rattle.ti_runtime.specs.Mirrors.Processes.{IsOpen, IsUpToDate, AllUpToDate, TakesEntry, steps_left, all_steps_left, Progresses, DoesNothing, StopsAt, TurnLeaves, cursor_after, Points, IsSoloState, SoloProgresses, HasStopped}
-use Rattle.ti_runtime.proofs.Seats.{seated_with}
+use Rattle.ti_pending.specs.declared.pending.PendingProc.{PendingProc}
+use Rattle.ti_runtime.specs.declared.step.RunStop.{RunStop}
+use Rattle.ti_runtime.specs.declared.step.RunStop.TheVariants as stop
+use Rattle.ti_pending.specs.UpToDate.{IsBlocked, IsUpToDate}
+use Rattle.ti_runtime.specs.Mirrors.Waiting.{IsBlockedOrEnded}
+use Rattle.ti_pending.specs.Acting.{TakesEntry, steps_left, all_steps_left, Progresses}
+use Rattle.ti_runtime.specs.Mirrors.Processes.{IsOpen, DoesNothing, StopsAt, TurnLeaves, cursor_after, Points, IsSoloState, SoloProgresses, HasStopped}
+use Rattle.ti_pending.proofs.Lemmas.{seated_on, seated_kept, steps_set}
 use Rattle.ti_runtime.proofs.Waiting.{rest_takes_none, rests_still, wait_together}
 use Rattle.ti_runtime.proofs.Endings.{none_below}
 
@@ -68,59 +68,27 @@ module _ (s : RunConfig) (es all : List Entry) (i : ℕ) (t : TakesEntry s es i 
   pub unended_on : is_end t.entry.act ≡ false → has_end i all ≡ false
   unended_on e = ap (has_end i) t.after ∙ end_more i es t.entry (taker s es i t.entry t.can) ∙ or_false (has_end i es) (is_end t.entry.act) t.can.unended e
 
-  -- nothing changes for another
-  pub other_on : (j : ℕ) → (i == j) ≡ false → entries_of j all ≡ entries_of j es
-  other_on j h = ap (entries_of j) t.after ∙ other_more j es t.entry (ap (λ k. k == j) (taker s es i t.entry t.can) ∙ h)
-
   -- who rests does so still, unless it was an arrival
   pub rests_on : (j : ℕ) → (i == j) ≡ false → is_arrival t.entry.act ≡ false → IsBlockedOrEnded s es j → IsBlockedOrEnded s all j
   rests_on j h a r = rests_still s es all j t.entry t.after (ap (λ k. k == j) (taker s es i t.entry t.can) ∙ h) a r
 
--- ---- processes
+-- ---- steps that are left
 
--- a process that took no entry is still up to date after entries of others
-pub seated_still : (code : Code) (s : RunConfig) (es all : List Entry) (i : ℕ) (pending : PendingProc) → entries_of i all ≡ entries_of i es → IsUpToDate code s es i pending → IsUpToDate code s all i pending
-seated_still code s es all i pending same y =
-    seated_with code s es all i pending pending.ended (ap (λ own. map (λ (e : Entry). e.answer) (filter is_answered own)) same) (ap (list_any (λ (e : Entry). is_end e.act)) same ∙ y.ended) y
-
-module _ (code : Code) (s : RunConfig) (es all : List Entry) (processes : List PendingProc) (i : ℕ) (new : PendingProc) (y : IsUpToDate code s all i new) (inside : i < length processes) where
-  -- one process is replaced, and the others are up to date with more entries
-  seated_set : ((d : PendingProc) (j : ℕ) → j < length processes → (i == j) ≡ false → IsUpToDate code s all j (get_or processes j d)) → AllUpToDate code s all (slice_set processes i new)
-  seated_set others d j l = by (i == j) refl
-    where
-      by : (b : Bool) → (i == j) ≡ b → IsUpToDate code s all j (get_or (slice_set processes i new) j d)
-      by true h =
-          let same : i ≡ j = eqb-true i j h in
-          subst (λ k. IsUpToDate code s all k (get_or (slice_set processes i new) k d)) same (subst (IsUpToDate code s all i) (sym (get_or-set_same processes i new d inside)) y)
-      by false h =
-          subst (IsUpToDate code s all j) (sym (get_or-set_other processes i j new d (λ e. eqb-false i j h (sym e)))) (others d j (subst (λ n. j < n) (length-set processes i new) l) h)
-
-  pub seated_on : TakesEntry s es i all → AllUpToDate code s es processes → AllUpToDate code s all (slice_set processes i new)
-  seated_on t seated = seated_set (λ d j l h. seated_still code s es all j (get_or processes j d) (other_on s es all i t j h) (seated d j l))
-
-  -- by no entry
-  pub seated_kept : all ≡ es → AllUpToDate code s es processes → AllUpToDate code s all (slice_set processes i new)
-  seated_kept same seated = seated_set (λ d j l h. subst (λ xs. IsUpToDate code s xs j (get_or processes j d)) (sym same) (seated d j l))
-
-pub lighter_on : (s : RunConfig) (processes : List PendingProc) (i : ℕ) (old new : PendingProc) → i < length processes → old ≡ get_or processes i old → steps_left s new < steps_left s old
+lighter_on : (s : RunConfig) (processes : List PendingProc) (i : ℕ) (old new : PendingProc) → i < length processes → old ≡ get_or processes i old → steps_left s new < steps_left s old
     → all_steps_left s (slice_set processes i new) < all_steps_left s processes
 lighter_on s processes i old new inside is lighter =
-    let sums = sum_by-set (steps_left s) processes i new old inside in
-    let same : steps_left s (get_or processes i old) ≡ steps_left s old = ap (steps_left s) (sym is) in
-    fewer (all_steps_left s (slice_set processes i new)) (steps_left s (get_or processes i old)) (all_steps_left s processes) (steps_left s new) (steps_left s old) sums same lighter
+    fewer (all_steps_left s (slice_set processes i new)) (steps_left s old) (all_steps_left s processes) (steps_left s new) (steps_set s processes i old new inside is) lighter
   where
-    fewer : (a b c d e : ℕ) → a + b ≡ c + d → b ≡ e → d < e → a < c
-    fewer a b c d e h k l = omega arith
+    fewer : (a b c d : ℕ) → a + b ≡ c + d → d < b → a < c
+    fewer a b c d h l = omega arith
 
 as_many_on : (s : RunConfig) (processes : List PendingProc) (i : ℕ) (old new : PendingProc) → i < length processes → old ≡ get_or processes i old → steps_left s new ≡ steps_left s old
     → all_steps_left s (slice_set processes i new) ≡ all_steps_left s processes
 as_many_on s processes i old new inside is as_many =
-    let sums = sum_by-set (steps_left s) processes i new old inside in
-    let same : steps_left s (get_or processes i old) ≡ steps_left s old = ap (steps_left s) (sym is) in
-    equal (all_steps_left s (slice_set processes i new)) (steps_left s (get_or processes i old)) (all_steps_left s processes) (steps_left s new) (steps_left s old) sums same as_many
+    equal (all_steps_left s (slice_set processes i new)) (steps_left s old) (all_steps_left s processes) (steps_left s new) (steps_set s processes i old new inside is) as_many
   where
-    equal : (a b c d e : ℕ) → a + b ≡ c + d → b ≡ e → d ≡ e → a ≡ c
-    equal a b c d e h k l = omega arith
+    equal : (a b c d : ℕ) → a + b ≡ c + d → d ≡ b → a ≡ c
+    equal a b c d h l = omega arith
 
 -- ---- the cursor
 
@@ -236,8 +204,8 @@ module _ (code : Code) (s : RunConfig) (es : List Entry) (processes : List Pendi
   within = subst (λ n. c.next_proc < n) (sym x.count) inside
 
   -- by an entry
-  onward : (all : List Entry) (new : PendingProc) (arrives : Bool) (d : SoloCursor) → Progresses code s es c.next_proc old all new arrives → Points s all d → SoloProgresses code s es processes c all (slice_set processes c.next_proc new) d
-  onward all new arrives d g p = record {
+  onward : (all : List Entry) (new : PendingProc) (d : SoloCursor) → Progresses code s es c.next_proc old all new → Points s all d → SoloProgresses code s es processes c all (slice_set processes c.next_proc new) d
+  onward all new d g p = record {
     solo = λ solo. solo_on s es all c.next_proc g.takes solo x.points.before;
     stands = record {
       run = run_on s es all c.next_proc g.takes x.run;
@@ -266,8 +234,8 @@ module _ (code : Code) (s : RunConfig) (es : List Entry) (processes : List Pendi
 
   pub turned : RoundsBalance s es → (all : List Entry) (new : PendingProc) (t : TurnOutcome) → TurnLeaves code s es c.next_proc old all new (Ok t)
       → SoloProgresses code s es processes c all (slice_set processes c.next_proc new) (cursor_after c t)
-  turned balance all new turn.Arrived g = onward all new true (cursor_after c turn.Arrived) g (points_arrived s es c x.points inside x.run balance all g.takes g.arrives_is)
-  turned balance all new turn.Progressed g = onward all new false (cursor_after c turn.Progressed) g (points_went s es c x.points inside all g.takes g.arrives_is)
+  turned balance all new turn.Arrived g = onward all new (cursor_after c turn.Arrived) g.0 (points_arrived s es c x.points inside x.run balance all g.0.takes g.1)
+  turned balance all new turn.Progressed g = onward all new (cursor_after c turn.Progressed) g.0 (points_went s es c x.points inside all g.0.takes g.1)
   turned balance all new turn.Finished g = rested all new (cursor_after c turn.Finished) g.0 (points_ended s es c x.points inside g.1) (one_further c.next_proc)
   turned balance all new turn.Blocked g = rested all new (cursor_after c turn.Blocked) g.0 (points_waits s es c x.points inside g.1) (further c.next_proc c.blocked_below)
 

@@ -1,17 +1,14 @@
 -- How a run ended.
-use Rattle.std.specs.Prelude.{◌≡◌, ◌≢◌, ◌↔◌, ℕ, true, false, List, length, Some, slice_get}
+use Rattle.std.specs.Prelude.{◌≡◌, ◌≢◌, ◌↔◌, ℕ, true, List, length, Some, slice_get}
 use Rattle.ti_base.specs.declared.entry.Entry.{Entry}
 use Rattle.ti_lang.specs.Meaning.Processes.{RunConfig}
-use Rattle.ti_lang.specs.Meaning.Histories.{answers_of, has_fault}
+use Rattle.ti_lang.specs.Meaning.Histories.{has_fault}
 use Rattle.ti_lang.specs.Meaning.Runs.{IsRun, IsSolo, AllEnded}
 use Rattle.ti_code.specs.Programs.{Code}
-use Rattle.ti_machine.specs.ProcView.{ProcView, HasFinished}
+use Rattle.ti_machine.specs.ProcView.{HasFinished}
+pub use Rattle.ti_pending.specs.UpToDate.{proc_view_after}
 use Rattle.ti_runtime.specs.declared.runner.How.TheVariants.{Ended, Faulted, Memory}
 use Rattle.ti_runtime.specs.declared.runner.RunEnd.{RunEnd}
-
--- process i of the code, after the answers of its entries other than an end and a fault
-abbrev pub proc_view_after : Code → RunConfig → List Entry → ℕ → ProcView
-proc_view_after code s es i = record { code = code; procs = s.procs; fuel = s.fuel; number = i; answers = answers_of i es; asks = false }
 
 -- for each process, in the order of their numbers, how many instructions of the code it has finished for these answers
 pub record AreFinishedCounts (code : Code) (s : RunConfig) (es : List Entry) (done : List ℕ) : Type 0 where

@@ -5,11 +5,11 @@ ghost use Rattle.ti_runtime.specs.Mirrors.Processes.{RunPremises};
 ghost use Rattle.ti_runtime.specs.Mirrors.Tasks.{BelongsTo};
 
 use crate::code_of::CodeOf;
-use crate::pending::PendingProc;
 use crate::task::Task;
 use std::alloc::Global;
 use ti_base::Memory;
 use ti_code::Code;
+use ti_pending::PendingProc;
 use ti_store::{RunConfigOf, Store};
 use ti_turnstile::{Pass, Turnstile};
 

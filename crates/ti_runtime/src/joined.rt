@@ -3,16 +3,16 @@
 // Closing takes no memory, so that it can't fail: the vectors for it are allocated before the first worker starts (`JoinBuffers`).
 ghost use Rattle.std.specs.Prelude.{◌≡◌, ◌≢◌, ◌<◌, ◌≤◌, ◌-◌, ℕ, [], length, All, IfOk, Some, None, slice_index_or, vec_len, vec_capacity};
 ghost use Rattle.ti_turnstile.specs.Turnstiles.{identity_of, passes_of, AreOf};
-ghost use Rattle.ti_runtime.specs.declared.pending.PendingProc.{PendingProc as OneProc};
+ghost use Rattle.ti_pending.specs.declared.pending.PendingProc.{PendingProc as OneProc};
 ghost use Rattle.ti_runtime.specs.Mirrors.Tasks.{BelongsTo};
 ghost use Rattle.ti_runtime.specs.Mirrors.Joined.{NoneFilled, IsBack, ArePlaced};
-ghost use Rattle.ti_runtime.specs.Mirrors.Processes.{AllUpToDate};
+ghost use Rattle.ti_pending.specs.UpToDate.{AllUpToDate};
 
 use crate::code_of::CodeOf;
-use crate::pending::PendingProc;
 use crate::task::Task;
 use std::alloc::Global;
 use ti_base::{Entry, Memory};
+use ti_pending::PendingProc;
 use ti_store::{RunConfigOf, Store};
 use ti_turnstile::{Kept, Pass, Turnstile};
 

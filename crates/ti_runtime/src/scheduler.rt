@@ -5,15 +5,16 @@ ghost use Rattle.ti_code.specs.Follows.{Follows};
 ghost use Rattle.ti_machine.specs.ProcView.{HasFinished};
 ghost use Rattle.ti_store.specs.Conditions.{IsWithinRunLimits};
 ghost use Rattle.ti_store.specs.Stores.{config_of};
-ghost use Rattle.ti_runtime.specs.declared.pending.PendingProc.{PendingProc as OneProc};
+ghost use Rattle.ti_pending.specs.declared.pending.PendingProc.{PendingProc as OneProc};
 ghost use Rattle.ti_runtime.specs.Mirrors.Processes.{IsOpen, IsSoloState, StepLeaves};
 
 use crate::cursor::SoloCursor;
-use crate::pending::{PendingProc, RunStop};
+use crate::step::{RunStop, step_in};
 use std::alloc::Global;
 use ti_base::Memory;
 use ti_code::Code;
 use ti_io::Gate;
+use ti_pending::PendingProc;
 use ti_store::{RunConfigOf, Store};
 
 /// All processes in the order of their numbers, and which is tried next.
@@ -58,7 +59,14 @@ impl SoloScheduler {
         ensures store { store.new ≡ record store.old { entries = store.new.entries } }
     {
         let number = self.cursor.next_proc;
-        match self.processes[number as usize].step_in(alloc, code, gate, store, number) {
+        match step_in(
+            &mut self.processes[number as usize],
+            alloc,
+            code,
+            gate,
+            store,
+            number,
+        ) {
             Ok(turn) => {
                 self.cursor = self.cursor.next_after(turn);
                 Ok(())

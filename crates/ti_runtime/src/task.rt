@@ -10,11 +10,12 @@ ghost use Rattle.ti_store.specs.Conditions.{HasNextAfter};
 ghost use Rattle.ti_store.specs.Stores.{config_of, log_of, next_of, IsDone, IsRefused};
 ghost use Rattle.ti_turnstile.specs.Passes.{GrownBy};
 ghost use Rattle.ti_turnstile.specs.Turnstiles.{identity_of, turnstile_of, number_of, seen_by, turnstile_around, number_inside, found_inside, value_inside};
-ghost use Rattle.ti_runtime.specs.Mirrors.Processes.{next_place, next_action, IsUpToDate, RunPremises};
+ghost use Rattle.ti_pending.specs.UpToDate.{IsUpToDate};
+ghost use Rattle.ti_pending.specs.Acting.{next_place, next_action};
+ghost use Rattle.ti_runtime.specs.Mirrors.Processes.{RunPremises};
 ghost use Rattle.ti_runtime.specs.Mirrors.Tasks.{entries_in};
 
 use crate::code_of::CodeOf;
-use crate::pending::{PendingProc, as_action};
 use std::alloc::Global;
 use std::marker::Model;
 use std::sync::Wait;
@@ -22,6 +23,7 @@ use ti_base::{Action, Answer, Entry, Memory, Next};
 use ti_code::Code;
 use ti_io::Gate;
 use ti_machine::next_is_unique;
+use ti_pending::{PendingProc, as_action};
 use ti_store::{ActErr, RunConfigOf, Store};
 use ti_turnstile::{Inside, Kept, Pass, Turnstile};
 
@@ -64,7 +66,7 @@ where
 
     ghost use Rattle.std.specs.Prelude.{◌≡◌, ◌<◌};
     ghost use Rattle.ti_turnstile.specs.Turnstiles.{turnstile_of, number_of, seen_by};
-    ghost use Rattle.ti_runtime.specs.Mirrors.Processes.{IsUpToDate};
+    ghost use Rattle.ti_pending.specs.UpToDate.{IsUpToDate};
     ghost use Rattle.ti_runtime.specs.Mirrors.Tasks.{entries_in};
 
     ghost view = { λ m. record { turnstile = turnstile_of m.pass; number = m.number } };
@@ -229,7 +231,7 @@ impl<J: RunConfigOf + CodeOf> Task<J> {
         match acted {
             Ok(answer) => {
                 let pass = leave(turnstile, inside, leave_mode_after(next));
-                let _turn = pending.resume_with(next, answer);
+                pending.resume_with(next, answer);
                 (
                     Task {
                         number,

@@ -13,7 +13,8 @@ use Rattle.ti_code.specs.Follows.{Follows}
 use Rattle.ti_store.specs.Conditions.{IsWithinRunLimits}
 use Rattle.ti_store.specs.Stores.{StoreState, config_of}
 use Rattle.ti_watch.specs.Reports.{trace_text}
-use Rattle.ti_trace_check.specs.declared.replayed.ReplayedProc.{ReplayedProc}
+use Rattle.ti_pending.specs.declared.pending.PendingProc.{PendingProc}
+use Rattle.ti_pending.specs.Acting.{RunsCode}
 use Rattle.ti_trace_check.specs.declared.replay.ReplayEnd.{ReplayEnd}
 use Rattle.ti_trace_check.specs.declared.verdict.Verdict.{Verdict}
 use Rattle.ti_trace_check.specs.declared.verdict.Verdict.TheVariants.{Run, NoRun}
@@ -30,23 +31,21 @@ pub opens : (code : Code) (store : StoreState) (s : RunConfig) → config_of sto
     → Follows code s.program → OfEveryRun AnswersFit s.program → AcceptsActions code store
 opens code store s same unhalted within follows fit = record {
   unhalted = unhalted;
-  within = subst (λ (t : RunConfig). IsWithinRunLimits t.procs t.fuel) (sym same) within;
-  follows = subst (λ (t : RunConfig). Follows code t.program) (sym same) follows;
-  fit = subst (λ (t : RunConfig). OfEveryRun AnswersFit t.program) (sym same) fit;
+  runs = subst (RunsCode code) (sym same) (record { within = within; follows = follows; fit = fit });
 }
 
 -- the processes stand there
-pub stands_first : (code : Code) (s t : RunConfig) (es : List Entry) (processes : List ReplayedProc) → t ≡ s → es ≡ [] → IsReplayState code s [] processes → IsReplayState code t es processes
+pub stands_first : (code : Code) (s t : RunConfig) (es : List Entry) (processes : List PendingProc) → t ≡ s → es ≡ [] → IsReplayState code s [] processes → IsReplayState code t es processes
 stands_first code s t es processes same none x = subst (λ es. IsReplayState code t es processes) (sym none) (subst (λ t. IsReplayState code t [] processes) (sym same) x)
 
 -- ---- whether all had their end
 
-abbrev pub all_have : List ReplayedProc → Bool
-all_have processes = list_all (λ (replayed : ReplayedProc). replayed.ended) processes
+abbrev pub all_have : List PendingProc → Bool
+all_have processes = list_all (λ (pending : PendingProc). pending.ended) processes
 
 -- the processes tell of the processes from number k on
-abbrev Tells : List Entry → ℕ → List ReplayedProc → Type 0
-Tells es k processes = (d : ReplayedProc) (i : ℕ) → i < length processes → has_end (k + i) es ≡ (get_or processes i d).ended
+abbrev Tells : List Entry → ℕ → List PendingProc → Type 0
+Tells es k processes = (d : PendingProc) (i : ℕ) → i < length processes → has_end (k + i) es ≡ (get_or processes i d).ended
 
 shift : (k i : ℕ) → k + 1 + i ≡ k + suc i
 shift k i = omega arith
@@ -57,7 +56,7 @@ one_more i n l = omega arith
 one_less : (i n : ℕ) → suc i < suc n → i < n
 one_less i n l = omega arith
 
-tells_rest : (es : List Entry) (k : ℕ) (x : ReplayedProc) (xs : List ReplayedProc) → Tells es k (x ∷ xs) → Tells es (k + 1) xs
+tells_rest : (es : List Entry) (k : ℕ) (x : PendingProc) (xs : List PendingProc) → Tells es k (x ∷ xs) → Tells es (k + 1) xs
 tells_rest es k x xs t d i l = subst (λ n. has_end n es ≡ (get_or xs i d).ended) (sym (shift k i)) (t d (suc i) (one_more i (length xs) l))
 
 first_of : (a b : Bool) → (a && b) ≡ true → a ≡ true
@@ -68,7 +67,7 @@ rest_of : (a b : Bool) → (a && b) ≡ true → b ≡ true
 rest_of true b h = h
 rest_of false b h = cc
 
-all_ended : (es : List Entry) (k : ℕ) (processes : List ReplayedProc) → Tells es k processes → all_have processes ≡ true → (i : ℕ) → i < length processes → has_end (k + i) es ≡ true
+all_ended : (es : List Entry) (k : ℕ) (processes : List PendingProc) → Tells es k processes → all_have processes ≡ true → (i : ℕ) → i < length processes → has_end (k + i) es ≡ true
 all_ended es k [] t h i l = absurd (none i l)
   where
     none : (i : ℕ) → i < 0 → ⊥
@@ -77,7 +76,7 @@ all_ended es k (x ∷ xs) t h zero l = t x 0 l ∙ first_of x.ended (all_have xs
 all_ended es k (x ∷ xs) t h (suc i) l =
     subst (λ n. has_end n es ≡ true) (shift k i) (all_ended es (k + 1) xs (tells_rest es k x xs t) (rest_of x.ended (all_have xs) h) i (one_less i (length xs) l))
 
-not_all : (es : List Entry) (k : ℕ) (processes : List ReplayedProc) → Tells es k processes → all_have processes ≡ false → ((i : ℕ) → i < length processes → has_end (k + i) es ≡ true) → ⊥
+not_all : (es : List Entry) (k : ℕ) (processes : List PendingProc) → Tells es k processes → all_have processes ≡ false → ((i : ℕ) → i < length processes → has_end (k + i) es ≡ true) → ⊥
 not_all es k [] t h all = true_false h
 not_all es k (x ∷ xs) t h all =
     not_all es (k + 1) xs (tells_rest es k x xs t) (by x.ended (sym (t x 0 (some (length xs))) ∙ all 0 (some (length xs))) h)
@@ -90,7 +89,7 @@ not_all es k (x ∷ xs) t h all =
     by true e h = h
     by false e h = cc
 
-module _ (code : Code) (s : RunConfig) (es : List Entry) (processes : List ReplayedProc) (x : IsReplayState code s es processes) where
+module _ (code : Code) (s : RunConfig) (es : List Entry) (processes : List PendingProc) (x : IsReplayState code s es processes) where
   tells : Tells es 0 processes
   tells d i l = subst (λ n. has_end n es ≡ (get_or processes i d).ended) (plain i) (x.seated d i l).ended
     where
@@ -120,7 +119,7 @@ module _ (code : Code) (s : RunConfig) (es : List Entry) (processes : List Repla
 
 -- ---- verdicts
 
-module _ (code : Code) (s : RunConfig) (all : List Entry) (processes : List ReplayedProc) (end : ReplayEnd) (came : ReplayOutcome code s all processes end) (b : Bool) (yes : end.is_end ≡ true → b ≡ true → IsComplete s all) (no : end.is_end ≡ true → b ≡ false → IsComplete s all → ⊥) where
+module _ (code : Code) (s : RunConfig) (all : List Entry) (processes : List PendingProc) (end : ReplayEnd) (came : ReplayOutcome code s all processes end) (b : Bool) (yes : end.is_end ≡ true → b ≡ true → IsComplete s all) (no : end.is_end ≡ true → b ≡ false → IsComplete s all → ⊥) where
   whole : end.is_end ≡ true → take end.taken all ≡ all
   whole e = take_all end.taken all (least (length all) end.taken (came.whole e).0)
     where

@@ -2,8 +2,8 @@ pub mod FirstLines
 pub mod Names
 pub mod LineEnds
 pub mod Texts
-pub mod ByCode
-pub mod UpToDate
+pub mod Ahead
+pub mod Steps
 pub mod Turns
 pub mod OfLines
 pub mod Taking

@@ -8,7 +8,7 @@ use Rattle.ti_code.specs.Programs.{Code}
 use Rattle.ti_store.specs.Stores.{StoreState}
 use Rattle.ti_watch.specs.Lines.{line_room}
 use Rattle.ti_watch.specs.Reports.{entry_text, trace_text}
-use Rattle.ti_trace_check.specs.declared.replayed.ReplayedProc.{ReplayedProc}
+use Rattle.ti_pending.specs.declared.pending.PendingProc.{PendingProc}
 use Rattle.ti_trace_check.specs.Mirrors.LineReader.{TakesLine}
 use Rattle.ti_trace_check.specs.Mirrors.Replaying.{AcceptsActions, IsReplayState, ReplaysEntry, IsWrongLine, ReplayOutcome, LeavesText}
 use Rattle.ti_trace_check.specs.Lines.{first_line}
@@ -27,7 +27,7 @@ no_room line e l = absurd (omega (arith, ap length e, l))
 
 -- a store that goes on does so with other entries
 pub open_still : (code : Code) (old now : StoreState) → now ≡ record old { entries = now.entries } → AcceptsActions code old → AcceptsActions code now
-open_still code old now same o = subst (AcceptsActions code) (sym same) (record { unhalted = o.unhalted; within = o.within; follows = o.follows; fit = o.fit })
+open_still code old now same o = subst (AcceptsActions code) (sym same) (record { unhalted = o.unhalted; runs = o.runs })
 
 -- an empty line is taken at the end alone
 pub at_end : (left line rest : List ℕ) → line ≡ [] → TakesLine left line rest → left ≡ []
@@ -42,7 +42,7 @@ pub begins : (text line rest : List ℕ) (es : List Entry) → es ≡ [] → Tak
 begins text line rest es none t = record { left = text; begins = ap (λ xs. trace_text xs ++ text) (sym none); takes = t }
 
 -- behind a line
-pub goes : (code : Code) (s : RunConfig) (text : List ℕ) (es : List Entry) (old new : List ReplayedProc) (all : List Entry)
+pub goes : (code : Code) (s : RunConfig) (text : List ℕ) (es : List Entry) (old new : List PendingProc) (all : List Entry)
     (line rest next later : List ℕ) → ReplaysEntry code s es old all new line → Goes text es line rest → TakesLine rest next later
     → Goes text all next later
 goes code s text es old new all line rest next later g x t = record {
@@ -55,7 +55,7 @@ goes code s text es old new all line rest next later g x t = record {
 }
 
 -- at the end of the text
-pub came_whole : (code : Code) (s : RunConfig) (es : List Entry) (processes : List ReplayedProc) (taken : ℕ) → IsReplayState code s es processes → taken ≡ length es
+pub came_whole : (code : Code) (s : RunConfig) (es : List Entry) (processes : List PendingProc) (taken : ℕ) → IsReplayState code s es processes → taken ≡ length es
     → ReplayOutcome code s es processes (record { taken = taken; is_end = true })
 came_whole code s es processes taken x e = record {
   within = same taken (length es) e;
@@ -82,7 +82,7 @@ left_whole s text line rest es taken e none x = record {
     true_false e = cc
 
 -- at a line that is off
-pub came_off : (code : Code) (s : RunConfig) (es all : List Entry) (processes : List ReplayedProc) (line : List ℕ) (taken : ℕ) → taken ≡ length es
+pub came_off : (code : Code) (s : RunConfig) (es all : List Entry) (processes : List PendingProc) (line : List ℕ) (taken : ℕ) → taken ≡ length es
     → IsRun s es → IsWrongLine s es all line → ReplayOutcome code s all processes (record { taken = taken; is_end = false })
 came_off code s es all processes line taken e ran off = record {
   within = subst (λ n. n ≤ length all) (sym e) off.within;
@@ -129,6 +129,6 @@ not_empty_line held line b same is other none = by b is other (ap length (same �
         false_true e = cc
 
 -- the same of a line and a setting that are the same
-pub goes_of : (code : Code) (s t : RunConfig) (es : List Entry) (old : List ReplayedProc) (all : List Entry) (new : List ReplayedProc) (line same : List ℕ)
+pub goes_of : (code : Code) (s t : RunConfig) (es : List Entry) (old : List PendingProc) (all : List Entry) (new : List PendingProc) (line same : List ℕ)
     → s ≡ t → line ≡ same → ReplaysEntry code s es old all new line → ReplaysEntry code t es old all new same
 goes_of code s t es old all new line same e f x = subst (λ l. ReplaysEntry code t es old all new l) f (subst (λ z. ReplaysEntry code z es old all new line) e x)

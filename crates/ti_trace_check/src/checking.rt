@@ -14,7 +14,6 @@ ghost use Rattle.ti_trace_check.specs.Verdicts.{HasRun, Judges};
 
 use crate::error::TraceErr;
 use crate::replay::{ReplayEnd, replay_lines};
-use crate::replayed::ReplayedProc;
 use crate::verdict::Verdict;
 use std::alloc::Global;
 use std::marker::Brand;
@@ -23,7 +22,7 @@ use ti_base::{Action, Entry, Memory};
 use ti_code::Code;
 use ti_io::Source;
 use ti_lower::lower;
-use ti_machine::next_is_unique;
+use ti_pending::PendingProc;
 use ti_rules::Checked;
 use ti_store::{RunConfigOf, Store};
 
@@ -33,17 +32,16 @@ fn start_processes(
     code: &Code,
     procs: u32,
     fuel: u32,
-) -> Result<Vec<ReplayedProc>, Memory>
+) -> Result<Vec<PendingProc>, Memory>
     requires within { IsWithinRunLimits procs fuel }
     requires follows { (program : ProgramView) × Follows code.now program }
     ensures { IfOk result (λ processes. (program : ProgramView) → Follows code.now program
         → IsReplayState code.now (record { program = program; procs = procs; fuel = fuel }) [] processes.items) }
 {
-    next_is_unique();
     let mut processes = Vec::with_capacity(alloc, procs as usize)?;
     for number in 0..procs {
-        let replayed = ReplayedProc::take(alloc, code, number, procs, fuel)?;
-        processes.push(replayed)?;
+        let pending = PendingProc::take(alloc, code, number, procs, fuel)?;
+        processes.push(pending)?;
     }
     Ok(processes)
 }
@@ -58,10 +56,10 @@ fn has_fault(entries: &[Entry]) -> bool
 }
 
 // Whether all processes have ended.
-fn have_ended(processes: &[ReplayedProc]) -> bool
-    ensures { result ≡ list_all (λ replayed. replayed.ended) processes.now }
+fn have_ended(processes: &[PendingProc]) -> bool
+    ensures { result ≡ list_all (λ pending. pending.ended) processes.now }
 {
-    processes.iter().all(|replayed| replayed.ended)
+    processes.iter().all(|pending| pending.ended)
 }
 
 // Whether at least one of the two holds. A function of its own for the prover: the caller's goals don't split.

@@ -12,7 +12,6 @@ mod line;
 mod line_reader;
 mod naming;
 mod replay;
-mod replayed;
 mod verdict;
 
 pub use checking::check_trace;

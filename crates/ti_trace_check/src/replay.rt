@@ -2,20 +2,22 @@
 ghost use Rattle.std.specs.Prelude.{◌≡◌, ◌<◌, ◌≤◌, [], true, IfOk, IfErr};
 ghost use Rattle.ti_io.specs.Faults.{Rose};
 ghost use Rattle.ti_io.specs.Source.{SameFiles};
+ghost use Rattle.ti_lang.specs.Meaning.Runs.{IsRun};
 ghost use Rattle.ti_store.specs.Stores.{config_of};
+ghost use Rattle.ti_pending.specs.UpToDate.{IsUpToDate};
 ghost use Rattle.ti_trace_check.specs.declared.error.TraceErr.TheVariants.{Read};
-ghost use Rattle.ti_trace_check.specs.Mirrors.Replaying.{AcceptsActions, IsReplayState, ReplaysLine, ReplayOutcome, LeavesText};
+ghost use Rattle.ti_trace_check.specs.Mirrors.Replaying.{AcceptsActions, IsReplayState, TurnLeaves, ReplaysLine, ReplayOutcome, LeavesText};
 
 use crate::error::TraceErr;
 use crate::line::entry_line;
 use crate::line_reader::LineReader;
 use crate::naming::process_in;
-use crate::replayed::ReplayedProc;
 use std::alloc::Global;
 use ti_base::Memory;
 use ti_code::Code;
 use ti_io::Source;
-use ti_store::{RunConfigOf, Store};
+use ti_pending::PendingProc;
+use ti_store::{ActErr, RunConfigOf, Store};
 
 /// How far a trace was replayed: how many lines were right, and whether the trace ended after them.
 #[derive(Clone, Copy)]
@@ -24,11 +26,40 @@ pub struct ReplayEnd {
     pub is_end: bool,
 }
 
+// Lets a process perform its next action. False if there is none that it can perform now: it has ended or waits, or the run has.
+fn step_in<J: RunConfigOf>(
+    pending: &mut PendingProc,
+    alloc: Global,
+    code: &Code,
+    store: &mut Store<J>,
+    number: u32,
+) -> Result<bool, Memory>
+    requires open { AcceptsActions code.now store.old }
+    requires number { number < store.old.procs }
+    requires run { IsRun (config_of store.old) store.old.entries }
+    requires seated { IsUpToDate code.now (config_of store.old) store.old.entries number pending.old }
+    ensures leaves { IfOk result (λ took. TurnLeaves code.now (config_of store.old) store.old.entries number pending.old store.new.entries
+        pending.new took) }
+    ensures store { store.new ≡ record store.old { entries = store.new.entries } }
+{
+    if pending.ended {
+        return Ok(false);
+    }
+    let next = pending.advance(alloc, code)?;
+    match pending.act_in(alloc, next, store, number) {
+        Ok(()) => Ok(true),
+        Err(ActErr::Faulted(_)) => Ok(true),
+        Err(ActErr::NotYet) => Ok(false),
+        Err(ActErr::Halted) => Ok(false),
+        Err(ActErr::Memory) => Err(Memory),
+    }
+}
+
 // Lets the process that a line names take its next entry. False if it can't take one, or the line isn't that of the entry.
 fn replay_line<J: RunConfigOf>(
     alloc: Global,
     code: &Code,
-    processes: &mut Vec<ReplayedProc>,
+    processes: &mut Vec<PendingProc>,
     store: &mut Store<J>,
     line: &[u8],
 ) -> Result<bool, Memory>
@@ -45,7 +76,7 @@ fn replay_line<J: RunConfigOf>(
     if p as usize >= processes.len() {
         return Ok(false);
     }
-    if !processes[p as usize].step_in(alloc, code, store, p)? {
+    if !step_in(&mut processes[p as usize], alloc, code, store, p)? {
         return Ok(false);
     }
     Ok(entry_line(number, &store.history()[number]).as_slice() == line)
@@ -55,7 +86,7 @@ fn replay_line<J: RunConfigOf>(
 pub fn replay_lines<J: RunConfigOf, S: Source>(
     alloc: Global,
     code: &Code,
-    processes: &mut Vec<ReplayedProc>,
+    processes: &mut Vec<PendingProc>,
     store: &mut Store<J>,
     source: &mut S,
 ) -> Result<ReplayEnd, TraceErr>

@@ -6,9 +6,9 @@ use Rattle.ti_lang.specs.Meaning.Processes.{RunConfig}
 use Rattle.ti_code.specs.Programs.{Code}
 use Rattle.ti_turnstile.specs.declared.turnstile.Pass.{Pass}
 use Rattle.ti_turnstile.specs.Turnstiles.{number_of, seen_by}
-use Rattle.ti_runtime.specs.declared.pending.PendingProc.{PendingProc}
+use Rattle.ti_pending.specs.declared.pending.PendingProc.{PendingProc}
 use Rattle.ti_runtime.specs.Mirrors.Tasks.{entries_in}
-use Rattle.ti_runtime.specs.Mirrors.Processes.{IsUpToDate}
+use Rattle.ti_pending.specs.UpToDate.{IsUpToDate}
 
 -- process k is at this place; places are counted from the last process
 abbrev pub at_place : ℕ → List (Option PendingProc) → ℕ → Option PendingProc

@@ -6,10 +6,10 @@ use Rattle.ti_runtime.proofs.assigned.assign_to_workers.Goals as goal
 pub take-requires-clause-number : goal.take-requires-clause-number
 take-requires-clause-number g c =
     let left = c.pop.new.self in
-    omega (arith, c.len-number.ensures ∙ left.ok.0, one_longer _ left.items c.in-Some.pass c.in-Some.ensures.items, c.loop-pass.invariant.count, c.requires.procs, c.requires.may.within.few)
+    omega (arith, c.len-number.ensures ∙ left.ok.0, one_longer _ left.items c.in-Some.pass c.in-Some.ensures.items, c.loop-pass.invariant.count, c.requires.procs, c.requires.may.runs.within.few)
 
 pub take-requires-clause-procs : goal.take-requires-clause-procs
-take-requires-clause-procs g c = omega (arith, c.requires.procs, c.requires.may.within.few)
+take-requires-clause-procs g c = omega (arith, c.requires.procs, c.requires.may.runs.within.few)
 
 pub take-requires-clause-goes : goal.take-requires-clause-goes
 take-requires-clause-goes g c =

@@ -1,6 +1,6 @@
 use Rattle.std.proofs.Common.{◌≡◌, ◌+◌, ◌-◌, ◌<◌, ◌≤◌, ℕ, length, get_or}
 use Rattle.std.specs.Prelude.{Some, None, vec_len, vec_capacity}
-use Rattle.ti_runtime.specs.declared.pending.PendingProc.{PendingProc}
+use Rattle.ti_pending.specs.declared.pending.PendingProc.{PendingProc}
 use Rattle.ti_runtime.proofs.joined.in_order.Given as goal
 
 abbrev pub invariant-loop-place : goal.invariant-loop-place

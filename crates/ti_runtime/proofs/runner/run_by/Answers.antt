@@ -10,11 +10,9 @@ begin-requires-clause-may g c = λ _ _.
     let code = c.args.code.now in
     let s : RunConfig = record { program = program_of c.args.checked.now.program.parts; procs = c.args.procs; fuel = c.args.fuel } in
     let may : RunPremises code s = record {
-      within = c.requires.within;
-      follows = c.requires.follows;
+      runs = record { within = c.requires.within; follows = c.requires.follows; fit = c.answers_fit.ensures };
       aligned = c.aligned.ensures.aligned;
       balance = c.rounds_balance.ensures;
-      fit = c.answers_fit.ensures;
     } in
     subst (λ code. RunPremises code g.J.RunConfigOf.config) c.requires.code (subst (RunPremises code) c.requires.terms may)
 
@@ -23,11 +21,9 @@ finish-requires-clause-may g c =
     let code = c.args.code.now in
     let s : RunConfig = record { program = program_of c.args.checked.now.program.parts; procs = c.args.procs; fuel = c.args.fuel } in
     let may : RunPremises code s = record {
-      within = c.requires.within;
-      follows = c.requires.follows;
+      runs = record { within = c.requires.within; follows = c.requires.follows; fit = c.answers_fit.ensures };
       aligned = c.aligned.ensures.aligned;
       balance = c.rounds_balance.ensures;
-      fit = c.answers_fit.ensures;
     } in
     subst (λ code. RunPremises code g.J.RunConfigOf.config) c.requires.code (subst (RunPremises code) c.requires.terms may)
 

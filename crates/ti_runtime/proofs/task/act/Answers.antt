@@ -3,7 +3,7 @@ use Rattle.ti_lang.specs.Meaning.Histories.{entries_of}
 use Rattle.ti_lang.specs.Meaning.Processes.{RunConfig}
 use Rattle.ti_store.specs.Conditions.{HasNextAfter}
 use Rattle.ti_store.specs.Stores.{next_of}
-use Rattle.ti_runtime.specs.Mirrors.Processes.{next_place, next_action}
+use Rattle.ti_pending.specs.Acting.{next_place, next_action}
 use Rattle.ti_runtime.proofs.Tasks.{grown_acted}
 use Rattle.ti_runtime.proofs.task.act.Goals as goal
 

@@ -1,9 +1,8 @@
 use Rattle.std.proofs.Common.{◌∙◌, ◌+◌, [], ◌∷◌, length, sym, ap, subst, arith, length-append}
 use Rattle.ti_lang.specs.Meaning.Processes.{RunConfig}
 use Rattle.ti_lang.specs.Meaning.Runs.{none}
-use Rattle.ti_trace_check.specs.Mirrors.Replaying.{IsUpToDate, AllUpToDate}
-use Rattle.ti_trace_check.proofs.ByCode.{begins_on, begins_seated}
-use Rattle.ti_trace_check.proofs.Turns.{seated_more}
+use Rattle.ti_pending.specs.UpToDate.{IsUpToDate, AllUpToDate}
+use Rattle.ti_pending.proofs.Lemmas.{begins_on, begins_seated, seated_more}
 use Rattle.ti_trace_check.proofs.checking.start_processes.Goals as goal
 
 pub take-requires-clause-goes : goal.take-requires-clause-goes
@@ -14,14 +13,14 @@ pub loop-number-preserved : goal.loop-number-preserved
 loop-number-preserved c =
     let code = c.args.code.now in
     let processes = c.loop-number.processes.items in
-    let replayed = c.in_ok-replayed.replayed in
+    let pending = c.in_ok-pending.pending in
     record {
-      count = ap length c.in_ok-push.ensures.items ∙ length-append processes (replayed ∷ []) ∙ ap (λ n. n + 1) c.loop-number.invariant.count;
+      count = ap length c.in_ok-push.ensures.items ∙ length-append processes (pending ∷ []) ∙ ap (λ n. n + 1) c.loop-number.invariant.count;
       seated = λ program follows.
           let s : RunConfig = record { program = program; procs = c.args.procs; fuel = c.args.fuel } in
-          let one = begins_seated code s follows c.requires.within c.loop-number.number (omega arith) c.next_is_unique.ensures replayed c.in_ok-replayed.ensures.stands c.in_ok-replayed.ensures.unended in
+          let one = begins_seated code s follows c.requires.within c.loop-number.number (omega arith) pending c.in_ok-pending.ensures in
           subst (AllUpToDate code s []) (sym c.in_ok-push.ensures.items)
-          (seated_more code s processes replayed (subst (λ n. IsUpToDate code s [] n replayed) (sym c.loop-number.invariant.count) one) (c.loop-number.invariant.seated program follows));
+          (seated_more code s processes pending (subst (λ n. IsUpToDate code s [] n pending) (sym c.loop-number.invariant.count) one) (c.loop-number.invariant.seated program follows));
     }
 
 pub returns : goal.returns

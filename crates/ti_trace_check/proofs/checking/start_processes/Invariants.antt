@@ -1,7 +1,7 @@
 use Rattle.std.proofs.Common.{◌≡◌, length, []}
 use Rattle.ti_lang.specs.Program.Classes.{ProgramView}
 use Rattle.ti_code.specs.Follows.{Follows}
-use Rattle.ti_trace_check.specs.Mirrors.Replaying.{AllUpToDate}
+use Rattle.ti_pending.specs.UpToDate.{AllUpToDate}
 use Rattle.ti_trace_check.proofs.checking.start_processes.Given as goal
 
 abbrev pub invariant-loop-number : goal.invariant-loop-number

@@ -15,7 +15,7 @@ returns-then-not-branch-clause-leaves g c = λ tells.
     let same : config_of c.lines.store ≡ s = ap config_of c.lines.invariant.store in
     let off = off_of (config_of c.lines.store) s c.lines.store.entries c.replay_line.new.store.entries c.as_slice-in-lines.result.now c.lines.line
     same c.as_slice-in-lines.ensures (rw c.if-not-branch.true at c.in_ok-replay_line.ensures.meets) in
-    left_off s (omega (arith, c.requires.open.within.few)) (g.S.Source.state c.args.source.now).left c.lines.line (held c.lines.line_reader
+    left_off s (omega (arith, c.requires.open.runs.within.few)) (g.S.Source.state c.args.source.now).left c.lines.line (held c.lines.line_reader
     ++ (g.S.Source.state c.lines.source).left) c.lines.store.entries c.replay_line.new.store.entries c.lines.taken
     c.lines.invariant.taken c.lines.invariant.stands.run (not_empty_line c.as_slice.result.now c.lines.line c.is_empty.result
     c.as_slice.ensures c.is_empty.ensures c.lines-test.true) off (c.lines.invariant.told tells)

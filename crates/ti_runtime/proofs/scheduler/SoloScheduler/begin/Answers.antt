@@ -1,8 +1,8 @@
 use Rattle.std.proofs.Common.{◌∙◌, ◌+◌, [], ◌∷◌, length, sym, ap, subst, arith, length-append}
 use Rattle.ti_lang.specs.Meaning.Processes.{RunConfig}
-use Rattle.ti_runtime.specs.Mirrors.Processes.{IsUpToDate, AllUpToDate}
-use Rattle.ti_runtime.proofs.Following.{begins_on, begins_seated}
-use Rattle.ti_runtime.proofs.Endings.{seated_more, begins}
+use Rattle.ti_pending.specs.UpToDate.{IsUpToDate, AllUpToDate}
+use Rattle.ti_pending.proofs.Lemmas.{begins_on, begins_seated, seated_more}
+use Rattle.ti_runtime.proofs.Endings.{begins}
 use Rattle.ti_runtime.proofs.scheduler.SoloScheduler.begin.Goals as goal
 
 pub take-requires-clause-goes : goal.take-requires-clause-goes

@@ -1,7 +1,7 @@
 use Rattle.std.proofs.Common.{◌≡◌, length, []}
 use Rattle.ti_lang.specs.Program.Classes.{ProgramView}
 use Rattle.ti_code.specs.Follows.{Follows}
-use Rattle.ti_runtime.specs.Mirrors.Processes.{AllUpToDate}
+use Rattle.ti_pending.specs.UpToDate.{AllUpToDate}
 use Rattle.ti_runtime.proofs.scheduler.SoloScheduler.begin.Given as goal
 
 abbrev pub invariant-loop-number : goal.invariant-loop-number

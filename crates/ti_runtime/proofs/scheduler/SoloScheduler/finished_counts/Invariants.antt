@@ -1,6 +1,6 @@
 use Rattle.std.proofs.Common.{◌≡◌, ◌<◌, ℕ, length, get_or}
 use Rattle.ti_machine.specs.ProcView.{HasFinished}
-use Rattle.ti_runtime.specs.declared.pending.PendingProc.{PendingProc}
+use Rattle.ti_pending.specs.declared.pending.PendingProc.{PendingProc}
 use Rattle.ti_runtime.proofs.scheduler.SoloScheduler.finished_counts.Given as goal
 
 abbrev pub invariant-loop-n : goal.invariant-loop-n

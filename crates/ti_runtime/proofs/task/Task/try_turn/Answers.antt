@@ -2,9 +2,10 @@ use Rattle.std.proofs.Common.{◌∙◌, ap, sym, subst}
 use Rattle.ti_machine.specs.ProcView.{is_act}
 use Rattle.ti_store.specs.Stores.{StoreState}
 use Rattle.ti_turnstile.specs.Turnstiles.{seen_by}
-use Rattle.ti_runtime.specs.declared.pending.PendingProc.{PendingProc}
-use Rattle.ti_runtime.specs.Mirrors.Processes.{ReceivesAnswer, IsUpToDate}
-use Rattle.ti_runtime.proofs.Seats.{acting}
+use Rattle.ti_pending.specs.declared.pending.PendingProc.{PendingProc}
+use Rattle.ti_pending.specs.UpToDate.{IsUpToDate}
+use Rattle.ti_pending.specs.Acting.{ReceivesAnswer}
+use Rattle.ti_pending.proofs.Lemmas.{acting}
 use Rattle.ti_runtime.proofs.Tasks.{seated_inside, seated_gone, seated_advanced, seated_refused, seated_seen}
 use Rattle.ti_runtime.proofs.task.Task.try_turn.Goals as goal
 
@@ -35,15 +36,14 @@ invariant_of-result g c =
     (seated_inside code s c.enter-inside.result.value.entries _ me.number (seen_by me.pass) me.pending inv.1 c.enter-inside.ensures.legal inv.2) in
     let next = c.in-Ok.next in
     let answer = c.in-Ok-acted.answer in
-    let pending = c.resume_with-turn.new.self in
-    let turn = c.resume_with-turn.result in
-    let heard = subst (λ (x : PendingProc). ReceivesAnswer x next answer pending turn) c.in-Ok.ensures.asks c.resume_with-turn.ensures in
+    let pending = c.resume_with.new.self in
+    let heard = subst (λ (x : PendingProc). ReceivesAnswer x next answer pending) c.in-Ok.ensures.asks c.resume_with.ensures in
     let after = c.act-acted.new.store in (
       inv.0,
       c.leave-pass.ensures.number ∙ c.enter-inside.ensures.number ∙ inv.1,
       seated_seen code s after.entries me.number (seen_by c.leave-pass.result) pending c.leave-pass.ensures.seen
           (seated_gone code s store after me.number me.pending c.requires.may c.act-acted.ensures.terms c.act-acted.ensures.run inv.0 c.if-self.false y
-          c.next_is_unique.ensures next c.in-Ok.ensures.next answer c.in-Ok-acted.ensures.done (is_act next) pending turn heard),
+          c.next_is_unique.ensures next c.in-Ok.ensures.next answer c.in-Ok-acted.ensures.done (is_act next) pending heard),
     )
 
 pub invariant_of-handle_refusal : goal.invariant_of-handle_refusal

@@ -1,31 +1,20 @@
-// A process as a scheduler holds it, and one step of it on the store.
+// A process of a run, and one action of it on the store.
 //
-// A process has at any time at most one action that it was asked for and hasn't been answered; it keeps that itself. So a step can be tried
+// A process has at any time at most one action that it was asked for and hasn't been answered; it keeps that itself. So an action can be tried
 // again and again while the process waits, and nothing has to be undone.
-ghost use Rattle.std.specs.Prelude.{◌≡◌, ◌<◌, ◌^◌, [], true, false, IfOk, IfErr, if◌then◌else◌};
-ghost use Rattle.ti_lang.specs.Meaning.Histories.{is_arrival};
+ghost use Rattle.std.specs.Prelude.{◌≡◌, ◌<◌, ◌^◌, [], true, false, IfOk, IfErr};
 ghost use Rattle.ti_lang.specs.Meaning.Runs.{IsRun};
 ghost use Rattle.ti_eval.specs.Forms.{IsFormedAnswer};
 ghost use Rattle.ti_machine.specs.ProcView.{CanAdvance, HasNext, is_act};
 ghost use Rattle.ti_store.specs.Stores.{config_of};
-ghost use Rattle.ti_runtime.specs.Mirrors.Processes.{action_for, with_awaits, IsUpToDate, ReceivesAnswer, IsOpen, TurnLeaves};
+ghost use Rattle.ti_pending.specs.UpToDate.{with_awaits, IsUpToDate};
+ghost use Rattle.ti_pending.specs.Acting.{action_for, next_action, ReceivesAnswer, RunsCode, Progresses, RefusalLeaves};
 
-use crate::cursor::TurnOutcome;
 use std::alloc::Global;
 use ti_base::{Action, Answer, Memory, Next, Place};
 use ti_code::Code;
-use ti_io::Gate;
 use ti_machine::{Proc, next_is_unique};
 use ti_store::{ActErr, RunConfigOf, Store};
-
-/// Why a run stops before all processes have ended.
-#[derive(Clone, Copy)]
-pub enum RunStop {
-    /// The last entry is a fault.
-    Faulted,
-    /// Out of memory.
-    Memory,
-}
 
 /// A process of a run, and whether it has ended.
 #[derive(Drop)]
@@ -42,17 +31,6 @@ pub fn as_action(next: Next) -> (Place, Action)
         Next::Act(place, action) => (place, action),
         Next::End(place) => (place, Action::End),
         Next::Fault(kind, place) => (place, Action::Fault { kind }),
-    }
-}
-
-// The outcome of an action that was performed.
-fn turn_of(action: Action) -> TurnOutcome
-    ensures { result ≡ (if is_arrival action then TurnOutcome.Arrived else TurnOutcome.Progressed) }
-{
-    if matches!(action, Action::Arrive { .. }) {
-        TurnOutcome::Arrived
-    } else {
-        TurnOutcome::Progressed
     }
 }
 
@@ -92,50 +70,48 @@ impl PendingProc {
     }
 
     /// Hands the process the answer to its action, or ends it.
-    pub fn resume_with(&mut self, next: Next, answer: Answer) -> TurnOutcome
+    pub fn resume_with(&mut self, next: Next, answer: Answer)
         requires asks { is_act next ≡ true → self.old.process.asks ≡ true }
         requires form { IsFormedAnswer answer }
-        ensures { ReceivesAnswer self.old next answer self.new result }
+        ensures { ReceivesAnswer self.old next answer self.new }
     {
-        let Next::Act(_, action) = next else {
+        let Next::Act(_, _) = next else {
             self.ended = true;
-            return TurnOutcome::Progressed;
+            return;
         };
         self.process.answer(answer);
-        turn_of(action)
     }
 
-    /// One step: runs the process to its next action, passes the gate, and performs that action unless the process has to wait.
-    pub fn step_in<J: RunConfigOf, G: Gate>(
+    /// Performs the action that `advance` returned, and hands the process the answer, or ends it. After an error the process is as it was;
+    /// after a fault the store has one more entry.
+    pub fn act_in<J: RunConfigOf>(
         &mut self,
         alloc: Global,
-        code: &Code,
-        gate: &G,
+        next: Next,
         store: &mut Store<J>,
         number: u32,
-    ) -> Result<TurnOutcome, RunStop>
-        requires open { IsOpen code.now store.old }
+    ) -> Result<(), ActErr>
+        requires runs { RunsCode self.old.process.code (config_of store.old) }
         requires number { number < store.old.procs }
         requires run { IsRun (config_of store.old) store.old.entries }
-        requires seated { IsUpToDate code.now (config_of store.old) store.old.entries number self.old }
-        ensures leaves { TurnLeaves code.now (config_of store.old) store.old.entries number self.old store.new.entries self.new result }
+        requires seated { IsUpToDate self.old.process.code (config_of store.old) store.old.entries number self.old }
+        requires unended { self.old.ended ≡ false }
+        requires next { HasNext self.old.process next }
+        requires asks { is_act next ≡ true → self.old.process.asks ≡ true }
+        ensures went { IfOk result (λ _. (g : Progresses self.old.process.code (config_of store.old) store.old.entries number self.old
+            store.new.entries self.new) × (g.takes.entry.act ≡ next_action next)) }
+        ensures refused { IfErr result (λ why. RefusalLeaves self.old.process.code store.old number self.old store.new.entries why) }
+        ensures same { IfErr result (λ _. self.new ≡ self.old) }
         ensures store { store.new ≡ record store.old { entries = store.new.entries } }
     {
         next_is_unique();
-        if self.ended {
-            return Ok(TurnOutcome::Finished);
-        }
-        let Ok(next) = self.advance(alloc, code) else {
-            return Err(RunStop::Memory);
-        };
-        gate.pass(number);
         let (place, action) = as_action(next);
         match store.act(alloc, number, place, action) {
-            Ok(answer) => Ok(self.resume_with(next, answer)),
-            Err(ActErr::NotYet) => Ok(TurnOutcome::Blocked),
-            Err(ActErr::Faulted(_)) => Err(RunStop::Faulted),
-            Err(ActErr::Halted) => Err(RunStop::Memory),
-            Err(ActErr::Memory) => Err(RunStop::Memory),
+            Ok(answer) => {
+                self.resume_with(next, answer);
+                Ok(())
+            }
+            Err(why) => Err(why),
         }
     }
 }

@@ -1,0 +1,4 @@
+mod Following
+mod Acted
+mod Together
+pub mod Lemmas

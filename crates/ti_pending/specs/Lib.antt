@@ -1,0 +1,2 @@
+pub mod UpToDate
+pub mod Acting
