@@ -216,7 +216,7 @@ def imports_of_item(crate, file, text):
 
 def imports_of_module(crate, path):
     text = read(crate_path(crate, 'specs', path.replace('.', '/') + '.antt'))
-    return [imported(line) for line in text.splitlines() if re.match(r'\s*use ', line)]
+    return [imported(line) for line in text.splitlines() if re.match(r'\s*(?:pub )?use ', line)]
 
 
 def module_of(crate, path):

@@ -26,8 +26,9 @@ use Rattle.ti_store.proofs.Lemmas.{next_acts, end_more, answers_more, answers_st
 use Rattle.ti_code.specs.Programs.{Code}
 use Rattle.ti_machine.specs.ProcView.{ProcView, HasNext, is_act}
 use Rattle.ti_pending.specs.declared.pending.PendingProc.{PendingProc}
-use Rattle.ti_pending.specs.UpToDate.{proc_view_after, with_awaits, with_answer, IsUpToDate, IsBlocked}
-use Rattle.ti_pending.specs.Acting.{action_for, next_place, next_action, ReceivesAnswer, RunsCode, steps_left, Progresses, RefusalLeaves}
+use Rattle.ti_pending.specs.Views.{proc_view_after}
+use Rattle.ti_pending.specs.UpToDate.{with_awaits, with_answer, IsUpToDate, IsBlocked}
+use Rattle.ti_pending.specs.Acting.{action_for, next_place, next_action, ReceivesAnswer, CodePremises, steps_left, Progresses, RefusalLeaves}
 use Rattle.ti_pending.proofs.Following.{OneNext, seated}
 
 true_false : true ≡ false → ⊥
@@ -148,7 +149,7 @@ or_second false b h = h
 
 -- ---- after an action
 
-module _ (code : Code) (st : StoreState) (o : RunsCode code (config_of st)) (run : IsRun (config_of st) st.entries) (i : ℕ) (l : i < st.procs) (old : PendingProc) (y : IsUpToDate code (config_of st) st.entries i old) (u : old.ended ≡ false) (one : OneNext) (n : Next) (has : HasNext old.process n) where
+module _ (code : Code) (st : StoreState) (o : CodePremises code (config_of st)) (run : IsRun (config_of st) st.entries) (i : ℕ) (l : i < st.procs) (old : PendingProc) (y : IsUpToDate code (config_of st) st.entries i old) (u : old.ended ≡ false) (one : OneNext) (n : Next) (has : HasNext old.process n) where
   abbrev s : RunConfig
   s = config_of st
 

@@ -14,7 +14,8 @@ use Rattle.ti_machine.specs.ProcView.{ProcView, HasNext, CanAdvance}
 use Rattle.ti_store.specs.Conditions.{IsWithinRunLimits}
 use Rattle.ti_store.proofs.Lemmas.{fitting, fits_none}
 use Rattle.ti_pending.specs.declared.pending.PendingProc.{PendingProc}
-use Rattle.ti_pending.specs.UpToDate.{proc_view_after, IsUpToDate}
+use Rattle.ti_pending.specs.Views.{proc_view_after}
+use Rattle.ti_pending.specs.UpToDate.{IsUpToDate}
 
 -- ---- the code stands there too
 

@@ -1,4 +1,5 @@
 mod Following
 mod Acted
+mod Ahead
 mod Together
 pub mod Lemmas

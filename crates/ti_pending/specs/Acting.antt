@@ -23,7 +23,7 @@ use Rattle.ti_pending.specs.declared.pending.PendingProc.{PendingProc}
 use Rattle.ti_pending.specs.UpToDate.{with_answer, IsUpToDate, IsBlocked}
 
 -- procs and fuel are within their limits, the code follows the program, and in every run answers fit the actions before them
-pub record RunsCode (code : Code) (s : RunConfig) : Type 0 where
+pub record CodePremises (code : Code) (s : RunConfig) : Type 0 where
   pub within : IsWithinRunLimits s.procs s.fuel
   pub follows : Follows code s.program
   pub fit : OfEveryRun AnswersFit s.program

@@ -1,2 +1,3 @@
+pub mod Views
 pub mod UpToDate
 pub mod Acting

@@ -8,15 +8,12 @@ use Rattle.ti_base.specs.declared.entry.Next.{Next}
 use Rattle.ti_base.specs.declared.entry.Next.TheVariants as next
 use Rattle.ti_lang.specs.Meaning.Processes.{RunConfig, Process}
 use Rattle.ti_lang.specs.Meaning.NextStep.{IsNext}
-use Rattle.ti_lang.specs.Meaning.Histories.{answers_of, arrivals, departures, has_end}
+use Rattle.ti_lang.specs.Meaning.Histories.{arrivals, departures, has_end}
 use Rattle.ti_lang.specs.Meaning.Runs.{ProcAfter}
 use Rattle.ti_code.specs.Programs.{Code}
 use Rattle.ti_machine.specs.ProcView.{ProcView, HasNext}
+use Rattle.ti_pending.specs.Views.{proc_view_after}
 use Rattle.ti_pending.specs.declared.pending.PendingProc.{PendingProc}
-
--- process i of the code, after the answers of its entries other than an end and a fault
-abbrev pub proc_view_after : Code → RunConfig → List Entry → ℕ → ProcView
-proc_view_after code s es i = record { code = code; procs = s.procs; fuel = s.fuel; number = i; answers = answers_of i es; asks = false }
 
 -- the process was asked for its next action, or not
 abbrev pub with_awaits : Bool → PendingProc → PendingProc

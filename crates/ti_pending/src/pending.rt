@@ -8,7 +8,7 @@ ghost use Rattle.ti_eval.specs.Forms.{IsFormedAnswer};
 ghost use Rattle.ti_machine.specs.ProcView.{CanAdvance, HasNext, is_act};
 ghost use Rattle.ti_store.specs.Stores.{config_of};
 ghost use Rattle.ti_pending.specs.UpToDate.{with_awaits, IsUpToDate};
-ghost use Rattle.ti_pending.specs.Acting.{action_for, next_action, ReceivesAnswer, RunsCode, Progresses, RefusalLeaves};
+ghost use Rattle.ti_pending.specs.Acting.{action_for, next_action, ReceivesAnswer, CodePremises, Progresses, RefusalLeaves};
 
 use std::alloc::Global;
 use ti_base::{Action, Answer, Memory, Next, Place};
@@ -91,7 +91,7 @@ impl PendingProc {
         store: &mut Store<J>,
         number: u32,
     ) -> Result<(), ActErr>
-        requires runs { RunsCode self.old.process.code (config_of store.old) }
+        requires runs { CodePremises self.old.process.code (config_of store.old) }
         requires number { number < store.old.procs }
         requires run { IsRun (config_of store.old) store.old.entries }
         requires seated { IsUpToDate self.old.process.code (config_of store.old) store.old.entries number self.old }

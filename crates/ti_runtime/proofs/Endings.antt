@@ -17,7 +17,8 @@ use Rattle.ti_pending.specs.declared.pending.PendingProc.{PendingProc}
 use Rattle.ti_runtime.specs.declared.step.RunStop.TheVariants as stop
 use Rattle.ti_runtime.specs.declared.runner.How.TheVariants as how
 use Rattle.ti_runtime.specs.declared.runner.RunEnd.{RunEnd}
-use Rattle.ti_pending.specs.UpToDate.{proc_view_after, IsBlocked, AllUpToDate}
+use Rattle.ti_pending.specs.Views.{proc_view_after}
+use Rattle.ti_pending.specs.UpToDate.{IsBlocked, AllUpToDate}
 use Rattle.ti_runtime.specs.Ran.{AreFinishedCounts, Ran}
 use Rattle.ti_runtime.specs.Mirrors.Waiting.{IsBlockedOrEnded}
 use Rattle.ti_runtime.specs.Mirrors.Processes.{IsSoloState, HasStopped, SoloOutcome}

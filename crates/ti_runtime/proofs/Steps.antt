@@ -11,8 +11,8 @@ use Rattle.ti_code.specs.Programs.{Code}
 use Rattle.ti_machine.specs.ProcView.{HasNext}
 use Rattle.ti_pending.specs.declared.pending.PendingProc.{PendingProc}
 use Rattle.ti_pending.specs.UpToDate.{with_awaits, IsUpToDate}
-use Rattle.ti_pending.specs.Acting.{next_action, steps_left, Progresses, RunsCode, RefusalLeaves}
-use Rattle.ti_pending.proofs.Lemmas.{seated_asking, code_of}
+use Rattle.ti_pending.specs.Acting.{next_action, steps_left, Progresses, CodePremises, RefusalLeaves}
+use Rattle.ti_pending.proofs.Lemmas.{seated_here, went_from, refused_from}
 use Rattle.ti_runtime.specs.declared.cursor.TurnOutcome.{TurnOutcome}
 use Rattle.ti_runtime.specs.declared.cursor.TurnOutcome.TheVariants as turn
 use Rattle.ti_runtime.specs.declared.step.RunStop.TheVariants as stop
@@ -26,39 +26,12 @@ module _ (code : Code) (st : StoreState) (i : ℕ) (old : PendingProc) (y : IsUp
   abbrev es : List Entry
   es = st.entries
 
-  -- ---- what the action asks for
-
-  seated_here : IsUpToDate code s es i here
-  seated_here = subst (IsUpToDate code s es i) (sym is) (seated_asking code s es i old y asks)
-
-  same_code : code ≡ here.process.code
-  same_code = code_of code s es i here seated_here
-
-  pub runs : IsOpen code st → RunsCode here.process.code s
-  runs o = subst (λ c. RunsCode c s) same_code o.may.runs
-
-  pub seated : IsUpToDate here.process.code s es i here
-  seated = subst (λ c. IsUpToDate c s es i here) same_code seated_here
-
-  pub unended : here.ended ≡ false
-  unended = ap (λ (x : PendingProc). x.ended) is ∙ u
-
-  pub has_next : (n : Next) → HasNext old.process n → HasNext here.process n
-  has_next n has = subst (λ (x : PendingProc). HasNext x.process n) (sym is) has
-
-  -- ---- what the step leaves
-
   pub went : (n : Next) (all : List Entry) (new : PendingProc) → (g : Progresses here.process.code s es i here all new) × (g.takes.entry.act ≡ next_action n)
       → (t : TurnOutcome) → t ≡ (if is_arrival (next_action n) then turn.Arrived else turn.Progressed) → TurnLeaves code s es i old all new (Ok t)
   went n all new g t e = by (is_arrival (next_action n)) refl e
     where
       gone : Progresses code s es i old all new
-      gone = record {
-        takes = g.0.takes;
-        no_fault = g.0.no_fault;
-        seated = subst (λ c. IsUpToDate c s all i new) (sym same_code) g.0.seated;
-        lighter = subst (λ k. steps_left s new < k) (ap (steps_left s) is) g.0.lighter;
-      }
+      gone = went_from code s es i old y asks here is all new g.0
 
       by : (b : Bool) → is_arrival (next_action n) ≡ b → t ≡ (if b then turn.Arrived else turn.Progressed) → TurnLeaves code s es i old all new (Ok t)
       by true a h = subst (λ x. TurnLeaves code s es i old all new (Ok x)) (sym h) (gone, ap is_arrival g.1 ∙ a)
@@ -68,7 +41,7 @@ module _ (code : Code) (st : StoreState) (i : ℕ) (old : PendingProc) (y : IsUp
     kept : all ≡ es → DoesNothing code s es i old all new
     kept same = record {
       entries = same;
-      seated = subst (IsUpToDate code s es i) (sym stays_here) seated_here;
+      seated = subst (IsUpToDate code s es i) (sym stays_here) (seated_here code s es i old y asks here is);
       as_many = ap (steps_left s) (stays_here ∙ is);
     }
 
@@ -76,7 +49,9 @@ module _ (code : Code) (st : StoreState) (i : ℕ) (old : PendingProc) (y : IsUp
     waited r = (kept r.0, r.1)
 
     pub faulted : (kind : FaultKind) → RefusalLeaves here.process.code st i here all (err.Faulted kind) → TurnLeaves code s es i old all new (Err stop.Faulted)
-    faulted kind r = ((r.0, r.1), subst (λ x. IsUpToDate code s all i x) (sym stays_here) (subst (λ c. IsUpToDate c s all i here) (sym same_code) r.2))
+    faulted kind r =
+        let own = refused_from code s es i old y asks here is st all (err.Faulted kind) r in
+        ((own.0, own.1), subst (λ x. IsUpToDate code s all i x) (sym stays_here) own.2)
 
     -- out of memory it is where it was
     pub stays : all ≡ es → TurnLeaves code s es i old all new (Err stop.Memory)

@@ -19,7 +19,7 @@ use Rattle.ti_machine.specs.ProcView.{HasNext}
 use Rattle.ti_pending.specs.declared.pending.PendingProc.{PendingProc}
 use Rattle.ti_runtime.specs.Mirrors.Tasks.{entries_in}
 use Rattle.ti_pending.specs.UpToDate.{with_awaits, IsUpToDate}
-use Rattle.ti_pending.specs.Acting.{next_place, next_action, ReceivesAnswer, RunsCode}
+use Rattle.ti_pending.specs.Acting.{next_place, next_action, ReceivesAnswer, CodePremises}
 use Rattle.ti_runtime.specs.Mirrors.Processes.{RunPremises}
 use Rattle.ti_pending.proofs.Lemmas.{OneNext, seated_with, seated_asking, seated_still, gone}
 
@@ -84,7 +84,7 @@ pub seated_gone : (code : Code) (s : RunConfig) (st new : StoreState) (i : ℕ) 
     → IsDone st i (next_place n) (next_action n) answer new → (asks : Bool) (pending : PendingProc) → ReceivesAnswer (with_awaits asks old) n answer pending
     → IsUpToDate code s new.entries i pending
 seated_gone code s st new i old may same run l u y one n has answer d asks pending m =
-    let runs : RunsCode code (config_of st) = subst (RunsCode code) (sym same) may.runs in
+    let runs : CodePremises code (config_of st) = subst (CodePremises code) (sym same) may.runs in
     let here = seated_asking code (config_of st) st.entries i old (subst (λ v. IsUpToDate code v st.entries i old) (sym same) y) asks in
     let inside = subst (λ (v : RunConfig). i < v.procs) (sym same) l in
     subst (λ v. IsUpToDate code v new.entries i pending) same (gone code st runs run i inside (with_awaits asks old) here u one n has answer new d pending m)

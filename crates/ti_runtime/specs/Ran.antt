@@ -6,7 +6,7 @@ use Rattle.ti_lang.specs.Meaning.Histories.{has_fault}
 use Rattle.ti_lang.specs.Meaning.Runs.{IsRun, IsSolo, AllEnded}
 use Rattle.ti_code.specs.Programs.{Code}
 use Rattle.ti_machine.specs.ProcView.{HasFinished}
-pub use Rattle.ti_pending.specs.UpToDate.{proc_view_after}
+pub use Rattle.ti_pending.specs.Views.{proc_view_after}
 use Rattle.ti_runtime.specs.declared.runner.How.TheVariants.{Ended, Faulted, Memory}
 use Rattle.ti_runtime.specs.declared.runner.RunEnd.{RunEnd}
 

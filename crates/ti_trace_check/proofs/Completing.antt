@@ -14,7 +14,7 @@ use Rattle.ti_store.specs.Conditions.{IsWithinRunLimits}
 use Rattle.ti_store.specs.Stores.{StoreState, config_of}
 use Rattle.ti_watch.specs.Reports.{trace_text}
 use Rattle.ti_pending.specs.declared.pending.PendingProc.{PendingProc}
-use Rattle.ti_pending.specs.Acting.{RunsCode}
+use Rattle.ti_pending.specs.Acting.{CodePremises}
 use Rattle.ti_trace_check.specs.declared.replay.ReplayEnd.{ReplayEnd}
 use Rattle.ti_trace_check.specs.declared.verdict.Verdict.{Verdict}
 use Rattle.ti_trace_check.specs.declared.verdict.Verdict.TheVariants.{Run, NoRun}
@@ -31,7 +31,7 @@ pub opens : (code : Code) (store : StoreState) (s : RunConfig) → config_of sto
     → Follows code s.program → OfEveryRun AnswersFit s.program → AcceptsActions code store
 opens code store s same unhalted within follows fit = record {
   unhalted = unhalted;
-  runs = subst (RunsCode code) (sym same) (record { within = within; follows = follows; fit = fit });
+  runs = subst (CodePremises code) (sym same) (record { within = within; follows = follows; fit = fit });
 }
 
 -- the processes stand there

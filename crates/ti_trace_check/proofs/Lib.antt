@@ -2,7 +2,6 @@ pub mod FirstLines
 pub mod Names
 pub mod LineEnds
 pub mod Texts
-pub mod Ahead
 pub mod Steps
 pub mod Turns
 pub mod OfLines

@@ -19,7 +19,7 @@ use Rattle.ti_runtime.specs.declared.scheduler.SoloScheduler.{SoloScheduler}
 use Rattle.ti_runtime.specs.declared.runner.How.{How}
 use Rattle.ti_runtime.specs.declared.runner.How.TheVariants as how
 use Rattle.ti_pending.specs.UpToDate.{IsUpToDate, AllUpToDate, IsBlocked}
-use Rattle.ti_pending.specs.Acting.{TakesEntry, steps_left, all_steps_left, Progresses, RunsCode}
+use Rattle.ti_pending.specs.Acting.{TakesEntry, steps_left, all_steps_left, Progresses, CodePremises}
 use Rattle.ti_runtime.specs.Mirrors.Waiting.{IsBlockedOrEnded}
 
 -- ---- steps
@@ -45,7 +45,7 @@ TurnLeaves code s es i old all new (Err why) = StopsAt s es i all why × IsUpToD
 
 -- the run is one of the code; and what holds of every run
 pub record RunPremises (code : Code) (s : RunConfig) : Type 0 where
-  pub runs : RunsCode code s
+  pub runs : CodePremises code s
   pub aligned : OfEveryRun IsAlignedRun s.program
   pub balance : OfEveryRun RoundsBalance s.program
 

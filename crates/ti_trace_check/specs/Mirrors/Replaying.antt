@@ -1,29 +1,17 @@
 -- Mirrors the code; only contracts of private functions cite it, so nobody has to believe it.
 -- The state of each process after the entries of a run so far, and what one line does to it.
-use Rattle.std.specs.Prelude.{◌≡◌, ◌⊎◌, ℕ, ◌+◌, ◌-◌, ◌<◌, ◌≤◌, Bool, true, false, if◌then◌else◌, List, [], ◌∷◌, ◌++◌, length, take, sum_by, slice_index_or}
-use Rattle.ti_base.specs.declared.place.Place.{Place}
-use Rattle.ti_base.specs.declared.action.Action.{Action}
-use Rattle.ti_base.specs.declared.action.Action.TheVariants as act
-use Rattle.ti_base.specs.declared.entry.Answer.{Answer}
+use Rattle.std.specs.Prelude.{◌≡◌, ◌⊎◌, ℕ, ◌+◌, ◌<◌, ◌≤◌, Bool, true, false, if◌then◌else◌, List, [], ◌∷◌, ◌++◌, length, take}
 use Rattle.ti_base.specs.declared.entry.Entry.{Entry}
-use Rattle.ti_base.specs.declared.entry.Next.{Next}
-use Rattle.ti_base.specs.declared.entry.Next.TheVariants as next
-use Rattle.ti_lang.specs.Meaning.Processes.{RunConfig, Process}
-use Rattle.ti_lang.specs.Meaning.NextStep.{IsNext}
-use Rattle.ti_lang.specs.Meaning.Histories.{answers_of, has_end, has_fault}
-use Rattle.ti_lang.specs.Meaning.Runs.{ProcAfter, CanTake, IsRun}
-use Rattle.ti_align.specs.Alignment.{OfEveryRun}
-use Rattle.ti_align.specs.Answering.{AnswersFit}
+use Rattle.ti_lang.specs.Meaning.Processes.{RunConfig}
+use Rattle.ti_lang.specs.Meaning.Histories.{has_fault}
+use Rattle.ti_lang.specs.Meaning.Runs.{CanTake, IsRun}
 use Rattle.ti_code.specs.Programs.{Code}
-use Rattle.ti_code.specs.Follows.{Follows}
-use Rattle.ti_machine.specs.ProcView.{ProcView, HasNext, is_act}
-use Rattle.ti_store.specs.Conditions.{IsWithinRunLimits}
 use Rattle.ti_store.specs.Stores.{StoreState, config_of}
 use Rattle.ti_watch.specs.Lines.{line_room}
 use Rattle.ti_watch.specs.Reports.{entry_text, trace_text}
 use Rattle.ti_pending.specs.declared.pending.PendingProc.{PendingProc}
 use Rattle.ti_pending.specs.UpToDate.{IsUpToDate, AllUpToDate}
-use Rattle.ti_pending.specs.Acting.{RunsCode, TakesEntry, steps_left, all_steps_left}
+use Rattle.ti_pending.specs.Acting.{CodePremises, TakesEntry, steps_left, all_steps_left}
 use Rattle.ti_trace_check.specs.declared.replay.ReplayEnd.{ReplayEnd}
 use Rattle.ti_trace_check.specs.declared.verdict.Verdict.{Verdict}
 use Rattle.ti_trace_check.specs.declared.verdict.Verdict.TheVariants.{Run, NoRun}
@@ -62,7 +50,7 @@ turns_left s es processes = all_steps_left s processes + faults_left es
 -- a store that accepts actions, of a program that the code follows
 pub record AcceptsActions (code : Code) (store : StoreState) : Type 0 where
   pub unhalted : store.halted ≡ false
-  pub runs : RunsCode code (config_of store)
+  pub runs : CodePremises code (config_of store)
 
 -- the run continued by the entry of the line
 pub record ReplaysEntry (code : Code) (s : RunConfig) (es : List Entry) (old : List PendingProc) (all : List Entry) (new : List PendingProc)

@@ -2,8 +2,8 @@ use Rattle.std.proofs.Common.{◌∙◌, false, ap, refl}
 use Rattle.ti_machine.specs.ProcView.{is_act}
 use Rattle.ti_store.specs.Stores.{config_of}
 use Rattle.ti_pending.specs.declared.pending.PendingProc.{PendingProc}
-use Rattle.ti_pending.proofs.Lemmas.{code_of}
-use Rattle.ti_runtime.proofs.Steps.{runs, seated, unended, has_next, went, waited, faulted, stays}
+use Rattle.ti_pending.proofs.Lemmas.{code_of, runs_own, seated_own, next_own}
+use Rattle.ti_runtime.proofs.Steps.{went, waited, faulted, stays}
 use Rattle.ti_runtime.proofs.step.step_in.Goals as goal
 
 pub advance-requires-clause-code : goal.advance-requires-clause-code
@@ -14,20 +14,19 @@ advance-requires-clause-goes g c = (c.requires.seated.next, c.requires.seated.ha
 
 pub act_in-requires-clause-runs : goal.act_in-requires-clause-runs
 act_in-requires-clause-runs g c =
-    runs c.args.code.now c.args.store.now c.args.number c.args.pending.now c.requires.seated c.if-pending.false (is_act c.in-Ok.next) c.advance.new.self c.in-Ok.ensures.asks c.requires.open
+    runs_own c.args.code.now (config_of c.args.store.now) c.args.store.now.entries c.args.number c.args.pending.now c.requires.seated (is_act c.in-Ok.next) c.advance.new.self c.in-Ok.ensures.asks c.requires.open.may.runs
 
 pub act_in-requires-clause-seated : goal.act_in-requires-clause-seated
 act_in-requires-clause-seated g c =
-    seated c.args.code.now c.args.store.now c.args.number c.args.pending.now c.requires.seated c.if-pending.false (is_act c.in-Ok.next) c.advance.new.self c.in-Ok.ensures.asks
+    seated_own c.args.code.now (config_of c.args.store.now) c.args.store.now.entries c.args.number c.args.pending.now c.requires.seated (is_act c.in-Ok.next) c.advance.new.self c.in-Ok.ensures.asks
 
 pub act_in-requires-clause-unended : goal.act_in-requires-clause-unended
 act_in-requires-clause-unended g c =
-    unended c.args.code.now c.args.store.now c.args.number c.args.pending.now c.requires.seated c.if-pending.false (is_act c.in-Ok.next) c.advance.new.self c.in-Ok.ensures.asks
+    ap (λ (x : PendingProc). x.ended) c.in-Ok.ensures.asks ∙ c.if-pending.false
 
 pub act_in-requires-clause-next : goal.act_in-requires-clause-next
 act_in-requires-clause-next g c =
-    has_next c.args.code.now c.args.store.now c.args.number c.args.pending.now c.requires.seated c.if-pending.false (is_act c.in-Ok.next) c.advance.new.self c.in-Ok.ensures.asks
-    c.in-Ok.next c.in-Ok.ensures.next
+    next_own c.args.code.now (config_of c.args.store.now) c.args.store.now.entries c.args.number c.args.pending.now c.requires.seated (is_act c.in-Ok.next) c.advance.new.self c.in-Ok.ensures.asks c.in-Ok.next c.in-Ok.ensures.next
 
 pub act_in-requires-clause-asks : goal.act_in-requires-clause-asks
 act_in-requires-clause-asks g c = λ e. ap (λ (x : PendingProc). x.process.asks) c.in-Ok.ensures.asks ∙ e

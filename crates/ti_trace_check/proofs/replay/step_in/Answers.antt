@@ -3,9 +3,8 @@ use Rattle.ti_machine.specs.ProcView.{is_act}
 use Rattle.ti_store.specs.Stores.{config_of}
 use Rattle.ti_store.specs.declared.act_err.ActErr.TheVariants as err
 use Rattle.ti_pending.specs.declared.pending.PendingProc.{PendingProc}
-use Rattle.ti_pending.proofs.Lemmas.{code_of}
-use Rattle.ti_trace_check.proofs.Ahead.{runs_own, seated_own, next_own, went_from, refused_from}
-use Rattle.ti_trace_check.proofs.Steps.{at_end, went, faulted, waits, stopped}
+use Rattle.ti_pending.proofs.Lemmas.{code_of, runs_own, seated_own, next_own, went_from, refused_from}
+use Rattle.ti_trace_check.proofs.Steps.{went, faulted, waits, stopped}
 use Rattle.ti_trace_check.proofs.replay.step_in.Goals as goal
 
 pub advance-requires-clause-code : goal.advance-requires-clause-code

@@ -9,8 +9,8 @@ use Rattle.ti_code.specs.Programs.{Code}
 use Rattle.ti_machine.specs.ProcView.{HasNext}
 use Rattle.ti_pending.specs.declared.pending.PendingProc.{PendingProc}
 use Rattle.ti_pending.specs.UpToDate.{with_awaits, IsUpToDate}
-use Rattle.ti_pending.specs.Acting.{RunsCode, steps_left, Progresses, RefusalLeaves}
-use Rattle.ti_pending.proofs.Lemmas.{seated_asking, code_of}
+use Rattle.ti_pending.specs.Acting.{CodePremises, steps_left, Progresses, RefusalLeaves}
+use Rattle.ti_pending.proofs.Acted.{seated_asking, code_of}
 
 module _ (code : Code) (s : RunConfig) (es : List Entry) (i : ℕ) (old : PendingProc) (y : IsUpToDate code s es i old) (asks : Bool) (here : PendingProc) (is : here ≡ with_awaits asks old) where
   -- it is up to date still
@@ -22,8 +22,8 @@ module _ (code : Code) (s : RunConfig) (es : List Entry) (i : ℕ) (old : Pendin
 
   -- ---- what the action asks for
 
-  pub runs_own : RunsCode code s → RunsCode here.process.code s
-  runs_own o = subst (λ c. RunsCode c s) same_code o
+  pub runs_own : CodePremises code s → CodePremises here.process.code s
+  runs_own o = subst (λ c. CodePremises c s) same_code o
 
   pub seated_own : IsUpToDate here.process.code s es i here
   seated_own = subst (λ c. IsUpToDate c s es i here) same_code seated_here
