@@ -31,7 +31,9 @@ module _ (code : Code) (st : StoreState) (i : ℕ) (old : PendingProc) (y : IsUp
   went n all new g t e = by (is_arrival (next_action n)) refl e
     where
       gone : Progresses code s es i old all new
-      gone = went_from code s es i old y asks here is all new g.0
+      gone =
+          let from = went_from code s es i old y asks here is all new g.0 in
+          record { takes = g.0.takes; no_fault = g.0.no_fault; seated = from.seated; lighter = from.lighter }
 
       by : (b : Bool) → is_arrival (next_action n) ≡ b → t ≡ (if b then turn.Arrived else turn.Progressed) → TurnLeaves code s es i old all new (Ok t)
       by true a h = subst (λ x. TurnLeaves code s es i old all new (Ok x)) (sym h) (gone, ap is_arrival g.1 ∙ a)
