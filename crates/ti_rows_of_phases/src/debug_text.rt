@@ -59,63 +59,63 @@ pub(crate) enum Shape {
 
 /// How a node is printed, with its parts in order, of which there are at most six.
 #[derive(Drop)]
-pub(crate) struct Form<N> {
+pub(crate) struct NodeText<N> {
     shape: Shape,
     parts: [Option<N>; 6],
 }
 
-impl<N: Copy> Form<N> {
+impl<N: Copy> NodeText<N> {
     /// A leaf.
-    pub(crate) fn leaf() -> Form<N> {
-        Form {
+    pub(crate) fn leaf() -> NodeText<N> {
+        NodeText {
             shape: Shape::Leaf,
             parts: [None, None, None, None, None, None],
         }
     }
 
     /// A list.
-    pub(crate) fn list() -> Form<N> {
-        Form {
+    pub(crate) fn list() -> NodeText<N> {
+        NodeText {
             shape: Shape::List,
             parts: [None, None, None, None, None, None],
         }
     }
 
     /// A node without parts.
-    pub(crate) fn of0(text: &'static str) -> Form<N> {
-        Form {
+    pub(crate) fn of0(text: &'static str) -> NodeText<N> {
+        NodeText {
             shape: Shape::Parts(text),
             parts: [None, None, None, None, None, None],
         }
     }
 
     /// A node with one part.
-    pub(crate) fn of1(text: &'static str, first: N) -> Form<N> {
-        Form {
+    pub(crate) fn of1(text: &'static str, first: N) -> NodeText<N> {
+        NodeText {
             shape: Shape::Parts(text),
             parts: [Some(first), None, None, None, None, None],
         }
     }
 
     /// A node with two parts.
-    pub(crate) fn of2(text: &'static str, first: N, second: N) -> Form<N> {
-        Form {
+    pub(crate) fn of2(text: &'static str, first: N, second: N) -> NodeText<N> {
+        NodeText {
             shape: Shape::Parts(text),
             parts: [Some(first), Some(second), None, None, None, None],
         }
     }
 
     /// A node with three parts.
-    pub(crate) fn of3(text: &'static str, first: N, second: N, third: N) -> Form<N> {
-        Form {
+    pub(crate) fn of3(text: &'static str, first: N, second: N, third: N) -> NodeText<N> {
+        NodeText {
             shape: Shape::Parts(text),
             parts: [Some(first), Some(second), Some(third), None, None, None],
         }
     }
 
     /// A node with four parts.
-    pub(crate) fn of4(text: &'static str, first: N, second: N, third: N, fourth: N) -> Form<N> {
-        Form {
+    pub(crate) fn of4(text: &'static str, first: N, second: N, third: N, fourth: N) -> NodeText<N> {
+        NodeText {
             shape: Shape::Parts(text),
             parts: [
                 Some(first),
@@ -136,8 +136,8 @@ impl<N: Copy> Form<N> {
         third: N,
         fourth: N,
         fifth: N,
-    ) -> Form<N> {
-        Form {
+    ) -> NodeText<N> {
+        NodeText {
             shape: Shape::Parts(text),
             parts: [
                 Some(first),
@@ -159,8 +159,8 @@ impl<N: Copy> Form<N> {
         fourth: N,
         fifth: N,
         sixth: N,
-    ) -> Form<N> {
-        Form {
+    ) -> NodeText<N> {
+        NodeText {
             shape: Shape::Parts(text),
             parts: [
                 Some(first),

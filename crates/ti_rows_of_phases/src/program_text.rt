@@ -1,6 +1,6 @@
 // The forms in which resolved programs are printed.
 
-use crate::debug_text::{Form, Leaf, Node, Shape, leaf_text};
+use crate::debug_text::{Leaf, Node, NodeText, Shape, leaf_text};
 use std::alloc::{AllocError, Global};
 use ti_lang::program::{
     Class, Declared, Dims, Expr, Field, InScope, Init, Method, Param, Params, Printed, ProgramData,
@@ -53,9 +53,9 @@ pub(crate) enum ProgramNode<'a> {
 
 impl<'a> ProgramNode<'a> {
     /// How this node is printed, with its parts.
-    fn form(self) -> Form<ProgramNode<'a>> {
+    fn form(self) -> NodeText<ProgramNode<'a>> {
         match self {
-            ProgramNode::Leaf(_) => Form::leaf(),
+            ProgramNode::Leaf(_) => NodeText::leaf(),
             ProgramNode::Ty(node) => ty(node),
             ProgramNode::TypeUse(node) => type_use(node),
             ProgramNode::Declared(node) => declared(node),
@@ -79,7 +79,7 @@ impl<'a> ProgramNode<'a> {
             ProgramNode::MethodEnd(method) => method_end(method),
             ProgramNode::MaybeExpr(node) => maybe_expr(node),
             ProgramNode::MaybeStmt(node) => maybe_stmt(node),
-            _ => Form::list(),
+            _ => NodeText::list(),
         }
     }
 }
@@ -124,34 +124,34 @@ impl<'a> Node for ProgramNode<'a> {
 }
 
 /// The form of a resolved type.
-fn ty(ty: &Ty) -> Form<ProgramNode<'_>> {
+fn ty(ty: &Ty) -> NodeText<ProgramNode<'_>> {
     match ty {
-        Ty::Int => Form::of0("Int"),
-        Ty::Long => Form::of0("Long"),
-        Ty::Bool => Form::of0("Bool"),
-        Ty::Pt(dim) => Form::of1("Pt(@)", ProgramNode::Leaf(Leaf::Number(i64::from(*dim)))),
-        Ty::Rc(dim) => Form::of1("Rc(@)", ProgramNode::Leaf(Leaf::Number(i64::from(*dim)))),
-        Ty::Dm(dim) => Form::of1("Dm(@)", ProgramNode::Leaf(Leaf::Number(i64::from(*dim)))),
-        Ty::Region => Form::of0("Region"),
-        Ty::Class { class, local } => Form::of2(
+        Ty::Int => NodeText::of0("Int"),
+        Ty::Long => NodeText::of0("Long"),
+        Ty::Bool => NodeText::of0("Bool"),
+        Ty::Pt(dim) => NodeText::of1("Pt(@)", ProgramNode::Leaf(Leaf::Number(i64::from(*dim)))),
+        Ty::Rc(dim) => NodeText::of1("Rc(@)", ProgramNode::Leaf(Leaf::Number(i64::from(*dim)))),
+        Ty::Dm(dim) => NodeText::of1("Dm(@)", ProgramNode::Leaf(Leaf::Number(i64::from(*dim)))),
+        Ty::Region => NodeText::of0("Region"),
+        Ty::Class { class, local } => NodeText::of2(
             "Class { class: @, local: @ }",
             ProgramNode::Leaf(Leaf::Number(i64::from(*class))),
             ProgramNode::Leaf(Leaf::Truth(*local)),
         ),
-        Ty::Grid { elem, dim, local } => Form::of3(
+        Ty::Grid { elem, dim, local } => NodeText::of3(
             "Grid { elem: @, dim: @, local: @ }",
             ProgramNode::Ty(elem),
             ProgramNode::Leaf(Leaf::Number(i64::from(*dim))),
             ProgramNode::Leaf(Leaf::Truth(*local)),
         ),
-        Ty::Null => Form::of0("Null"),
-        Ty::Void => Form::of0("Void"),
+        Ty::Null => NodeText::of0("Null"),
+        Ty::Void => NodeText::of0("Void"),
     }
 }
 
 /// The form of a type as the source uses it, with its qualifiers and brackets.
-fn type_use(ty: &TypeUse) -> Form<ProgramNode<'_>> {
-    Form::of4(
+fn type_use(ty: &TypeUse) -> NodeText<ProgramNode<'_>> {
+    NodeText::of4(
         "TypeUse { ty: @, single: @, qualifiers: @, grids: @ }",
         ProgramNode::Ty(&ty.ty),
         ProgramNode::Leaf(Leaf::Truth(ty.single)),
@@ -161,20 +161,20 @@ fn type_use(ty: &TypeUse) -> Form<ProgramNode<'_>> {
 }
 
 /// The form of how a variable was declared: with a type, or by `foreach`.
-fn declared(declared: &Declared) -> Form<ProgramNode<'_>> {
+fn declared(declared: &Declared) -> NodeText<ProgramNode<'_>> {
     match declared {
-        Declared::Typed { single, ty } => Form::of2(
+        Declared::Typed { single, ty } => NodeText::of2(
             "Typed { single: @, ty: @ }",
             ProgramNode::Leaf(Leaf::Truth(*single)),
             ProgramNode::Ty(ty),
         ),
-        Declared::Foreach => Form::of0("Foreach"),
+        Declared::Foreach => NodeText::of0("Foreach"),
     }
 }
 
 /// The form of a use of a variable: its number and its declaration.
-fn variable(variable: &Variable) -> Form<ProgramNode<'_>> {
-    Form::of2(
+fn variable(variable: &Variable) -> NodeText<ProgramNode<'_>> {
+    NodeText::of2(
         "Variable { number: @, declared: @ }",
         ProgramNode::Leaf(Leaf::Number(i64::from(variable.number))),
         ProgramNode::Declared(&variable.declared),
@@ -182,31 +182,31 @@ fn variable(variable: &Variable) -> Form<ProgramNode<'_>> {
 }
 
 /// The form of an expression.
-fn expr(e: &Expr) -> Form<ProgramNode<'_>> {
+fn expr(e: &Expr) -> NodeText<ProgramNode<'_>> {
     match e {
-        Expr::Int(place, n) => Form::of2(
+        Expr::Int(place, n) => NodeText::of2(
             "Int(@, @)",
             ProgramNode::Leaf(Leaf::Place(*place)),
             ProgramNode::Leaf(Leaf::Number(i64::from(*n))),
         ),
-        Expr::Long(place, n) => Form::of2(
+        Expr::Long(place, n) => NodeText::of2(
             "Long(@, @)",
             ProgramNode::Leaf(Leaf::Place(*place)),
             ProgramNode::Leaf(Leaf::Number(*n)),
         ),
-        Expr::Bool(place, truth) => Form::of2(
+        Expr::Bool(place, truth) => NodeText::of2(
             "Truth(@, @)",
             ProgramNode::Leaf(Leaf::Place(*place)),
             ProgramNode::Leaf(Leaf::Truth(*truth)),
         ),
-        Expr::Null(place) => Form::of1("Null(@)", ProgramNode::Leaf(Leaf::Place(*place))),
-        Expr::This(place) => Form::of1("This(@)", ProgramNode::Leaf(Leaf::Place(*place))),
-        Expr::Variable(place, variable) => Form::of2(
+        Expr::Null(place) => NodeText::of1("Null(@)", ProgramNode::Leaf(Leaf::Place(*place))),
+        Expr::This(place) => NodeText::of1("This(@)", ProgramNode::Leaf(Leaf::Place(*place))),
+        Expr::Variable(place, variable) => NodeText::of2(
             "Variable(@, @)",
             ProgramNode::Leaf(Leaf::Place(*place)),
             ProgramNode::Variable(variable),
         ),
-        Expr::OwnField(place, field) => Form::of2(
+        Expr::OwnField(place, field) => NodeText::of2(
             "OwnField(@, @)",
             ProgramNode::Leaf(Leaf::Place(*place)),
             ProgramNode::Leaf(Leaf::Number(i64::from(*field))),
@@ -215,7 +215,7 @@ fn expr(e: &Expr) -> Form<ProgramNode<'_>> {
             place,
             method,
             args,
-        } => Form::of3(
+        } => NodeText::of3(
             "Call { place: @, method: @, args: @ }",
             ProgramNode::Leaf(Leaf::Place(*place)),
             ProgramNode::Leaf(Leaf::Number(i64::from(*method))),
@@ -225,20 +225,26 @@ fn expr(e: &Expr) -> Form<ProgramNode<'_>> {
             place,
             method,
             args,
-        } => Form::of3(
+        } => NodeText::of3(
             "OwnCall { place: @, method: @, args: @ }",
             ProgramNode::Leaf(Leaf::Place(*place)),
             ProgramNode::Leaf(Leaf::Number(i64::from(*method))),
             ProgramNode::Exprs(args),
         ),
-        Expr::ThisProc(place) => Form::of1("ThisProc(@)", ProgramNode::Leaf(Leaf::Place(*place))),
-        Expr::NumProcs(place) => Form::of1("NumProcs(@)", ProgramNode::Leaf(Leaf::Place(*place))),
-        Expr::Point(place, parts) => Form::of2(
+        Expr::ThisProc(place) => NodeText::of1(
+            "ThisProc(@)",
+            ProgramNode::Leaf(Leaf::Place(*place)),
+        ),
+        Expr::NumProcs(place) => NodeText::of1(
+            "NumProcs(@)",
+            ProgramNode::Leaf(Leaf::Place(*place)),
+        ),
+        Expr::Point(place, parts) => NodeText::of2(
             "Point(@, @)",
             ProgramNode::Leaf(Leaf::Place(*place)),
             ProgramNode::Exprs(parts),
         ),
-        Expr::Rect(place, ranges) => Form::of2(
+        Expr::Rect(place, ranges) => NodeText::of2(
             "Rect(@, @)",
             ProgramNode::Leaf(Leaf::Place(*place)),
             ProgramNode::Ranges(ranges),
@@ -247,7 +253,7 @@ fn expr(e: &Expr) -> Form<ProgramNode<'_>> {
             place,
             operator,
             operand,
-        } => Form::of3(
+        } => NodeText::of3(
             "Unary { place: @, operator: @, operand: @ }",
             ProgramNode::Leaf(Leaf::Place(*place)),
             ProgramNode::Leaf(Leaf::Unary(*operator)),
@@ -258,14 +264,14 @@ fn expr(e: &Expr) -> Form<ProgramNode<'_>> {
             operator,
             left,
             right,
-        } => Form::of4(
+        } => NodeText::of4(
             "Binary { place: @, operator: @, left: @, right: @ }",
             ProgramNode::Leaf(Leaf::Place(*place)),
             ProgramNode::Leaf(Leaf::Binary(*operator)),
             ProgramNode::Expr(left),
             ProgramNode::Expr(right),
         ),
-        Expr::Cast { place, to, operand } => Form::of3(
+        Expr::Cast { place, to, operand } => NodeText::of3(
             "Cast { place: @, to: @, operand: @ }",
             ProgramNode::Leaf(Leaf::Place(*place)),
             ProgramNode::TypeUse(to),
@@ -275,7 +281,7 @@ fn expr(e: &Expr) -> Form<ProgramNode<'_>> {
             place,
             receiver,
             name,
-        } => Form::of3(
+        } => NodeText::of3(
             "Select { place: @, receiver: @, name: @ }",
             ProgramNode::Leaf(Leaf::Place(*place)),
             ProgramNode::Expr(receiver),
@@ -286,7 +292,7 @@ fn expr(e: &Expr) -> Form<ProgramNode<'_>> {
             receiver,
             name,
             args,
-        } => Form::of4(
+        } => NodeText::of4(
             "Member { place: @, receiver: @, name: @, args: @ }",
             ProgramNode::Leaf(Leaf::Place(*place)),
             ProgramNode::Expr(receiver),
@@ -297,7 +303,7 @@ fn expr(e: &Expr) -> Form<ProgramNode<'_>> {
             place,
             receiver,
             indices,
-        } => Form::of3(
+        } => NodeText::of3(
             "Index { place: @, receiver: @, indices: @ }",
             ProgramNode::Leaf(Leaf::Place(*place)),
             ProgramNode::Expr(receiver),
@@ -307,14 +313,14 @@ fn expr(e: &Expr) -> Form<ProgramNode<'_>> {
 }
 
 /// The form of a range, which is one dimension of a rectangular domain.
-fn range(range: &Range) -> Form<ProgramNode<'_>> {
+fn range(range: &Range) -> NodeText<ProgramNode<'_>> {
     match range {
-        Range::Plain { low, high } => Form::of2(
+        Range::Plain { low, high } => NodeText::of2(
             "Plain { low: @, high: @ }",
             ProgramNode::Expr(low),
             ProgramNode::Expr(high),
         ),
-        Range::Stepped { low, high, step } => Form::of3(
+        Range::Stepped { low, high, step } => NodeText::of3(
             "Stepped { low: @, high: @, step: @ }",
             ProgramNode::Expr(low),
             ProgramNode::Expr(high),
@@ -324,23 +330,26 @@ fn range(range: &Range) -> Form<ProgramNode<'_>> {
 }
 
 /// The form of the domain in a grid creation: an expression or a list of ranges.
-fn dims(dims: &Dims) -> Form<ProgramNode<'_>> {
+fn dims(dims: &Dims) -> NodeText<ProgramNode<'_>> {
     match dims {
-        Dims::Domain(e) => Form::of1("Domain(@)", ProgramNode::Expr(e)),
-        Dims::Ranges(ranges) => Form::of1("Ranges(@)", ProgramNode::Ranges(ranges)),
+        Dims::Domain(e) => NodeText::of1("Domain(@)", ProgramNode::Expr(e)),
+        Dims::Ranges(ranges) => NodeText::of1("Ranges(@)", ProgramNode::Ranges(ranges)),
     }
 }
 
 /// The form of an initializer, which is the right-hand side of a declaration or assignment.
-fn init(init: &Init) -> Form<ProgramNode<'_>> {
+fn init(init: &Init) -> NodeText<ProgramNode<'_>> {
     match init {
-        Init::Value(e) => Form::of1("Value(@)", ProgramNode::Expr(e)),
-        Init::NewRegion(place) => Form::of1("NewRegion(@)", ProgramNode::Leaf(Leaf::Place(*place))),
+        Init::Value(e) => NodeText::of1("Value(@)", ProgramNode::Expr(e)),
+        Init::NewRegion(place) => NodeText::of1(
+            "NewRegion(@)",
+            ProgramNode::Leaf(Leaf::Place(*place)),
+        ),
         Init::NewObject {
             place,
             region,
             class,
-        } => Form::of3(
+        } => NodeText::of3(
             "NewObject { place: @, region: @, class: @ }",
             ProgramNode::Leaf(Leaf::Place(*place)),
             ProgramNode::MaybeExpr(region),
@@ -352,7 +361,7 @@ fn init(init: &Init) -> Form<ProgramNode<'_>> {
             element,
             bracket,
             dims,
-        } => Form::of5(
+        } => NodeText::of5(
             "NewGrid { place: @, region: @, element: @, bracket: @, dims: @ }",
             ProgramNode::Leaf(Leaf::Place(*place)),
             ProgramNode::MaybeExpr(region),
@@ -360,7 +369,7 @@ fn init(init: &Init) -> Form<ProgramNode<'_>> {
             ProgramNode::Leaf(Leaf::Place(*bracket)),
             ProgramNode::Dims(dims),
         ),
-        Init::Broadcast { place, value, root } => Form::of3(
+        Init::Broadcast { place, value, root } => NodeText::of3(
             "Broadcast { place: @, value: @, root: @ }",
             ProgramNode::Leaf(Leaf::Place(*place)),
             ProgramNode::Expr(value),
@@ -370,15 +379,15 @@ fn init(init: &Init) -> Form<ProgramNode<'_>> {
 }
 
 /// The form of the argument of a print statement.
-fn printed(printed: &Printed) -> Form<ProgramNode<'_>> {
+fn printed(printed: &Printed) -> NodeText<ProgramNode<'_>> {
     match printed {
-        Printed::Nothing => Form::of0("Nothing"),
-        Printed::Text(text) => Form::of1(
+        Printed::Nothing => NodeText::of0("Nothing"),
+        Printed::Text(text) => NodeText::of1(
             "Text(@)",
             ProgramNode::Leaf(Leaf::Number(i64::from(*text))),
         ),
-        Printed::Value(e) => Form::of1("Value(@)", ProgramNode::Expr(e)),
-        Printed::TextAndValue(text, e) => Form::of2(
+        Printed::Value(e) => NodeText::of1("Value(@)", ProgramNode::Expr(e)),
+        Printed::TextAndValue(text, e) => NodeText::of2(
             "TextAndValue(@, @)",
             ProgramNode::Leaf(Leaf::Number(i64::from(*text))),
             ProgramNode::Expr(e),
@@ -387,15 +396,15 @@ fn printed(printed: &Printed) -> Form<ProgramNode<'_>> {
 }
 
 /// The form of a statement.
-fn stmt(stmt: &Stmt) -> Form<ProgramNode<'_>> {
+fn stmt(stmt: &Stmt) -> NodeText<ProgramNode<'_>> {
     match stmt {
-        Stmt::Empty => Form::of0("Empty"),
+        Stmt::Empty => NodeText::of0("Empty"),
         Stmt::Declare {
             place,
             ty,
             variable,
             value,
-        } => Form::of4(
+        } => NodeText::of4(
             "Declare { place: @, ty: @, variable: @, value: @ }",
             ProgramNode::Leaf(Leaf::Place(*place)),
             ProgramNode::TypeUse(ty),
@@ -406,7 +415,7 @@ fn stmt(stmt: &Stmt) -> Form<ProgramNode<'_>> {
             place,
             target,
             value,
-        } => Form::of3(
+        } => NodeText::of3(
             "Assign { place: @, target: @, value: @ }",
             ProgramNode::Leaf(Leaf::Place(*place)),
             ProgramNode::Expr(target),
@@ -417,7 +426,7 @@ fn stmt(stmt: &Stmt) -> Form<ProgramNode<'_>> {
             operator,
             target,
             value,
-        } => Form::of4(
+        } => NodeText::of4(
             "Update { place: @, operator: @, target: @, value: @ }",
             ProgramNode::Leaf(Leaf::Place(*place)),
             ProgramNode::Leaf(Leaf::Binary(*operator)),
@@ -428,33 +437,36 @@ fn stmt(stmt: &Stmt) -> Form<ProgramNode<'_>> {
             place,
             operator,
             target,
-        } => Form::of3(
+        } => NodeText::of3(
             "Step { place: @, operator: @, target: @ }",
             ProgramNode::Leaf(Leaf::Place(*place)),
             ProgramNode::Leaf(Leaf::StepOperator(*operator)),
             ProgramNode::Expr(target),
         ),
-        Stmt::Call(e) => Form::of1("Call(@)", ProgramNode::Expr(e)),
-        Stmt::Print(place, printed) => Form::of2(
+        Stmt::Call(e) => NodeText::of1("Call(@)", ProgramNode::Expr(e)),
+        Stmt::Print(place, printed) => NodeText::of2(
             "Print(@, @)",
             ProgramNode::Leaf(Leaf::Place(*place)),
             ProgramNode::Printed(printed),
         ),
-        Stmt::Barrier(place) => Form::of1("Barrier(@)", ProgramNode::Leaf(Leaf::Place(*place))),
-        Stmt::Break(place) => Form::of1("Break(@)", ProgramNode::Leaf(Leaf::Place(*place))),
-        Stmt::Continue(place) => Form::of1("Continue(@)", ProgramNode::Leaf(Leaf::Place(*place))),
-        Stmt::Return(place, value) => Form::of2(
+        Stmt::Barrier(place) => NodeText::of1("Barrier(@)", ProgramNode::Leaf(Leaf::Place(*place))),
+        Stmt::Break(place) => NodeText::of1("Break(@)", ProgramNode::Leaf(Leaf::Place(*place))),
+        Stmt::Continue(place) => NodeText::of1(
+            "Continue(@)",
+            ProgramNode::Leaf(Leaf::Place(*place)),
+        ),
+        Stmt::Return(place, value) => NodeText::of2(
             "Return(@, @)",
             ProgramNode::Leaf(Leaf::Place(*place)),
             ProgramNode::MaybeExpr(value),
         ),
-        Stmt::Block(body) => Form::of1("Block(@)", ProgramNode::Stmts(body)),
+        Stmt::Block(body) => NodeText::of1("Block(@)", ProgramNode::Stmts(body)),
         Stmt::If {
             place,
             condition,
             then,
             otherwise,
-        } => Form::of4(
+        } => NodeText::of4(
             "If { place: @, condition: @, then: @, otherwise: @ }",
             ProgramNode::Leaf(Leaf::Place(*place)),
             ProgramNode::Expr(condition),
@@ -465,7 +477,7 @@ fn stmt(stmt: &Stmt) -> Form<ProgramNode<'_>> {
             place,
             condition,
             body,
-        } => Form::of3(
+        } => NodeText::of3(
             "While { place: @, condition: @, body: @ }",
             ProgramNode::Leaf(Leaf::Place(*place)),
             ProgramNode::Expr(condition),
@@ -477,7 +489,7 @@ fn stmt(stmt: &Stmt) -> Form<ProgramNode<'_>> {
             condition,
             update,
             body,
-        } => Form::of5(
+        } => NodeText::of5(
             "For { place: @, first: @, condition: @, update: @, body: @ }",
             ProgramNode::Leaf(Leaf::Place(*place)),
             ProgramNode::MaybeStmt(first),
@@ -490,7 +502,7 @@ fn stmt(stmt: &Stmt) -> Form<ProgramNode<'_>> {
             variable,
             domain,
             body,
-        } => Form::of4(
+        } => NodeText::of4(
             "Foreach { place: @, variable: @, domain: @, body: @ }",
             ProgramNode::Leaf(Leaf::Place(*place)),
             ProgramNode::Leaf(Leaf::Number(i64::from(*variable))),
@@ -501,8 +513,8 @@ fn stmt(stmt: &Stmt) -> Form<ProgramNode<'_>> {
 }
 
 /// The form of a field declaration.
-fn field(field: &Field) -> Form<ProgramNode<'_>> {
-    Form::of3(
+fn field(field: &Field) -> NodeText<ProgramNode<'_>> {
+    NodeText::of3(
         "Field { modifiers: @, ty: @, name: @ }",
         ProgramNode::Modifiers(&field.modifiers),
         ProgramNode::TypeUse(&field.ty),
@@ -511,8 +523,8 @@ fn field(field: &Field) -> Form<ProgramNode<'_>> {
 }
 
 /// The form of a class.
-fn class(class: &Class) -> Form<ProgramNode<'_>> {
-    Form::of2(
+fn class(class: &Class) -> NodeText<ProgramNode<'_>> {
+    NodeText::of2(
         "Class { modifiers: @, fields: @ }",
         ProgramNode::Modifiers(&class.modifiers),
         ProgramNode::Fields(&class.fields),
@@ -520,8 +532,8 @@ fn class(class: &Class) -> Form<ProgramNode<'_>> {
 }
 
 /// The form of a parameter declaration.
-fn param(param: &Param) -> Form<ProgramNode<'_>> {
-    Form::of2(
+fn param(param: &Param) -> NodeText<ProgramNode<'_>> {
+    NodeText::of2(
         "Param { place: @, ty: @ }",
         ProgramNode::Leaf(Leaf::Place(param.place)),
         ProgramNode::TypeUse(&param.ty),
@@ -529,24 +541,24 @@ fn param(param: &Param) -> Form<ProgramNode<'_>> {
 }
 
 /// The form of a parameter list: typed parameters, or `String[] x`.
-fn params(params: &Params) -> Form<ProgramNode<'_>> {
+fn params(params: &Params) -> NodeText<ProgramNode<'_>> {
     match params {
-        Params::MainArgs => Form::of0("Words"),
-        Params::Typed(params) => Form::of1("Typed(@)", ProgramNode::ParamList(params)),
+        Params::MainArgs => NodeText::of0("Words"),
+        Params::Typed(params) => NodeText::of1("Typed(@)", ProgramNode::ParamList(params)),
     }
 }
 
 /// The form of the result type of a method, which may be `void`.
-fn result_type(ty: &ResultType) -> Form<ProgramNode<'_>> {
+fn result_type(ty: &ResultType) -> NodeText<ProgramNode<'_>> {
     match ty {
-        ResultType::Void => Form::of0("Void"),
-        ResultType::Typed(ty) => Form::of1("Typed(@)", ProgramNode::TypeUse(ty)),
+        ResultType::Void => NodeText::of0("Void"),
+        ResultType::Typed(ty) => NodeText::of1("Typed(@)", ProgramNode::TypeUse(ty)),
     }
 }
 
 /// The form of a method.
-fn method(method: &Method) -> Form<ProgramNode<'_>> {
-    Form::of6(
+fn method(method: &Method) -> NodeText<ProgramNode<'_>> {
+    NodeText::of6(
         "Method { class: @, modifiers: @, single: @, result: @, place: @@",
         ProgramNode::Leaf(Leaf::Number(i64::from(method.class))),
         ProgramNode::Modifiers(&method.modifiers),
@@ -558,8 +570,8 @@ fn method(method: &Method) -> Form<ProgramNode<'_>> {
 }
 
 /// The form of a method from its name on.
-fn method_end(method: &Method) -> Form<ProgramNode<'_>> {
-    Form::of4(
+fn method_end(method: &Method) -> NodeText<ProgramNode<'_>> {
+    NodeText::of4(
         ", name: @, params: @, body: @, end: @ }",
         ProgramNode::Leaf(Leaf::Number(i64::from(method.name))),
         ProgramNode::Params(&method.params),
@@ -569,8 +581,8 @@ fn method_end(method: &Method) -> Form<ProgramNode<'_>> {
 }
 
 /// The form of an entry of a scope.
-fn in_scope(variable: &InScope) -> Form<ProgramNode<'_>> {
-    Form::of3(
+fn in_scope(variable: &InScope) -> NodeText<ProgramNode<'_>> {
+    NodeText::of3(
         "InScope { number: @, ty: @, single: @ }",
         ProgramNode::Leaf(Leaf::Number(i64::from(variable.number))),
         ProgramNode::Ty(&variable.ty),
@@ -579,8 +591,8 @@ fn in_scope(variable: &InScope) -> Form<ProgramNode<'_>> {
 }
 
 /// The form of a scope.
-fn scope(scope: &Scope) -> Form<ProgramNode<'_>> {
-    Form::of4(
+fn scope(scope: &Scope) -> NodeText<ProgramNode<'_>> {
+    NodeText::of4(
         "Scope { this: @, variables: @, method: @, innermost_loop: @ }",
         ProgramNode::Leaf(Leaf::MaybeNumber(scope.this)),
         ProgramNode::InScopes(&scope.variables),
@@ -590,8 +602,8 @@ fn scope(scope: &Scope) -> Form<ProgramNode<'_>> {
 }
 
 /// The form of a program: its classes, its methods, the number of `main`, and its names and literals.
-fn parts(parts: &ProgramData) -> Form<ProgramNode<'_>> {
-    Form::of5(
+fn parts(parts: &ProgramData) -> NodeText<ProgramNode<'_>> {
+    NodeText::of5(
         "Parts { classes: @, methods: @, main: @, names: @, literals: @ }",
         ProgramNode::Classes(&parts.classes),
         ProgramNode::Methods(&parts.methods),
@@ -602,8 +614,8 @@ fn parts(parts: &ProgramData) -> Form<ProgramNode<'_>> {
 }
 
 /// The form of one pair of brackets of a grid type: its number of dimensions and the qualifiers of the grid.
-fn brackets(brackets: &Brackets) -> Form<ProgramNode<'_>> {
-    Form::of2(
+fn brackets(brackets: &Brackets) -> NodeText<ProgramNode<'_>> {
+    NodeText::of2(
         "Brackets { dim: @, qualifiers: @ }",
         ProgramNode::Leaf(Leaf::Number(i64::from(brackets.dim))),
         ProgramNode::Qualifiers(&brackets.qualifiers),
@@ -611,17 +623,17 @@ fn brackets(brackets: &Brackets) -> Form<ProgramNode<'_>> {
 }
 
 /// The form of an optional expression.
-fn maybe_expr(maybe: &Option<Expr>) -> Form<ProgramNode<'_>> {
+fn maybe_expr(maybe: &Option<Expr>) -> NodeText<ProgramNode<'_>> {
     match maybe {
-        Some(node) => Form::of1("Some(@)", ProgramNode::Expr(node)),
-        None => Form::of0("None"),
+        Some(node) => NodeText::of1("Some(@)", ProgramNode::Expr(node)),
+        None => NodeText::of0("None"),
     }
 }
 
 /// The form of an optional statement.
-fn maybe_stmt(maybe: &Option<Box<Stmt>>) -> Form<ProgramNode<'_>> {
+fn maybe_stmt(maybe: &Option<Box<Stmt>>) -> NodeText<ProgramNode<'_>> {
     match maybe {
-        Some(node) => Form::of1("Some(@)", ProgramNode::Stmt(node)),
-        None => Form::of0("None"),
+        Some(node) => NodeText::of1("Some(@)", ProgramNode::Stmt(node)),
+        None => NodeText::of0("None"),
     }
 }

@@ -1,6 +1,6 @@
 // The forms in which syntax trees are printed.
 
-use crate::debug_text::{Form, Leaf, Node, Shape, leaf_text};
+use crate::debug_text::{Leaf, Node, NodeText, Shape, leaf_text};
 use std::alloc::{AllocError, Global};
 use ti_syntax::tree::{
     Base, Brackets, Class, Dims, Expr, Field, Init, Member, Method, Modifier, Param, Params,
@@ -44,9 +44,9 @@ pub(crate) enum TreeNode<'a> {
 
 impl<'a> TreeNode<'a> {
     /// How this node is printed, with its parts.
-    fn form(self) -> Form<TreeNode<'a>> {
+    fn form(self) -> NodeText<TreeNode<'a>> {
         match self {
-            TreeNode::Leaf(_) => Form::leaf(),
+            TreeNode::Leaf(_) => NodeText::leaf(),
             TreeNode::Base(node) => base(node),
             TreeNode::Brackets(node) => brackets(node),
             TreeNode::TypeName(node) => type_name(node),
@@ -66,7 +66,7 @@ impl<'a> TreeNode<'a> {
             TreeNode::MethodEnd(method) => method_end(method),
             TreeNode::MaybeExpr(node) => maybe_expr(node),
             TreeNode::MaybeStmt(node) => maybe_stmt(node),
-            _ => Form::list(),
+            _ => NodeText::list(),
         }
     }
 }
@@ -104,31 +104,31 @@ impl<'a> Node for TreeNode<'a> {
 }
 
 /// The form of the base of a type name: a built-in type or a class.
-fn base(base: &Base) -> Form<TreeNode<'_>> {
+fn base(base: &Base) -> NodeText<TreeNode<'_>> {
     match base {
-        Base::Int(place) => Form::of1("Int(@)", TreeNode::Leaf(Leaf::Place(*place))),
-        Base::Long(place) => Form::of1("Long(@)", TreeNode::Leaf(Leaf::Place(*place))),
-        Base::Boolean(place) => Form::of1("Boolean(@)", TreeNode::Leaf(Leaf::Place(*place))),
-        Base::Point(place, dim) => Form::of2(
+        Base::Int(place) => NodeText::of1("Int(@)", TreeNode::Leaf(Leaf::Place(*place))),
+        Base::Long(place) => NodeText::of1("Long(@)", TreeNode::Leaf(Leaf::Place(*place))),
+        Base::Boolean(place) => NodeText::of1("Boolean(@)", TreeNode::Leaf(Leaf::Place(*place))),
+        Base::Point(place, dim) => NodeText::of2(
             "Point(@, @)",
             TreeNode::Leaf(Leaf::Place(*place)),
             TreeNode::Leaf(Leaf::Number(i64::from(*dim))),
         ),
-        Base::RectDomain(place, dim) => Form::of2(
+        Base::RectDomain(place, dim) => NodeText::of2(
             "RectDomain(@, @)",
             TreeNode::Leaf(Leaf::Place(*place)),
             TreeNode::Leaf(Leaf::Number(i64::from(*dim))),
         ),
-        Base::Domain(place, dim) => Form::of2(
+        Base::Domain(place, dim) => NodeText::of2(
             "Domain(@, @)",
             TreeNode::Leaf(Leaf::Place(*place)),
             TreeNode::Leaf(Leaf::Number(i64::from(*dim))),
         ),
-        Base::SharedRegion(place) => Form::of1(
+        Base::SharedRegion(place) => NodeText::of1(
             "SharedRegion(@)",
             TreeNode::Leaf(Leaf::Place(*place)),
         ),
-        Base::Named(place, name) => Form::of2(
+        Base::Named(place, name) => NodeText::of2(
             "Named(@, @)",
             TreeNode::Leaf(Leaf::Place(*place)),
             TreeNode::Leaf(Leaf::Spelled(name)),
@@ -137,8 +137,8 @@ fn base(base: &Base) -> Form<TreeNode<'_>> {
 }
 
 /// The form of one pair of brackets of a grid type: its number of dimensions and the qualifiers of the grid.
-fn brackets(brackets: &Brackets) -> Form<TreeNode<'_>> {
-    Form::of2(
+fn brackets(brackets: &Brackets) -> NodeText<TreeNode<'_>> {
+    NodeText::of2(
         "Brackets { dim: @, qualifiers: @ }",
         TreeNode::Leaf(Leaf::Number(i64::from(brackets.dim))),
         TreeNode::Qualifiers(&brackets.qualifiers),
@@ -146,8 +146,8 @@ fn brackets(brackets: &Brackets) -> Form<TreeNode<'_>> {
 }
 
 /// The form of a type name: its base, qualifiers and brackets.
-fn type_name(ty: &TypeName) -> Form<TreeNode<'_>> {
-    Form::of3(
+fn type_name(ty: &TypeName) -> NodeText<TreeNode<'_>> {
+    NodeText::of3(
         "TypeName { base: @, qualifiers: @, grids: @ }",
         TreeNode::Base(&ty.base),
         TreeNode::Qualifiers(&ty.qualifiers),
@@ -156,44 +156,44 @@ fn type_name(ty: &TypeName) -> Form<TreeNode<'_>> {
 }
 
 /// The form of an expression.
-fn expr(e: &Expr) -> Form<TreeNode<'_>> {
+fn expr(e: &Expr) -> NodeText<TreeNode<'_>> {
     match e {
-        Expr::Int(place, n) => Form::of2(
+        Expr::Int(place, n) => NodeText::of2(
             "Int(@, @)",
             TreeNode::Leaf(Leaf::Place(*place)),
             TreeNode::Leaf(Leaf::Number(i64::from(*n))),
         ),
-        Expr::Long(place, n) => Form::of2(
+        Expr::Long(place, n) => NodeText::of2(
             "Long(@, @)",
             TreeNode::Leaf(Leaf::Place(*place)),
             TreeNode::Leaf(Leaf::Number(*n)),
         ),
-        Expr::Bool(place, truth) => Form::of2(
+        Expr::Bool(place, truth) => NodeText::of2(
             "Truth(@, @)",
             TreeNode::Leaf(Leaf::Place(*place)),
             TreeNode::Leaf(Leaf::Truth(*truth)),
         ),
-        Expr::Null(place) => Form::of1("Null(@)", TreeNode::Leaf(Leaf::Place(*place))),
-        Expr::This(place) => Form::of1("This(@)", TreeNode::Leaf(Leaf::Place(*place))),
-        Expr::Name(place, name) => Form::of2(
+        Expr::Null(place) => NodeText::of1("Null(@)", TreeNode::Leaf(Leaf::Place(*place))),
+        Expr::This(place) => NodeText::of1("This(@)", TreeNode::Leaf(Leaf::Place(*place))),
+        Expr::Name(place, name) => NodeText::of2(
             "Name(@, @)",
             TreeNode::Leaf(Leaf::Place(*place)),
             TreeNode::Leaf(Leaf::Spelled(name)),
         ),
-        Expr::Call { place, name, args } => Form::of3(
+        Expr::Call { place, name, args } => NodeText::of3(
             "Call { place: @, name: @, args: @ }",
             TreeNode::Leaf(Leaf::Place(*place)),
             TreeNode::Leaf(Leaf::Spelled(name)),
             TreeNode::Exprs(args),
         ),
-        Expr::ThisProc(place) => Form::of1("ThisProc(@)", TreeNode::Leaf(Leaf::Place(*place))),
-        Expr::NumProcs(place) => Form::of1("NumProcs(@)", TreeNode::Leaf(Leaf::Place(*place))),
-        Expr::Point(place, parts) => Form::of2(
+        Expr::ThisProc(place) => NodeText::of1("ThisProc(@)", TreeNode::Leaf(Leaf::Place(*place))),
+        Expr::NumProcs(place) => NodeText::of1("NumProcs(@)", TreeNode::Leaf(Leaf::Place(*place))),
+        Expr::Point(place, parts) => NodeText::of2(
             "Point(@, @)",
             TreeNode::Leaf(Leaf::Place(*place)),
             TreeNode::Exprs(parts),
         ),
-        Expr::Rect(place, ranges) => Form::of2(
+        Expr::Rect(place, ranges) => NodeText::of2(
             "Rect(@, @)",
             TreeNode::Leaf(Leaf::Place(*place)),
             TreeNode::Ranges(ranges),
@@ -202,7 +202,7 @@ fn expr(e: &Expr) -> Form<TreeNode<'_>> {
             place,
             operator,
             operand,
-        } => Form::of3(
+        } => NodeText::of3(
             "Unary { place: @, operator: @, operand: @ }",
             TreeNode::Leaf(Leaf::Place(*place)),
             TreeNode::Leaf(Leaf::Unary(*operator)),
@@ -213,14 +213,14 @@ fn expr(e: &Expr) -> Form<TreeNode<'_>> {
             operator,
             left,
             right,
-        } => Form::of4(
+        } => NodeText::of4(
             "Binary { place: @, operator: @, left: @, right: @ }",
             TreeNode::Leaf(Leaf::Place(*place)),
             TreeNode::Leaf(Leaf::Binary(*operator)),
             TreeNode::Expr(left),
             TreeNode::Expr(right),
         ),
-        Expr::Cast { place, to, operand } => Form::of3(
+        Expr::Cast { place, to, operand } => NodeText::of3(
             "Cast { place: @, to: @, operand: @ }",
             TreeNode::Leaf(Leaf::Place(*place)),
             TreeNode::TypeName(to),
@@ -230,7 +230,7 @@ fn expr(e: &Expr) -> Form<TreeNode<'_>> {
             place,
             receiver,
             name,
-        } => Form::of3(
+        } => NodeText::of3(
             "Select { place: @, receiver: @, name: @ }",
             TreeNode::Leaf(Leaf::Place(*place)),
             TreeNode::Expr(receiver),
@@ -241,7 +241,7 @@ fn expr(e: &Expr) -> Form<TreeNode<'_>> {
             receiver,
             name,
             args,
-        } => Form::of4(
+        } => NodeText::of4(
             "Member { place: @, receiver: @, name: @, args: @ }",
             TreeNode::Leaf(Leaf::Place(*place)),
             TreeNode::Expr(receiver),
@@ -252,7 +252,7 @@ fn expr(e: &Expr) -> Form<TreeNode<'_>> {
             place,
             receiver,
             indices,
-        } => Form::of3(
+        } => NodeText::of3(
             "Index { place: @, receiver: @, indices: @ }",
             TreeNode::Leaf(Leaf::Place(*place)),
             TreeNode::Expr(receiver),
@@ -262,14 +262,14 @@ fn expr(e: &Expr) -> Form<TreeNode<'_>> {
 }
 
 /// The form of a range, which is one dimension of a rectangular domain.
-fn range(range: &Range) -> Form<TreeNode<'_>> {
+fn range(range: &Range) -> NodeText<TreeNode<'_>> {
     match range {
-        Range::Plain { low, high } => Form::of2(
+        Range::Plain { low, high } => NodeText::of2(
             "Plain { low: @, high: @ }",
             TreeNode::Expr(low),
             TreeNode::Expr(high),
         ),
-        Range::Stepped { low, high, step } => Form::of3(
+        Range::Stepped { low, high, step } => NodeText::of3(
             "Stepped { low: @, high: @, step: @ }",
             TreeNode::Expr(low),
             TreeNode::Expr(high),
@@ -279,24 +279,27 @@ fn range(range: &Range) -> Form<TreeNode<'_>> {
 }
 
 /// The form of the domain in a grid creation: an expression or a list of ranges.
-fn dims(dims: &Dims) -> Form<TreeNode<'_>> {
+fn dims(dims: &Dims) -> NodeText<TreeNode<'_>> {
     match dims {
-        Dims::Domain(e) => Form::of1("Domain(@)", TreeNode::Expr(e)),
-        Dims::Ranges(ranges) => Form::of1("Ranges(@)", TreeNode::Ranges(ranges)),
+        Dims::Domain(e) => NodeText::of1("Domain(@)", TreeNode::Expr(e)),
+        Dims::Ranges(ranges) => NodeText::of1("Ranges(@)", TreeNode::Ranges(ranges)),
     }
 }
 
 /// The form of an initializer, which is the right-hand side of a declaration or assignment.
-fn init(init: &Init) -> Form<TreeNode<'_>> {
+fn init(init: &Init) -> NodeText<TreeNode<'_>> {
     match init {
-        Init::Value(e) => Form::of1("Value(@)", TreeNode::Expr(e)),
-        Init::NewRegion(place) => Form::of1("NewRegion(@)", TreeNode::Leaf(Leaf::Place(*place))),
+        Init::Value(e) => NodeText::of1("Value(@)", TreeNode::Expr(e)),
+        Init::NewRegion(place) => NodeText::of1(
+            "NewRegion(@)",
+            TreeNode::Leaf(Leaf::Place(*place)),
+        ),
         Init::NewObject {
             place,
             region,
             name_place,
             name,
-        } => Form::of4(
+        } => NodeText::of4(
             "NewObject { place: @, region: @, name_place: @, name: @ }",
             TreeNode::Leaf(Leaf::Place(*place)),
             TreeNode::MaybeExpr(region),
@@ -309,7 +312,7 @@ fn init(init: &Init) -> Form<TreeNode<'_>> {
             element,
             bracket,
             dims,
-        } => Form::of5(
+        } => NodeText::of5(
             "NewGrid { place: @, region: @, element: @, bracket: @, dims: @ }",
             TreeNode::Leaf(Leaf::Place(*place)),
             TreeNode::MaybeExpr(region),
@@ -317,7 +320,7 @@ fn init(init: &Init) -> Form<TreeNode<'_>> {
             TreeNode::Leaf(Leaf::Place(*bracket)),
             TreeNode::Dims(dims),
         ),
-        Init::Broadcast { place, value, root } => Form::of3(
+        Init::Broadcast { place, value, root } => NodeText::of3(
             "Broadcast { place: @, value: @, root: @ }",
             TreeNode::Leaf(Leaf::Place(*place)),
             TreeNode::Expr(value),
@@ -327,12 +330,12 @@ fn init(init: &Init) -> Form<TreeNode<'_>> {
 }
 
 /// The form of the argument of a print statement.
-fn printed(printed: &Printed) -> Form<TreeNode<'_>> {
+fn printed(printed: &Printed) -> NodeText<TreeNode<'_>> {
     match printed {
-        Printed::Nothing => Form::of0("Nothing"),
-        Printed::Text(text) => Form::of1("Text(@)", TreeNode::Leaf(Leaf::Spelled(text))),
-        Printed::Value(e) => Form::of1("Value(@)", TreeNode::Expr(e)),
-        Printed::TextAndValue(text, e) => Form::of2(
+        Printed::Nothing => NodeText::of0("Nothing"),
+        Printed::Text(text) => NodeText::of1("Text(@)", TreeNode::Leaf(Leaf::Spelled(text))),
+        Printed::Value(e) => NodeText::of1("Value(@)", TreeNode::Expr(e)),
+        Printed::TextAndValue(text, e) => NodeText::of2(
             "TextAndValue(@, @)",
             TreeNode::Leaf(Leaf::Spelled(text)),
             TreeNode::Expr(e),
@@ -341,15 +344,15 @@ fn printed(printed: &Printed) -> Form<TreeNode<'_>> {
 }
 
 /// The form of a statement.
-fn stmt(stmt: &Stmt) -> Form<TreeNode<'_>> {
+fn stmt(stmt: &Stmt) -> NodeText<TreeNode<'_>> {
     match stmt {
-        Stmt::Empty => Form::of0("Empty"),
+        Stmt::Empty => NodeText::of0("Empty"),
         Stmt::Declare {
             place,
             ty,
             name,
             value,
-        } => Form::of4(
+        } => NodeText::of4(
             "Declare { place: @, ty: @, name: @, value: @ }",
             TreeNode::Leaf(Leaf::Place(*place)),
             TreeNode::TypeName(ty),
@@ -360,7 +363,7 @@ fn stmt(stmt: &Stmt) -> Form<TreeNode<'_>> {
             place,
             target,
             value,
-        } => Form::of3(
+        } => NodeText::of3(
             "Assign { place: @, target: @, value: @ }",
             TreeNode::Leaf(Leaf::Place(*place)),
             TreeNode::Expr(target),
@@ -371,7 +374,7 @@ fn stmt(stmt: &Stmt) -> Form<TreeNode<'_>> {
             operator,
             target,
             value,
-        } => Form::of4(
+        } => NodeText::of4(
             "Update { place: @, operator: @, target: @, value: @ }",
             TreeNode::Leaf(Leaf::Place(*place)),
             TreeNode::Leaf(Leaf::Binary(*operator)),
@@ -382,33 +385,33 @@ fn stmt(stmt: &Stmt) -> Form<TreeNode<'_>> {
             place,
             operator,
             target,
-        } => Form::of3(
+        } => NodeText::of3(
             "Step { place: @, operator: @, target: @ }",
             TreeNode::Leaf(Leaf::Place(*place)),
             TreeNode::Leaf(Leaf::StepOperator(*operator)),
             TreeNode::Expr(target),
         ),
-        Stmt::Call(e) => Form::of1("Call(@)", TreeNode::Expr(e)),
-        Stmt::Print(place, printed) => Form::of2(
+        Stmt::Call(e) => NodeText::of1("Call(@)", TreeNode::Expr(e)),
+        Stmt::Print(place, printed) => NodeText::of2(
             "Print(@, @)",
             TreeNode::Leaf(Leaf::Place(*place)),
             TreeNode::Printed(printed),
         ),
-        Stmt::Barrier(place) => Form::of1("Barrier(@)", TreeNode::Leaf(Leaf::Place(*place))),
-        Stmt::Break(place) => Form::of1("Break(@)", TreeNode::Leaf(Leaf::Place(*place))),
-        Stmt::Continue(place) => Form::of1("Continue(@)", TreeNode::Leaf(Leaf::Place(*place))),
-        Stmt::Return(place, value) => Form::of2(
+        Stmt::Barrier(place) => NodeText::of1("Barrier(@)", TreeNode::Leaf(Leaf::Place(*place))),
+        Stmt::Break(place) => NodeText::of1("Break(@)", TreeNode::Leaf(Leaf::Place(*place))),
+        Stmt::Continue(place) => NodeText::of1("Continue(@)", TreeNode::Leaf(Leaf::Place(*place))),
+        Stmt::Return(place, value) => NodeText::of2(
             "Return(@, @)",
             TreeNode::Leaf(Leaf::Place(*place)),
             TreeNode::MaybeExpr(value),
         ),
-        Stmt::Block(body) => Form::of1("Block(@)", TreeNode::Stmts(body)),
+        Stmt::Block(body) => NodeText::of1("Block(@)", TreeNode::Stmts(body)),
         Stmt::If {
             place,
             condition,
             then,
             otherwise,
-        } => Form::of4(
+        } => NodeText::of4(
             "If { place: @, condition: @, then: @, otherwise: @ }",
             TreeNode::Leaf(Leaf::Place(*place)),
             TreeNode::Expr(condition),
@@ -419,7 +422,7 @@ fn stmt(stmt: &Stmt) -> Form<TreeNode<'_>> {
             place,
             condition,
             body,
-        } => Form::of3(
+        } => NodeText::of3(
             "While { place: @, condition: @, body: @ }",
             TreeNode::Leaf(Leaf::Place(*place)),
             TreeNode::Expr(condition),
@@ -431,7 +434,7 @@ fn stmt(stmt: &Stmt) -> Form<TreeNode<'_>> {
             condition,
             update,
             body,
-        } => Form::of5(
+        } => NodeText::of5(
             "For { place: @, first: @, condition: @, update: @, body: @ }",
             TreeNode::Leaf(Leaf::Place(*place)),
             TreeNode::MaybeStmt(first),
@@ -445,7 +448,7 @@ fn stmt(stmt: &Stmt) -> Form<TreeNode<'_>> {
             name,
             domain,
             body,
-        } => Form::of5(
+        } => NodeText::of5(
             "Foreach { place: @, name_place: @, name: @, domain: @, body: @ }",
             TreeNode::Leaf(Leaf::Place(*place)),
             TreeNode::Leaf(Leaf::Place(*name_place)),
@@ -457,8 +460,8 @@ fn stmt(stmt: &Stmt) -> Form<TreeNode<'_>> {
 }
 
 /// The form of a field declaration.
-fn field(field: &Field) -> Form<TreeNode<'_>> {
-    Form::of4(
+fn field(field: &Field) -> NodeText<TreeNode<'_>> {
+    NodeText::of4(
         "Field { modifiers: @, ty: @, place: @, name: @ }",
         TreeNode::Modifiers(&field.modifiers),
         TreeNode::TypeName(&field.ty),
@@ -468,8 +471,8 @@ fn field(field: &Field) -> Form<TreeNode<'_>> {
 }
 
 /// The form of a parameter declaration.
-fn param(param: &Param) -> Form<TreeNode<'_>> {
-    Form::of3(
+fn param(param: &Param) -> NodeText<TreeNode<'_>> {
+    NodeText::of3(
         "Param { ty: @, place: @, name: @ }",
         TreeNode::TypeName(&param.ty),
         TreeNode::Leaf(Leaf::Place(param.place)),
@@ -478,28 +481,28 @@ fn param(param: &Param) -> Form<TreeNode<'_>> {
 }
 
 /// The form of a parameter list: typed parameters, or `String[] x`.
-fn params(params: &Params) -> Form<TreeNode<'_>> {
+fn params(params: &Params) -> NodeText<TreeNode<'_>> {
     match params {
-        Params::MainArgs(place, name) => Form::of2(
+        Params::MainArgs(place, name) => NodeText::of2(
             "Words(@, @)",
             TreeNode::Leaf(Leaf::Place(*place)),
             TreeNode::Leaf(Leaf::Spelled(name)),
         ),
-        Params::Typed(params) => Form::of1("Typed(@)", TreeNode::ParamList(params)),
+        Params::Typed(params) => NodeText::of1("Typed(@)", TreeNode::ParamList(params)),
     }
 }
 
 /// The form of the result type of a method, which may be `void`.
-fn result_type(ty: &ResultType) -> Form<TreeNode<'_>> {
+fn result_type(ty: &ResultType) -> NodeText<TreeNode<'_>> {
     match ty {
-        ResultType::Void(place) => Form::of1("Void(@)", TreeNode::Leaf(Leaf::Place(*place))),
-        ResultType::Typed(ty) => Form::of1("Typed(@)", TreeNode::TypeName(ty)),
+        ResultType::Void(place) => NodeText::of1("Void(@)", TreeNode::Leaf(Leaf::Place(*place))),
+        ResultType::Typed(ty) => NodeText::of1("Typed(@)", TreeNode::TypeName(ty)),
     }
 }
 
 /// The form of a method.
-fn method(method: &Method) -> Form<TreeNode<'_>> {
-    Form::of4(
+fn method(method: &Method) -> NodeText<TreeNode<'_>> {
+    NodeText::of4(
         "Method { modifiers: @, result: @, place: @@",
         TreeNode::Modifiers(&method.modifiers),
         TreeNode::ResultType(&method.result),
@@ -509,8 +512,8 @@ fn method(method: &Method) -> Form<TreeNode<'_>> {
 }
 
 /// The form of a method from its name on.
-fn method_end(method: &Method) -> Form<TreeNode<'_>> {
-    Form::of4(
+fn method_end(method: &Method) -> NodeText<TreeNode<'_>> {
+    NodeText::of4(
         ", name: @, params: @, body: @, end: @ }",
         TreeNode::Leaf(Leaf::Spelled(&method.name)),
         TreeNode::Params(&method.params),
@@ -520,16 +523,16 @@ fn method_end(method: &Method) -> Form<TreeNode<'_>> {
 }
 
 /// The form of a class member, which is a field or a method.
-fn member(member: &Member) -> Form<TreeNode<'_>> {
+fn member(member: &Member) -> NodeText<TreeNode<'_>> {
     match member {
-        Member::Field(field) => Form::of1("Field(@)", TreeNode::Field(field)),
-        Member::Method(method) => Form::of1("Method(@)", TreeNode::Method(method)),
+        Member::Field(field) => NodeText::of1("Field(@)", TreeNode::Field(field)),
+        Member::Method(method) => NodeText::of1("Method(@)", TreeNode::Method(method)),
     }
 }
 
 /// The form of a class.
-fn class(class: &Class) -> Form<TreeNode<'_>> {
-    Form::of5(
+fn class(class: &Class) -> NodeText<TreeNode<'_>> {
+    NodeText::of5(
         "Class { modifiers: @, word: @, place: @, name: @, members: @ }",
         TreeNode::Modifiers(&class.modifiers),
         TreeNode::Leaf(Leaf::Place(class.word)),
@@ -540,17 +543,17 @@ fn class(class: &Class) -> Form<TreeNode<'_>> {
 }
 
 /// The form of an optional expression.
-fn maybe_expr(maybe: &Option<Expr>) -> Form<TreeNode<'_>> {
+fn maybe_expr(maybe: &Option<Expr>) -> NodeText<TreeNode<'_>> {
     match maybe {
-        Some(node) => Form::of1("Some(@)", TreeNode::Expr(node)),
-        None => Form::of0("None"),
+        Some(node) => NodeText::of1("Some(@)", TreeNode::Expr(node)),
+        None => NodeText::of0("None"),
     }
 }
 
 /// The form of an optional statement.
-fn maybe_stmt(maybe: &Option<Box<Stmt>>) -> Form<TreeNode<'_>> {
+fn maybe_stmt(maybe: &Option<Box<Stmt>>) -> NodeText<TreeNode<'_>> {
     match maybe {
-        Some(node) => Form::of1("Some(@)", TreeNode::Stmt(node)),
-        None => Form::of0("None"),
+        Some(node) => NodeText::of1("Some(@)", TreeNode::Stmt(node)),
+        None => NodeText::of0("None"),
     }
 }
